@@ -1,0 +1,16 @@
+-- What a run may print. A reader meets the definitions in this order.
+pub mod Lists
+pub mod Script
+pub mod History
+pub mod Transcript
+pub mod Shape
+pub mod Replies
+pub mod Conflicts
+pub mod Freshness
+pub mod Counts
+pub mod Sound
+pub mod Text
+-- The outside: reports as they are printed, faults, and what lies in memory.
+pub mod Reports
+pub mod Faults
+pub mod Memory

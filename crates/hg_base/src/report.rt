@@ -1,0 +1,166 @@
+//! What a collector's pass found and removed.
+
+ghost use Rattle.std.specs.Prelude.{◌≡◌, ◌++◌, ◌∷◌, [], map, IfOk, OnOk, OnErr};
+ghost use Rattle.hg_base.specs.Reports.{told_of, sweep_of};
+
+use crate::fault::NoMemory;
+use crate::scope::Scope;
+use std::alloc::{AllocError, Global};
+use std::marker::Model;
+
+/// Which collector.
+#[derive(Clone, Copy, Debug, PartialEq, Eq)]
+pub enum Kind {
+    Group,
+    Table,
+    Interval,
+}
+
+/// A live snapshot that a pass met in a session's register.
+#[derive(Clone, Copy, Debug, PartialEq, Eq)]
+pub struct Entry {
+    pub session: u32,
+    pub number: u64,
+    pub scope: Scope,
+    /// Whether it was moved to the trackers of its declared tables.
+    pub moved: bool,
+}
+
+/// An entry as it is printed.
+#[derive(Clone, Copy, Debug, PartialEq, Eq)]
+pub struct Told {
+    pub session: u32,
+    pub number: u64,
+    pub moved: bool,
+}
+
+/// Entries by ascending session.
+#[derive(Debug, Drop)]
+pub struct EntryList {
+    entries: Vec<Entry>,
+}
+
+impl Model for EntryList {
+    ghost use Rattle.std.specs.Prelude.{List};
+    ghost use Rattle.hg_base.specs.declared.report.Entry.{Entry};
+
+    ghost Value = { List Entry };
+
+    ghost view = { λ a. a.entries.items };
+}
+
+impl From<Vec<Entry>> for EntryList {
+    ghost from_gives = { λ entries list. list ≡ entries.items };
+
+    fn from(entries: Vec<Entry>) -> EntryList {
+        EntryList { entries }
+    }
+}
+
+impl EntryList {
+    pub fn as_slice(&self) -> &[Entry]
+        ensures { result.now ≡ self.now }
+    {
+        &self.entries
+    }
+
+    pub fn into_vec(self) -> Vec<Entry>
+        ensures { result.items ≡ self }
+    {
+        self.entries
+    }
+}
+
+/// Told entries by ascending session.
+#[derive(Debug, Drop)]
+pub struct ToldList {
+    told: Vec<Told>,
+}
+
+impl Model for ToldList {
+    ghost use Rattle.std.specs.Prelude.{List};
+    ghost use Rattle.hg_base.specs.declared.report.Told.{Told};
+
+    ghost Value = { List Told };
+
+    ghost view = { λ a. a.told.items };
+}
+
+impl From<Vec<Told>> for ToldList {
+    ghost from_gives = { λ told list. list ≡ told.items };
+
+    fn from(told: Vec<Told>) -> ToldList {
+        ToldList { told }
+    }
+}
+
+impl ToldList {
+    pub fn as_slice(&self) -> &[Told]
+        ensures { result.now ≡ self.now }
+    {
+        &self.told
+    }
+
+    pub fn into_vec(self) -> Vec<Told>
+        ensures { result.items ≡ self }
+    {
+        self.told
+    }
+}
+
+/// A pass as its collector lends it: the mark and horizon of its gather, how many versions it removed, and the live
+/// snapshots that it met.
+#[derive(Debug, Drop)]
+pub struct Report {
+    pub kind: Kind,
+    pub mark: u64,
+    pub horizon: u64,
+    pub removed: u64,
+    pub entries: EntryList,
+}
+
+/// A report as it is printed.
+#[derive(Debug, Drop)]
+pub struct Sweep {
+    pub kind: Kind,
+    pub mark: u64,
+    pub horizon: u64,
+    pub removed: u64,
+    pub held: ToldList,
+}
+
+impl Entry {
+    /// The entry without its scope.
+    pub fn told(&self) -> Told
+        ensures { result ≡ told_of self.now }
+    {
+        Told {
+            session: self.session,
+            number: self.number,
+            moved: self.moved,
+        }
+    }
+}
+
+fn tell(alloc: Global, entries: &[Entry]) -> Result<Vec<Told>, AllocError>
+    ensures { IfOk result (λ told. told.items ≡ map told_of entries.now) }
+{
+    entries.iter().map(|entry| entry.told()).collect(alloc)
+}
+
+impl Report {
+    /// The report without the scopes of its entries.
+    pub fn told(&self) -> Result<Sweep, NoMemory>
+        ensures { IfOk result (λ sweep. sweep ≡ sweep_of self.now) }
+    {
+        let entries = &self.entries.entries;
+        let held = tell(*entries.allocator(), entries)?;
+        Ok(Sweep {
+            kind: self.kind,
+            mark: self.mark,
+            horizon: self.horizon,
+            removed: self.removed,
+            held: ToldList { told: held },
+        })
+    }
+}
