@@ -48,4 +48,3 @@ pub use standard::{StdinSource, StdoutSink};
 pub use statement::{Record, Statement};
 pub use steps::Steps;
 pub use writer::Writer;
-

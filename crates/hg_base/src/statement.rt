@@ -13,11 +13,7 @@ pub enum Statement {
     Put(Rid, Row),
     Del(Rid),
     /// Every key from `low` to `high`, both included.
-    Scan {
-        table: TableId,
-        low: u64,
-        high: u64,
-    },
+    Scan { table: TableId, low: u64, high: u64 },
     Commit,
     Rollback,
     /// One pass of a collector.
