@@ -17,6 +17,7 @@
 
 mod fault;
 mod image;
+mod laws;
 mod limits;
 mod line;
 mod memory;
@@ -32,6 +33,10 @@ mod writer;
 
 pub use fault::{Failed, NoMemory};
 pub use image::Image;
+pub use laws::{
+    committing_line_stays_right, plain_line_stays_right, updates_are_kept,
+    visible_is_the_last_write,
+};
 pub use limits::{
     DEFAULT_BUCKETS, DEFAULT_LONG, DEFAULT_ROUNDS, MOST_BUCKETS, MOST_COLUMNS, MOST_LONG,
     MOST_NAME_BYTES, MOST_NUMBER, MOST_RECORDS, MOST_ROUNDS, MOST_SCRIPT_BYTES, MOST_SESSIONS,
@@ -48,3 +53,6 @@ pub use standard::{StdinSource, StdoutSink};
 pub use statement::{Record, Statement};
 pub use steps::Steps;
 pub use writer::Writer;
+
+#[cfg(test)]
+mod tests;

@@ -1,0 +1,4 @@
+pub mod ListFacts
+pub mod HistoryFacts
+pub mod Extending
+pub mod Growth
