@@ -1,13 +1,12 @@
 -- What histories show, and that a group added at the end changes nothing below its number.
 use Rattle.std.proofs.Common.{◌≡◌, ℕ, zero, suc, ◌+◌, ◌<◌, ◌≤◌, ◌⊎◌, inl, inr, List, [], ◌∷◌, ◌++◌, length, Bool, true, false, Option, Some, None, refl, sym, ap, ◌∙◌, subst, arith}
 use Rattle.std.specs.Prelude.{◌==◌, ◌&&◌, filter, cond, unwrap_or, option_map, nat_le, is_some, IsSome, Contains}
-use Rattle.std.specs.List.{list_any, cons_option}
+use Rattle.std.specs.List.{cons_option}
 use Rattle.std.specs.Option.{option_or}
 use Rattle.std.proofs.lemmas.List.Elements.{filter-append}
 use Rattle.std.proofs.lemmas.Bool.Decides.{Decides-eqb}
 use Rattle.std.proofs.lemmas.Bool.{le-leb}
 use Rattle.hg_base.specs.declared.rid.Rid.{Rid}
-use Rattle.hg_base.specs.declared.rid.TableId.{TableId}
 use Rattle.hg_base.specs.declared.image.Image.{Image}
 use Rattle.hg_base.specs.Lists.{Each}
 use Rattle.hg_base.specs.History.{Write, Commit, Group, History, EachGroup, group_from, group_at, same_rid, image_in, group_image, writes_from, writes, last_image, nothing, visible, seen, NoLostUpdate}

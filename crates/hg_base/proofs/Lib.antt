@@ -2,3 +2,8 @@ pub mod ListFacts
 pub mod HistoryFacts
 pub mod Extending
 pub mod Growth
+pub mod TextNumbers
+pub mod TextFits
+pub mod TextReading
+pub mod TextReplies
+pub mod TextLines

@@ -1,5 +1,5 @@
 -- A write that is refused for a conflict shows its cause. First updater wins, and nobody waits for a writer. Own.
-use Rattle.std.specs.Prelude.{ℕ, ◌<◌, ◌≤◌, List, length, filter, Bool, ◌==◌, IsTrue, IsFalse, Option, Some, None, is_some, IsSome, IfSome, ⊤}
+use Rattle.std.specs.Prelude.{ℕ, ◌<◌, ◌≤◌, List, length, filter, ◌==◌, IsTrue, IsFalse, Option, Some, None, is_some, IsSome, IfSome, ⊤}
 use Rattle.std.specs.List.{list_any}
 use Rattle.hg_base.specs.declared.rid.Rid.{Rid}
 use Rattle.hg_base.specs.declared.writer.Writer.{Writer}

@@ -1,7 +1,7 @@
 -- Histories of commits: what a table holds that never reclaims.
 -- Group commit is that of Lee et al., "Hybrid Garbage Collection for Multi-Version Concurrency Control in SAP HANA",
 -- SIGMOD 2016, in outline; that numbers are 1, 2, 3, .. is own.
-use Rattle.std.specs.Prelude.{ℕ, zero, suc, ◌<◌, ◌≤◌, ◌⊎◌, List, [], ◌∷◌, length, map, filter, Bool, ◌&&◌, ◌==◌, nat_le, if◌then◌else◌, IsFalse, Option, Some, None, option_map, unwrap_or, ⊤}
+use Rattle.std.specs.Prelude.{ℕ, suc, ◌<◌, ◌≤◌, ◌⊎◌, List, [], ◌∷◌, length, map, filter, Bool, ◌&&◌, ◌==◌, nat_le, if◌then◌else◌, IsFalse, Option, Some, None, option_map, unwrap_or, ⊤}
 use Rattle.std.specs.List.{flat_map, list_any, cons_option}
 use Rattle.std.specs.Option.{option_or}
 use Rattle.hg_base.specs.declared.rid.Rid.{Rid}

@@ -1,6 +1,6 @@
 -- The replies are those of a table that never reclaims. Snapshot isolation; that a statement outside the declared
 -- tables is refused, and that a deletion of what is not seen writes nothing, is own.
-use Rattle.std.specs.Prelude.{◌≡◌, ℕ, ◌<◌, ◌≤◌, ◌⊎◌, ℤ, List, [], ◌∷◌, length, map, Bool, true, false, ◌&&◌, ◌==◌, IsTrue, IsFalse, Option, Some, None, is_some, IsSome, ⊤}
+use Rattle.std.specs.Prelude.{◌≡◌, ℕ, ◌≤◌, ◌⊎◌, ℤ, List, [], ◌∷◌, length, map, Bool, true, false, ◌&&◌, ◌==◌, IsTrue, IsFalse, Some, None, is_some, IsSome, ⊤}
 use Rattle.std.specs.List.{list_any}
 use Rattle.std.specs.Bool.{MatchBool}
 use Rattle.hg_base.specs.declared.rid.Rid.{Rid}

@@ -1,5 +1,5 @@
 -- What a printed text has to be: the headline, as one fact about a script and what was printed for it.
-use Rattle.std.specs.Prelude.{ℕ, ◌≤◌, List, []}
+use Rattle.std.specs.Prelude.{◌≤◌, List, []}
 use Rattle.hg_base.specs.declared.line.Line.{Line}
 use Rattle.hg_base.specs.declared.line.Printed.{Printed}
 use Rattle.hg_base.specs.Lists.{Each, EachAfter}

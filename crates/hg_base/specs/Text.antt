@@ -1,5 +1,5 @@
 -- The records of a printed text, as lists of fields. The bytes are made of them by the row text of a CSV writer.
-use Rattle.std.specs.Prelude.{◌≡◌, ℕ, ℤ, ◌<◌, ◌^◌, ◌+◌, List, [], ◌∷◌, ◌++◌, length, map, Bool, true, false, ◌||◌, ◌&&◌, ◌==◌, Option, Some, None, find, is_some, is_none, IsTrue, IfSome, MatchOption, codes, decimal, if◌then◌else◌, ⊤}
+use Rattle.std.specs.Prelude.{◌≡◌, ℕ, ℤ, ◌<◌, ◌^◌, List, [], ◌∷◌, ◌++◌, length, map, Bool, true, false, ◌&&◌, ◌==◌, Option, Some, None, find, is_some, is_none, IsTrue, IfSome, MatchOption, codes, decimal, if◌then◌else◌, ⊤}
 use Rattle.std.specs.Fmt.{signed_decimal}
 use Rattle.std.specs.List.{flat_map, slice_get}
 use Rattle.std.specs.Bool.{MatchBool}

@@ -4,10 +4,12 @@ ghost use Rattle.std.specs.Prelude.{◌≡◌, ℕ, suc, ◌<◌, ◌≤◌, Lis
 ghost use Rattle.hg_base.specs.declared.rid.Rid.{Rid};
 ghost use Rattle.hg_base.specs.declared.image.Image.{Image};
 ghost use Rattle.hg_base.specs.Lists.{Each, onto};
-ghost use Rattle.hg_base.specs.Script.{Mode};
 ghost use Rattle.hg_base.specs.History.{Commit, Group, History, IsGroup, NoLostUpdate, LosesNothing, group_at, image_in, writes, visible, nothing};
 ghost use Rattle.hg_base.specs.Transcript.{Said, committed, commit_by, history_of};
 ghost use Rattle.hg_base.specs.Sound.{IsRight, AreRight};
+ghost use Rattle.hg_base.specs.declared.line.Printed.{Printed};
+ghost use Rattle.hg_base.specs.Script.{Mode, Script};
+ghost use Rattle.hg_base.specs.Text.{IsFit, text_records};
 
 /// A reader at a snapshot sees the last write numbered at or below it, and nothing where there is none. A group that is
 /// added later changes nothing of what is seen below its number.
@@ -38,4 +40,10 @@ pub fn committing_line_stays_right()
         let h = history_of all in let c = commit_by (onto all []) new in
         AreRight mode all → committed new ≡ Some (suc (length h)) → IsGroup (suc (length h)) (c ∷ []) → LosesNothing h c →
         IsRight mode (h ++ (c ∷ []) ∷ []) (all ++ new ∷ []) (onto all []) new → AreRight mode (all ++ new ∷ []) }
+{}
+
+/// The records of a text determine what was printed: two printed values that fit one script and have the same records are
+/// equal.
+pub fn texts_determine_values()
+    ensures { (script : Script) (a b : Printed) → IsFit script a → IsFit script b → text_records script a ≡ text_records script b → a ≡ b }
 {}

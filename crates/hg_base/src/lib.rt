@@ -34,7 +34,7 @@ mod writer;
 pub use fault::{Failed, NoMemory};
 pub use image::Image;
 pub use laws::{
-    committing_line_stays_right, plain_line_stays_right, updates_are_kept,
+    committing_line_stays_right, plain_line_stays_right, texts_determine_values, updates_are_kept,
     visible_is_the_last_write,
 };
 pub use limits::{

@@ -1,0 +1,163 @@
+//! The versions of one record, with the calls that change them.
+
+ghost use Rattle.std.specs.Prelude.{◌≡◌, [], drop, not, IsTrue, IfOk, IfErr, IsOk, OnOk, OnErr, option_and_then};
+ghost use Rattle.std.specs.Option.{option_copied};
+ghost use Rattle.hg_base.specs.Lists.{Each};
+ghost use Rattle.hg_chain.specs.Versions.{NoOther, IsBelow, is_open_by, image_at, image_by, installed, stamped, left_by, oldest_at, others_at, numbered_image};
+
+use crate::version::{Stamp, Version};
+use hg_base::{Image, NoMemory, Writer};
+use std::alloc::Global;
+use std::collections::VecDeque;
+use std::marker::Model;
+
+/// A record's versions, newest first.
+#[derive(Debug, Drop)]
+pub struct Chain {
+    versions: VecDeque<Version>,
+}
+
+impl Model for Chain {
+    ghost use Rattle.std.specs.Prelude.{List};
+    ghost use Rattle.hg_chain.specs.declared.version.Version.{Version};
+
+    ghost Value = { List Version };
+
+    ghost use Rattle.hg_chain.specs.Versions.{IsChain};
+
+    ghost view = { λ a. a.versions.items };
+
+    ghost invariant = { λ a. IsChain a.versions.items };
+}
+
+/// What a cut took away: the newest version at the bound, by its number and image, and how many others.
+#[derive(Debug, Drop)]
+pub struct Cut {
+    pub image: Option<(u64, Image)>,
+    pub gone: u64,
+}
+
+impl Chain {
+    /// An empty chain. It takes no memory.
+    pub fn new(alloc: Global) -> Chain
+        ensures { result ≡ [] }
+    {
+        Chain {
+            versions: VecDeque::new(alloc),
+        }
+    }
+
+    /// What a reader at the snapshot sees.
+    pub fn visible(&self, at: u64) -> Option<&Image>
+        ensures { option_copied result ≡ image_at at self.now }
+    {
+        self.versions
+            .iter()
+            .find(|version| version.is_at_most(at))
+            .map(|version| &version.image)
+    }
+
+    fn is_open_by(&self, by: Writer) -> bool
+        ensures { result ≡ is_open_by by self.now }
+    {
+        match self.versions.front() {
+            Some(first) => first.is_written_by(by),
+            None => false,
+        }
+    }
+
+    /// What the transaction wrote itself.
+    pub fn own(&self, by: Writer) -> Option<&Image>
+        ensures { option_copied result ≡ image_by by self.now }
+    {
+        match self.versions.front() {
+            Some(first) if first.is_written_by(by) => Some(&first.image),
+            _ => None,
+        }
+    }
+
+    /// Writes an image. The answer says whether a version was added: the transaction's open write, if it has one, is
+    /// replaced, and no memory is taken then. A refusal hands the image back.
+    pub fn install(&mut self, by: Writer, image: Image) -> Result<bool, (Image, NoMemory)>
+        requires { NoOther by self.old }
+        ensures added { IfOk result (λ added. added ≡ not (is_open_by by self.old)) }
+        ensures ok { OnOk result (self.new ≡ installed by image self.old) }
+        ensures refused { IfErr result (λ e. e.0 ≡ image) }
+        ensures same { OnErr result (self.new ≡ self.old) }
+        ensures replaced { IsTrue (is_open_by by self.old) → IsOk result }
+    {
+        if self.is_open_by(by) {
+            self.versions[0].image = image;
+            return Ok(false);
+        }
+        let stamp = Stamp::Written(by);
+        match self.versions.push_front(Version { stamp, image }) {
+            Ok(()) => Ok(true),
+            Err(failed) => Err((failed.value.image, NoMemory)),
+        }
+    }
+
+    /// Removes the transaction's open write.
+    pub fn undo(&mut self, by: Writer)
+        requires { IsTrue (is_open_by by self.old) }
+        ensures { self.new ≡ drop 1 self.old }
+    {
+        let _ = by;
+        let _ = self.versions.pop_front();
+    }
+
+    /// Gives the transaction's open write its number.
+    pub fn stamp(&mut self, by: Writer, number: u64)
+        requires open_write { IsTrue (is_open_by by self.old) }
+        requires over { Each (IsBelow number) (drop 1 self.old) }
+        ensures { self.new ≡ stamped by number self.old }
+    {
+        self.versions[0].stamp = Stamp::Numbered { number, by };
+    }
+
+    /// Removes every version numbered at or below the bound, and hands out the newest of them.
+    pub fn cut(&mut self, bound: u64) -> Cut
+        ensures left { self.new ≡ left_by bound self.old }
+        ensures image { result.image ≡ oldest_at bound self.old }
+        ensures gone { result.gone ≡ others_at bound self.old }
+    {
+        let place = self
+            .versions
+            .iter()
+            .position(|version| version.is_at_most(bound));
+        match place {
+            None => Cut {
+                image: None,
+                gone: 0,
+            },
+            Some(place) => {
+                let gone = (self.versions.len() - place - 1) as u64;
+                self.versions.truncate(place + 1);
+                Cut {
+                    image: handed(self.versions.pop_back()),
+                    gone,
+                }
+            }
+        }
+    }
+}
+
+fn handed(version: Option<Version>) -> Option<(u64, Image)>
+    ensures { result ≡ option_and_then numbered_image version }
+{
+    match version {
+        Some(
+            Version {
+                stamp: Stamp::Numbered { number, by: _ },
+                image,
+            },
+        ) => Some((number, image)),
+        Some(
+            Version {
+                stamp: Stamp::Written(_),
+                image: _,
+            },
+        )
+        | None => None,
+    }
+}
