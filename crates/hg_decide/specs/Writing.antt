@@ -1,0 +1,97 @@
+-- How an example is written down: each record of the script beside the line that answers it.
+use Rattle.std.specs.Prelude.{ℕ, ℤ, List, [], ◌∷◌, ◌++◌, map, true, false, Some, None, codes}
+use Rattle.hg_base.specs.declared.rid.TableId.{TableId}
+use Rattle.hg_base.specs.declared.statement.Statement.{Statement}
+use Rattle.hg_base.specs.declared.statement.Statement.TheVariants.{Get, Put, Del}
+use Rattle.hg_base.specs.declared.statement.Record.{Record}
+use Rattle.hg_base.specs.declared.report.Kind.{Kind}
+use Rattle.hg_base.specs.declared.report.Told.{Told}
+use Rattle.hg_base.specs.declared.line.Answer.{Answer}
+use Rattle.hg_base.specs.declared.line.Answer.TheVariants.{Found, Swept}
+use Rattle.hg_base.specs.declared.line.Line.{Line}
+use Rattle.hg_base.specs.declared.line.Totals.{Totals}
+use Rattle.hg_base.specs.declared.line.Printed.{Printed}
+use Rattle.hg_base.specs.Script.{Declaration, Script}
+use Rattle.hg_base.specs.Text.{Field}
+
+-- a script with what is printed for it
+pub record Example : Type 0 where
+  pub script : Script
+  pub printed : Printed
+
+-- a record of a script with the line that answers it
+abbrev pub Exchange : Type 0
+Exchange = Record × Line
+
+abbrev pub example : List Declaration → List Exchange → Totals → Example
+example tables exchanges sums = record { script = record { tables = tables; records = map (λ e. e.0) exchanges }; printed = record { lines = map (λ e. e.1) exchanges; totals = sums } }
+
+-- made, undone, removed by the group, the table and the interval collector, and left
+abbrev pub totals : ℕ → ℕ → ℕ → ℕ → ℕ → ℕ → Totals
+totals made undone group table interval left = record { made = made; undone = undone; group = group; table = table; interval = interval; left = left }
+
+-- ---- tables and statements
+
+-- `table,t,1` first, and `table,u,1` behind it
+abbrev pub t : TableId
+t = record { 0 = 0 }
+
+abbrev pub u : TableId
+u = record { 0 = 1 }
+
+abbrev pub only_t : List Declaration
+only_t = record { name = codes "t"; columns = 1 } ∷ []
+
+abbrev pub t_and_u : List Declaration
+t_and_u = record { name = codes "t"; columns = 1 } ∷ record { name = codes "u"; columns = 1 } ∷ []
+
+abbrev pub get : TableId → ℕ → Statement
+get table key = Get (record { table = table; key = key })
+
+abbrev pub put : TableId → ℕ → ℤ → Statement
+put table key value = Put (record { table = table; key = key }) (value ∷ [])
+
+abbrev pub del : TableId → ℕ → Statement
+del table key = Del (record { table = table; key = key })
+
+-- ---- answers
+
+abbrev pub row : ℤ → Answer
+row value = Found (value ∷ [])
+
+-- the report of a pass: its mark, its horizon, how many versions it removed, and the snapshots that it met
+abbrev pub swept : Kind → ℕ → ℕ → ℕ → List Told → Answer
+swept kind mark horizon removed held = Swept (record { kind = kind; mark = mark; horizon = horizon; removed = removed; held = held })
+
+abbrev pub moved_of : ℕ → ℕ → Told
+moved_of session number = record { session = session; number = number; moved = true }
+
+abbrev pub unmoved_of : ℕ → ℕ → Told
+unmoved_of session number = record { session = session; number = number; moved = false }
+
+-- ---- lines: the session, the place of the record, and the answer
+
+-- in a transaction, or of a `gc`
+abbrev pub line : ℕ → ℕ → Answer → Line
+line session place answer = record { session = session; place = place; reply = record { at = None; answer = answer; number = None } }
+
+abbrev pub inside : ℕ → ℕ → Statement → Answer → Exchange
+inside session place statement answer = (record { place = place; session = session; statement = statement }, line session place answer)
+
+-- outside a transaction, at a snapshot
+abbrev pub outside : ℕ → ℕ → Statement → ℕ → Answer → Exchange
+outside session place statement at answer =
+    (record { place = place; session = session; statement = statement }, record { session = session; place = place; reply = record { at = Some at; answer = answer; number = None } })
+
+-- the same, of a write that is committed with a number
+abbrev pub outside_commit : ℕ → ℕ → Statement → ℕ → Answer → ℕ → Exchange
+outside_commit session place statement at answer number =
+    (record { place = place; session = session; statement = statement }, record { session = session; place = place; reply = record { at = Some at; answer = answer; number = Some number } })
+
+-- ---- the bytes
+
+-- a record of a text: fields joined by commas, and a line feed
+abbrev pub plain_row : List Field → List ℕ
+plain_row [] = codes "\n"
+plain_row (f ∷ []) = f ++ codes "\n"
+plain_row (f ∷ g ∷ more) = f ++ codes "," ++ plain_row (g ∷ more)
