@@ -1,9 +1,10 @@
 //! The versions of one record, with the calls that change them.
 
-ghost use Rattle.std.specs.Prelude.{◌≡◌, [], drop, not, IsTrue, IfOk, IfErr, IsOk, OnOk, OnErr, option_and_then};
+ghost use Rattle.std.specs.Prelude.{◌≡◌, [], drop, not, IsTrue, IfOk, IfErr, IsOk, OnOk, OnErr, option_and_then, length, take, ◌<◌, slice_get, None, find, count_by, ◌-◌, ◌≤◌};
+ghost use Rattle.std.specs.Bool.{OnFalse};
 ghost use Rattle.std.specs.Option.{option_copied};
 ghost use Rattle.hg_base.specs.Lists.{Each};
-ghost use Rattle.hg_chain.specs.Versions.{NoOther, IsBelow, is_open_by, image_at, image_by, installed, stamped, left_by, oldest_at, others_at, numbered_image};
+ghost use Rattle.hg_chain.specs.Versions.{NoOther, IsBelow, is_open_by, image_at, image_by, installed, stamped, left_by, oldest_at, others_at, numbered_image, is_at_most};
 
 use crate::version::{Stamp, Version};
 use hg_base::{Image, NoMemory, Writer};
@@ -57,7 +58,7 @@ impl Chain {
             .map(|version| &version.image)
     }
 
-    fn is_open_by(&self, by: Writer) -> bool
+    fn begins_open(&self, by: Writer) -> bool
         ensures { result ≡ is_open_by by self.now }
     {
         match self.versions.front() {
@@ -66,14 +67,23 @@ impl Chain {
         }
     }
 
+    // Whether the first version is an open write of the transaction. If not, no version is.
+    fn is_open_by(&self, by: Writer) -> bool
+        ensures open { result ≡ is_open_by by self.now }
+        ensures none { OnFalse result (image_by by self.now ≡ None) }
+    {
+        let _ = &self.versions;
+        self.begins_open(by)
+    }
+
     /// What the transaction wrote itself.
     pub fn own(&self, by: Writer) -> Option<&Image>
         ensures { option_copied result ≡ image_by by self.now }
     {
-        match self.versions.front() {
-            Some(first) if first.is_written_by(by) => Some(&first.image),
-            _ => None,
+        if !self.is_open_by(by) {
+            return None;
         }
+        self.versions.front().map(|first| &first.image)
     }
 
     /// Writes an image. The answer says whether a version was added: the transaction's open write, if it has one, is
@@ -115,31 +125,55 @@ impl Chain {
         self.versions[0].stamp = Stamp::Numbered { number, by };
     }
 
+    fn count_kept(&self, bound: u64) -> usize
+        ensures { result ≡ length (left_by bound self.now) }
+    {
+        self.versions
+            .iter()
+            .filter(|version| !version.is_at_most(bound))
+            .count()
+    }
+
+    // How many versions are not at the bound: since numbers fall, they stand in front of the others.
+    fn kept_by(&self, bound: u64) -> usize
+        ensures left { take result self.now ≡ left_by bound self.now }
+        ensures first { slice_get self.now result ≡ find (is_at_most bound) self.now }
+        ensures others { length self.now - result ≡ count_by (is_at_most bound) self.now }
+        ensures within { result ≤ length self.now }
+    {
+        let _ = &self.versions;
+        self.count_kept(bound)
+    }
+
     /// Removes every version numbered at or below the bound, and hands out the newest of them.
     pub fn cut(&mut self, bound: u64) -> Cut
         ensures left { self.new ≡ left_by bound self.old }
         ensures image { result.image ≡ oldest_at bound self.old }
         ensures gone { result.gone ≡ others_at bound self.old }
     {
-        let place = self
-            .versions
-            .iter()
-            .position(|version| version.is_at_most(bound));
-        match place {
-            None => Cut {
+        let kept = self.kept_by(bound);
+        let all = self.versions.len();
+        if kept == all {
+            return Cut {
                 image: None,
                 gone: 0,
-            },
-            Some(place) => {
-                let gone = (self.versions.len() - place - 1) as u64;
-                self.versions.truncate(place + 1);
-                Cut {
-                    image: handed(self.versions.pop_back()),
-                    gone,
-                }
-            }
+            };
+        }
+        Cut {
+            image: handed(take_tail(&mut self.versions, kept)),
+            gone: (all - kept - 1) as u64,
         }
     }
+}
+
+// Removes all behind the first `keep` versions, and hands out the first of them.
+fn take_tail(versions: &mut VecDeque<Version>, keep: usize) -> Option<Version>
+    requires { keep < length versions.old.items }
+    ensures left { versions.new.items ≡ take keep versions.old.items }
+    ensures first { result ≡ slice_get versions.old.items keep }
+{
+    versions.truncate(keep + 1);
+    versions.pop_back()
 }
 
 fn handed(version: Option<Version>) -> Option<(u64, Image)>

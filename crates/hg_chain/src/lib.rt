@@ -15,3 +15,6 @@ mod version;
 
 pub use chain::{Chain, Cut};
 pub use version::{Stamp, Version};
+
+#[cfg(test)]
+mod tests;

@@ -1,0 +1,17 @@
+use Rattle.std.proofs.Common.{◌≡◌, ◌+◌, ◌-◌, ◌≤◌, length, subst, arith}
+use Rattle.std.specs.Prelude.{count_by}
+use Rattle.hg_chain.specs.Versions.{IsChain, left_by, is_at_most}
+use Rattle.hg_chain.proofs.Cuts.{kept_left, kept_first, kept_sum}
+use Rattle.hg_chain.proofs.chain.Chain.kept_by.Goals as goal
+
+pub returns-clause-left : goal.returns-clause-left
+returns-clause-left c = rw c.count_kept.ensures (kept_left c.args.bound c.args.self.now (subst IsChain c.self.view_is c.self.invariant))
+
+pub returns-clause-first : goal.returns-clause-first
+returns-clause-first c = rw c.count_kept.ensures (kept_first c.args.bound c.args.self.now (subst IsChain c.self.view_is c.self.invariant))
+
+pub returns-clause-others : goal.returns-clause-others
+returns-clause-others c = let e = kept_sum c.args.bound c.args.self.now (subst IsChain c.self.view_is c.self.invariant) in rw c.count_kept.ensures (omega (arith, e))
+
+pub returns-clause-within : goal.returns-clause-within
+returns-clause-within c = let e = kept_sum c.args.bound c.args.self.now (subst IsChain c.self.view_is c.self.invariant) in rw c.count_kept.ensures (omega (arith, e))
