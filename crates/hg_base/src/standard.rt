@@ -1,6 +1,6 @@
 //! Standard input and output as a source and a sink. What they hold is not known: this is the trusted edge.
 
-ghost use Rattle.std.specs.Prelude.{None};
+ghost use Rattle.std.specs.Prelude.{◌≡◌, None};
 
 use crate::fault::Failed;
 use crate::outside::{Sink, Source};
@@ -14,7 +14,10 @@ pub struct StdinSource {
 }
 
 impl StdinSource {
-    pub fn new(inner: Stdin) -> StdinSource {
+    /// No fault has come yet.
+    pub fn new(inner: Stdin) -> StdinSource
+        ensures { ⟦<StdinSource as Source>⟧.faults result ≡ 0 }
+    {
         StdinSource { inner, faults: 0 }
     }
 }
@@ -43,7 +46,10 @@ pub struct StdoutSink {
 }
 
 impl StdoutSink {
-    pub fn new(inner: Stdout) -> StdoutSink {
+    /// No fault has come yet.
+    pub fn new(inner: Stdout) -> StdoutSink
+        ensures { ⟦<StdoutSink as Sink>⟧.faults result ≡ 0 }
+    {
         StdoutSink { inner, faults: 0 }
     }
 }
