@@ -1,0 +1,2 @@
+//! From a script's bytes to the text that is printed for it.
+#![tactic(auto)]
