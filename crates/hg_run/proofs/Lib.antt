@@ -5,3 +5,5 @@ pub mod Steps
 pub mod Counting
 pub mod Playing
 pub mod Versions
+pub mod Tying
+pub mod Living
