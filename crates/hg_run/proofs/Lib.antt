@@ -7,3 +7,13 @@ pub mod Playing
 pub mod Versions
 pub mod Tying
 pub mod Living
+pub mod Keys
+pub mod Entries
+pub mod Changes
+pub mod Settling
+pub mod Batches
+pub mod Keeping
+pub mod Committing
+pub mod Answering
+pub mod Closing
+pub mod Looping

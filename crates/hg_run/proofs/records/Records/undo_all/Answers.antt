@@ -1,0 +1,28 @@
+use Rattle.std.proofs.Common.{◌≡◌, ◌<◌, ◌+◌, length, drop, get_or, sym, subst, arith}
+use Rattle.std.specs.Prelude.{IsTrue}
+use Rattle.hg_base.specs.declared.rid.Rid.{Rid}
+use Rattle.hg_chain.specs.Versions.{is_open_by}
+use Rattle.hg_run.specs.Records.{versions_of}
+use Rattle.hg_run.proofs.Batches.{among_at, next_is_untouched, one_more_done}
+use Rattle.hg_run.proofs.records.Records.undo_all.Goals as goal
+
+abbrev first : Rid
+first = record { table = record { 0 = 0 }; key = 0 }
+
+pub undo-requires : goal.undo-requires
+undo-requires c =
+    let xs = c.args.rids.now in
+    let i = c.loop-rid.rid-index in
+    let less : i < length xs = omega arith in
+    let same = next_is_untouched (drop 1) (versions_of c.args.self.now) (versions_of c.loop-rid.self) xs i first less c.loop-rid.invariant.each c.requires.distinct in
+    subst (λ vs. IsTrue (is_open_by c.args.by vs)) (sym same) (c.requires.open_writes (get_or xs i first) (among_at xs i first less))
+
+pub loop-rid-preserved : goal.loop-rid-preserved
+loop-rid-preserved c =
+    let xs = c.args.rids.now in
+    let i = c.loop-rid.rid-index in
+    let less : i < length xs = omega arith in
+    record {
+      each = one_more_done (drop 1) (versions_of c.args.self.now) (versions_of c.loop-rid.self) xs i first less c.loop-rid.invariant.each c.requires.distinct (versions_of c.undo.new.self) c.undo.ensures.here c.undo.ensures.others;
+      held_is = let more = c.undo.ensures.held in let so_far = c.loop-rid.invariant.held_is in omega (arith, more, so_far);
+    }

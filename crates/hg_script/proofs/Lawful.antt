@@ -1,0 +1,197 @@
+-- A record that breaks no rule keeps the script lawful.
+use Rattle.std.proofs.Common.{◌≡◌, ◌<◌, ◌≤◌, ◌+◌, ℕ, Bool, true, false, not, ◌&&◌, ◌||◌, ◌==◌, nat_lt, nat_le, List, [], ◌∷◌, ◌++◌, length, map, drop, Option, Some, None, is_some, option_map, unwrap_or, position, if◌then◌else◌, refl, sym, subst, arith, length-append}
+use Rattle.std.proofs.lemmas.Bool.Decides.{nat_tests}
+use Rattle.std.proofs.lemmas.List.Quantifiers.{position-Some}
+use Rattle.hg_base.specs.declared.statement.Record.{Record}
+use Rattle.hg_base.specs.declared.statement.Statement.{Statement}
+use Rattle.hg_base.specs.Lists.{Each, Ascends}
+use Rattle.hg_base.specs.Script.{Declaration, Script}
+use Rattle.hg_script.specs.declared.code.Code.{Code}
+use Rattle.hg_script.specs.declared.number.Natural.{Natural}
+use Rattle.hg_script.specs.declared.number.Natural.TheVariants as n
+use Rattle.hg_script.specs.declared.rules.TheConstants.{SESSIONS}
+use Rattle.hg_script.specs.declared.values.Values.{Values}
+use Rattle.hg_script.specs.declared.values.Values.TheVariants.{No, Over, Are}
+use Rattle.hg_script.specs.declared.word.Word.{Word}
+use Rattle.hg_script.specs.declared.word.Word.TheVariants as word
+use Rattle.hg_script.specs.declared.draft.Ask.{Ask}
+use Rattle.hg_script.specs.declared.draft.Ask.TheVariants.{Begin, Get, Put, Commit}
+use Rattle.hg_script.specs.declared.draft.Draft.{Draft}
+use Rattle.hg_script.specs.declared.draft.Draft.TheVariants.{Table, Session}
+use Rattle.hg_script.specs.Number.{is_between, natural_of, value_of}
+use Rattle.hg_script.specs.Fields.{Field, Fields, nth, word_of}
+use Rattle.hg_script.specs.Draft.{draft_of, has_name, is_fresh, table_at, table_named, values_of}
+use Rattle.hg_script.specs.Rules.{count_of, first_table, count_breaks, number_breaks, range_breaks, name_breaks, columns_breaks, order_breaks}
+use Rattle.hg_script.specs.Meaning.{draft_code, first_code, nothing, or_next, refusal_from, refusal_of, row_of, script_from, script_of, statement_of, with_draft, with_row, with_word, word_code}
+use Rattle.hg_script.specs.Lawful.{FitsTables, IsAmong, IsLawful, IsStatement, IsTable}
+
+-- ---- lists
+
+each-one : {X : Type 0} (P : X → Type 0) (xs : List X) (x : X) → Each P xs → P x → Each P (xs ++ x ∷ [])
+each-one P [] x h k = (k, tt)
+each-one P (y ∷ ys) x h k = (h.0, each-one P ys x h.1 k)
+
+-- every statement stands before this place
+abbrev pub Before : ℕ → List Record → Type 0
+Before place rs = Each (λ r. r.place < place) rs
+
+later : (place : ℕ) (rs : List Record) → Before place rs → Before (place + 1) rs
+later place [] h = tt
+later place (r ∷ rs) h = (omega (arith, h.0), later place rs h.1)
+
+ascends-one : (rs : List Record) (r : Record) → Ascends (map (λ r. r.place) rs) → Before r.place rs → Ascends (map (λ r. r.place) (rs ++ r ∷ []))
+ascends-one [] r h k = tt
+ascends-one (a ∷ []) r h k = (k.0, tt)
+ascends-one (a ∷ b ∷ rs) r h k = (h.0, ascends-one (b ∷ rs) r h.1 k.1)
+
+-- ---- the tests, as facts
+
+no-code : (b : Bool) (c : Code) (rest : Option Code) → (if b then Some c else rest) ≡ None → (b ≡ false) × (rest ≡ None)
+no-code true c rest e = absurd (let bad : ⊥ = cc e in bad)
+no-code false c rest e = (refl, e)
+
+-- the rules of a record that breaks none
+pub record Keeps (s : Script) (d : Draft) : Type 0 where
+  pub number : number_breaks d ≡ false
+  pub range : range_breaks d ≡ false
+  pub name : name_breaks d ≡ false
+  pub columns : columns_breaks s.tables d ≡ false
+  pub order : order_breaks s.records d ≡ false
+
+keeps : (s : Script) (d : Draft) → draft_code s d ≡ None → Keeps s d
+unfolding draft_code
+keeps s d e =
+    let a = no-code _ _ _ e in
+    let b = no-code _ _ _ a.1 in
+    let c = no-code _ _ _ b.1 in
+    let f = no-code _ _ _ c.1 in
+    let g = no-code _ _ _ f.1 in
+    record { number = a.0; range = b.0; name = c.0; columns = f.0; order = g.0 }
+
+pub record Lies (low high n : ℕ) : Type 0 where
+  pub some : low ≤ n
+  pub most : n ≤ high
+
+lies : (low high : ℕ) (k : Natural) → not (is_between low high k) ≡ false → Lies low high (value_of k)
+lies low high n.No e = absurd (let bad : ⊥ = cc e in bad)
+lies low high n.Over e = absurd (let bad : ⊥ = cc e in bad)
+lies low high (n.Is k) e = record { some = grind (arith, nat_tests, e); most = grind (arith, nat_tests, e) }
+
+left : (a b : Bool) → (a || b) ≡ false → a ≡ false
+left true b e = absurd (let bad : ⊥ = cc e in bad)
+left false b e = refl
+
+right : (a b : Bool) → (a || b) ≡ false → b ≡ false
+right true b e = absurd (let bad : ⊥ = cc e in bad)
+right false b e = e
+
+-- ---- tables
+
+-- a table that is found is one of the tables
+among-by : (tables : List Declaration) (name : Field) (place : Option ℕ) → position (has_name name) tables ≡ place
+    → not (is_some (option_map table_at place)) ≡ false
+    → IsAmong tables (unwrap_or (option_map table_at place) first_table)
+among-by tables name None e h = absurd (let bad : ⊥ = cc h in bad)
+among-by tables name (Some i) e h = (position-Some (has_name name) tables i (record { name = []; columns = 0 }) e).0
+
+among : (tables : List Declaration) (name : Field) → not (is_some (table_named tables name)) ≡ false → IsAmong tables (unwrap_or (table_named tables name) first_table)
+among tables name h = among-by tables name (position (has_name name) tables) refl h
+
+-- a row of as many values as its table has columns
+row-fits : (n : ℕ) (values : Values) → not (n == count_of values) ≡ false → length (row_of values) ≡ n
+row-fits n No h = grind (arith, nat_tests, h)
+row-fits n Over h = grind (arith, nat_tests, h)
+row-fits n (Are row) h = grind (arith, nat_tests, h)
+
+-- ---- records
+
+-- the script so far, where the next record stands at this place
+pub record Grown (place : ℕ) (s : Script) : Type 0 where
+  pub lawful : IsLawful s
+  pub before : Before place s.records
+
+abbrev with-statement : ℕ → Script → ℕ → Statement → Script
+with-statement place s session st = record s { records = s.records ++ (record { place = place; session = session; statement = st }) ∷ [] }
+
+statement-more : (place : ℕ) (s : Script) (session : ℕ) (st : Statement) → Grown place s → Lies 1 SESSIONS session → FitsTables s.tables st
+    → Grown (place + 1) (with-statement place s session st)
+statement-more place s session st g in_range fits =
+    let added : Record = record { place = place; session = session; statement = st } in record {
+      lawful = record {
+        most = g.lawful.most;
+        tables = g.lawful.tables;
+        statements = each-one (IsStatement s.tables) s.records added g.lawful.statements (record { some = in_range.some; most = in_range.most; fits = fits });
+        places = ascends-one s.records added g.lawful.places g.before;
+      };
+      before = each-one (λ r. r.place < place + 1) s.records added (later place s.records g.before) (omega arith);
+    }
+
+none-left : (rs : List Record) → nat_lt 0 (length rs) ≡ false → rs ≡ []
+none-left [] h = refl
+none-left (r ∷ rs) h = absurd (let bad : 0 < 0 = grind (arith, nat_tests, h) in omega (arith, bad))
+
+table-more : (place : ℕ) (s : Script) (d : Declaration) → Grown place s → length s.tables < 16 → IsTable d → s.records ≡ []
+    → Grown (place + 1) (record s { tables = s.tables ++ d ∷ [] })
+table-more place s d g room is none = record {
+  lawful = record {
+    most = omega (arith, length-append s.tables (d ∷ []), room);
+    tables = each-one IsTable s.tables d g.lawful.tables is;
+    statements = subst (λ rs. Each (IsStatement (s.tables ++ d ∷ [])) rs) (sym none) tt;
+    places = g.lawful.places;
+  };
+  before = later place s.records g.before;
+}
+
+fresh-name : (a b : Bool) → not (a && b) ≡ false → a ≡ true
+fresh-name true b h = refl
+fresh-name false b h = absurd (let bad : ⊥ = cc h in bad)
+
+has-room : (n : ℕ) → nat_le 16 n ≡ false → n < 16
+has-room n h = grind (arith, nat_tests, h)
+
+asked-more : (place : ℕ) (s : Script) (session : Natural) (ask : Ask) → Grown place s → range_breaks (Session session ask) ≡ false
+    → FitsTables s.tables (statement_of ask) → Grown (place + 1) (with-statement place s (value_of session) (statement_of ask))
+asked-more place s session ask g range fits =
+    statement-more place s (value_of session) (statement_of ask) g (lies 1 SESSIONS session (left _ _ range)) fits
+
+declared-more : (place : ℕ) (s : Script) (name : Field) (columns : Natural) → Grown place s → nat_le 16 (length s.tables) ≡ false
+    → Keeps s (Table (is_fresh s.tables name) columns)
+    → Grown (place + 1) (record s { tables = s.tables ++ (record { name = name; columns = value_of columns }) ∷ [] })
+declared-more place s name columns g count k =
+    let lie = lies 1 8 columns k.range in
+    table-more place s (record { name = name; columns = value_of columns }) g (has-room _ count)
+    (record { name = fresh-name _ _ k.name; some = lie.some; most = lie.most }) (none-left s.records k.order)
+
+by-word : (place : ℕ) (s : Script) (r : Fields) (w : Word) → Grown place s → count_breaks place s.tables (Some w) ≡ false
+    → Keeps s (draft_of s.tables w r) → Grown (place + 1) (with_draft place s r (draft_of s.tables w r))
+by-word place s r word.Table g count k = declared-more place s (nth r 1) (natural_of (nth r 2)) g (right _ _ count) k
+by-word place s r word.Begin g count k = asked-more place s (natural_of (nth r 0)) Begin g k.range tt
+by-word place s r word.Get g count k =
+    asked-more place s (natural_of (nth r 0)) (Get (table_named s.tables (nth r 2)) (natural_of (nth r 3))) g k.range (among s.tables (nth r 2) k.name)
+by-word place s r word.Put g count k =
+    asked-more place s (natural_of (nth r 0)) (Put (table_named s.tables (nth r 2)) (natural_of (nth r 3)) (values_of (drop 4 r))) g k.range
+    (among s.tables (nth r 2) k.name, row-fits _ _ k.columns)
+by-word place s r word.Commit g count k = asked-more place s (natural_of (nth r 0)) Commit g k.range tt
+
+by-words : (place : ℕ) (s : Script) (r : Fields) (w : Option Word) → Grown place s → count_breaks place s.tables w ≡ false
+    → word_code s r w ≡ None → Grown (place + 1) (with_word place s r w)
+by-words place s r None g count e = absurd (let bad : ⊥ = cc e in bad)
+by-words place s r (Some w) g count e = by-word place s r w g count (keeps s (draft_of s.tables w r) (no-code _ _ _ e).1)
+
+one-more : (place : ℕ) (s : Script) (r : Fields) → Grown place s → first_code place s r ≡ None → Grown (place + 1) (with_row place s r)
+unfolding first_code with_row
+one-more place s r g e = let k = no-code _ _ _ e in by-words place s r (word_of r) g k.0 k.1
+
+none-first : (place : ℕ) (o : Option Code) (next : Option (ℕ × Code)) → or_next place o next ≡ None → (o ≡ None) × (next ≡ None)
+none-first place None next e = (refl, e)
+none-first place (Some c) next e = absurd (let bad : ⊥ = cc e in bad)
+
+lawful-from : (place : ℕ) (s : Script) (rows : List Fields) → Grown place s → refusal_from place s rows ≡ None → IsLawful (script_from place s rows)
+unfolding refusal_from script_from
+lawful-from place s [] g e = g.lawful
+lawful-from place s (r ∷ rs) g e =
+    let k = none-first _ _ _ e in lawful-from (place + 1) (with_row place s r) rs (one-more place s r g k.0) k.1
+
+-- the script of records that break no rule
+pub lawful : (rows : List Fields) → refusal_of rows ≡ None → IsLawful (script_of rows)
+lawful rows e = lawful-from 1 nothing rows (record { lawful = record { most = omega arith; tables = tt; statements = tt; places = tt }; before = tt }) e

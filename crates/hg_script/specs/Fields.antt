@@ -1,0 +1,33 @@
+-- A record as the list of its fields, and the word that says what it is.
+use Rattle.std.specs.Prelude.{ℕ, List, [], get_or, codes, bytes_eq, Option, Some, None, if◌then◌else◌}
+use Rattle.csv.specs.Reading.{default_config, records, strip_bom}
+use Rattle.hg_script.specs.declared.word.Word.{Word}
+use Rattle.hg_script.specs.declared.word.Word.TheVariants.{Table, Begin, Get, Put, Commit}
+
+-- a field is its bytes
+abbrev pub Field : Type 0
+Field = List ℕ
+
+abbrev pub Fields : Type 0
+Fields = List Field
+
+-- the records of a text, without a byte order mark at its start
+abbrev pub rows_of : List ℕ → List Fields
+rows_of bytes = records default_config (strip_bom bytes)
+
+-- the field at a place, counted from 0, and no bytes where there is none
+abbrev pub nth : Fields → ℕ → Field
+nth r i = get_or r i []
+
+-- the words of this version's statements
+abbrev pub statement_word : Field → Option Word
+statement_word word =
+    if bytes_eq word (codes "begin") then Some Begin
+    else (if bytes_eq word (codes "get") then Some Get
+    else (if bytes_eq word (codes "put") then Some Put
+    else (if bytes_eq word (codes "commit") then Some Commit
+    else None)))
+
+-- A table record is one whose first field is `table`. Every other is a session's, and its second field is its word.
+abbrev pub word_of : Fields → Option Word
+word_of r = if bytes_eq (nth r 0) (codes "table") then Some Table else statement_word (nth r 1)

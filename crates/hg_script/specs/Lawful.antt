@@ -1,0 +1,43 @@
+-- What a script is that breaks no rule, in words of its own.
+use Rattle.std.specs.Prelude.{◌≡◌, ◌<◌, ◌≤◌, List, length, map, IsTrue, ⊤}
+use Rattle.hg_base.specs.declared.limits.TheConstants.{MOST_TABLES, MOST_COLUMNS}
+use Rattle.hg_base.specs.declared.rid.TableId.{TableId}
+use Rattle.hg_base.specs.declared.statement.Record.{Record}
+use Rattle.hg_base.specs.declared.statement.Statement.{Statement}
+use Rattle.hg_base.specs.declared.statement.Statement.TheVariants as say
+use Rattle.hg_base.specs.Lists.{Each, Ascends}
+use Rattle.hg_base.specs.Script.{Declaration, Script}
+use Rattle.hg_base.specs.Text.{columns_of}
+use Rattle.hg_script.specs.declared.rules.TheConstants.{SESSIONS}
+use Rattle.hg_script.specs.Draft.{is_name}
+
+-- a table by a name, of some columns
+pub record IsTable (d : Declaration) : Type 0 where
+  pub name : IsTrue (is_name d.name)
+  pub some : 1 ≤ d.columns
+  pub most : d.columns ≤ MOST_COLUMNS
+
+-- one of the tables
+abbrev pub IsAmong : List Declaration → TableId → Type 0
+IsAmong tables table = table.0 < length tables
+
+-- a statement on a table that is declared, and a row of as many values as it has columns
+abbrev pub FitsTables : List Declaration → Statement → Type 0
+FitsTables tables (say.Get r) = IsAmong tables r.table
+FitsTables tables (say.Put r row) = IsAmong tables r.table × (length row ≡ columns_of tables r.table)
+FitsTables tables (say.Del r) = IsAmong tables r.table
+FitsTables tables (say.Scan table low high) = IsAmong tables table
+FitsTables tables _ = ⊤
+
+-- a statement of a session that there is
+pub record IsStatement (tables : List Declaration) (r : Record) : Type 0 where
+  pub some : 1 ≤ r.session
+  pub most : r.session ≤ SESSIONS
+  pub fits : FitsTables tables r.statement
+
+-- No more tables than there may be, and statements that fit them, by ascending place.
+pub record IsLawful (s : Script) : Type 0 where
+  pub most : length s.tables ≤ MOST_TABLES
+  pub tables : Each IsTable s.tables
+  pub statements : Each (IsStatement s.tables) s.records
+  pub places : Ascends (map (λ r. r.place) s.records)

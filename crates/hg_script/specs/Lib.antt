@@ -1,0 +1,9 @@
+-- What a script's bytes mean. A reader meets the definitions in this order.
+pub mod Number
+pub mod Fields
+pub mod Draft
+pub mod Rules
+pub mod Meaning
+pub mod Lawful
+-- What the reader keeps.
+pub mod Sessions

@@ -1,0 +1,9 @@
+-- What the reader keeps of the sessions.
+use Rattle.std.specs.Prelude.{◌≡◌, ℕ, ◌≤◌, List, get_or, Bool, false}
+use Rattle.hg_base.specs.declared.limits.TheConstants.{MOST_SESSIONS}
+use Rattle.hg_base.specs.declared.statement.Record.{Record}
+use Rattle.hg_script.specs.Rules.{is_open}
+
+-- for each session, whether its transaction is open
+abbrev pub KnowsOpen : List Bool → List Record → Type 0
+KnowsOpen flags records = (j : ℕ) → j ≤ MOST_SESSIONS → get_or flags j false ≡ is_open j records

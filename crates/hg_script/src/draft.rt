@@ -1,0 +1,104 @@
+//! A record with its fields read, each once, before its rules are tested.
+
+ghost use Rattle.std.specs.Prelude.{◌≡◌, ◌≤◌, IfOk, false, length};
+ghost use Rattle.csv.specs.Records.{fields_of};
+ghost use Rattle.hg_script.specs.Draft.{draft_of};
+ghost use Rattle.hg_script.specs.Rules.{ask_number_breaks, ask_range_breaks, fields_breaks};
+ghost use Rattle.hg_script.specs.Meaning.{rid_of, statement_of};
+
+use crate::number::{Natural, read_natural};
+use crate::rules::FIRST_TABLE;
+use crate::table::{Table, find_table, is_free};
+use crate::values::Values;
+use crate::word::{Word, field};
+use csv::ByteRecord;
+use hg_base::{MOST_TABLES, NoMemory, Rid, Scope, Statement, TableId};
+use std::alloc::Global;
+
+/// What a session's record asks. A table that is not declared is `None`.
+#[derive(Debug, Drop)]
+pub enum Ask {
+    Begin,
+    Get {
+        table: Option<TableId>,
+        key: Natural,
+    },
+    Put {
+        table: Option<TableId>,
+        key: Natural,
+        values: Values,
+    },
+    Commit,
+}
+
+/// A record that has the fields of its word.
+#[derive(Debug, Drop)]
+pub enum Draft {
+    /// Whether the name is one that a table may take, and the number of columns.
+    Table { fresh: bool, columns: Natural },
+    Session { session: Natural, ask: Ask },
+}
+
+fn rid_at(table: Option<TableId>, key: Natural) -> Rid
+    ensures { result ≡ rid_of table key }
+{
+    Rid {
+        table: table.unwrap_or(FIRST_TABLE),
+        key: key.value(),
+    }
+}
+
+impl Ask {
+    /// The statement that is asked, where every number is one.
+    pub(crate) fn into_statement(self) -> Statement
+        requires number { ask_number_breaks self ≡ false }
+        requires range { ask_range_breaks self ≡ false }
+        ensures { result ≡ statement_of self }
+    {
+        match self {
+            Ask::Begin => Statement::Begin(Scope::All),
+            Ask::Get { table, key } => Statement::Get(rid_at(table, key)),
+            Ask::Put { table, key, values } => Statement::Put(
+                rid_at(table, key),
+                values.into_row(),
+            ),
+            Ask::Commit => Statement::Commit,
+        }
+    }
+}
+
+impl Draft {
+    /// Reads the fields of a record that has as many as its word asks for.
+    pub(crate) fn read(
+        alloc: Global,
+        tables: &[Table],
+        word: Word,
+        row: &ByteRecord,
+    ) -> Result<Draft, NoMemory>
+        requires tables { length tables.now ≤ MOST_TABLES }
+        requires fields { fields_breaks word (length (fields_of row.now)) ≡ false }
+        ensures { IfOk result (λ draft. draft ≡ draft_of tables.now word (fields_of row.now)) }
+    {
+        let ask = match word {
+            Word::Table => return Ok(Draft::Table {
+                fresh: is_free(tables, field(row, 1)),
+                columns: read_natural(field(row, 2)),
+            }),
+            Word::Begin => Ask::Begin,
+            Word::Get => Ask::Get {
+                table: find_table(tables, field(row, 2)),
+                key: read_natural(field(row, 3)),
+            },
+            Word::Put => Ask::Put {
+                table: find_table(tables, field(row, 2)),
+                key: read_natural(field(row, 3)),
+                values: Values::read(alloc, row)?,
+            },
+            Word::Commit => Ask::Commit,
+        };
+        Ok(Draft::Session {
+            session: read_natural(field(row, 0)),
+            ask,
+        })
+    }
+}

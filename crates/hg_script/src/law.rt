@@ -1,0 +1,10 @@
+//! Laws of the definitions, as contracts of functions that do nothing.
+
+ghost use Rattle.std.specs.Prelude.{◌≡◌, ◌↔◌, decimal};
+ghost use Rattle.hg_script.specs.Number.{natural_of};
+ghost use Rattle.hg_script.specs.declared.number.Natural.TheVariants.{Is};
+
+/// A field is the number `k` exactly where it is what is printed for `k`.
+pub fn numbers_are_decimal(_text: &[u8], _k: u64)
+    ensures { (natural_of _text.now ≡ Is _k) ↔ (_text.now ≡ decimal _k) }
+{}

@@ -1,0 +1,55 @@
+//! Reading a script from bytes.
+//!
+//! A script is a list of CSV records. Table records come first and declare the tables, each with its number of columns.
+//! Every other record is a statement of a session, with the session's number and then a word:
+//!
+//!     table,t,1        a table `t` of one column
+//!     1,begin          session 1 begins a transaction
+//!     1,put,t,5,7      the row of key 5 is 7
+//!     1,get,t,5
+//!     1,commit
+//!
+//! Records are counted from 1, table records included, and a statement keeps its count as its place.
+//!
+//! A script that breaks a rule is refused as a whole, with the first record that breaks one and its first code:
+//!
+//! | Code      | Breaks it |
+//! |-----------|-----------|
+//! | `Count`   | the record after the 1,048,576th, and the 17th table record |
+//! | `Word`    | a session record without a word, or with another than `begin`, `get`, `put` and `commit` |
+//! | `Fields`  | a number of fields that the record's word does not have |
+//! | `Number`  | a session, key, value or number of columns that is not written as a decimal number |
+//! | `Range`   | columns not from 1 to 8, a session other than 1, a key of more than 64 bits, a value out of a signed 64-bit number |
+//! | `Name`    | a table declared twice, or by no name of 1 to 32 letters, digits and `_`; a statement on a table that is not declared |
+//! | `Columns` | a put of another number of values than its table has columns |
+//! | `Order`   | a table record behind a session record, `begin` in a transaction, and any other statement outside of one |
+//!
+//! A number is `0`, or a digit from 1 to 9 and then digits; a value may be `-` and then such a number other than `0`.
+//!
+//! `specs/` says the same of whole lists of records: `rows_of` gives the records of the bytes, `refusal_of` the first
+//! that breaks a rule, and `script_of` the script. The reader goes over the bytes once. Of each record it reads the word
+//! (`Word`), then each field (`Draft`), and then tests the rules that ask for fields. `IsLawful` says in words of its own
+//! what a script is that is not refused.
+#![tactic(auto)]
+
+mod code;
+mod draft;
+mod law;
+mod number;
+mod reader;
+mod refusal;
+mod rules;
+mod script;
+mod sessions;
+mod table;
+#[cfg(test)]
+mod tests;
+mod values;
+mod word;
+
+pub use code::Code;
+pub use law::numbers_are_decimal;
+pub use reader::read_script;
+pub use refusal::ScriptRefusal;
+pub use script::Script;
+pub use table::Table;

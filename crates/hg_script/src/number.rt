@@ -1,0 +1,144 @@
+//! Numbers as a script writes them.
+
+ghost use Rattle.std.specs.Prelude.{◌≡◌};
+ghost use Rattle.std.specs.List.{list_all};
+ghost use Rattle.hg_script.specs.Number.{integer_of, is_between, is_digit, is_natural, is_no, is_over, minus, natural_of, plus, value_of};
+
+/// What a field is as a number of 64 bits without a sign.
+#[derive(Clone, Copy, Debug, PartialEq, Eq)]
+pub enum Natural {
+    /// Not written as a number.
+    No,
+    /// A greater number.
+    Over,
+    Is(u64),
+}
+
+/// What a field is as a number of 64 bits that may have a minus.
+#[derive(Clone, Copy, Debug, PartialEq, Eq)]
+pub(crate) enum Integer {
+    No,
+    Over,
+    Is(i64),
+}
+
+impl Natural {
+    pub(crate) fn is_no(self) -> bool
+        ensures { result ≡ is_no self }
+    {
+        match self {
+            Natural::No => true,
+            Natural::Over => false,
+            Natural::Is(_) => false,
+        }
+    }
+
+    pub(crate) fn is_over(self) -> bool
+        ensures { result ≡ is_over self }
+    {
+        match self {
+            Natural::No => false,
+            Natural::Over => true,
+            Natural::Is(_) => false,
+        }
+    }
+
+    pub(crate) fn is_between(self, low: u64, high: u64) -> bool
+        ensures { result ≡ is_between low high self }
+    {
+        match self {
+            Natural::No => false,
+            Natural::Over => false,
+            Natural::Is(number) => low <= number && number <= high,
+        }
+    }
+
+    /// The number, and 0 where it is none.
+    pub(crate) fn value(self) -> u64
+        ensures { result ≡ value_of self }
+    {
+        match self {
+            Natural::No => 0,
+            Natural::Over => 0,
+            Natural::Is(number) => number,
+        }
+    }
+
+    fn plus(self) -> Integer
+        ensures { result ≡ plus self }
+    {
+        match self {
+            Natural::No => Integer::No,
+            Natural::Over => Integer::Over,
+            Natural::Is(number) => {
+                if number < 1 << 63 {
+                    Integer::Is(number as i64)
+                } else {
+                    Integer::Over
+                }
+            }
+        }
+    }
+
+    fn minus(self) -> Integer
+        ensures { result ≡ minus self }
+    {
+        match self {
+            Natural::No => Integer::No,
+            Natural::Over => Integer::Over,
+            Natural::Is(number) => {
+                if number == 0 {
+                    Integer::No
+                } else if number < 1 << 63 {
+                    Integer::Is(-(number as i64))
+                } else if number == 1 << 63 {
+                    Integer::Is(i64::MIN)
+                } else {
+                    Integer::Over
+                }
+            }
+        }
+    }
+}
+
+fn has_digits_alone(text: &[u8]) -> bool
+    ensures { result ≡ list_all is_digit text.now }
+{
+    text.iter().all(|c| *c >= b'0' && *c <= b'9')
+}
+
+fn is_written_well(text: &[u8]) -> bool
+    ensures { result ≡ is_natural text.now }
+{
+    if text.is_empty() {
+        return false;
+    }
+    let leads_with_zero = text[0] == b'0' && text.len() > 1;
+    !leads_with_zero && has_digits_alone(text)
+}
+
+pub(crate) fn read_natural(text: &[u8]) -> Natural
+    ensures { result ≡ natural_of text.now }
+{
+    if !is_written_well(text) {
+        return Natural::No;
+    }
+    let mut value: u64 = 0;
+    for c in text {
+        let digit = (*c - b'0') as u64;
+        if value > (u64::MAX - digit) / 10 {
+            return Natural::Over;
+        }
+        value = value * 10 + digit;
+    }
+    Natural::Is(value)
+}
+
+pub(crate) fn read_integer(text: &[u8]) -> Integer
+    ensures { result ≡ integer_of text.now }
+{
+    if text.len() > 0 && text[0] == b'-' {
+        return read_natural(&text[1..]).minus();
+    }
+    read_natural(text).plus()
+}

@@ -1,0 +1,143 @@
+//! The loop over the records of a text.
+
+ghost use Rattle.std.specs.Prelude.{◌≡◌, ◌≤◌, Some, None, OnOk, IfOk, IfErr, false};
+ghost use Rattle.csv.specs.Reading.{NotLengths, error_kind};
+ghost use Rattle.csv.specs.Records.{fields_of};
+ghost use Rattle.hg_script.specs.declared.refusal.ScriptRefusal.TheVariants as refusal;
+ghost use Rattle.hg_script.specs.Fields.{rows_of, word_of};
+ghost use Rattle.hg_script.specs.Draft.{draft_of};
+ghost use Rattle.hg_script.specs.Rules.{count_breaks, number_breaks, range_breaks};
+ghost use Rattle.hg_script.specs.Meaning.{TellsCode, TellsRefusal, first_code, refusal_of, script_of, with_draft, with_row};
+ghost use Rattle.hg_script.specs.Lawful.{IsLawful};
+ghost use Rattle.hg_script.specs.Sessions.{KnowsOpen};
+
+use crate::code::Code;
+use crate::draft::Draft;
+use crate::refusal::ScriptRefusal;
+use crate::rules::{breaks_count, breaks_fields};
+use crate::script::Script;
+use crate::sessions::OpenSessions;
+use crate::table::Table;
+use crate::word::{Word, field};
+use csv::{ByteRecord, Error, ErrorKind, ReaderBuilder};
+use hg_base::{MOST_RECORDS, NoMemory, Record};
+use std::alloc::Global;
+
+// Adds a record that breaks no rule.
+fn add(
+    alloc: Global,
+    place: u64,
+    script: &mut Script,
+    sessions: &mut OpenSessions,
+    word: Word,
+    draft: Draft,
+    row: &ByteRecord,
+) -> Result<(), NoMemory>
+    requires known { KnowsOpen sessions.old.flags script.old.records }
+    requires count { count_breaks place script.old.tables (Some word) ≡ false }
+    requires draft { draft ≡ draft_of script.old.tables word (fields_of row.now) }
+    requires number { number_breaks draft ≡ false }
+    requires range { range_breaks draft ≡ false }
+    ensures script { OnOk result (script.new ≡ with_draft place script.old (fields_of row.now) draft) }
+    ensures known { OnOk result (KnowsOpen sessions.new.flags script.new.records) }
+{
+    match draft {
+        Draft::Table { columns, .. } => {
+            let table = Table::new(alloc, field(row, 1), columns.value() as u8)?;
+            script.declare(table)?;
+        }
+        Draft::Session { session, ask } => {
+            let session = session.value() as u32;
+            let statement = ask.into_statement();
+            sessions.note(session, &statement);
+            script.add(Record {
+                place,
+                session,
+                statement,
+            })?;
+        }
+    }
+    Ok(())
+}
+
+// Takes one more record, or tells the first rule that it breaks.
+#[tactic(auto, unfolding(crate::specs::Meaning::first_code, crate::specs::Meaning::with_row))]
+fn take(
+    alloc: Global,
+    place: u64,
+    script: &mut Script,
+    sessions: &mut OpenSessions,
+    row: &ByteRecord,
+) -> Result<(), ScriptRefusal>
+    requires known { KnowsOpen sessions.old.flags script.old.records }
+    ensures none { OnOk result (first_code place script.old (fields_of row.now) ≡ None) }
+    ensures script { OnOk result (script.new ≡ with_row place script.old (fields_of row.now)) }
+    ensures known { OnOk result (KnowsOpen sessions.new.flags script.new.records) }
+    ensures most { OnOk result (place ≤ MOST_RECORDS) }
+    ensures at { IfErr result (TellsCode place (first_code place script.old (fields_of row.now))) }
+{
+    let word = Word::read(row);
+    if breaks_count(place, script.tables(), word) {
+        return Err(refused(place, Code::Count));
+    }
+    let Some(word) = word else {
+        return Err(refused(place, Code::Word));
+    };
+    if breaks_fields(word, row.len()) {
+        return Err(refused(place, Code::Fields));
+    }
+    let draft = Draft::read(alloc, script.tables(), word, row)?;
+    if let Some(code) = draft.code(script, sessions) {
+        return Err(refused(place, code));
+    }
+    add(alloc, place, script, sessions, word, draft, row)?;
+    Ok(())
+}
+
+fn refused(line: u64, code: Code) -> ScriptRefusal
+    ensures { result ≡ refusal.At line code }
+{
+    ScriptRefusal::At { line, code }
+}
+
+/// Reads a script: the one that its records give, or the first record that breaks a rule.
+pub fn read_script(alloc: Global, bytes: &[u8]) -> Result<Script, ScriptRefusal>
+    ensures valid { OnOk result (refusal_of (rows_of bytes.now) ≡ None) }
+    ensures script { IfOk result (λ s. s ≡ script_of (rows_of bytes.now)) }
+    ensures at { IfErr result (TellsRefusal (refusal_of (rows_of bytes.now))) }
+
+    // So a table is declared, a row has its table's columns, and places ascend.
+    ensures lawful { IfOk result IsLawful }
+{
+    let mut reader = ReaderBuilder::new()
+        .has_headers(false)
+        .flexible(true)
+        .from_reader(alloc, bytes);
+    let mut row = ByteRecord::new(alloc);
+    let mut script = Script::new(alloc);
+    let mut sessions = OpenSessions::new();
+    for place in 1..MOST_RECORDS + 2 {
+        match reader.read_byte_record(&mut row) {
+            Ok(true) => take(alloc, place, &mut script, &mut sessions, &row)?,
+            Ok(false) => return Ok(script),
+            Err(e) => return Err(cause_of(&e)),
+        }
+    }
+    unreachable!()
+}
+
+// Records may differ in length, and bytes are not read as text. No clause of the CSV reader rules out its `Io` over bytes
+// in memory, where no read fails, so that counts as want of memory too.
+fn cause_of(e: &Error) -> ScriptRefusal
+    requires { NotLengths (error_kind e.now) }
+    ensures { result ≡ refusal.NoMemory }
+{
+    match e.kind() {
+        ErrorKind::UnequalLengths { .. } => unreachable!(),
+        ErrorKind::Io(_) => ScriptRefusal::NoMemory,
+        ErrorKind::Utf8 { .. } => ScriptRefusal::NoMemory,
+        ErrorKind::OutOfMemory => ScriptRefusal::NoMemory,
+        ErrorKind::Serialize(_) => ScriptRefusal::NoMemory,
+        ErrorKind::Deserialize { .. } => ScriptRefusal::NoMemory,
+    }
+}

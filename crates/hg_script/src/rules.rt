@@ -1,0 +1,181 @@
+//! The rules, one test for each code.
+
+ghost use Rattle.std.specs.Prelude.{◌≡◌, IfNone, false};
+ghost use Rattle.hg_base.specs.Text as base;
+ghost use Rattle.hg_script.specs.Rules.{ask_columns_breaks, ask_name_breaks, ask_number_breaks, ask_order_breaks, ask_range_breaks, columns_breaks, count_breaks, fields_breaks, name_breaks, number_breaks, order_breaks, range_breaks};
+ghost use Rattle.hg_script.specs.Meaning.{draft_code};
+ghost use Rattle.hg_script.specs.Sessions.{KnowsOpen};
+
+use crate::code::Code;
+use crate::draft::{Ask, Draft};
+use crate::script::Script;
+use crate::sessions::OpenSessions;
+use crate::table::Table;
+use crate::word::Word;
+use hg_base::{MOST_COLUMNS, MOST_RECORDS, MOST_TABLES, Record, TableId};
+
+/// Sessions are numbered from 1 to this. The server has room for `MOST_SESSIONS` of them.
+pub const SESSIONS: u64 = 1;
+
+/// What stands for a table that is not declared, where no rule asks for one.
+pub(crate) const FIRST_TABLE: TableId = TableId(0);
+
+pub(crate) fn breaks_count(place: u64, tables: &[Table], word: Option<Word>) -> bool
+    ensures { result ≡ count_breaks place tables.now word }
+{
+    place > MOST_RECORDS || (word == Some(Word::Table) && tables.len() >= MOST_TABLES as usize)
+}
+
+pub(crate) fn breaks_fields(word: Word, count: usize) -> bool
+    ensures { result ≡ fields_breaks word count }
+{
+    match word {
+        Word::Table => count != 3,
+        Word::Begin => count != 2,
+        Word::Get => count != 4,
+        Word::Put => count < 5 || count > 12,
+        Word::Commit => count != 2,
+    }
+}
+
+fn columns_of(tables: &[Table], table: TableId) -> u8
+    ensures { result ≡ base.columns_of tables.now table }
+{
+    match tables.get(table.0 as usize) {
+        Some(table) => table.columns(),
+        None => 0,
+    }
+}
+
+impl Ask {
+    fn breaks_number(&self) -> bool
+        ensures { result ≡ ask_number_breaks self.now }
+    {
+        match self {
+            Ask::Begin => false,
+            Ask::Get { key, .. } => key.is_no(),
+            Ask::Put { key, values, .. } => key.is_no() || values.is_no(),
+            Ask::Commit => false,
+        }
+    }
+
+    fn breaks_range(&self) -> bool
+        ensures { result ≡ ask_range_breaks self.now }
+    {
+        match self {
+            Ask::Begin => false,
+            Ask::Get { key, .. } => key.is_over(),
+            Ask::Put { key, values, .. } => key.is_over() || values.is_over(),
+            Ask::Commit => false,
+        }
+    }
+
+    fn breaks_name(&self) -> bool
+        ensures { result ≡ ask_name_breaks self.now }
+    {
+        match self {
+            Ask::Begin => false,
+            Ask::Get { table, .. } => !table.is_some(),
+            Ask::Put { table, .. } => !table.is_some(),
+            Ask::Commit => false,
+        }
+    }
+
+    fn breaks_columns(&self, tables: &[Table]) -> bool
+        ensures { result ≡ ask_columns_breaks tables.now self.now }
+    {
+        match self {
+            Ask::Begin => false,
+            Ask::Get { .. } => false,
+            Ask::Put { table, values, .. } => {
+                columns_of(tables, table.unwrap_or(FIRST_TABLE)) as usize != values.count()
+            }
+            Ask::Commit => false,
+        }
+    }
+
+    fn breaks_order(&self, within: bool) -> bool
+        ensures { result ≡ ask_order_breaks within self.now }
+    {
+        match self {
+            Ask::Begin => within,
+            Ask::Get { .. } => !within,
+            Ask::Put { .. } => !within,
+            Ask::Commit => !within,
+        }
+    }
+}
+
+impl Draft {
+    fn breaks_number(&self) -> bool
+        ensures { result ≡ number_breaks self.now }
+    {
+        match self {
+            Draft::Table { columns, .. } => columns.is_no(),
+            Draft::Session { session, ask } => session.is_no() || ask.breaks_number(),
+        }
+    }
+
+    fn breaks_range(&self) -> bool
+        ensures { result ≡ range_breaks self.now }
+    {
+        match self {
+            Draft::Table { columns, .. } => !columns.is_between(1, MOST_COLUMNS as u64),
+            Draft::Session { session, ask } => {
+                !session.is_between(1, SESSIONS) || ask.breaks_range()
+            }
+        }
+    }
+
+    fn breaks_name(&self) -> bool
+        ensures { result ≡ name_breaks self.now }
+    {
+        match self {
+            Draft::Table { fresh, .. } => !*fresh,
+            Draft::Session { ask, .. } => ask.breaks_name(),
+        }
+    }
+
+    fn breaks_columns(&self, tables: &[Table]) -> bool
+        ensures { result ≡ columns_breaks tables.now self.now }
+    {
+        match self {
+            Draft::Table { .. } => false,
+            Draft::Session { ask, .. } => ask.breaks_columns(tables),
+        }
+    }
+
+    fn breaks_order(&self, records: &[Record], sessions: &OpenSessions) -> bool
+        requires known { KnowsOpen sessions.now.flags records.now }
+        requires range { range_breaks self.now ≡ false }
+        ensures { result ≡ order_breaks records.now self.now }
+    {
+        match self {
+            Draft::Table { .. } => !records.is_empty(),
+            Draft::Session { session, ask } => ask.breaks_order(sessions.is_open(session.value())),
+        }
+    }
+
+    /// The first rule that the record breaks, of those that ask for its fields.
+    #[tactic(auto, unfolding(crate::specs::Meaning::draft_code))]
+    pub(crate) fn code(&self, script: &Script, sessions: &OpenSessions) -> Option<Code>
+        requires known { KnowsOpen sessions.now.flags script.now.records }
+        ensures code { result ≡ draft_code script.now self.now }
+        ensures number { IfNone result (number_breaks self.now ≡ false) }
+        ensures range { IfNone result (range_breaks self.now ≡ false) }
+    {
+        if self.breaks_number() {
+            Some(Code::Number)
+        } else if self.breaks_range() {
+            Some(Code::Range)
+        } else if self.breaks_name() {
+            Some(Code::Name)
+        } else if self.breaks_columns(script.tables()) {
+            Some(Code::Columns)
+        } else if self.breaks_order(script.records(), sessions) {
+            Some(Code::Order)
+        } else {
+            None
+        }
+    }
+}

@@ -1,0 +1,47 @@
+//! Which sessions are in a transaction.
+
+ghost use Rattle.std.specs.Prelude.{◌≡◌, ◌≤◌, ◌==◌, ℕ, [], false, get_or, if◌then◌else◌};
+ghost use Rattle.hg_script.specs.Sessions.{KnowsOpen};
+ghost use Rattle.hg_script.specs.Rules.{opened};
+
+use hg_base::{MOST_SESSIONS, Statement};
+
+/// For each session, by its number, whether its transaction is open.
+#[derive(Debug, Drop)]
+pub(crate) struct OpenSessions {
+    flags: [bool; MOST_SESSIONS as usize + 1],
+}
+
+impl OpenSessions {
+    pub(crate) fn new() -> OpenSessions
+        ensures { KnowsOpen result.flags [] }
+    {
+        OpenSessions {
+            flags: [false; MOST_SESSIONS as usize + 1],
+        }
+    }
+
+    pub(crate) fn is_open(&self, session: u64) -> bool
+        requires { session ≤ MOST_SESSIONS }
+        ensures { result ≡ get_or self.now.flags session false }
+    {
+        self.flags[session as usize]
+    }
+
+    /// Notes what a statement does to its session's transaction.
+    pub(crate) fn note(&mut self, session: u32, statement: &Statement)
+        requires { session ≤ MOST_SESSIONS }
+        ensures { (j : ℕ) → get_or self.new.flags j false ≡ (if session == j then opened (get_or self.old.flags j false) statement.now else get_or self.old.flags j false) }
+    {
+        match statement {
+            Statement::Begin(_) => self.flags[session as usize] = true,
+            Statement::Commit => self.flags[session as usize] = false,
+            Statement::Rollback => self.flags[session as usize] = false,
+            Statement::Get(_) => {}
+            Statement::Put(_, _) => {}
+            Statement::Del(_) => {}
+            Statement::Scan { .. } => {}
+            Statement::Gc(_) => {}
+        }
+    }
+}

@@ -1,0 +1,55 @@
+//! What a record says, by its first two fields.
+
+ghost use Rattle.std.specs.Prelude.{◌≡◌};
+ghost use Rattle.csv.specs.Records.{fields_of};
+ghost use Rattle.hg_script.specs.Fields.{nth, statement_word, word_of};
+
+use csv::ByteRecord;
+
+/// The declaration of a table, or a statement of a session.
+#[derive(Clone, Copy, Debug, PartialEq, Eq)]
+pub enum Word {
+    Table,
+    Begin,
+    Get,
+    Put,
+    Commit,
+}
+
+/// The field at this place, counted from 0, and no bytes where there is none.
+pub(crate) fn field(row: &ByteRecord, i: usize) -> &[u8]
+    ensures { result.now ≡ nth (fields_of row.now) i }
+{
+    match row.get(i) {
+        Some(bytes) => bytes,
+        None => &[],
+    }
+}
+
+fn read_statement_word(word: &[u8]) -> Option<Word>
+    ensures { result ≡ statement_word word.now }
+{
+    if word == b"begin".as_slice() {
+        Some(Word::Begin)
+    } else if word == b"get".as_slice() {
+        Some(Word::Get)
+    } else if word == b"put".as_slice() {
+        Some(Word::Put)
+    } else if word == b"commit".as_slice() {
+        Some(Word::Commit)
+    } else {
+        None
+    }
+}
+
+impl Word {
+    /// The record's word, if it has one.
+    pub(crate) fn read(row: &ByteRecord) -> Option<Word>
+        ensures { result ≡ word_of (fields_of row.now) }
+    {
+        if field(row, 0) == b"table".as_slice() {
+            return Some(Word::Table);
+        }
+        read_statement_word(field(row, 1))
+    }
+}
