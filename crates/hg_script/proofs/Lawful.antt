@@ -1,11 +1,12 @@
 -- A record that breaks no rule keeps the script lawful.
-use Rattle.std.proofs.Common.{◌≡◌, ◌<◌, ◌≤◌, ◌+◌, ℕ, Bool, true, false, not, ◌&&◌, ◌||◌, ◌==◌, nat_lt, nat_le, List, [], ◌∷◌, ◌++◌, length, map, drop, Option, Some, None, is_some, option_map, unwrap_or, position, if◌then◌else◌, refl, sym, subst, arith, length-append}
+use Rattle.std.proofs.Common.{◌≡◌, ◌<◌, ◌≤◌, ◌+◌, ℕ, Bool, true, false, not, ◌&&◌, ◌||◌, ◌==◌, nat_lt, nat_le, List, [], ◌∷◌, ◌++◌, length, map, drop, Option, Some, None, is_some, option_map, unwrap_or, position, if◌then◌else◌, refl, sym, subst, arith, length-append, append_assoc}
 use Rattle.std.proofs.lemmas.Bool.Decides.{nat_tests}
 use Rattle.std.proofs.lemmas.List.Quantifiers.{position-Some}
 use Rattle.hg_base.specs.declared.statement.Record.{Record}
 use Rattle.hg_base.specs.declared.statement.Statement.{Statement}
 use Rattle.hg_base.specs.Lists.{Each, Ascends}
 use Rattle.hg_base.specs.Script.{Declaration, Script}
+use Rattle.hg_base.proofs.ListFacts.{append_nil}
 use Rattle.hg_script.specs.declared.code.Code.{Code}
 use Rattle.hg_script.specs.declared.number.Natural.{Natural}
 use Rattle.hg_script.specs.declared.number.Natural.TheVariants as n
@@ -21,9 +22,9 @@ use Rattle.hg_script.specs.declared.draft.Draft.TheVariants.{Table, Session}
 use Rattle.hg_script.specs.Number.{is_between, natural_of, value_of}
 use Rattle.hg_script.specs.Fields.{Field, Fields, nth, word_of}
 use Rattle.hg_script.specs.Draft.{draft_of, has_name, is_fresh, table_at, table_named, values_of}
-use Rattle.hg_script.specs.Rules.{count_of, first_table, count_breaks, number_breaks, range_breaks, name_breaks, columns_breaks, order_breaks}
+use Rattle.hg_script.specs.Rules.{count_of, first_table, count_breaks, number_breaks, range_breaks, name_breaks, columns_breaks, ask_order_breaks, is_open, order_breaks}
 use Rattle.hg_script.specs.Meaning.{draft_code, first_code, nothing, or_next, refusal_from, refusal_of, row_of, script_from, script_of, statement_of, with_draft, with_row, with_word, word_code}
-use Rattle.hg_script.specs.Lawful.{FitsTables, IsAmong, IsLawful, IsStatement, IsTable}
+use Rattle.hg_script.specs.Lawful.{AreInOrder, FitsTables, IsAmong, IsLawful, IsStatement, IsTable, MayStand}
 
 -- ---- lists
 
@@ -43,6 +44,19 @@ ascends-one : (rs : List Record) (r : Record) → Ascends (map (λ r. r.place) r
 ascends-one [] r h k = tt
 ascends-one (a ∷ []) r h k = (k.0, tt)
 ascends-one (a ∷ b ∷ rs) r h k = (h.0, ascends-one (b ∷ rs) r h.1 k.1)
+
+-- one more record that may stand after those before it
+in-order-one : (before rs : List Record) (r : Record) → AreInOrder before rs → MayStand (is_open r.session (before ++ rs)) r.statement → AreInOrder before (rs ++ r ∷ [])
+in-order-one before [] r h may = (subst (λ ls. MayStand (is_open r.session ls) r.statement) (append_nil before) may, tt)
+in-order-one before (q ∷ qs) r h may = (h.0, in-order-one (before ++ q ∷ []) qs r h.1 (subst (λ ls. MayStand (is_open r.session ls) r.statement) (sym (append_assoc before (q ∷ []) qs)) may))
+
+-- what no rule of order refuses may stand
+may-stand : (within : Bool) (ask : Ask) → ask_order_breaks within ask ≡ false → MayStand within (statement_of ask)
+may-stand within Begin e = e
+may-stand within (Get table key) e = tt
+may-stand within (Put table key values) e = tt
+may-stand true Commit e = refl
+may-stand false Commit e = absurd (let bad : ⊥ = cc e in bad)
 
 -- ---- the tests, as facts
 
@@ -114,13 +128,14 @@ abbrev with-statement : ℕ → Script → ℕ → Statement → Script
 with-statement place s session st = record s { records = s.records ++ (record { place = place; session = session; statement = st }) ∷ [] }
 
 statement-more : (place : ℕ) (s : Script) (session : ℕ) (st : Statement) → Grown place s → Lies 1 SESSIONS session → FitsTables s.tables st
-    → Grown (place + 1) (with-statement place s session st)
-statement-more place s session st g in_range fits =
+    → MayStand (is_open session s.records) st → Grown (place + 1) (with-statement place s session st)
+statement-more place s session st g in_range fits may =
     let added : Record = record { place = place; session = session; statement = st } in record {
       lawful = record {
         most = g.lawful.most;
         tables = g.lawful.tables;
         statements = each-one (IsStatement s.tables) s.records added g.lawful.statements (record { some = in_range.some; most = in_range.most; fits = fits });
+        order = in-order-one [] s.records added g.lawful.order may;
         places = ascends-one s.records added g.lawful.places g.before;
       };
       before = each-one (λ r. r.place < place + 1) s.records added (later place s.records g.before) (omega arith);
@@ -137,6 +152,7 @@ table-more place s d g room is none = record {
     most = omega (arith, length-append s.tables (d ∷ []), room);
     tables = each-one IsTable s.tables d g.lawful.tables is;
     statements = subst (λ rs. Each (IsStatement (s.tables ++ d ∷ [])) rs) (sym none) tt;
+    order = g.lawful.order;
     places = g.lawful.places;
   };
   before = later place s.records g.before;
@@ -149,10 +165,10 @@ fresh-name false b h = absurd (let bad : ⊥ = cc h in bad)
 has-room : (n : ℕ) → nat_le 16 n ≡ false → n < 16
 has-room n h = grind (arith, nat_tests, h)
 
-asked-more : (place : ℕ) (s : Script) (session : Natural) (ask : Ask) → Grown place s → range_breaks (Session session ask) ≡ false
+asked-more : (place : ℕ) (s : Script) (session : Natural) (ask : Ask) → Grown place s → range_breaks (Session session ask) ≡ false → ask_order_breaks (is_open (value_of session) s.records) ask ≡ false
     → FitsTables s.tables (statement_of ask) → Grown (place + 1) (with-statement place s (value_of session) (statement_of ask))
-asked-more place s session ask g range fits =
-    statement-more place s (value_of session) (statement_of ask) g (lies 1 SESSIONS session (left _ _ range)) fits
+asked-more place s session ask g range order fits =
+    statement-more place s (value_of session) (statement_of ask) g (lies 1 SESSIONS session (left _ _ range)) fits (may-stand (is_open (value_of session) s.records) ask order)
 
 declared-more : (place : ℕ) (s : Script) (name : Field) (columns : Natural) → Grown place s → nat_le 16 (length s.tables) ≡ false
     → Keeps s (Table (is_fresh s.tables name) columns)
@@ -165,13 +181,13 @@ declared-more place s name columns g count k =
 by-word : (place : ℕ) (s : Script) (r : Fields) (w : Word) → Grown place s → count_breaks place s.tables (Some w) ≡ false
     → Keeps s (draft_of s.tables w r) → Grown (place + 1) (with_draft place s r (draft_of s.tables w r))
 by-word place s r word.Table g count k = declared-more place s (nth r 1) (natural_of (nth r 2)) g (right _ _ count) k
-by-word place s r word.Begin g count k = asked-more place s (natural_of (nth r 0)) Begin g k.range tt
+by-word place s r word.Begin g count k = asked-more place s (natural_of (nth r 0)) Begin g k.range k.order tt
 by-word place s r word.Get g count k =
-    asked-more place s (natural_of (nth r 0)) (Get (table_named s.tables (nth r 2)) (natural_of (nth r 3))) g k.range (among s.tables (nth r 2) k.name)
+    asked-more place s (natural_of (nth r 0)) (Get (table_named s.tables (nth r 2)) (natural_of (nth r 3))) g k.range k.order (among s.tables (nth r 2) k.name)
 by-word place s r word.Put g count k =
-    asked-more place s (natural_of (nth r 0)) (Put (table_named s.tables (nth r 2)) (natural_of (nth r 3)) (values_of (drop 4 r))) g k.range
+    asked-more place s (natural_of (nth r 0)) (Put (table_named s.tables (nth r 2)) (natural_of (nth r 3)) (values_of (drop 4 r))) g k.range k.order
     (among s.tables (nth r 2) k.name, row-fits _ _ k.columns)
-by-word place s r word.Commit g count k = asked-more place s (natural_of (nth r 0)) Commit g k.range tt
+by-word place s r word.Commit g count k = asked-more place s (natural_of (nth r 0)) Commit g k.range k.order tt
 
 by-words : (place : ℕ) (s : Script) (r : Fields) (w : Option Word) → Grown place s → count_breaks place s.tables w ≡ false
     → word_code s r w ≡ None → Grown (place + 1) (with_word place s r w)
@@ -194,4 +210,4 @@ lawful-from place s (r ∷ rs) g e =
 
 -- the script of records that break no rule
 pub lawful : (rows : List Fields) → refusal_of rows ≡ None → IsLawful (script_of rows)
-lawful rows e = lawful-from 1 nothing rows (record { lawful = record { most = omega arith; tables = tt; statements = tt; places = tt }; before = tt }) e
+lawful rows e = lawful-from 1 nothing rows (record { lawful = record { most = omega arith; tables = tt; statements = tt; order = tt; places = tt }; before = tt }) e

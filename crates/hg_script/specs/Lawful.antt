@@ -1,7 +1,8 @@
 -- What a script is that breaks no rule, in words of its own.
-use Rattle.std.specs.Prelude.{◌≡◌, ◌<◌, ◌≤◌, List, length, map, IsTrue, ⊤}
+use Rattle.std.specs.Prelude.{◌≡◌, ◌<◌, ◌≤◌, List, [], ◌∷◌, ◌++◌, length, map, Bool, IsTrue, IsFalse, ⊤}
 use Rattle.hg_base.specs.declared.limits.TheConstants.{MOST_TABLES, MOST_COLUMNS}
 use Rattle.hg_base.specs.declared.rid.TableId.{TableId}
+use Rattle.hg_base.specs.declared.scope.Scope.TheVariants.{All, Declared}
 use Rattle.hg_base.specs.declared.statement.Record.{Record}
 use Rattle.hg_base.specs.declared.statement.Statement.{Statement}
 use Rattle.hg_base.specs.declared.statement.Statement.TheVariants as say
@@ -10,6 +11,7 @@ use Rattle.hg_base.specs.Script.{Declaration, Script}
 use Rattle.hg_base.specs.Text.{columns_of}
 use Rattle.hg_script.specs.declared.rules.TheConstants.{SESSIONS}
 use Rattle.hg_script.specs.Draft.{is_name}
+use Rattle.hg_script.specs.Rules.{is_open}
 
 -- a table by a name, of some columns
 pub record IsTable (d : Declaration) : Type 0 where
@@ -35,9 +37,25 @@ pub record IsStatement (tables : List Declaration) (r : Record) : Type 0 where
   pub most : r.session ≤ SESSIONS
   pub fits : FitsTables tables r.statement
 
--- No more tables than there may be, and statements that fit them, by ascending place.
+-- A statement may stand where its session's transaction is open, or where it is not: a `begin` where it is not, a `commit`
+-- where it is. The other statements are not in this version, nor are declared tables.
+abbrev pub MayStand : Bool → Statement → Type 0
+MayStand within (say.Begin All) = IsFalse within
+MayStand within (say.Begin (Declared mask)) = ⊥
+MayStand within (say.Get r) = ⊤
+MayStand within (say.Put r row) = ⊤
+MayStand within say.Commit = IsTrue within
+MayStand within _ = ⊥
+
+-- each record may stand after those before it
+abbrev pub AreInOrder : List Record → List Record → Type 0
+AreInOrder before [] = ⊤
+AreInOrder before (r ∷ rs) = MayStand (is_open r.session before) r.statement × AreInOrder (before ++ r ∷ []) rs
+
+-- No more tables than there may be, and statements that fit them, in order, by ascending place.
 pub record IsLawful (s : Script) : Type 0 where
   pub most : length s.tables ≤ MOST_TABLES
   pub tables : Each IsTable s.tables
   pub statements : Each (IsStatement s.tables) s.records
+  pub order : AreInOrder [] s.records
   pub places : Ascends (map (λ r. r.place) s.records)

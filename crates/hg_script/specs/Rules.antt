@@ -117,11 +117,11 @@ opened_by j before r = if r.session == j then opened before r.statement else bef
 abbrev pub is_open : ℕ → List Record → Bool
 is_open j records = fold (opened_by j) false records
 
--- where the session's transaction is open, or not; in this version no get or put stands outside
+-- where the session's transaction is open, or not; a get or put outside is a transaction of its own
 abbrev pub ask_order_breaks : Bool → Ask → Bool
 ask_order_breaks within Begin = within
-ask_order_breaks within (Get table key) = not within
-ask_order_breaks within (Put table key values) = not within
+ask_order_breaks within (Get table key) = false
+ask_order_breaks within (Put table key values) = false
 ask_order_breaks within Commit = not within
 
 abbrev pub order_breaks : List Record → Draft → Bool

@@ -8,6 +8,7 @@
 //!     1,put,t,5,7      the row of key 5 is 7
 //!     1,get,t,5
 //!     1,commit
+//!     1,get,t,5        outside of a transaction: a transaction of its own
 //!
 //! Records are counted from 1, table records included, and a statement keeps its count as its place.
 //!
@@ -22,7 +23,7 @@
 //! | `Range`   | columns not from 1 to 8, a session other than 1, a key of more than 64 bits, a value out of a signed 64-bit number |
 //! | `Name`    | a table declared twice, or by no name of 1 to 32 letters, digits and `_`; a statement on a table that is not declared |
 //! | `Columns` | a put of another number of values than its table has columns |
-//! | `Order`   | a table record behind a session record, `begin` in a transaction, and any other statement outside of one |
+//! | `Order`   | a table record behind a session record, `begin` in a transaction, and `commit` outside of one |
 //!
 //! A number is `0`, or a digit from 1 to 9 and then digits; a value may be `-` and then such a number other than `0`.
 //!

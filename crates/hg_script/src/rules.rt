@@ -99,8 +99,8 @@ impl Ask {
     {
         match self {
             Ask::Begin => within,
-            Ask::Get { .. } => !within,
-            Ask::Put { .. } => !within,
+            Ask::Get { .. } => false,
+            Ask::Put { .. } => false,
             Ask::Commit => !within,
         }
     }

@@ -19,6 +19,15 @@ fn reads_a_script(rt: HostRuntime) {
 }
 
 #[test]
+fn takes_reads_and_writes_outside_of_a_transaction(rt: HostRuntime) {
+    let script = read_script(
+        rt.alloc(),
+        b"table,t,1\n1,put,t,5,7\n1,get,t,5\n1,begin\n1,commit",
+    );
+    assert_eq!(rt; script.ok().expect(&rt, "memory").records().len(), 4);
+}
+
+#[test]
 fn refuses_scripts(rt: HostRuntime) {
     for (text, line, code) in [
         ("1,commit", 1, Code::Order),
@@ -36,7 +45,6 @@ fn refuses_scripts(rt: HostRuntime) {
         ("table,t,1\n1,begin\n1,put,t,1,-0", 3, Code::Number),
         ("1,begin,t", 1, Code::Fields),
         ("table,t,1\n1,del,t,1", 2, Code::Word),
-        ("table,t,1\n1,get,t,1", 2, Code::Order),
         ("table,t,1\n1", 2, Code::Word),
         ("table,t,1\ntable,t,1", 2, Code::Name),
         ("table,a-b,1", 1, Code::Name),
