@@ -11,7 +11,8 @@ use Rattle.hg_base.specs.History.{NoneTwice}
 use Rattle.hg_base.specs.Lists.{Each}
 use Rattle.hg_base.specs.Counts.{live}
 use Rattle.hg_chain.specs.declared.version.Version.{Version}
-use Rattle.hg_run.specs.Plain.{Plain, MayStand, written, after, after_put, HasTotals}
+use Rattle.hg_run.specs.Plain.{Plain, written, after, after_put, HasTotals}
+use Rattle.hg_script.specs.Lawful.{MayStand}
 use Rattle.hg_run.specs.Records.{versions_of, held, lefts}
 use Rattle.hg_run.specs.Driving.{Kept, IsKept, after_read, PutsInside, PutsAlone, Commits}
 use Rattle.hg_run.proofs.Keeping.{kept_begin, kept_get, kept_put_in}

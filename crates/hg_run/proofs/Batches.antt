@@ -6,7 +6,7 @@ use Rattle.hg_base.specs.declared.rid.Rid.{Rid}
 use Rattle.hg_base.specs.History.{NoneTwice, same_rid, is_among}
 use Rattle.hg_base.proofs.ListFacts.{cases, false_true}
 use Rattle.hg_base.proofs.HistoryFacts.{same_rid_equal, same_rid_itself}
-use Rattle.hg_run.proofs.Writing.{true_false, or_left, or_right, same_rid_not}
+use Rattle.hg_run.proofs.OwnWrites.{true_false, or_left, or_right, same_rid_not}
 
 -- the record at a place is among them
 pub among_at : (xs : List Rid) (i : ℕ) (d : Rid) → i < length xs → is_among (get_or xs i d) xs ≡ true

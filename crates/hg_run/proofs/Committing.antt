@@ -18,7 +18,7 @@ use Rattle.hg_chain.specs.Versions.{IsBelow, NoOther, is_at_most, is_open_by, in
 use Rattle.hg_run.specs.Plain.{Plain, with_group, after, after_put, after_commit, answer_commit, HasTotals}
 use Rattle.hg_run.specs.Records.{versions_of, held, lefts}
 use Rattle.hg_run.specs.Driving.{Kept, IsKept, ShowsRecord, writer, PutsAlone, Commits, answer_written, is_any}
-use Rattle.hg_run.proofs.Writing.{true_false, same_rid_not}
+use Rattle.hg_run.proofs.OwnWrites.{true_false, same_rid_not}
 use Rattle.hg_run.proofs.Steps.{length_snoc}
 use Rattle.hg_run.proofs.Versions.{open_no_other}
 use Rattle.hg_run.proofs.Tying.{IsIdle, idle_shows, shows_idle, commit_elsewhere, commit_here, open_rest, alone_here, alone_elsewhere, later}

@@ -18,7 +18,7 @@ use Rattle.hg_base.specs.Shape.{same_kind, report_of}
 use Rattle.hg_base.specs.Counts.{first_write, first_writes_from, first_writes, is_committed, removed_by}
 use Rattle.hg_base.proofs.ListFacts.{cases, each_append, each_snoc, each_keeps, append_nil, cons_option_append}
 use Rattle.hg_run.specs.Plain.{Plain, answer_row, written, with_group, made_by}
-use Rattle.hg_run.proofs.Writing.{true_false, records_written}
+use Rattle.hg_run.proofs.OwnWrites.{true_false, records_written}
 use Rattle.hg_run.proofs.Standing.{Shows, Counts, IsSettled, pending, open_table, closed_table, said_begin, said_in, said_out}
 use Rattle.hg_run.proofs.Steps.{numbered_on, none_later, none_stored, same_number}
 

@@ -19,7 +19,7 @@ use Rattle.hg_chain.specs.Versions.{IsBelow, NoOther, is_open_by, image_at, imag
 use Rattle.hg_run.specs.Plain.{Plain, inside, answer_row, written, with_group, made_by, after, after_put, after_get, after_commit, answer_commit, reply_get}
 use Rattle.hg_run.specs.Records.{versions_of, held}
 use Rattle.hg_run.specs.Driving.{Kept, IsKept, ShowsRecord, settled_part, writer, nothing_kept, row_kept, reply_row, after_read, PutsInside, PutsAlone, Commits, answer_written, is_any}
-use Rattle.hg_run.proofs.Writing.{true_false, records_written, same_rid_not, or_left, or_right}
+use Rattle.hg_run.proofs.OwnWrites.{true_false, records_written, same_rid_not, or_left, or_right}
 use Rattle.hg_run.proofs.Steps.{length_snoc}
 use Rattle.hg_run.proofs.Counting.{length_append, any_append, or_false, or_true}
 use Rattle.hg_run.proofs.Versions.{open_no_other}

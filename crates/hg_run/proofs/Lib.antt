@@ -1,4 +1,6 @@
-pub mod Writing
+pub mod Known
+pub mod Exactly
+pub mod OwnWrites
 pub mod Standing
 pub mod Right
 pub mod Steps
@@ -17,3 +19,4 @@ pub mod Committing
 pub mod Answering
 pub mod Closing
 pub mod Looping
+pub mod Playable

@@ -17,7 +17,7 @@ use Rattle.hg_chain.specs.declared.version.Version.{Version}
 use Rattle.hg_chain.specs.Versions.{has_at_most, is_at_most, IsBelow, is_open_by, image_at, numbered_image, oldest_at}
 use Rattle.hg_run.specs.Records.{versions_of, row_at, lefts}
 use Rattle.hg_run.specs.Driving.{writer, settled_part, ShowsRecord}
-use Rattle.hg_run.proofs.Writing.{true_false, or_left, or_right, same_rid_sym, same_rid_not, same_rid_trans}
+use Rattle.hg_run.proofs.OwnWrites.{true_false, or_left, or_right, same_rid_sym, same_rid_not, same_rid_trans}
 use Rattle.hg_run.proofs.Versions.{below_within, image_behind, visible_newest}
 use Rattle.hg_run.proofs.Tying.{IsIdle, open_rest}
 

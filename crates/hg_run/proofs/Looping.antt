@@ -7,7 +7,8 @@ use Rattle.hg_base.specs.declared.line.Totals.{Totals}
 use Rattle.hg_base.specs.Script.{Script, replay}
 use Rattle.hg_base.specs.Sound.{IsSound}
 use Rattle.hg_base.proofs.ListFacts.{append_nil}
-use Rattle.hg_run.specs.Plain.{Plain, MayStand, IsPlayable, empty, reply_of, after, line_of, lines_from, after_all, HasTotals}
+use Rattle.hg_run.specs.Plain.{Plain, IsPlayable, empty, reply_of, after, line_of, lines_from, after_all, HasTotals}
+use Rattle.hg_script.specs.Lawful.{MayStand}
 use Rattle.hg_run.specs.Driving.{Kept, IsKept, nothing_kept}
 use Rattle.hg_run.proofs.Keeping.{nothing_is_kept}
 use Rattle.hg_run.proofs.Playing.{opened_after, plain_is_sound}
@@ -38,7 +39,7 @@ going_on k n lines r rest all reply g replies keeps =
       kept = keeps t g.kept g.may.1;
       told = append_assoc lines (new ∷ []) (lines_from (after t r.statement) rest) ∙ ap (λ (l : Line). lines ++ l ∷ lines_from (after t r.statement) rest) same ∙ g.told;
       ends = g.ends;
-      may = subst (λ b. IsPlayable b rest) (sym (opened_after r.statement t.count t.made t.opened t.own t.history)) g.may.2;
+      may = subst (λ b. IsPlayable b rest) (sym (opened_after r.statement t.count t.made t.opened t.own t.history g.may.1)) g.may.2;
     }
 
 -- at the end all is sound

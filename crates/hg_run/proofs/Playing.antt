@@ -21,7 +21,9 @@ use Rattle.hg_base.specs.Shape.{IsReportOf, HasShape}
 use Rattle.hg_base.specs.Counts.{AreTotals, live, removed_by}
 use Rattle.hg_base.specs.Sound.{AreRight, IsSound}
 use Rattle.hg_base.proofs.ListFacts.{append_nil}
-use Rattle.hg_run.specs.Plain.{Plain, MayStand, opened_by, IsPlayable, empty, reply_of, after, line_of, lines_from, after_all, HasTotals, inside, answer_row, answer_commit, written, with_group, made_by}
+use Rattle.hg_run.specs.Plain.{Plain, IsPlayable, empty, reply_of, after, line_of, lines_from, after_all, HasTotals, inside, answer_row, answer_commit, written, with_group, made_by}
+use Rattle.hg_script.specs.Lawful.{MayStand}
+use Rattle.hg_script.specs.Rules.{opened as opened_by}
 use Rattle.hg_run.proofs.Standing.{Shows, Counts, open_table, closed_table, ask, said_begin, said_in, said_out, reply_out, begin_line, inner_line, outer_line}
 use Rattle.hg_run.proofs.Steps.{table, begin_shows, get_in_shows, get_out_shows, put_in_shows, put_out_shows, ended_shows, committed_shows}
 use Rattle.hg_run.proofs.Counting.{begin_counts, get_in_counts, get_out_counts, put_in_counts, put_out_counts, ended_counts, committed_counts, none_removed}
@@ -103,18 +105,19 @@ goes q place count made false own h all earlier s may =
 
 -- ---- every statement
 
-pub opened_after : (q : Statement) (count made : ℕ) (opened : Bool) (own : List Write) (h : History) → (after (table count opened own h made) q).opened ≡ opened_by opened q
-opened_after (Begin scope) count made opened own h = refl
-opened_after (Get r) count made true own h = refl
-opened_after (Get r) count made false own h = refl
-opened_after (Put r row) count made true own h = refl
-opened_after (Put r row) count made false own h = refl
-opened_after CommitIt count made opened [] h = refl
-opened_after CommitIt count made opened (w ∷ ws) h = refl
-opened_after (Del r) count made opened own h = refl
-opened_after (Scan t low high) count made opened own h = refl
-opened_after Rollback count made opened own h = refl
-opened_after (Gc kind) count made opened own h = refl
+pub opened_after : (q : Statement) (count made : ℕ) (opened : Bool) (own : List Write) (h : History) → MayStand opened q
+    → (after (table count opened own h made) q).opened ≡ opened_by opened q
+opened_after (Begin scope) count made opened own h may = refl
+opened_after (Get r) count made true own h may = refl
+opened_after (Get r) count made false own h may = refl
+opened_after (Put r row) count made true own h may = refl
+opened_after (Put r row) count made false own h may = refl
+opened_after CommitIt count made opened [] h may = refl
+opened_after CommitIt count made opened (w ∷ ws) h may = refl
+opened_after (Del r) count made opened own h may = refl
+opened_after (Scan t low high) count made opened own h may = refl
+opened_after Rollback count made opened own h may = absurd may
+opened_after (Gc kind) count made opened own h may = refl
 
 pub said_one : (earlier : List Said) (t : Plain) (r : Record) → r.session ≡ 1 → next_said earlier t r.place r.statement ≡ said earlier r (reply_of t r.statement)
 said_one earlier t r e = let f : 1 ≡ r.session = sym e in λ i. said earlier (record { place = r.place; session = f i; statement = r.statement }) (reply_of t r.statement)
@@ -126,7 +129,7 @@ all_hold (r ∷ rs) all earlier t s p =
     let t' = after t r.statement in
     let rest = said_from (now ∷ earlier) rs (lines_from t' rs) in
     let next : Holds (all ++ now ∷ []) (now ∷ earlier) t' = subst (λ n. Goes all earlier t n t') (said_one earlier t r p.0) (goes r.statement r.place t.count t.made t.opened t.own t.history all earlier s p.1) in
-    let may : IsPlayable t'.opened rs = subst (λ b. IsPlayable b rs) (sym (opened_after r.statement t.count t.made t.opened t.own t.history)) p.2 in
+    let may : IsPlayable t'.opened rs = subst (λ b. IsPlayable b rs) (sym (opened_after r.statement t.count t.made t.opened t.own t.history p.1)) p.2 in
     subst (λ ls. Holds ls (onto rest (now ∷ earlier)) (after_all t' rs)) (append_assoc all (now ∷ []) rest) (all_hold rs (all ++ now ∷ []) (now ∷ earlier) t' next may)
 
 pub nothing_holds : Holds [] [] empty

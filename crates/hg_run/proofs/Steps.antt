@@ -17,7 +17,7 @@ use Rattle.hg_base.specs.Sound.{IsRight, AreRight}
 use Rattle.hg_base.proofs.ListFacts.{each_append, each_keeps, append_nil, not_equal}
 use Rattle.hg_base.proofs.Growth.{history_same, plain_stays, history_next, commit_stays, as_many}
 use Rattle.hg_run.specs.Plain.{Plain, inside, answer_row, written, commit_with, with_group, made_by}
-use Rattle.hg_run.proofs.Writing.{last_none_twice, some_writes, writes_at_most}
+use Rattle.hg_run.proofs.OwnWrites.{last_none_twice, some_writes, writes_at_most}
 use Rattle.hg_run.proofs.Standing.{Shows, Stands, AreOwn, open_table, closed_table, said_begin, said_in, said_out, stands_begun, stands_on, stands_ended, stands_outside}
 use Rattle.hg_run.proofs.Right.{begin_right, get_in_right, get_out_right, put_in_right, put_out_right, ended_right, committed_right}
 

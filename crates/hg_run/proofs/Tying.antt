@@ -13,7 +13,7 @@ use Rattle.hg_base.proofs.ListFacts.{cases, each_keeps}
 use Rattle.hg_base.proofs.HistoryFacts.{same_rid_equal, same_rid_itself}
 use Rattle.hg_run.specs.Plain.{with_group, written}
 use Rattle.hg_run.specs.Driving.{writer, settled_part, ShowsRecord}
-use Rattle.hg_run.proofs.Writing.{same_rid_not, true_false}
+use Rattle.hg_run.proofs.OwnWrites.{same_rid_not, true_false}
 use Rattle.hg_run.proofs.Steps.{length_snoc}
 use Rattle.hg_run.proofs.Versions.{visible_after, own_written, below_unwritten, below_more, none_open, none_by, all_below_more, all_no_other, image_later, image_behind}
 

@@ -18,7 +18,7 @@ use Rattle.hg_chain.specs.declared.version.Version.{Version}
 use Rattle.hg_chain.specs.Versions.{has_at_most, is_at_most, has_writer, is_written_by, HasBelow, IsBelow, NoOther, HasNoOther, open_write, numbered, is_open_by, image_at, image_by, installed, stamped}
 use Rattle.hg_run.specs.Plain.{commit_with, with_group, written}
 use Rattle.hg_run.specs.Driving.{writer, settled_part, ShowsRecord}
-use Rattle.hg_run.proofs.Writing.{last_image_in, writes_at_most, same_rid_not}
+use Rattle.hg_run.proofs.OwnWrites.{last_image_in, writes_at_most, same_rid_not}
 use Rattle.hg_run.proofs.Steps.{same_number, length_snoc}
 
 -- ---- what is visible at the newest group

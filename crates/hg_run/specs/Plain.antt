@@ -1,7 +1,6 @@
 -- A table of one session that keeps every write: what it replies, statement by statement.
 use Rattle.std.specs.Prelude.{◌≡◌, ℕ, suc, ◌+◌, ℤ, List, [], ◌∷◌, ◌++◌, length, Bool, true, false, IsTrue, IsFalse, Option, Some, None, is_none, if◌then◌else◌, ⊤}
 use Rattle.hg_base.specs.declared.rid.Rid.{Rid}
-use Rattle.hg_base.specs.declared.scope.Scope.TheVariants.{All, Declared}
 use Rattle.hg_base.specs.declared.statement.Statement.{Statement}
 use Rattle.hg_base.specs.declared.statement.Statement.TheVariants.{Begin, Get, Put, Del, Scan, Commit as CommitIt, Rollback, Gc}
 use Rattle.hg_base.specs.declared.statement.Record.{Record}
@@ -13,23 +12,10 @@ use Rattle.hg_base.specs.declared.line.Totals.{Totals}
 use Rattle.hg_base.specs.History.{Write, Commit, History, image_in, seen}
 use Rattle.hg_base.specs.Transcript.{last_images}
 use Rattle.hg_base.specs.Counts.{live}
+use Rattle.hg_script.specs.Lawful.{MayStand}
+use Rattle.hg_script.specs.Rules.{opened as opened_by}
 
--- ---- which statements may stand
-
--- the statements that a session may ask, where `opened` says whether its transaction is open
-abbrev pub MayStand : Bool → Statement → Type 0
-MayStand opened (Begin All) = IsFalse opened
-MayStand opened (Begin (Declared mask)) = ⊥
-MayStand opened (Get r) = ⊤
-MayStand opened (Put r row) = ⊤
-MayStand opened CommitIt = IsTrue opened
-MayStand opened _ = ⊥
-
--- whether a transaction is open after the statement
-abbrev pub opened_by : Bool → Statement → Bool
-opened_by opened (Begin scope) = true
-opened_by opened CommitIt = false
-opened_by opened _ = opened
+-- ---- which records it takes
 
 -- records of session 1, with its transactions in order
 abbrev pub IsPlayable : Bool → List Record → Type 0

@@ -7,7 +7,8 @@ ghost use Rattle.hg_base.specs.History.{NoneTwice, is_among};
 ghost use Rattle.hg_base.specs.Script.{replay};
 ghost use Rattle.hg_base.specs.Sound.{IsSound};
 ghost use Rattle.hg_chain.specs.Versions.{IsBelow, NoOther, is_open_by};
-ghost use Rattle.hg_run.specs.Plain.{Plain, MayStand, IsPlayable, HasTotals, inside, answer_row, written, reply_of, after};
+ghost use Rattle.hg_run.specs.Plain.{Plain, IsPlayable, HasTotals, inside, answer_row, written, reply_of, after};
+ghost use Rattle.hg_script.specs.Lawful.{MayStand};
 ghost use Rattle.hg_run.specs.Records.{versions_of, held};
 ghost use Rattle.hg_run.specs.Driving.{IsKept, nothing_kept, writer, row_kept, reply_row, after_read, PutsInside, PutsAlone, Commits, answer_written, GoesOn};
 

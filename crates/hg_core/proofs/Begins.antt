@@ -1,0 +1,157 @@
+-- The events of a session: each changes its phase, its register and its log.
+use Rattle.std.proofs.Common.{◌≡◌, ℕ, ◌<◌, ◌≤◌, List, [], ◌∷◌, ◌++◌, length, Option, None, Some, false, ◌⊎◌, inl, inr, refl, sym, ap, ◌∙◌, subst, arith}
+use Rattle.std.specs.Prelude.{if◌then◌else◌, IfSome, IsSome, IsTrue}
+use Rattle.hg_base.specs.declared.scope.Scope.{Scope}
+use Rattle.hg_core.specs.declared.register.Register.{Register}
+use Rattle.hg_core.specs.declared.register.Register.TheVariants as registers
+use Rattle.hg_core.specs.declared.phase.Phase.{Phase}
+use Rattle.hg_core.specs.declared.phase.Phase.TheVariants.{Idle, Probed, Entered, Fixed, Live}
+use Rattle.hg_core.specs.declared.log.LogEntry.{LogEntry}
+use Rattle.hg_core.specs.declared.log.LogEntry.TheVariants.{Began, Over}
+use Rattle.hg_core.specs.Logs.{begans, has_begun, UpTo}
+use Rattle.hg_core.specs.Phases.{IsSession, snapshot_in, IsEntering, MayHaveBegun}
+use Rattle.hg_core.specs.Passes.{found}
+use Rattle.hg_core.specs.State.{CoreState}
+use Rattle.hg_core.specs.Events.{put, happens, May, Probe, Enter, Fix, GoLive, End}
+use Rattle.hg_core.specs.Marks.{PhaseUpTo}
+use Rattle.hg_core.specs.Registers.{Shows}
+use Rattle.hg_core.specs.Bounds.{Bounds}
+use Rattle.hg_core.specs.Judged.{FixedOver, LogsAnswer}
+use Rattle.hg_core.specs.Invariant.{IsSteady}
+use Rattle.hg_core.proofs.Indices.{by_number, put_here, put_else, Only, only_put, only_same}
+use Rattle.hg_core.proofs.LogSteps.{log_step}
+use Rattle.hg_core.proofs.Recalls.{reach_step}
+
+-- a session turns to another phase
+turn : (s : CoreState) (j : ℕ) (p : Phase) (register : ℕ → Register) (log : ℕ → List LogEntry) (added : List LogEntry) → IsSteady s → IsSession s.sessions j
+    → PhaseUpTo s.mark p
+    → Shows s.tables p (register j)
+    → ((k : ℕ) → (k ≡ j → ⊥) → register k ≡ s.register k)
+    → ((q : ℕ) → IfSome (found j (s.pass q).loaded) (λ loaded. Bounds (s.pass q).mark loaded p))
+    → Only s.log log j (added ++ s.log j)
+    → (IsEntering (s.phase j) → IsTrue (has_begun added) ⊎ IsEntering p)
+    → LogsAnswer s.sessions s.each s.history (put s.phase j p) log
+    → IsSteady (record s { phase = put s.phase j p; register = register; log = log })
+turn s j p register log added h session up shows same bounds grown enters answer = record {
+  mark_is_length = record {
+    is_length = h.mark_is_length.is_length;
+    sessions = by_number j (λ k b. PhaseUpTo s.mark (if b then p else s.phase k)) up (λ k other. h.mark_is_length.sessions k);
+    passes = h.mark_is_length.passes;
+  };
+  registers_agree = record {
+    shows = by_number j (λ k b. Shows s.tables (if b then p else s.phase k) (register k)) shows (λ k other. rw (same k other) (h.registers_agree.shows k));
+    others = by_number j (λ k b. IsSession s.sessions k ⊎ ((if b then p else s.phase k) ≡ Idle)) (inl session) (λ k other. h.registers_agree.others k);
+  };
+  records_bound_sessions = λ q. by_number j (λ k b. IfSome (found k (s.pass q).loaded) (λ loaded. Bounds (s.pass q).mark loaded (if b then p else s.phase k))) (bounds q) (λ k other. h.records_bound_sessions q k);
+  records_reach_logs = reach_step s.phase (put s.phase j p) s.log log s.pass j p added h.records_reach_logs (only_put s.phase j p) grown enters;
+  logs_answer = answer;
+}
+
+-- its log stays
+quiet : (s : CoreState) (j : ℕ) (p : Phase) → IsSteady s → snapshot_in (s.phase j) ≡ snapshot_in p → FixedOver p (s.log j) → MayHaveBegun s.each p (begans (s.log j)) → LogsAnswer s.sessions s.each s.history (put s.phase j p) s.log
+quiet s j p h same over room = log_step s.sessions s.each s.history s.phase (put s.phase j p) s.log s.log j p (s.log j) h.logs_answer (only_put s.phase j p) (only_same s.log j) (h.logs_answer.reads j ∙ same) room over (h.logs_answer.within j) (h.logs_answer.judged j) (λ n. refl) (λ n e. e)
+
+-- only the board's sessions are not at rest
+session_at : (s : CoreState) (j : ℕ) → IsSteady s → (s.phase j ≡ Idle → ⊥) → IsSession s.sessions j
+session_at s j h awake = elim (h.registers_agree.others j) [ inl a ↦ a | inr a ↦ absurd (awake a) ]
+
+if_some_all : {X : Type 0} (o : Option X) (P : X → Type 0) → ((x : X) → P x) → IfSome o P
+if_some_all None P f = tt
+if_some_all (Some x) P f = f x
+
+if_some_keeps : {X : Type 0} (o : Option X) (P Q : X → Type 0) → ((x : X) → P x → Q x) → IfSome o P → IfSome o Q
+if_some_keeps None P Q f h = tt
+if_some_keeps (Some x) P Q f h = f x h
+
+pub probe_kept : (s : CoreState) (j : ℕ) → IsSteady s → May s (Probe j) → IsSteady (happens s (Probe j))
+probe_kept s j h may = turn s j (Probed s.mark) s.register s.log [] h may.session
+    (omega arith)
+    (subst (λ p. Shows s.tables p (s.register j)) may.rests (h.registers_agree.shows j))
+    (λ k other. refl)
+    (λ q. if_some_all _ _ (λ loaded. tt))
+    (only_same s.log j)
+    (λ e. let z = subst IsEntering may.rests e in absurd z)
+    (quiet s j (Probed s.mark) h (ap snapshot_in may.rests) tt may.room)
+
+pub enter_kept : (s : CoreState) (j f : ℕ) → IsSteady s → May s (Enter j f) → IsSteady (happens s (Enter j f))
+enter_kept s j f h may = turn s j (Entered f) (put s.register j (registers.Entering f)) s.log [] h (session_at s j h (λ e. cc))
+    (subst (PhaseUpTo s.mark) may (h.mark_is_length.sessions j))
+    (put_here s.register j (registers.Entering f))
+    (λ k other. put_else s.register j k (registers.Entering f) other)
+    (λ q. if_some_all _ _ (λ loaded. tt))
+    (only_same s.log j)
+    (λ e. inr tt)
+    (quiet s j (Entered f) h (ap snapshot_in may) tt (subst (λ p. MayHaveBegun s.each p (begans (s.log j))) may (h.logs_answer.room j)))
+
+pub fix_kept : (s : CoreState) (j f : ℕ) → IsSteady s → May s (Fix j f) → IsSteady (happens s (Fix j f))
+fix_kept s j f h may =
+    let up : f ≤ s.mark = subst (PhaseUpTo s.mark) may (h.mark_is_length.sessions j) in
+    turn s j (Fixed f s.mark) s.register s.log [] h (session_at s j h (λ e. cc))
+    (up, omega arith)
+    (subst (λ p. Shows s.tables p (s.register j)) may (h.registers_agree.shows j), up)
+    (λ k other. refl)
+    (λ q. if_some_all _ _ (λ loaded. inl (h.mark_is_length.passes q)))
+    (only_same s.log j)
+    (λ e. inr tt)
+    (quiet s j (Fixed f s.mark) h (ap snapshot_in may) (subst (λ n. UpTo n (s.log j)) (sym h.mark_is_length.is_length) (h.logs_answer.within j)) (subst (λ p. MayHaveBegun s.each p (begans (s.log j))) may (h.logs_answer.room j)))
+
+-- a fixed session's bound is a live one's
+bound_live : (mark f m : ℕ) (scope : Scope) (o : Option Register) → IfSome o (λ loaded. Bounds mark loaded (Fixed f m)) → IfSome o (λ loaded. Bounds mark loaded (Live m scope))
+bound_live mark f m scope None h = tt
+bound_live mark f m scope (Some loaded) h = elim h [ inl a ↦ inl a | inr a ↦ inr (inl a) ]
+
+pub go_live_kept : (s : CoreState) (j m : ℕ) (scope : Scope) → IsSteady s → May s (GoLive j m scope) → IsSteady (happens s (GoLive j m scope))
+go_live_kept s j m scope h may =
+    let f = may.fixed.0 in
+    let at : s.phase j ≡ Fixed f m = may.fixed.1 in
+    let up : (f ≤ s.mark) × (m ≤ s.mark) = subst (PhaseUpTo s.mark) at (h.mark_is_length.sessions j) in
+    let over : UpTo m (s.log j) = subst (λ p. FixedOver p (s.log j)) at (h.logs_answer.fixed j) in
+    let below : m ≤ length s.history = omega (arith, up.1, h.mark_is_length.is_length) in
+    turn s j (Live m scope) (put s.register j (registers.Live m scope false)) (put s.log j (Began m scope ∷ s.log j)) (Began m scope ∷ []) h (session_at s j h (λ e. cc))
+    up.1
+    (false, record { value = put_here s.register j (registers.Live m scope false); within = may.tables; declared = λ e. cc })
+    (λ k other. put_else s.register j k (registers.Live m scope false) other)
+    (λ q. bound_live _ f m scope _ (subst (λ p. IfSome (found j (s.pass q).loaded) (λ loaded. Bounds (s.pass q).mark loaded p)) at (h.records_bound_sessions q j)))
+    (only_put s.log j (Began m scope ∷ s.log j))
+    (λ e. inl refl)
+    (log_step s.sessions s.each s.history s.phase (put s.phase j (Live m scope)) s.log (put s.log j (Began m scope ∷ s.log j)) j (Live m scope) (Began m scope ∷ s.log j) h.logs_answer (only_put s.phase j (Live m scope)) (only_put s.log j (Began m scope ∷ s.log j))
+    refl
+    (let room : begans (s.log j) < s.each = subst (λ p. MayHaveBegun s.each p (begans (s.log j))) at (h.logs_answer.room j) in omega arith)
+    tt
+    (below, h.logs_answer.within j)
+    (record { within = below; over = over; alone = h.logs_answer.reads j ∙ ap snapshot_in at }, h.logs_answer.judged j)
+    (λ n. refl) (λ n e. e))
+
+-- a session that reads at a snapshot is live
+no_snapshot : (p : Phase) → IsSome (snapshot_in p) → p ≡ Idle → ⊥
+no_snapshot p some e = let z = subst (λ q. IsSome (snapshot_in q)) e some in cc
+
+not_entering : (p : Phase) → IsSome (snapshot_in p) → IsEntering p → ⊥
+not_entering (Entered f) some e = cc
+not_entering (Fixed f m) some e = cc
+not_entering Idle some e = e
+not_entering (Probed f) some e = e
+not_entering (Live at scope) some e = e
+
+live_room : (each n : ℕ) (p : Phase) → IsSome (snapshot_in p) → MayHaveBegun each p n → n ≤ each
+live_room each n Idle some e = e
+live_room each n (Probed f) some e = omega arith
+live_room each n (Entered f) some e = omega arith
+live_room each n (Fixed f m) some e = omega arith
+live_room each n (Live at scope) some e = e
+
+pub end_kept : (s : CoreState) (j : ℕ) → IsSteady s → May s (End j) → IsSteady (happens s (End j))
+end_kept s j h may = turn s j Idle (put s.register j registers.Idle) (put s.log j (Over ∷ s.log j)) (Over ∷ []) h (session_at s j h (no_snapshot _ may))
+    tt
+    (put_here s.register j registers.Idle)
+    (λ k other. put_else s.register j k registers.Idle other)
+    (λ q. if_some_all _ _ (λ loaded. tt))
+    (only_put s.log j (Over ∷ s.log j))
+    (λ e. absurd (not_entering _ may e))
+    (log_step s.sessions s.each s.history s.phase (put s.phase j Idle) s.log (put s.log j (Over ∷ s.log j)) j Idle (Over ∷ s.log j) h.logs_answer (only_put s.phase j Idle) (only_put s.log j (Over ∷ s.log j))
+    refl
+    (live_room _ _ _ may (h.logs_answer.room j))
+    tt
+    (h.logs_answer.within j)
+    (subst IsSome (sym (h.logs_answer.reads j)) may, h.logs_answer.judged j)
+    (λ n. refl) (λ n e. e))

@@ -1,0 +1,12 @@
+pub mod Indices
+pub mod LogSteps
+pub mod Recalls
+pub mod Begins
+pub mod Gathers
+pub mod Groups
+pub mod Publishing
+pub mod Runs
+pub mod Counting
+pub mod Words
+pub mod Fences
+pub mod Refused

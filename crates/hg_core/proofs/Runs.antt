@@ -1,0 +1,35 @@
+-- Each event keeps the invariant, so it holds after every list of events.
+use Rattle.std.proofs.Common.{ℕ, List, [], ◌∷◌, inr, refl, arith}
+use Rattle.hg_core.specs.State.{CoreState, opened}
+use Rattle.hg_core.specs.Events.{Event, Probe, Enter, Fix, GoLive, End, Mark, Sample, Move, Publish, happens, May, Run, run, Always}
+use Rattle.hg_core.specs.Invariant.{IsSteady}
+use Rattle.hg_core.proofs.Begins.{probe_kept, enter_kept, fix_kept, go_live_kept, end_kept}
+use Rattle.hg_core.proofs.Gathers.{mark_kept, sample_kept, move_kept}
+use Rattle.hg_core.proofs.Publishing.{publish_kept}
+
+pub kept : (s : CoreState) (e : Event) → IsSteady s → May s e → IsSteady (happens s e)
+kept s (Probe j) h may = probe_kept s j h may
+kept s (Enter j f) h may = enter_kept s j f h may
+kept s (Fix j f) h may = fix_kept s j f h may
+kept s (GoLive j m scope) h may = go_live_kept s j m scope h may
+kept s (End j) h may = end_kept s j h may
+kept s (Mark p known) h may = mark_kept s p known h may
+kept s (Sample p j) h may = sample_kept s p j h may
+kept s (Move p j) h may = move_kept s p j h may
+kept s (Publish sessions) h may = publish_kept s sessions h may
+
+pub run_kept : (s : CoreState) (events : List Event) → IsSteady s → Run s events → IsSteady (run s events)
+run_kept s [] h r = h
+run_kept s (e ∷ events) h r = run_kept (happens s e) events (kept s e h r.0) r.1
+
+opened_steady : (sessions tables buckets each : ℕ) → IsSteady (opened sessions tables buckets each)
+opened_steady sessions tables buckets each = record {
+  mark_is_length = record { is_length = refl; sessions = λ j. tt; passes = λ p. omega arith };
+  registers_agree = record { shows = λ j. refl; others = λ j. inr refl };
+  records_bound_sessions = λ p j. tt;
+  records_reach_logs = record { known = λ p j. omega arith; stands = λ p j. tt };
+  logs_answer = record { reads = λ j. refl; room = λ j. omega arith; fixed = λ j. tt; within = λ j. tt; judged = λ j. tt; commits = λ n j. refl; named = λ n some last. absurd (omega arith) };
+}
+
+pub steady_after : Always IsSteady
+steady_after sessions tables buckets each events r = run_kept (opened sessions tables buckets each) events (opened_steady sessions tables buckets each) r

@@ -1,0 +1,119 @@
+-- The events: each is one atomic action of one actor.
+use Rattle.std.specs.Prelude.{◌≡◌, ℕ, suc, ◌<◌, ◌≤◌, List, [], ◌∷◌, ◌++◌, length, true, false, ◌==◌, if◌then◌else◌, Some, IsSome, IsNone, IsTrue, ⊤}
+use Rattle.hg_base.specs.declared.scope.Scope.{Scope}
+use Rattle.hg_base.specs.declared.scope.Scope.TheVariants.{Declared}
+use Rattle.hg_base.specs.Lists.{Each}
+use Rattle.hg_base.specs.History.{NoNumberTwice}
+use Rattle.hg_core.specs.declared.register.Register.{Register}
+use Rattle.hg_core.specs.declared.register.Register.TheVariants as registers
+use Rattle.hg_core.specs.declared.phase.Phase.TheVariants.{Idle, Probed, Entered, Fixed, Live}
+use Rattle.hg_core.specs.declared.log.LogEntry.{LogEntry}
+use Rattle.hg_core.specs.declared.log.LogEntry.TheVariants.{Began, Over}
+use Rattle.hg_core.specs.Words.{IsBelow}
+use Rattle.hg_core.specs.Logs.{current, begans, is_plain, new_group, published_logs}
+use Rattle.hg_core.specs.Phases.{IsSession, snapshot_in}
+use Rattle.hg_core.specs.Passes.{PassRecord, found}
+use Rattle.hg_core.specs.State.{CoreState, opened}
+
+-- A session loads the mark (Probe), shows that it enters at it (Enter), loads the mark again (Fix), shows the second as
+-- its snapshot (GoLive), and goes to rest (End). A pass of a collector begins a record (Mark), loads a register (Sample)
+-- and moves a long snapshot (Move). A committer publishes the transactions of some sessions as one group (Publish).
+pub data Event : Type 0 where
+  Probe : (j : ℕ) → Event
+  Enter : (j f : ℕ) → Event
+  Fix : (j f : ℕ) → Event
+  GoLive : (j m : ℕ) → (scope : Scope) → Event
+  End : (j : ℕ) → Event
+  Mark : (p : ℕ) → (known : ℕ → ℕ) → Event
+  Sample : (p j : ℕ) → Event
+  Move : (p j : ℕ) → Event
+  Publish : (sessions : List ℕ) → Event
+
+-- f with another value at j
+abbrev pub put : {A : Type 0} → (ℕ → A) → ℕ → A → ℕ → A
+put f j value = λ k. if k == j then value else f k
+
+-- a live register, moved
+abbrev pub moved : Register → Register
+moved registers.Idle = registers.Idle
+moved (registers.Entering f) = registers.Entering f
+moved (registers.Live number scope was_moved) = registers.Live number scope true
+
+-- the registers that were loaded, with session j's moved
+abbrev pub moved_in : ℕ → List (ℕ × Register) → List (ℕ × Register)
+moved_in j [] = []
+moved_in j (e ∷ loaded) = if j == e.0 then (e.0, moved e.1) ∷ loaded else e ∷ moved_in j loaded
+
+-- the record of a pass that loads the mark
+abbrev pub begun_record : ℕ → (ℕ → ℕ) → PassRecord
+begun_record mark known = record { mark = mark; known = known; loaded = [] }
+
+-- a record with a register more
+abbrev pub sampled : PassRecord → ℕ → Register → PassRecord
+sampled pass j register = record pass { loaded = (j, register) ∷ pass.loaded }
+
+-- the state after an event
+abbrev pub happens : CoreState → Event → CoreState
+happens s (Probe j) = record s { phase = put s.phase j (Probed s.mark) }
+happens s (Enter j f) = record s { phase = put s.phase j (Entered f); register = put s.register j (registers.Entering f) }
+happens s (Fix j f) = record s { phase = put s.phase j (Fixed f s.mark) }
+happens s (GoLive j m scope) = record s { phase = put s.phase j (Live m scope); register = put s.register j (registers.Live m scope false); log = put s.log j (Began m scope ∷ s.log j) }
+happens s (End j) = record s { phase = put s.phase j Idle; register = put s.register j registers.Idle; log = put s.log j (Over ∷ s.log j) }
+happens s (Mark p known) = record s { pass = put s.pass p (begun_record s.mark known) }
+happens s (Sample p j) = record s { pass = put s.pass p (sampled (s.pass p) j (s.register j)) }
+happens s (Move p j) = record s { register = put s.register j (moved (s.register j)); pass = put s.pass p (record (s.pass p) { loaded = moved_in j (s.pass p).loaded }) }
+happens s (Publish sessions) = record s { mark = suc s.mark; history = s.history ++ new_group s.log sessions ∷ []; log = published_logs s.log sessions (suc s.mark) }
+
+-- a session may begin: it is at rest, and has begun fewer transactions than it may
+pub record MayProbe (s : CoreState) (j : ℕ) : Type 0 where
+  pub session : IsSession s.sessions j
+  pub rests : s.phase j ≡ Idle
+  pub room : begans (s.log j) < s.each
+
+-- a session may go live at the number that it fixed, with tables that are there
+pub record MayGoLive (s : CoreState) (j m : ℕ) (scope : Scope) : Type 0 where
+  pub fixed : (f : ℕ) × (s.phase j ≡ Fixed f m)
+  pub tables : IsBelow s.tables scope
+
+-- a register is loaded once for a record
+pub record MaySample (s : CoreState) (p j : ℕ) : Type 0 where
+  pub session : IsSession s.sessions j
+  pub fresh : IsNone (found j (s.pass p).loaded)
+
+-- a pass may move a declared snapshot that it loaded unmoved, and that the register still shows
+pub record MayMove (s : CoreState) (p j : ℕ) (number mask : ℕ) : Type 0 where
+  pub shown : s.register j ≡ registers.Live number (Declared mask) false
+  pub loaded : found j (s.pass p).loaded ≡ Some (registers.Live number (Declared mask) false)
+
+-- some sessions may publish: none twice, and nothing of their open transactions was undone or published
+pub record MayPublish (log : ℕ → List LogEntry) (sessions : List ℕ) : Type 0 where
+  pub some : 0 < length sessions
+  pub distinct : NoNumberTwice sessions
+  pub opened : Each (λ j. IsSome (current (log j))) sessions
+  pub plain : Each (λ j. IsTrue (is_plain (log j))) sessions
+
+-- when an event may happen
+abbrev pub May : CoreState → Event → Type 0
+May s (Probe j) = MayProbe s j
+May s (Enter j f) = s.phase j ≡ Probed f
+May s (Fix j f) = s.phase j ≡ Entered f
+May s (GoLive j m scope) = MayGoLive s j m scope
+May s (End j) = IsSome (snapshot_in (s.phase j))
+May s (Mark p known) = (j : ℕ) → known j ≤ length (s.log j)
+May s (Sample p j) = MaySample s p j
+May s (Move p j) = (number : ℕ) × (mask : ℕ) × MayMove s p j number mask
+May s (Publish sessions) = MayPublish s.log sessions
+
+-- each event may happen in its turn
+abbrev pub Run : CoreState → List Event → Type 0
+Run s [] = ⊤
+Run s (e ∷ events) = May s e × Run (happens s e) events
+
+-- the state after a list of events
+abbrev pub run : CoreState → List Event → CoreState
+run s [] = s
+run s (e ∷ events) = run (happens s e) events
+
+-- P holds after every list of events, from the state in which a board of any numbers opens
+abbrev pub Always : (CoreState → Type 0) → Type 0
+Always P = (sessions tables buckets each : ℕ) (events : List Event) → Run (opened sessions tables buckets each) events → P (run (opened sessions tables buckets each) events)

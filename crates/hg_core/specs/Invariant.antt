@@ -1,0 +1,14 @@
+-- What holds between any two events. Each part speaks of the parts of the state that it needs.
+use Rattle.hg_core.specs.State.{CoreState}
+use Rattle.hg_core.specs.Marks.{MarkIsLength}
+use Rattle.hg_core.specs.Registers.{RegistersAgree}
+use Rattle.hg_core.specs.Bounds.{RecordsBoundSessions}
+use Rattle.hg_core.specs.Reach.{RecordsReachLogs}
+use Rattle.hg_core.specs.Judged.{LogsAnswer}
+
+pub record IsSteady (s : CoreState) : Type 0 where
+  pub mark_is_length : MarkIsLength s.mark s.history s.phase s.pass
+  pub registers_agree : RegistersAgree s.sessions s.tables s.phase s.register
+  pub records_bound_sessions : RecordsBoundSessions s.phase s.pass
+  pub records_reach_logs : RecordsReachLogs s.phase s.log s.pass
+  pub logs_answer : LogsAnswer s.sessions s.each s.history s.phase s.log

@@ -1,0 +1,18 @@
+-- The state machine under every concurrent claim. A reader meets the definitions in this order.
+pub mod Words
+pub mod Logs
+pub mod Phases
+pub mod Passes
+pub mod State
+pub mod Events
+-- What holds between any two events, part by part, and in whole.
+pub mod Marks
+pub mod Registers
+pub mod Bounds
+pub mod Reach
+pub mod Judged
+pub mod Invariant
+-- What follows of gathers, a run, and which steps would be wrong.
+pub mod Missed
+pub mod Worked
+pub mod Wrong

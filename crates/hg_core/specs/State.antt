@@ -1,0 +1,42 @@
+-- The state of a board and of all who use it. Each part has one owner.
+use Rattle.std.specs.Prelude.{ℕ, List, []}
+use Rattle.hg_base.specs.History.{History}
+use Rattle.hg_core.specs.declared.register.Register.{Register}
+use Rattle.hg_core.specs.declared.register.Register.TheVariants as registers
+use Rattle.hg_core.specs.declared.phase.Phase.{Phase}
+use Rattle.hg_core.specs.declared.phase.Phase.TheVariants as phases
+use Rattle.hg_core.specs.declared.log.LogEntry.{LogEntry}
+use Rattle.hg_core.specs.Passes.{PassRecord, no_record}
+
+-- Sessions are counted from 1, and so are commit numbers.
+pub record CoreState : Type 0 where
+  -- the numbers that a board is made with; the last is how often each session may begin, and write
+  pub sessions : ℕ
+  pub tables : ℕ
+  pub buckets : ℕ
+  pub each : ℕ
+  -- the words, which all may load: the mark, and the register of each session
+  pub mark : ℕ
+  pub register : ℕ → Register
+  -- the committer's: the groups of commits, oldest first
+  pub history : History
+  -- a session's: its phase, and its log, newest entry first
+  pub phase : ℕ → Phase
+  pub log : ℕ → List LogEntry
+  -- a collector pass's: its record
+  pub pass : ℕ → PassRecord
+
+-- the state in which a board opens
+abbrev pub opened : ℕ → ℕ → ℕ → ℕ → CoreState
+opened sessions tables buckets each = record {
+  sessions = sessions;
+  tables = tables;
+  buckets = buckets;
+  each = each;
+  mark = 0;
+  register = λ j. registers.Idle;
+  history = [];
+  phase = λ j. phases.Idle;
+  log = λ j. [];
+  pass = λ p. no_record;
+}

@@ -1,0 +1,57 @@
+//! What each event keeps, and what always holds. Each law is the contract of a function with no body.
+
+ghost use Rattle.std.specs.Prelude.{ℕ, List};
+ghost use Rattle.hg_base.specs.declared.scope.Scope.{Scope};
+ghost use Rattle.hg_core.specs.State.{CoreState};
+ghost use Rattle.hg_core.specs.Events.{Probe, Enter, Fix, GoLive, End, Mark, Sample, Move, Publish, happens, May, Always};
+ghost use Rattle.hg_core.specs.Invariant.{IsSteady};
+
+/// A session loads the mark, of which nobody knows.
+pub fn probe_keeps()
+    ensures { (s : CoreState) (j : ℕ) → IsSteady s → May s (Probe j) → IsSteady (happens s (Probe j)) }
+{}
+
+/// It shows that it enters at the mark that it loaded.
+pub fn enter_keeps()
+    ensures { (s : CoreState) (j f : ℕ) → IsSteady s → May s (Enter j f) → IsSteady (happens s (Enter j f)) }
+{}
+
+/// It loads the mark again. This one is at or over the mark of every record that there is.
+pub fn fix_keeps()
+    ensures { (s : CoreState) (j f : ℕ) → IsSteady s → May s (Fix j f) → IsSteady (happens s (Fix j f)) }
+{}
+
+/// The second mark becomes its snapshot.
+pub fn go_live_keeps()
+    ensures { (s : CoreState) (j m : ℕ) (scope : Scope) → IsSteady s → May s (GoLive j m scope) → IsSteady (happens s (GoLive j m scope)) }
+{}
+
+/// Its transaction is over.
+pub fn end_keeps()
+    ensures { (s : CoreState) (j : ℕ) → IsSteady s → May s (End j) → IsSteady (happens s (End j)) }
+{}
+
+/// A pass loads the mark, and begins a record with it.
+pub fn mark_keeps()
+    ensures { (s : CoreState) (p : ℕ) (known : ℕ → ℕ) → IsSteady s → May s (Mark p known) → IsSteady (happens s (Mark p known)) }
+{}
+
+/// A pass loads a register into its record.
+pub fn sample_keeps()
+    ensures { (s : CoreState) (p j : ℕ) → IsSteady s → May s (Sample p j) → IsSteady (happens s (Sample p j)) }
+{}
+
+/// A pass moves a long snapshot to the tables that it declared, in the register and in its own record.
+pub fn move_keeps()
+    ensures { (s : CoreState) (p j : ℕ) → IsSteady s → May s (Move p j) → IsSteady (happens s (Move p j)) }
+{}
+
+/// The open transactions of some sessions join the history as one group, and the mark grows by one.
+pub fn publish_keeps()
+    ensures { (s : CoreState) (sessions : List ℕ) → IsSteady s → May s (Publish sessions) → IsSteady (happens s (Publish sessions)) }
+{}
+
+/// The invariant holds after every list of events from the state in which a board opens.
+pub fn always_steady()
+    ensures { Always IsSteady }
+{}

@@ -1,0 +1,55 @@
+//! The state machine under every concurrent claim: snapshots, gathers and moves.
+//!
+//! There are no threads here. An event is one atomic action of one actor, and one invariant holds after every list of
+//! events (`always_steady`). So nothing above has to argue about an order of steps again.
+//!
+//! The mark is the number of the last group of commits. A session reads at a mark, its snapshot, and takes no lock for it.
+//! A collector has to know every snapshot in use, since it takes away what none of them sees. Each session has a register
+//! for that, one word, which a collector's pass loads:
+//!
+//!     session                       its register       pass of a collector
+//!     Probe   load the mark: f      idle               Mark    load the mark: M, which begins a record
+//!     Enter   store the register    entering f         Sample  load one register, for each session in turn
+//!     Fix     load the mark: m      entering f         Move    exchange a live register for the same, moved
+//!     GoLive  store the register    live at m
+//!     End     store the register    idle               committer
+//!                                                      Publish store the mark: one more
+//!
+//! A session that a pass finds idle has its second load of the mark still before it, so it goes live at M or over it. One
+//! that the pass finds entering f goes live at f or over it. So the horizon of a record, the least of M and of all the
+//! numbers that enter, is at or below every snapshot that the pass did not find live (`no_gather_misses_a_snapshot`).
+//! With one load less, with the registers before M, or with a horizon that is M alone, a snapshot is missed: the laws
+//! that end in `is_refuted` have a state for each.
+//!
+//! A live register shows which tables its transaction declared. A snapshot that is long in use is moved: it then holds
+//! back those tables alone.
+//!
+//! `specs/` has the state, the events and the invariant, a part a file. `Register` and `Ask` are the types of the layer
+//! above. Of `Phase` and `LogEntry` contracts alone speak.
+#![tactic(auto)]
+
+mod ask;
+mod laws;
+mod log;
+mod phase;
+mod refuted;
+mod register;
+mod theorems;
+
+pub use ask::Ask;
+pub use laws::{
+    always_steady, end_keeps, enter_keeps, fix_keeps, go_live_keeps, mark_keeps, move_keeps,
+    probe_keeps, publish_keeps, sample_keeps,
+};
+pub use log::LogEntry;
+pub use phase::Phase;
+pub use refuted::{
+    horizon_without_entering_is_refuted, mark_loaded_last_is_refuted, one_load_is_refuted,
+};
+pub use register::Register;
+pub use theorems::{
+    every_event_happens, mark_is_bounded, no_gather_misses_a_snapshot, words_are_exact,
+};
+
+#[cfg(test)]
+mod tests;

@@ -1,0 +1,47 @@
+//! What follows of the laws, in the words of the subject.
+
+ghost use Rattle.std.specs.Prelude.{◌≡◌, ℕ, ◌<◌, ◌≤◌, ◌*◌, ◌^◌, ◌++◌, IsTrue};
+ghost use Rattle.hg_base.specs.declared.rid.TableId.{TableId};
+ghost use Rattle.hg_base.specs.declared.scope.Scope.{Scope};
+ghost use Rattle.hg_base.specs.Transcript.{has};
+ghost use Rattle.hg_core.specs.Words.{IsRegister, word_of, register_of};
+ghost use Rattle.hg_core.specs.Passes.{IsWhole, horizon, table_bound, group_bound};
+ghost use Rattle.hg_core.specs.State.{CoreState, opened};
+ghost use Rattle.hg_core.specs.Events.{Always, Run, run};
+ghost use Rattle.hg_core.specs.Invariant.{IsSteady};
+ghost use Rattle.hg_core.specs.Missed.{MissesNone};
+ghost use Rattle.hg_core.specs.Worked.{slow_begin, long_snapshot};
+
+use crate::phase::Phase;
+use crate::register::Register;
+
+/// No gather misses a snapshot. After every list of events, whatever number a session is live at, it is at or over the
+/// horizon of every whole record, or it stands in that record for each table of its scope. So no bound is over it that a
+/// collector takes from the record. A number that a session is about to go live at is at or over every horizon.
+pub fn no_gather_misses_a_snapshot()
+    ensures live { Always (λ s. (p : ℕ) → IsWhole s.sessions (s.pass p) → MissesNone (horizon (s.pass p)) (s.pass p) s.phase) }
+    ensures fixed { Always (λ s. (p j f m : ℕ) → IsWhole s.sessions (s.pass p) → s.phase j ≡ Phase.Fixed f m → horizon (s.pass p) ≤ m) }
+    ensures table { Always (λ s. (p j at : ℕ) (scope : Scope) (t : TableId) → IsWhole s.sessions (s.pass p) → s.phase j ≡ Phase.Live at scope → IsTrue (has scope t) → table_bound t (s.pass p) ≤ at) }
+    ensures group { Always (λ s. (p j at : ℕ) (scope : Scope) → IsWhole s.sessions (s.pass p) → s.phase j ≡ Phase.Live at scope → group_bound (s.pass p) ≤ at) }
+{}
+
+/// No commit number passes the number of sessions times how often each may begin.
+pub fn mark_is_bounded()
+    ensures { Always (λ s. s.mark ≤ s.sessions * s.each) }
+{}
+
+/// Each kind of event can happen. In this run a session goes live below the mark of a whole record, at its horizon.
+pub fn every_event_happens()
+    ensures run { Run (opened 2 1 1 1) (slow_begin ++ long_snapshot) }
+    ensures whole { IsWhole 2 ((run (opened 2 1 1 1) slow_begin).pass 0) }
+    ensures mark { ((run (opened 2 1 1 1) slow_begin).pass 0).mark ≡ 1 }
+    ensures horizon { horizon ((run (opened 2 1 1 1) slow_begin).pass 0) ≡ 0 }
+    ensures live { (run (opened 2 1 1 1) slow_begin).phase 1 ≡ Phase.Live 0 (Scope.Declared 1) }
+{}
+
+/// A word shows one register, and each register of a board has a word.
+pub fn words_are_exact()
+    ensures back { (register : Register) → IsRegister register → register_of (word_of register) ≡ register }
+    ensures fits { (register : Register) → IsRegister register → word_of register < 2 ^ 64 }
+    ensures all { (s : CoreState) (j : ℕ) → IsSteady s → s.tables ≤ 16 → s.sessions * s.each < 2 ^ 44 → IsRegister (s.register j) }
+{}
