@@ -1,5 +1,5 @@
 -- What a cut does to a chain: the versions at the bound are a tail, since numbers fall.
-use Rattle.std.proofs.Common.{◌≡◌, ℕ, zero, suc, ◌+◌, ◌-◌, ◌<◌, ◌≤◌, List, [], ◌∷◌, ◌++◌, length, take, drop, Bool, true, false, not, Option, Some, None, refl, sym, ap, ◌∙◌, subst, arith}
+use Rattle.std.proofs.Common.{◌≡◌, ℕ, ◌+◌, ◌≤◌, List, [], ◌∷◌, ◌++◌, length, take, Bool, true, false, not, Some, None, refl, sym, ap, ◌∙◌, subst, arith}
 use Rattle.std.specs.Prelude.{filter, find, count_by, cond, IsSome, option_map}
 use Rattle.std.proofs.lemmas.Bool.{leb-true, le-leb}
 use Rattle.std.proofs.lemmas.List.Sums.{length-filter}
@@ -7,7 +7,6 @@ use Rattle.std.proofs.Math.Seq.{take-append_seam}
 use Rattle.std.specs.List.{slice_get}
 use Rattle.std.specs.Bool.{OnFalse}
 use Rattle.hg_base.specs.declared.writer.Writer.{Writer}
-use Rattle.hg_base.specs.declared.image.Image.{Image}
 use Rattle.hg_base.specs.Lists.{Each}
 use Rattle.hg_base.proofs.ListFacts.{cases, false_true, each_keeps}
 use Rattle.hg_chain.specs.declared.version.Stamp.{Stamp}

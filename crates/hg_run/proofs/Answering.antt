@@ -1,19 +1,12 @@
 -- Each call of the driver answers as the table and goes on with it.
-use Rattle.std.proofs.Common.{◌≡◌, ℕ, suc, ◌+◌, ℤ, List, [], ◌∷◌, length, Bool, true, false, Result, Ok, Err, refl, sym, ap, ◌∙◌, subst, arith}
-use Rattle.std.specs.Prelude.{cond, IsTrue, IsFalse, OnOk}
+use Rattle.std.proofs.Common.{◌≡◌, ◌+◌, ℤ, List, [], true, false, Result, Ok, Err, sym, ◌∙◌, subst}
+use Rattle.std.specs.Prelude.{OnOk}
 use Rattle.hg_base.specs.declared.rid.Rid.{Rid}
 use Rattle.hg_base.specs.declared.scope.Scope.{Scope}
 use Rattle.hg_base.specs.declared.scope.Scope.TheVariants.{All, Declared}
-use Rattle.hg_base.specs.declared.statement.Statement.{Statement}
 use Rattle.hg_base.specs.declared.statement.Statement.TheVariants.{Begin, Get, Put, Commit as CommitIt}
-use Rattle.hg_base.specs.declared.line.Totals.{Totals}
-use Rattle.hg_base.specs.History.{NoneTwice}
-use Rattle.hg_base.specs.Lists.{Each}
-use Rattle.hg_base.specs.Counts.{live}
-use Rattle.hg_chain.specs.declared.version.Version.{Version}
-use Rattle.hg_run.specs.Plain.{Plain, written, after, after_put, HasTotals}
+use Rattle.hg_run.specs.Plain.{Plain, written, after, after_put}
 use Rattle.hg_script.specs.Lawful.{MayStand}
-use Rattle.hg_run.specs.Records.{versions_of, held, lefts}
 use Rattle.hg_run.specs.Driving.{Kept, IsKept, after_read, PutsInside, PutsAlone, Commits}
 use Rattle.hg_run.proofs.Keeping.{kept_begin, kept_get, kept_put_in}
 use Rattle.hg_run.proofs.Committing.{kept_put_out, kept_commit}

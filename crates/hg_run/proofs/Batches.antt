@@ -1,12 +1,11 @@
 -- A list of records, each once, gone through one by one.
-use Rattle.std.proofs.Common.{◌≡◌, ℕ, zero, suc, ◌+◌, ◌<◌, ◌≤◌, List, [], ◌∷◌, ◌++◌, length, take, get_or, Bool, true, false, refl, sym, ap, ◌∙◌, subst, arith}
+use Rattle.std.proofs.Common.{◌≡◌, ℕ, zero, suc, ◌+◌, ◌<◌, List, [], ◌∷◌, length, take, get_or, Bool, true, false, refl, sym, ap, ◌∙◌, arith}
 use Rattle.std.specs.Prelude.{◌||◌, cond}
-use Rattle.std.specs.List.{list_any}
 use Rattle.hg_base.specs.declared.rid.Rid.{Rid}
 use Rattle.hg_base.specs.History.{NoneTwice, same_rid, is_among}
-use Rattle.hg_base.proofs.ListFacts.{cases, false_true}
+use Rattle.hg_base.proofs.ListFacts.{cases}
 use Rattle.hg_base.proofs.HistoryFacts.{same_rid_equal, same_rid_itself}
-use Rattle.hg_run.proofs.OwnWrites.{true_false, or_left, or_right, same_rid_not}
+use Rattle.hg_run.proofs.OwnWrites.{true_false, same_rid_not}
 
 -- the record at a place is among them
 pub among_at : (xs : List Rid) (i : ℕ) (d : Rid) → i < length xs → is_among (get_or xs i d) xs ≡ true
@@ -39,6 +38,7 @@ among_next (x ∷ xs) (suc i) d r h = let less : i < length xs = omega (arith, h
   where
     more : (i : ℕ) → suc i + 1 ≡ suc (i + 1)
     more i = omega arith
+
     assoc : (a b c : Bool) → (a || (b || c)) ≡ ((a || b) || c)
     assoc true b c = refl
     assoc false b c = refl
@@ -63,6 +63,7 @@ module _ {X : Type 0} (f : X → X) (O V : Rid → X) (xs : List Rid) (i : ℕ) 
       or_true : (a : Bool) → (a || true) ≡ true
       or_true true = refl
       or_true false = refl
+
       or_false : (a : Bool) → (a || false) ≡ a
       or_false true = refl
       or_false false = refl

@@ -1,28 +1,23 @@
 -- Commits, the end, and what each call needs to know.
-use Rattle.std.proofs.Common.{◌≡◌, ℕ, zero, suc, ◌+◌, ◌<◌, ◌≤◌, List, [], ◌∷◌, ◌++◌, length, map, drop, Bool, true, false, not, Option, Some, None, refl, sym, ap, ◌∙◌, subst, arith}
+use Rattle.std.proofs.Common.{◌≡◌, ℕ, suc, ◌+◌, List, [], ◌∷◌, length, drop, Bool, true, false, Option, Some, None, refl, sym, ap, ◌∙◌, subst, arith}
 use Rattle.std.specs.Prelude.{cond, is_some, IsTrue}
 use Rattle.hg_base.specs.declared.rid.Rid.{Rid}
 use Rattle.hg_base.specs.declared.image.Image.{Image}
-use Rattle.hg_base.specs.declared.line.Answer.{Answer}
 use Rattle.hg_base.specs.declared.line.Answer.TheVariants.{Committed}
-use Rattle.hg_base.specs.declared.line.Totals.{Totals}
-use Rattle.hg_base.specs.declared.statement.Statement.TheVariants.{Commit as CommitIt}
 use Rattle.hg_base.specs.Lists.{Each}
 use Rattle.hg_base.specs.History.{Write, History, NoneTwice, same_rid, is_among, image_in}
 use Rattle.hg_base.specs.Transcript.{last_images}
-use Rattle.hg_base.specs.Counts.{live}
-use Rattle.hg_base.proofs.ListFacts.{cases, false_true}
+use Rattle.hg_base.proofs.ListFacts.{cases}
 use Rattle.hg_base.proofs.HistoryFacts.{same_rid_equal}
 use Rattle.hg_chain.specs.declared.version.Version.{Version}
-use Rattle.hg_chain.specs.Versions.{IsBelow, NoOther, is_at_most, is_open_by, installed, stamped}
-use Rattle.hg_run.specs.Plain.{Plain, with_group, after, after_put, after_commit, answer_commit, HasTotals}
-use Rattle.hg_run.specs.Records.{versions_of, held, lefts}
-use Rattle.hg_run.specs.Driving.{Kept, IsKept, ShowsRecord, writer, PutsAlone, Commits, answer_written, is_any}
-use Rattle.hg_run.proofs.OwnWrites.{true_false, same_rid_not}
-use Rattle.hg_run.proofs.Steps.{length_snoc}
+use Rattle.hg_chain.specs.Versions.{IsBelow, NoOther, is_open_by, installed, stamped}
+use Rattle.hg_run.specs.Plain.{Plain, with_group, after_put, after_commit, answer_commit}
+use Rattle.hg_run.specs.Records.{versions_of}
+use Rattle.hg_run.specs.Driving.{Kept, IsKept, writer, PutsAlone, Commits, answer_written, is_any}
+use Rattle.hg_run.proofs.OwnWrites.{same_rid_not}
 use Rattle.hg_run.proofs.Versions.{open_no_other}
 use Rattle.hg_run.proofs.Tying.{IsIdle, idle_shows, shows_idle, commit_elsewhere, commit_here, open_rest, alone_here, alone_elsewhere, later}
-use Rattle.hg_run.proofs.Living.{AllIdle, as_many_left, all_cut, undone_idle}
+use Rattle.hg_run.proofs.Living.{AllIdle, undone_idle}
 use Rattle.hg_run.proofs.Keeping.{idle_records, one_where}
 
 -- ---- what the calls need
@@ -90,6 +85,7 @@ kept_answer k t s = go k.written t.own s.many
   where
     next : k.mark + 1 ≡ suc (length t.history)
     next = sym (next_mark k t s)
+
     go : (rids : List Rid) (own : List Write) → length rids ≡ length (last_images own) → answer_written rids k.mark ≡ answer_commit t.history own
     go [] [] e = refl
     go [] (w ∷ ws) e = absurd (omega (arith, e))
@@ -102,6 +98,7 @@ commit_record k n t x s c r = subst (IsIdle (with_group t.history x t.own) r) (s
   where
     vs : List Version
     vs = versions_of k.entries r
+
     go : (o : Option Image) → image_in r t.own ≡ o → is_among r k.written ≡ is_some (image_in r t.own) → IsIdle (with_group t.history x t.own) r (cond (is_among r k.written) (stamped (writer k.count) (k.mark + 1) vs) vs)
     go None e f = subst (λ b. IsIdle (with_group t.history x t.own) r (cond b (stamped (writer k.count) (k.mark + 1) vs) vs)) (sym (f ∙ ap is_some e)) (commit_elsewhere x t.own t.history r vs e (shows_idle t.count t.own t.history r vs e (s.records r)))
     go (Some image) e f =
@@ -142,8 +139,10 @@ kept_commit k n t s c = go t.own refl (any_written k.written t.own s.many)
       many = ap length c.written;
       records = λ r. idle_shows t.count [] h r (versions_of n.entries r) refl (idle r);
     }
+
     stays : n.mark ≡ k.mark + 0 → n.mark ≡ length t.history
     stays e = let m : k.mark ≡ length t.history = s.mark in omega (arith, e, m)
+
     go : (own : List Write) → t.own ≡ own → is_any k.written ≡ is_any_write own → IsKept n (after_commit t own)
     go [] e f = rest t.history (stays (c.mark ∙ ap (λ b. k.mark + one_where b) f)) (stamps_none k n t s c e)
     go (w ∷ ws) e f =

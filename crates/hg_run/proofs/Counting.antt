@@ -1,23 +1,21 @@
 -- The totals of the plain table, line by line.
-use Rattle.std.proofs.Common.{◌≡◌, ℕ, zero, suc, ◌+◌, ◌<◌, ◌≤◌, ℤ, List, [], ◌∷◌, ◌++◌, length, Bool, true, false, not, Option, Some, None, refl, sym, ap, ◌∙◌, subst, arith}
+use Rattle.std.proofs.Common.{◌≡◌, ℕ, suc, ◌+◌, ◌≤◌, ℤ, List, [], ◌∷◌, ◌++◌, length, Bool, true, false, not, Option, Some, None, refl, sym, ap, ◌∙◌, subst, arith}
 use Rattle.std.specs.Prelude.{◌==◌, ◌&&◌, ◌||◌, cond, filter, is_some, is_none, sum_by, fold}
 use Rattle.std.specs.List.{list_any, cons_option}
 use Rattle.std.specs.Option.{option_map_or}
 use Rattle.std.proofs.lemmas.List.Elements.{filter-append}
 use Rattle.hg_base.specs.declared.rid.Rid.{Rid}
-use Rattle.hg_base.specs.declared.statement.Statement.{Statement}
-use Rattle.hg_base.specs.declared.statement.Statement.TheVariants.{Begin, Get, Put, Commit as CommitIt}
+use Rattle.hg_base.specs.declared.statement.Statement.TheVariants.{Get, Put, Commit as CommitIt}
 use Rattle.hg_base.specs.declared.report.Kind.{Kind}
 use Rattle.hg_base.specs.declared.report.Sweep.{Sweep}
-use Rattle.hg_base.specs.declared.line.Answer.{Answer}
 use Rattle.hg_base.specs.declared.line.Answer.TheVariants.{Stored, Committed, Ended}
 use Rattle.hg_base.specs.Lists.{Each, onto}
-use Rattle.hg_base.specs.History.{Write, History, image_in, seen}
-use Rattle.hg_base.specs.Transcript.{Said, committed, stored, stored_in, is_of, own_writes, last_images}
+use Rattle.hg_base.specs.History.{Write, History, image_in}
+use Rattle.hg_base.specs.Transcript.{Said, committed, stored, is_of, own_writes, last_images}
 use Rattle.hg_base.specs.Shape.{same_kind, report_of}
 use Rattle.hg_base.specs.Counts.{first_write, first_writes_from, first_writes, is_committed, removed_by}
 use Rattle.hg_base.proofs.ListFacts.{cases, each_append, each_snoc, each_keeps, append_nil, cons_option_append}
-use Rattle.hg_run.specs.Plain.{Plain, answer_row, written, with_group, made_by}
+use Rattle.hg_run.specs.Plain.{Plain, answer_row, written, made_by}
 use Rattle.hg_run.proofs.OwnWrites.{true_false, records_written}
 use Rattle.hg_run.proofs.Standing.{Shows, Counts, IsSettled, pending, open_table, closed_table, said_begin, said_in, said_out}
 use Rattle.hg_run.proofs.Steps.{numbered_on, none_later, none_stored, same_number}
@@ -174,7 +172,6 @@ in_counts count made own h all earlier now order c j x none quiet f =
       uncommitted = λ o. still_uncommitted all now count quiet (c.uncommitted o);
       unswept = each_snoc (λ s. report_of s.reply ≡ None) all now c.unswept f;
     }
-
 
 -- an end without writes
 pub ended_counts : (place count made : ℕ) (h : History) (all earlier : List Said) → let t = open_table count [] h made in onto all [] ≡ earlier → Counts all t → Counts (all ++ said_in t place CommitIt Ended ∷ []) (closed_table count h made)

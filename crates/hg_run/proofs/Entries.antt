@@ -1,6 +1,6 @@
 -- Look-ups and sums in the list of all records' versions.
-use Rattle.std.proofs.Common.{◌≡◌, ℕ, ◌+◌, ◌∷◌, [], List, length, Bool, true, false, Option, Some, None, refl, sym, ap, ◌∙◌, subst, arith}
-use Rattle.std.specs.Prelude.{cond, IsFalse, IsSome, unwrap_or, option_map, sum_by, map, is_some, IsTrue}
+use Rattle.std.proofs.Common.{◌≡◌, ◌+◌, ◌∷◌, [], List, length, Bool, true, false, Option, Some, None, refl, sym, ap, ◌∙◌, subst}
+use Rattle.std.specs.Prelude.{cond, IsFalse, IsSome, unwrap_or, option_map, sum_by, is_some, IsTrue}
 use Rattle.std.specs.List.Sorted.{IsStrictlySortedBy}
 use Rattle.std.specs.BTreeMap.{BTreeMap, is_at, get, insert_entry, Updates, WritesThrough}
 use Rattle.std.specs.Map.{lookup, keys_of, values_of, set_value}

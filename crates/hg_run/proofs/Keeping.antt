@@ -1,29 +1,22 @@
 -- What the driver keeps goes on showing the table.
-use Rattle.std.proofs.Common.{◌≡◌, ℕ, zero, suc, ◌+◌, ◌<◌, ◌≤◌, ℤ, List, [], ◌∷◌, ◌++◌, length, drop, Bool, true, false, not, Option, Some, None, refl, sym, ap, ◌∙◌, subst, arith}
-use Rattle.std.specs.Prelude.{◌||◌, cond, is_some, is_none, IsTrue, unwrap_or}
-use Rattle.std.specs.List.{list_any}
+use Rattle.std.proofs.Common.{◌≡◌, ℕ, suc, ◌+◌, ℤ, List, [], ◌∷◌, ◌++◌, length, Bool, true, false, Option, Some, None, refl, sym, ap, ◌∙◌, subst, arith}
+use Rattle.std.specs.Prelude.{◌||◌, cond, is_some, is_none, unwrap_or}
 use Rattle.std.specs.Option.{option_or}
 use Rattle.hg_base.specs.declared.rid.Rid.{Rid}
 use Rattle.hg_base.specs.declared.image.Image.{Image}
-use Rattle.hg_base.specs.declared.line.Answer.{Answer}
-use Rattle.hg_base.specs.declared.line.Totals.{Totals}
 use Rattle.hg_base.specs.declared.scope.Scope.TheVariants.{All}
-use Rattle.hg_base.specs.declared.statement.Statement.TheVariants.{Begin, Get, Put, Commit as CommitIt}
-use Rattle.hg_base.specs.Lists.{Each}
-use Rattle.hg_base.specs.History.{Write, History, NoneTwice, same_rid, is_among, image_in, visible, seen, nothing}
+use Rattle.hg_base.specs.declared.statement.Statement.TheVariants.{Begin}
+use Rattle.hg_base.specs.History.{Write, NoneTwice, same_rid, is_among, image_in, seen, nothing}
 use Rattle.hg_base.specs.Transcript.{last_images}
-use Rattle.hg_base.proofs.ListFacts.{cases, false_true, append_nil}
+use Rattle.hg_base.proofs.ListFacts.{cases}
 use Rattle.hg_base.proofs.HistoryFacts.{same_rid_equal, same_rid_itself}
-use Rattle.hg_chain.specs.declared.version.Version.{Version}
-use Rattle.hg_chain.specs.Versions.{IsBelow, NoOther, is_open_by, image_at, image_by, installed, stamped}
-use Rattle.hg_run.specs.Plain.{Plain, inside, answer_row, written, with_group, made_by, after, after_put, after_get, after_commit, answer_commit, reply_get}
-use Rattle.hg_run.specs.Records.{versions_of, held}
-use Rattle.hg_run.specs.Driving.{Kept, IsKept, ShowsRecord, settled_part, writer, nothing_kept, row_kept, reply_row, after_read, PutsInside, PutsAlone, Commits, answer_written, is_any}
+use Rattle.hg_chain.specs.Versions.{is_open_by, image_at, image_by, installed}
+use Rattle.hg_run.specs.Plain.{Plain, inside, answer_row, made_by, after, after_put, after_get, reply_get}
+use Rattle.hg_run.specs.Records.{versions_of}
+use Rattle.hg_run.specs.Driving.{Kept, IsKept, ShowsRecord, writer, nothing_kept, row_kept, reply_row, after_read, PutsInside}
 use Rattle.hg_run.proofs.OwnWrites.{true_false, records_written, same_rid_not, or_left, or_right}
-use Rattle.hg_run.proofs.Steps.{length_snoc}
 use Rattle.hg_run.proofs.Counting.{length_append, any_append, or_false, or_true}
-use Rattle.hg_run.proofs.Versions.{open_no_other}
-use Rattle.hg_run.proofs.Tying.{IsIdle, idle_shows, shows_idle, put_elsewhere, put_here, commit_elsewhere, commit_here, open_rest, alone_here, alone_elsewhere, later, row_read}
+use Rattle.hg_run.proofs.Tying.{IsIdle, idle_shows, shows_idle, put_elsewhere, put_here, row_read}
 
 -- ---- at first
 
@@ -145,17 +138,22 @@ kept_put_in k n t w s open_is p =
     distinct_go : (o : Option Image) → is_among w.rid k.written ≡ is_some o → NoneTwice (cond (is_some o) k.written (k.written ++ w.rid ∷ []))
     distinct_go (Some image) e = s.distinct
     distinct_go None e = one_distinct k.written w.rid s.distinct e
+
     many_go : (o : Option Image) → length (cond (is_some o) k.written (k.written ++ w.rid ∷ [])) ≡ length (last_images t.own) + cond (is_none o) 1 0
     many_go (Some image) = let m : length k.written ≡ length (last_images t.own) = s.many in omega (arith, m)
     many_go None = length_append k.written (w.rid ∷ []) ∙ ap (λ m. m + 1) s.many
+
     appended : (r : Rid) → is_among r (k.written ++ w.rid ∷ []) ≡ (is_some (image_in r t.own) || same_rid r w.rid)
     appended r = any_append (same_rid r) k.written (w.rid ∷ []) ∙ (λ i. s.covers r i || or_false (same_rid r w.rid) i)
+
     here_go : (r : Rid) → r ≡ w.rid → (o : Option Image) → image_in w.rid t.own ≡ o → is_among r (cond (is_some o) k.written (k.written ++ w.rid ∷ [])) ≡ true
     here_go r same (Some image) f = ap (λ q. is_among q k.written) same ∙ s.covers w.rid ∙ ap is_some f
     here_go r same None f = appended r ∙ ap (λ b. is_some (image_in r t.own) || b) (ap (λ q. same_rid q w.rid) same ∙ same_rid_itself w.rid) ∙ or_true (is_some (image_in r t.own))
+
     elsewhere_go : (r : Rid) → same_rid r w.rid ≡ false → (b : Bool) → is_among r (cond b k.written (k.written ++ w.rid ∷ [])) ≡ is_some (image_in r t.own)
     elsewhere_go r apart true = s.covers r
     elsewhere_go r apart false = appended r ∙ ap (λ b. is_some (image_in r t.own) || b) apart ∙ or_false (is_some (image_in r t.own))
+
     covers_go : (r : Rid) → is_among r (cond (is_some (image_in w.rid t.own)) k.written (k.written ++ w.rid ∷ [])) ≡ is_some (image_in r (w ∷ t.own))
     covers_go r = cases (same_rid w.rid r)
         (λ e.

@@ -1,6 +1,6 @@
 -- The order of record ids, and that ids which compare alike are of the same record.
-use Rattle.std.proofs.Common.{◌≡◌, ℕ, Bool, true, false, refl, sym, ap, ◌∙◌, arith}
-use Rattle.std.specs.Prelude.{nat_eq, ◌&&◌, ◌==◌, cond}
+use Rattle.std.proofs.Common.{◌≡◌, ℕ, true, refl, ◌∙◌, arith}
+use Rattle.std.specs.Prelude.{◌&&◌, ◌==◌}
 use Rattle.std.specs.declared.cmp.Ordering.{Ordering}
 use Rattle.std.specs.declared.cmp.Ordering.TheVariants.{Less, Equal, Greater}
 use Rattle.std.specs.Ordering.{nat_cmp, ordering_then, is_eq}

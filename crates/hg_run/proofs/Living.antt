@@ -1,22 +1,22 @@
 -- As many records are left as the history has live ones.
-use Rattle.std.proofs.Common.{◌≡◌, ℕ, zero, suc, ◌+◌, ◌<◌, ◌≤◌, List, [], ◌∷◌, ◌++◌, length, map, drop, Bool, true, false, not, Option, Some, None, refl, sym, ap, ◌∙◌, subst, arith}
-use Rattle.std.specs.Prelude.{◌==◌, ◌&&◌, ◌||◌, cond, filter, find, option_map, option_and_then, count_by, is_some, IsTrue, unwrap_or}
+use Rattle.std.proofs.Common.{◌≡◌, ℕ, suc, List, [], ◌∷◌, ◌++◌, length, map, drop, Bool, true, false, not, Some, None, refl, sym, ap, ◌∙◌, subst}
+use Rattle.std.specs.Prelude.{◌||◌, cond, filter, find, option_map, option_and_then, is_some, IsTrue, unwrap_or}
 use Rattle.std.specs.List.{list_any, cons_option, flat_map}
 use Rattle.std.specs.Option.{option_or, option_map_or}
 use Rattle.std.proofs.lemmas.List.Sums.{length-filter}
 use Rattle.hg_base.specs.declared.rid.Rid.{Rid}
 use Rattle.hg_base.specs.declared.image.Image.{Image}
 use Rattle.hg_base.specs.Lists.{Each}
-use Rattle.hg_base.specs.History.{Write, Group, History, NoneTwice, same_rid, is_among, image_in, rids_of, group_rids, group_image, writes_from, writes, last_image, visible, nothing}
+use Rattle.hg_base.specs.History.{Write, Group, History, NoneTwice, same_rid, is_among, image_in, rids_of, group_rids, group_image, writes_from, last_image, visible, nothing}
 use Rattle.hg_base.specs.Counts.{once, live}
 use Rattle.hg_base.proofs.ListFacts.{cases, each_keeps, false_true}
 use Rattle.hg_base.proofs.HistoryFacts.{same_rid_equal, same_rid_itself}
 use Rattle.hg_chain.specs.declared.version.Stamp.{Stamp}
 use Rattle.hg_chain.specs.declared.version.Stamp.TheVariants.{Written, Numbered}
 use Rattle.hg_chain.specs.declared.version.Version.{Version}
-use Rattle.hg_chain.specs.Versions.{has_at_most, is_at_most, IsBelow, is_open_by, image_at, numbered_image, oldest_at}
+use Rattle.hg_chain.specs.Versions.{has_at_most, is_at_most, IsBelow, image_at, numbered_image}
 use Rattle.hg_run.specs.Records.{versions_of, row_at, lefts}
-use Rattle.hg_run.specs.Driving.{writer, settled_part, ShowsRecord}
+use Rattle.hg_run.specs.Driving.{writer, ShowsRecord}
 use Rattle.hg_run.proofs.OwnWrites.{true_false, or_left, or_right, same_rid_sym, same_rid_not, same_rid_trans}
 use Rattle.hg_run.proofs.Versions.{below_within, image_behind, visible_newest}
 use Rattle.hg_run.proofs.Tying.{IsIdle, open_rest}
@@ -94,12 +94,12 @@ same_count p (x ∷ xs) ys h k same = cases (p x)
     (λ e.
     let there : is_among x ys ≡ true = sym (same x e) ∙ ap (λ b. b || is_among x xs) (same_rid_itself x) in
     let rest : length (filter p xs) ≡ length (filter p (without x ys)) = same_count p xs (without x ys) h.1 (filtered_twice (λ y. not (same_rid x y)) ys k) (λ r f.
-        cases (same_rid r x) (λ m. among_same r x xs m ∙ h.0 ∙ sym (among_same r x (without x ys) m ∙ none_among x ys))
-        (λ m. sym (ap (λ b. b || is_among r xs) m) ∙ same r f ∙ sym (others_among x r ys m))) in
+    cases (same_rid r x) (λ m. among_same r x xs m ∙ h.0 ∙ sym (among_same r x (without x ys) m ∙ none_among x ys))
+    (λ m. sym (ap (λ b. b || is_among r xs) m) ∙ same r f ∙ sym (others_among x r ys m))) in
     ap (λ b. length (cond b (x ∷ filter p xs) (filter p xs))) e ∙ ap suc rest ∙ sym (one_counted p x ys k there e))
     (λ e. ap (λ b. length (cond b (x ∷ filter p xs) (filter p xs))) e ∙ same_count p xs ys h.1 k (λ r f.
-        let apart : same_rid r x ≡ false = cases (same_rid r x) (λ m. absurd (true_false (sym f ∙ ap p (same_rid_equal r x m) ∙ e))) (λ m. m) in
-        sym (ap (λ b. b || is_among r xs) apart) ∙ same r f))
+    let apart : same_rid r x ≡ false = cases (same_rid r x) (λ m. absurd (true_false (sym f ∙ ap p (same_rid_equal r x m) ∙ e))) (λ m. m) in
+    sym (ap (λ b. b || is_among r xs) apart) ∙ same r f))
 
 -- ---- the records of a history, each once
 
@@ -216,7 +216,7 @@ pub record AllIdle (es : List (Rid × List Version)) (h : History) : Type 0 wher
 pub as_many_left : (es : List (Rid × List Version)) (h : History) → AllIdle es h → NoneTwice (map (λ e. e.0) es) → Each (λ e. versions_of es e.0 ≡ e.1) es → lefts (length h) es ≡ length (live h)
 as_many_left es h idle distinct found =
     let rows : Each (λ e. row_at (length h) e.1 ≡ is_live h e.0) es = each_keeps (λ (e : Rid × List Version). versions_of es e.0 ≡ e.1) (λ e. row_at (length h) e.1 ≡ is_live h e.0) (λ e f.
-        ap (row_at (length h)) (sym f) ∙ row_visible (length h) (versions_of es e.0) ∙ ap (λ (i : Image). is_some i.row) (idle.each e.0).newest) es found in
+    ap (row_at (length h)) (sym f) ∙ row_visible (length h) (versions_of es e.0) ∙ ap (λ (i : Image). is_some i.row) (idle.each e.0).newest) es found in
     count_rows (length h) (is_live h) es rows
     ∙ same_count (is_live h) (map (λ e. e.0) es) (once (flat_map group_rids h)) distinct (once_twice (flat_map group_rids h)) (λ r e. live_is_kept es h r (idle.each r) e ∙ sym (live_is_written h r e))
 

@@ -1,12 +1,12 @@
 -- Lists of writes: of each record the last image, and how many records are written.
-use Rattle.std.proofs.Common.{◌≡◌, ℕ, zero, suc, ◌+◌, ◌<◌, ◌≤◌, List, [], ◌∷◌, ◌++◌, length, Bool, true, false, not, Option, Some, None, refl, sym, ap, ◌∙◌, subst, arith}
+use Rattle.std.proofs.Common.{◌≡◌, ℕ, suc, ◌+◌, ◌<◌, ◌≤◌, List, [], ◌∷◌, length, Bool, true, false, not, Option, Some, None, refl, sym, ap, ◌∙◌, subst, arith}
 use Rattle.std.specs.Prelude.{◌==◌, ◌&&◌, ◌||◌, cond, filter, option_map, is_none}
 use Rattle.std.specs.List.{list_any, cons_option}
 use Rattle.std.proofs.lemmas.Bool.Decides.{Decides-eqb}
 use Rattle.hg_base.specs.declared.rid.Rid.{Rid}
 use Rattle.hg_base.specs.declared.image.Image.{Image}
 use Rattle.hg_base.specs.Lists.{Each}
-use Rattle.hg_base.specs.History.{Write, Group, History, NoneTwice, same_rid, image_in, rids_of, is_among, group_image, writes_from, writes}
+use Rattle.hg_base.specs.History.{Write, History, NoneTwice, same_rid, image_in, rids_of, group_image, writes_from, writes}
 use Rattle.hg_base.specs.Transcript.{last_images}
 use Rattle.hg_base.proofs.ListFacts.{cases, each_keeps}
 use Rattle.hg_run.specs.Plain.{made_by}

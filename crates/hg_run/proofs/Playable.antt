@@ -1,5 +1,5 @@
 -- A lawful script is one that the driver plays: its records are those of session 1, each where it may stand.
-use Rattle.std.proofs.Common.{◌≡◌, ◌≤◌, ℕ, List, [], ◌∷◌, ◌++◌, Bool, false, fold, ap, ◌∙◌, subst, arith}
+use Rattle.std.proofs.Common.{◌≡◌, ◌≤◌, ℕ, List, [], ◌∷◌, ◌++◌, Bool, false, ap, ◌∙◌, subst, arith}
 use Rattle.std.proofs.lemmas.List.Sums.{fold-append}
 use Rattle.std.specs.Prelude.{◌==◌, if◌then◌else◌}
 use Rattle.hg_base.specs.declared.statement.Record.{Record}
@@ -24,9 +24,11 @@ playable-from : (tables : List Declaration) (before rs : List Record) → AreInO
     → IsPlayable (is_open 1 before) rs
 playable-from tables before [] order each = tt
 playable-from tables before (r ∷ rs) order each =
-    let e : r.session ≡ 1 = the-one r.session each.0.some each.0.most in
-    (e, subst (λ j. MayStand (is_open j before) r.statement) e order.0,
-     subst (λ b. IsPlayable b rs) (opens before r e) (playable-from tables (before ++ r ∷ []) rs order.1 each.1))
+    let e : r.session ≡ 1 = the-one r.session each.0.some each.0.most in (
+      e,
+      subst (λ j. MayStand (is_open j before) r.statement) e order.0,
+      subst (λ b. IsPlayable b rs) (opens before r e) (playable-from tables (before ++ r ∷ []) rs order.1 each.1),
+    )
 
 pub playable : (s : Script) → IsLawful s → IsPlayable false s.records
 playable s h = playable-from s.tables [] s.records h.order h.statements

@@ -1,30 +1,26 @@
 -- A whole script: what the plain table prints is sound.
-use Rattle.std.proofs.Common.{◌≡◌, ℕ, zero, suc, ◌+◌, ◌<◌, ◌≤◌, ℤ, List, [], ◌∷◌, ◌++◌, length, Bool, true, false, Option, Some, None, refl, sym, ap, ◌∙◌, subst, arith, append_assoc}
-use Rattle.std.specs.Prelude.{◌==◌, IsTrue, IsFalse, sum_by, ⊤}
+use Rattle.std.proofs.Common.{◌≡◌, ℕ, suc, ◌+◌, List, [], ◌∷◌, ◌++◌, length, Bool, true, false, Some, None, refl, sym, ap, ◌∙◌, subst, arith, append_assoc}
+use Rattle.std.specs.Prelude.{◌==◌, sum_by, ⊤}
 use Rattle.std.specs.Bool.{MatchBool}
-use Rattle.hg_base.specs.declared.rid.Rid.{Rid}
-use Rattle.hg_base.specs.declared.rid.TableId.{TableId}
 use Rattle.hg_base.specs.declared.scope.Scope.TheVariants.{All, Declared}
 use Rattle.hg_base.specs.declared.statement.Statement.{Statement}
 use Rattle.hg_base.specs.declared.statement.Statement.TheVariants.{Begin, Get, Put, Del, Scan, Commit as CommitIt, Rollback, Gc}
 use Rattle.hg_base.specs.declared.statement.Record.{Record}
-use Rattle.hg_base.specs.declared.report.Kind.{Kind}
 use Rattle.hg_base.specs.declared.report.Kind.TheVariants as kinds
 use Rattle.hg_base.specs.declared.line.Line.{Line}
 use Rattle.hg_base.specs.declared.line.Totals.{Totals}
-use Rattle.hg_base.specs.declared.line.Printed.{Printed}
 use Rattle.hg_base.specs.Lists.{onto}
 use Rattle.hg_base.specs.Script.{Script, replay}
-use Rattle.hg_base.specs.History.{Write, History, IsHistory, NoLostUpdate, seen}
-use Rattle.hg_base.specs.Transcript.{Said, said, said_from, history_of, last_images}
+use Rattle.hg_base.specs.History.{Write, History, seen}
+use Rattle.hg_base.specs.Transcript.{Said, said, said_from, history_of}
 use Rattle.hg_base.specs.Shape.{IsReportOf, HasShape}
 use Rattle.hg_base.specs.Counts.{AreTotals, live, removed_by}
-use Rattle.hg_base.specs.Sound.{AreRight, IsSound}
+use Rattle.hg_base.specs.Sound.{IsSound}
 use Rattle.hg_base.proofs.ListFacts.{append_nil}
-use Rattle.hg_run.specs.Plain.{Plain, IsPlayable, empty, reply_of, after, line_of, lines_from, after_all, HasTotals, inside, answer_row, answer_commit, written, with_group, made_by}
+use Rattle.hg_run.specs.Plain.{Plain, IsPlayable, empty, reply_of, after, lines_from, after_all, HasTotals, answer_row, answer_commit, written, with_group, made_by}
 use Rattle.hg_script.specs.Lawful.{MayStand}
 use Rattle.hg_script.specs.Rules.{opened as opened_by}
-use Rattle.hg_run.proofs.Standing.{Shows, Counts, open_table, closed_table, ask, said_begin, said_in, said_out, reply_out, begin_line, inner_line, outer_line}
+use Rattle.hg_run.proofs.Standing.{Shows, Counts, open_table, closed_table, ask, said_in, begin_line, inner_line, outer_line}
 use Rattle.hg_run.proofs.Steps.{table, begin_shows, get_in_shows, get_out_shows, put_in_shows, put_out_shows, ended_shows, committed_shows}
 use Rattle.hg_run.proofs.Counting.{begin_counts, get_in_counts, get_out_counts, put_in_counts, put_out_counts, ended_counts, committed_counts, none_removed}
 

@@ -1,21 +1,18 @@
 -- Each line of the plain table is right.
-use Rattle.std.proofs.Common.{◌≡◌, ℕ, zero, suc, ◌+◌, ◌<◌, ◌≤◌, ℤ, List, [], ◌∷◌, ◌++◌, length, Bool, true, false, Option, Some, None, refl, sym, ap, ◌∙◌, subst, arith}
-use Rattle.std.specs.Prelude.{◌&&◌, is_some, IsTrue, IsFalse, IfSome, ⊤}
+use Rattle.std.proofs.Common.{◌≡◌, ℕ, zero, suc, ◌≤◌, ℤ, List, [], ◌∷◌, ◌++◌, length, Bool, true, false, Option, Some, None, refl, sym, ap, subst, arith}
+use Rattle.std.specs.Prelude.{IfSome}
 use Rattle.std.specs.Bool.{MatchBool}
 use Rattle.hg_base.specs.declared.rid.Rid.{Rid}
-use Rattle.hg_base.specs.declared.rid.TableId.{TableId}
 use Rattle.hg_base.specs.declared.image.Image.{Image}
 use Rattle.hg_base.specs.declared.statement.Statement.{Statement}
-use Rattle.hg_base.specs.declared.statement.Statement.TheVariants.{Begin, Get, Put, Commit as CommitIt}
-use Rattle.hg_base.specs.declared.report.Sweep.{Sweep}
-use Rattle.hg_base.specs.declared.line.Answer.{Answer}
-use Rattle.hg_base.specs.declared.line.Answer.TheVariants.{Begun, Stored, Found, Nothing, Committed, Ended}
+use Rattle.hg_base.specs.declared.statement.Statement.TheVariants.{Get, Put, Commit as CommitIt}
+use Rattle.hg_base.specs.declared.line.Answer.TheVariants.{Stored, Committed, Ended}
 use Rattle.hg_base.specs.Lists.{Each}
 use Rattle.hg_base.specs.Script.{replay}
-use Rattle.hg_base.specs.History.{Write, Group, History, seen, visible}
-use Rattle.hg_base.specs.Transcript.{Said, stored_in, own_writes, has, only, is_of, greatest_commit, history_of}
+use Rattle.hg_base.specs.History.{Write, Group, History, seen}
+use Rattle.hg_base.specs.Transcript.{Said, stored_in, has, only, greatest_commit, history_of}
 use Rattle.hg_base.specs.Shape.{report_of}
-use Rattle.hg_base.specs.Replies.{IsGot, IsReply, IsUndeclared, is_written}
+use Rattle.hg_base.specs.Replies.{IsGot, is_written}
 use Rattle.hg_base.specs.Freshness.{known, snapshot_of, newer_of, IsFresh}
 use Rattle.hg_base.specs.Sound.{IsRight}
 use Rattle.hg_run.specs.Plain.{Plain, inside, answer_row}

@@ -1,24 +1,22 @@
 -- What the lines so far show of the plain table, and in which transaction its next line stands.
-use Rattle.std.proofs.Common.{◌≡◌, ℕ, zero, suc, ◌+◌, ◌-◌, ◌<◌, ◌≤◌, List, [], ◌∷◌, ◌++◌, length, Bool, true, false, not, Option, Some, None, refl, sym, ap, ◌∙◌, subst, arith}
-use Rattle.std.specs.Prelude.{◌==◌, ◌&&◌, ◌%◌, ◌/◌, ◌^◌, cond, filter, filter_map, nat_lt, is_some, is_none, unwrap_or, ⊤}
-use Rattle.std.specs.List.{list_any, cons_option}
+use Rattle.std.proofs.Common.{◌≡◌, ℕ, suc, ◌-◌, ◌<◌, ◌≤◌, List, [], ◌∷◌, length, Bool, true, false, not, Option, Some, None, refl, sym, ap, ◌∙◌, subst, arith}
+use Rattle.std.specs.Prelude.{◌==◌, ◌&&◌, ◌%◌, ◌^◌, cond, filter, nat_lt, is_some, ⊤}
+use Rattle.std.specs.List.{list_any}
 use Rattle.std.proofs.Math.Nat.{div_self}
 use Rattle.std.proofs.Math.Pow.{pow-sub-lt}
-use Rattle.std.proofs.lemmas.Bool.Decides.{Decides-eqb, Decides-ltb}
+use Rattle.std.proofs.lemmas.Bool.Decides.{Decides-ltb}
 use Rattle.hg_base.specs.declared.rid.TableId.{TableId}
-use Rattle.hg_base.specs.declared.scope.Scope.{Scope}
-use Rattle.hg_base.specs.declared.scope.Scope.TheVariants.{All, Declared}
+use Rattle.hg_base.specs.declared.scope.Scope.TheVariants.{All}
 use Rattle.hg_base.specs.declared.statement.Statement.{Statement}
 use Rattle.hg_base.specs.declared.statement.Statement.TheVariants.{Begin, Get, Put, Del, Scan, Commit as CommitIt, Rollback, Gc}
 use Rattle.hg_base.specs.declared.statement.Record.{Record}
-use Rattle.hg_base.specs.declared.report.Kind.{Kind}
 use Rattle.hg_base.specs.declared.line.Answer.{Answer}
 use Rattle.hg_base.specs.declared.line.Answer.TheVariants.{Begun}
 use Rattle.hg_base.specs.declared.line.Reply.{Reply}
 use Rattle.hg_base.specs.Lists.{Each, onto}
 use Rattle.hg_base.specs.Script.{replay}
 use Rattle.hg_base.specs.History.{Write, History}
-use Rattle.hg_base.specs.Transcript.{Said, said, said_after, standing, last_of, open_after, next_after, ends, is_of, stored_in, own_writes, has, only, table_of, committed, greatest_commit, history_of, last_images}
+use Rattle.hg_base.specs.Transcript.{Said, said, said_after, standing, last_of, open_after, next_after, is_of, stored_in, has, only, table_of, committed, greatest_commit, history_of, last_images}
 use Rattle.hg_base.specs.Shape.{report_of}
 use Rattle.hg_base.specs.Freshness.{known}
 use Rattle.hg_base.specs.Counts.{first_writes, is_committed}

@@ -1,22 +1,20 @@
 -- One more line: what the lines then show is the table after it.
-use Rattle.std.proofs.Common.{◌≡◌, ℕ, zero, suc, ◌+◌, ◌<◌, ◌≤◌, ℤ, List, [], ◌∷◌, ◌++◌, length, map, Bool, true, false, Option, Some, None, refl, sym, ap, ◌∙◌, subst, arith}
+use Rattle.std.proofs.Common.{◌≡◌, ℕ, suc, ◌<◌, ◌≤◌, ℤ, List, [], ◌∷◌, ◌++◌, length, Bool, true, false, Option, Some, None, refl, sym, ap, ◌∙◌, subst, arith}
 use Rattle.std.specs.Prelude.{◌==◌, ◌&&◌, cond, filter, filter_map, max}
 use Rattle.std.specs.List.{cons_option, flat_map}
 use Rattle.std.proofs.lemmas.Bool.Decides.{Decides-eqb}
 use Rattle.hg_base.specs.declared.rid.Rid.{Rid}
-use Rattle.hg_base.specs.declared.statement.Statement.{Statement}
-use Rattle.hg_base.specs.declared.statement.Statement.TheVariants.{Begin, Get, Put, Commit as CommitIt}
-use Rattle.hg_base.specs.declared.line.Answer.{Answer}
+use Rattle.hg_base.specs.declared.statement.Statement.TheVariants.{Get, Put, Commit as CommitIt}
 use Rattle.hg_base.specs.declared.line.Answer.TheVariants.{Stored, Committed, Ended}
 use Rattle.hg_base.specs.Lists.{Each, onto, greatest}
 use Rattle.hg_base.specs.Script.{replay}
-use Rattle.hg_base.specs.History.{Write, Commit, Group, History, IsGroup, IsCommit, LosesNothing, NoneTwice, rids_of, seen}
-use Rattle.hg_base.specs.Transcript.{Said, stored, stored_in, is_of, last_of, last_images, committed, commit_by, greatest_commit, history_of}
+use Rattle.hg_base.specs.History.{Write, Group, History, IsGroup, LosesNothing, NoneTwice, rids_of, seen}
+use Rattle.hg_base.specs.Transcript.{Said, stored, stored_in, is_of, last_of, last_images, committed, commit_by, history_of}
 use Rattle.hg_base.specs.Freshness.{known, numbers_of}
-use Rattle.hg_base.specs.Sound.{IsRight, AreRight}
+use Rattle.hg_base.specs.Sound.{IsRight}
 use Rattle.hg_base.proofs.ListFacts.{each_append, each_keeps, append_nil, not_equal}
-use Rattle.hg_base.proofs.Growth.{history_same, plain_stays, history_next, commit_stays, as_many}
-use Rattle.hg_run.specs.Plain.{Plain, inside, answer_row, written, commit_with, with_group, made_by}
+use Rattle.hg_base.proofs.Growth.{history_same, plain_stays, history_next, commit_stays}
+use Rattle.hg_run.specs.Plain.{Plain, answer_row, written, commit_with, with_group}
 use Rattle.hg_run.proofs.OwnWrites.{last_none_twice, some_writes, writes_at_most}
 use Rattle.hg_run.proofs.Standing.{Shows, Stands, AreOwn, open_table, closed_table, said_begin, said_in, said_out, stands_begun, stands_on, stands_ended, stands_outside}
 use Rattle.hg_run.proofs.Right.{begin_right, get_in_right, get_out_right, put_in_right, put_out_right, ended_right, committed_right}
@@ -113,7 +111,7 @@ shows_commit all earlier t now x own count made s j e is some right numbers with
     let group : IsGroup (suc (length h)) (commit_by (onto all []) now ∷ []) = subst (λ k. IsGroup (suc (length k)) (commit_by (onto all []) now ∷ [])) (sym s.history) (subst (λ c. IsGroup (suc m) (c ∷ [])) (sym same) (is_group t.history x own some)) in
     let loses : LosesNothing h (commit_by (onto all []) now) = subst (λ k. LosesNothing k (commit_by (onto all []) now)) (sym s.history) (subst (LosesNothing t.history) (sym same) (loses_nothing t.history x own)) in
     let line : IsRight replay (h ++ (commit_by (onto all []) now ∷ []) ∷ []) (all ++ now ∷ []) (onto all []) now =
-        subst (λ c. IsRight replay (h ++ (c ∷ []) ∷ []) (all ++ now ∷ []) (onto all []) now) (sym same) (subst (λ ls. IsRight replay (h ++ (commit_with x m own ∷ []) ∷ []) (all ++ now ∷ []) ls now) (sym s.order) right) in
+    subst (λ c. IsRight replay (h ++ (c ∷ []) ∷ []) (all ++ now ∷ []) (onto all []) now) (sym same) (subst (λ ls. IsRight replay (h ++ (commit_with x m own ∷ []) ∷ []) (all ++ now ∷ []) ls now) (sym s.order) right) in
     record {
       order = onto_snoc all now [] ∙ ap (λ ls. now ∷ ls) s.order;
       right = commit_stays replay all now s.right number group loses line;

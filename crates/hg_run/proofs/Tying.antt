@@ -1,6 +1,6 @@
 -- The versions of one record show the table after each statement.
-use Rattle.std.proofs.Common.{◌≡◌, ℕ, zero, suc, ◌+◌, ◌<◌, ◌≤◌, List, [], ◌∷◌, ◌++◌, length, drop, Bool, true, false, not, Option, Some, None, refl, sym, ap, ◌∙◌, subst, arith}
-use Rattle.std.specs.Prelude.{◌==◌, ◌&&◌, cond, find, option_map, is_some, IsTrue, unwrap_or}
+use Rattle.std.proofs.Common.{◌≡◌, ℕ, suc, List, [], ◌∷◌, length, drop, true, false, Option, Some, None, refl, sym, ap, ◌∙◌, subst, arith}
+use Rattle.std.specs.Prelude.{cond, find, option_map, is_some, IsTrue, unwrap_or}
 use Rattle.std.specs.Option.{option_or}
 use Rattle.std.proofs.lemmas.Bool.{le-leb}
 use Rattle.hg_base.specs.declared.rid.Rid.{Rid}
@@ -8,14 +8,13 @@ use Rattle.hg_base.specs.declared.image.Image.{Image}
 use Rattle.hg_base.specs.Lists.{Each}
 use Rattle.hg_base.specs.History.{Write, History, same_rid, image_in, visible, nothing}
 use Rattle.hg_chain.specs.declared.version.Version.{Version}
-use Rattle.hg_chain.specs.Versions.{is_at_most, IsBelow, open_write, numbered, is_written_by, is_open_by, image_at, image_by, installed, stamped}
-use Rattle.hg_base.proofs.ListFacts.{cases, each_keeps}
-use Rattle.hg_base.proofs.HistoryFacts.{same_rid_equal, same_rid_itself}
-use Rattle.hg_run.specs.Plain.{with_group, written}
+use Rattle.hg_chain.specs.Versions.{is_at_most, IsBelow, open_write, numbered, is_written_by, image_at, image_by, installed, stamped}
+use Rattle.hg_base.proofs.HistoryFacts.{same_rid_itself}
+use Rattle.hg_run.specs.Plain.{with_group}
 use Rattle.hg_run.specs.Driving.{writer, settled_part, ShowsRecord}
-use Rattle.hg_run.proofs.OwnWrites.{same_rid_not, true_false}
+use Rattle.hg_run.proofs.OwnWrites.{true_false}
 use Rattle.hg_run.proofs.Steps.{length_snoc}
-use Rattle.hg_run.proofs.Versions.{visible_after, own_written, below_unwritten, below_more, none_open, none_by, all_below_more, all_no_other, image_later, image_behind}
+use Rattle.hg_run.proofs.Versions.{visible_after, own_written, none_open, none_by, all_below_more, image_later, image_behind}
 
 -- ---- a record that the transaction has not written
 

@@ -1,6 +1,6 @@
 -- The versions of one record, as the table goes on.
-use Rattle.std.proofs.Common.{◌≡◌, ℕ, zero, suc, ◌+◌, ◌<◌, ◌≤◌, List, [], ◌∷◌, ◌++◌, length, drop, Bool, true, false, not, Option, Some, None, refl, sym, ap, ◌∙◌, subst, arith}
-use Rattle.std.specs.Prelude.{◌==◌, ◌&&◌, cond, filter, find, option_map, nat_le, is_some, IsSome, IsTrue, unwrap_or}
+use Rattle.std.proofs.Common.{◌≡◌, ℕ, suc, ◌+◌, ◌≤◌, List, [], ◌∷◌, ◌++◌, length, Bool, true, false, Option, Some, None, refl, sym, ap, ◌∙◌, arith}
+use Rattle.std.specs.Prelude.{cond, filter, find, option_map, nat_le, unwrap_or}
 use Rattle.std.specs.List.{cons_option}
 use Rattle.std.specs.Option.{option_or}
 use Rattle.std.proofs.lemmas.Bool.{le-leb}
@@ -8,18 +8,17 @@ use Rattle.hg_base.specs.declared.rid.Rid.{Rid}
 use Rattle.hg_base.specs.declared.writer.Writer.{Writer}
 use Rattle.hg_base.specs.declared.image.Image.{Image}
 use Rattle.hg_base.specs.Lists.{Each}
-use Rattle.hg_base.specs.History.{Write, Commit, Group, History, same_rid, image_in, group_image, writes, last_image, visible, nothing}
-use Rattle.hg_base.specs.Transcript.{last_images}
-use Rattle.hg_base.proofs.ListFacts.{cases, each_keeps, append_nil, false_true}
-use Rattle.hg_base.proofs.HistoryFacts.{same_rid_equal, same_rid_itself, last_of_more, writes_from_snoc}
+use Rattle.hg_base.specs.History.{Write, Commit, History, image_in, writes, last_image, visible}
+use Rattle.hg_base.proofs.ListFacts.{each_keeps, append_nil, false_true}
+use Rattle.hg_base.proofs.HistoryFacts.{last_of_more, writes_from_snoc}
 use Rattle.hg_chain.specs.declared.version.Stamp.{Stamp}
 use Rattle.hg_chain.specs.declared.version.Stamp.TheVariants.{Written, Numbered}
 use Rattle.hg_chain.specs.declared.version.Version.{Version}
-use Rattle.hg_chain.specs.Versions.{has_at_most, is_at_most, has_writer, is_written_by, HasBelow, IsBelow, NoOther, HasNoOther, open_write, numbered, is_open_by, image_at, image_by, installed, stamped}
-use Rattle.hg_run.specs.Plain.{commit_with, with_group, written}
-use Rattle.hg_run.specs.Driving.{writer, settled_part, ShowsRecord}
-use Rattle.hg_run.proofs.OwnWrites.{last_image_in, writes_at_most, same_rid_not}
-use Rattle.hg_run.proofs.Steps.{same_number, length_snoc}
+use Rattle.hg_chain.specs.Versions.{has_at_most, is_at_most, has_writer, is_written_by, HasBelow, IsBelow, NoOther, HasNoOther, is_open_by, image_at, image_by}
+use Rattle.hg_run.specs.Plain.{commit_with, with_group}
+use Rattle.hg_run.specs.Driving.{writer, settled_part}
+use Rattle.hg_run.proofs.OwnWrites.{last_image_in, writes_at_most}
+use Rattle.hg_run.proofs.Steps.{same_number}
 
 -- ---- what is visible at the newest group
 
@@ -113,6 +112,7 @@ open_no_other n x (v ∷ vs) h = go (is_written_by (writer x) v) refl h
     written_is : (s : Stamp) → has_writer (writer x) s ≡ true → HasNoOther (writer x) s
     written_is (Written w) e = e
     written_is (Numbered number other) e = tt
+
     go : (b : Bool) → is_written_by (writer x) v ≡ b → Each (IsBelow n) (cond b vs (v ∷ vs)) → NoOther (writer x) (v ∷ vs)
     go true e k = (written_is v.stamp e, all_no_other n (writer x) vs k)
     go false e k = all_no_other n (writer x) (v ∷ vs) k

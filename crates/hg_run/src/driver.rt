@@ -192,10 +192,8 @@ impl Driver {
                 }
             }
             Statement::Commit => Ok(self.commit()),
-            Statement::Del(_)
-            | Statement::Scan { .. }
-            | Statement::Rollback
-            | Statement::Gc(_) => unreachable!(),
+            Statement::Del(_) | Statement::Scan { .. } | Statement::Rollback | Statement::Gc(_) =>
+                unreachable!(),
         }
     }
 

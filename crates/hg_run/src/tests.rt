@@ -88,6 +88,64 @@ fn length_is_limited(rt: HostRuntime) -> Result<(), Fail> {
     Ok(())
 }
 
+// Scripts, and all that is written for them.
+#[test]
+fn scripts_have_their_answers(rt: HostRuntime) -> Result<(), Fail> {
+    for (script, lines, totals) in [
+        ("", "", [0, 0, 0]),
+        (
+            OWN_WRITE,
+            "1,2,begun,0\n1,3,stored\n1,4,row,7\n1,5,committed,1\n",
+            [1, 0, 1],
+        ),
+        ("table,t,1\n1,get,t,9\n", "1,2,at,0,none\n", [0, 0, 0]),
+        (
+            "table,t,1\n1,begin\n1,put,t,5,1\n1,put,t,5,2\n1,get,t,5\n1,commit\n",
+            "1,2,begun,0\n1,3,stored\n1,4,stored\n1,5,row,2\n1,6,committed,1\n",
+            [1, 0, 1],
+        ),
+        (
+            "table,t,2\n1,put,t,5,1,-2\n1,put,t,5,3,4\n1,get,t,5\n1,begin\n1,commit\n",
+            "1,2,at,0,stored,committed,1\n1,3,at,1,stored,committed,2\n1,4,at,2,row,3,4\n1,5,begun,2\n1,6,ended\n",
+            [2, 0, 1],
+        ),
+        (
+            "table,t,1\ntable,u,1\n1,put,t,5,1\n1,begin\n1,put,t,5,2\n1,put,u,5,2\n1,get,u,6\n",
+            "1,3,at,0,stored,committed,1\n1,4,begun,1\n1,5,stored\n1,6,stored\n1,7,none\n",
+            [3, 2, 1],
+        ),
+    ] {
+        let [made, undone, left] = totals;
+        let table = made - undone - left;
+        let want = format!(in rt.alloc();
+            "{lines}total,made,{made}\ntotal,undone,{undone}\ntotal,group,0\ntotal,table,{table}\ntotal,interval,0\ntotal,left,{left}\n"
+        )?;
+        let mut sink = MemorySink::new(rt.alloc(), 4, Vec::new(rt.alloc()));
+        sink.reserve(4096)?;
+        let bytes = Vec::from_slice(rt.alloc(), script.as_bytes())?;
+        let status = call(&rt, rt.alloc(), "replay", bytes, 8, &[], &mut sink)?;
+        assert_eq!(rt; status, Status::Done);
+        assert_eq!(rt; sink.bytes(), want.as_bytes(), "at {script}");
+    }
+    Ok(())
+}
+
+// A sink whose second call fails has what the first one took.
+#[test]
+fn a_sink_that_fails_keeps_what_it_took(rt: HostRuntime) -> Result<(), Fail> {
+    let mut sink = MemorySink::new(rt.alloc(), 4, vec![in rt.alloc(); 2]?);
+    sink.reserve(256)?;
+    let text = Vec::new(rt.alloc());
+    let status = call(&rt, rt.alloc(), "replay", text, 8, &[], &mut sink)?;
+    assert_eq!(rt;
+        format!(in rt.alloc(); "{status}")?.as_bytes(),
+        b"write fault".as_slice()
+    );
+    assert_eq!(rt; status.exit_code(), 5);
+    assert_eq!(rt; sink.bytes(), b"tota".as_slice());
+    Ok(())
+}
+
 fn add(
     lines: &mut LineList,
     at: Option<u64>,

@@ -1,10 +1,8 @@
-use Rattle.std.proofs.Common.{◌≡◌, ℕ, ◌+◌, ◌<◌, ◌≤◌, List, [], ◌∷◌, ◌++◌, length, drop, get_or, suc, refl, sym, ap, ◌∙◌, subst, arith}
+use Rattle.std.proofs.Common.{◌≡◌, ℕ, ◌+◌, ◌<◌, ◌≤◌, List, ◌∷◌, length, drop, get_or, suc, sym, ◌∙◌, subst, arith}
 use Rattle.std.proofs.Math.Seq.{drop-cons}
 use Rattle.std.proofs.lemmas.List.{drop_all}
 use Rattle.hg_base.specs.declared.statement.Record.{Record}
-use Rattle.hg_base.specs.declared.line.Line.{Line}
-use Rattle.hg_run.specs.Driving.{Kept}
-use Rattle.hg_run.proofs.Looping.{Going, going_first, going_may, going_on, going_last}
+use Rattle.hg_run.proofs.Looping.{Going, going_first, going_on, going_last}
 use Rattle.hg_run.proofs.driver.replay.Goals as goal
 
 -- the next record, and those behind it

@@ -1,4 +1,4 @@
-use Rattle.std.proofs.Common.{◌≡◌, ◌+◌, Some, None, sym, ap, ◌∙◌, arith}
+use Rattle.std.proofs.Common.{Some, None, sym, ◌∙◌, arith}
 use Rattle.hg_run.proofs.Settling.{removed_by}
 use Rattle.hg_run.proofs.records.settle_one.Goals as goal
 

@@ -1,4 +1,3 @@
-use Rattle.std.proofs.Common.{rules}
 use Rattle.hg_run.proofs.Playable.{playable}
 use Rattle.hg_run.proofs.serving.text_of_bytes.Goals as goal
 

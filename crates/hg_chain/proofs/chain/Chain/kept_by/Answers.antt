@@ -1,6 +1,5 @@
-use Rattle.std.proofs.Common.{◌≡◌, ◌+◌, ◌-◌, ◌≤◌, length, subst, arith}
-use Rattle.std.specs.Prelude.{count_by}
-use Rattle.hg_chain.specs.Versions.{IsChain, left_by, is_at_most}
+use Rattle.std.proofs.Common.{subst, arith}
+use Rattle.hg_chain.specs.Versions.{IsChain}
 use Rattle.hg_chain.proofs.Cuts.{kept_left, kept_first, kept_sum}
 use Rattle.hg_chain.proofs.chain.Chain.kept_by.Goals as goal
 

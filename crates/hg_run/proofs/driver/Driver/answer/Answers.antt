@@ -1,6 +1,5 @@
 use Rattle.std.proofs.Common.{◌≡◌, true, false, sym, ap, ◌∙◌, subst}
-use Rattle.hg_base.specs.declared.statement.Statement.{Statement}
-use Rattle.hg_run.specs.Plain.{Plain, after}
+use Rattle.hg_run.specs.Plain.{after}
 use Rattle.hg_script.specs.Lawful.{MayStand}
 use Rattle.hg_run.specs.Driving.{Kept, IsKept}
 use Rattle.hg_run.proofs.Committing.{needs_no_other}

@@ -1,8 +1,6 @@
-use Rattle.std.proofs.Common.{◌≡◌, Option, Some, None, List, [], refl, sym, ap, ◌∙◌}
+use Rattle.std.proofs.Common.{◌≡◌, Option, Some, None, refl, sym, ap, ◌∙◌}
 use Rattle.std.specs.Borrow.{Bor}
 use Rattle.std.specs.Option.{option_copied, option_or}
-use Rattle.hg_chain.specs.declared.version.Version.{Version}
-use Rattle.hg_chain.specs.Versions.{image_at, image_by}
 use Rattle.hg_run.proofs.Entries.{looked_up_as, finds}
 use Rattle.hg_run.proofs.records.Records.read.Goals as goal
 

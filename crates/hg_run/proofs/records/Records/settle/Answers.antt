@@ -1,8 +1,8 @@
-use Rattle.std.proofs.Common.{◌≡◌, ◌+◌, ◌≤◌, sym, ap, ◌∙◌, subst, arith}
+use Rattle.std.proofs.Common.{◌≡◌, ap, subst, arith}
 use Rattle.std.specs.Prelude.{map}
 use Rattle.hg_base.specs.History.{NoneTwice}
 use Rattle.hg_base.specs.Lists.{Each}
-use Rattle.hg_run.specs.Records.{versions_of, held}
+use Rattle.hg_run.specs.Records.{versions_of}
 use Rattle.hg_run.proofs.Settling.{cuts, cuts_within, cuts_next, all_cut, none_twice, each_found}
 use Rattle.hg_run.proofs.records.Records.settle.Goals as goal
 

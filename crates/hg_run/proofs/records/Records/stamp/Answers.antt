@@ -1,4 +1,4 @@
-use Rattle.std.proofs.Common.{◌≡◌, ◌+◌, sym, ap, ◌∙◌, arith, length, drop}
+use Rattle.std.proofs.Common.{◌≡◌, sym, ap, ◌∙◌, arith, length}
 use Rattle.std.specs.Option.{option_copied_mut}
 use Rattle.hg_chain.specs.Versions.{stamped}
 use Rattle.hg_run.proofs.Entries.{written, open_found, lent}
