@@ -11,9 +11,10 @@
 #![tactic(auto)]
 
 mod chain;
+mod merge;
 mod version;
 
-pub use chain::{Chain, Cut};
+pub use chain::{Chain, Cut, Swept};
 pub use version::{Stamp, Version};
 
 #[cfg(test)]
