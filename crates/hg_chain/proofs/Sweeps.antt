@@ -1,12 +1,12 @@
 -- What a sweep leaves: each version is settled once, from the newest on.
-use Rattle.std.proofs.Common.{◌≡◌, ℕ, zero, suc, ◌+◌, ◌<◌, ◌≤◌, List, [], ◌∷◌, ◌++◌, length, Bool, true, false, not, ◌||◌, Option, Some, None, refl, ap, sym, ◌∙◌, subst, arith}
-use Rattle.std.specs.Prelude.{map, filter, count_by, cond, nat_le, nat_lt, IsTrue, IsSome, ⊤}
+use Rattle.std.proofs.Common.{◌≡◌, ℕ, ◌+◌, ◌<◌, ◌≤◌, List, [], ◌∷◌, ◌++◌, ◌-◌, length, Bool, true, false, not, ◌||◌, Option, Some, None, refl, ap, sym, ◌∙◌, subst, arith}
+use Rattle.std.specs.Prelude.{map, filter, cond, IsSome, ⊤}
 use Rattle.std.specs.Bool.{OnFalse}
 use Rattle.std.proofs.lemmas.Bool.Decides.{nat_tests}
 use Rattle.std.proofs.lemmas.List.Sums.{length-filter}
 use Rattle.std.proofs.lemmas.List.{length-map}
 use Rattle.hg_base.specs.Lists.{Each}
-use Rattle.hg_base.proofs.ListFacts.{cases, each_keeps, append_nil}
+use Rattle.hg_base.proofs.ListFacts.{cases, append_nil}
 use Rattle.hg_chain.specs.declared.version.Stamp.{Stamp}
 use Rattle.hg_chain.specs.declared.version.Stamp.TheVariants.{Written, Numbered}
 use Rattle.hg_chain.specs.declared.version.Version.{Version}
@@ -97,21 +97,33 @@ opened horizon snapshots old v more rest up h t = go t.before t.stand t.many t.l
     go (w ∷ ws) a b c d e f =
         let same : w ≡ v = cc in
         let others : more ≡ ws ++ t.kept = cc in
-        record { before = ws; kept = t.kept; stand = others; many = omega (arith, b);
-            left = subst (λ x. t.kept ++ swept horizon snapshots up (x ∷ ws) ≡ swept horizon snapshots None old) same c;
-            last = subst (λ x. last_number up (x ∷ ws) ≡ last_number None old) same d;
-            under = subst (λ x. Under up (x ∷ ws)) same e;
-            chain = subst (λ x. IsChain (x ∷ ws)) same f }
+        record {
+          before = ws;
+          kept = t.kept;
+          stand = others;
+          many = omega (arith, b);
+          left = subst (λ x. t.kept ++ swept horizon snapshots up (x ∷ ws) ≡ swept horizon snapshots None old) same c;
+          last = subst (λ x. last_number up (x ∷ ws) ≡ last_number None old) same d;
+          under = subst (λ x. Under up (x ∷ ws)) same e;
+          chain = subst (λ x. IsChain (x ∷ ws)) same f;
+        }
 
 pub follows : (horizon : ℕ) (snapshots : List ℕ) (old : List Version) (v : Version) (more : List Version) (rest : ℕ) (up : Option ℕ) → 0 < rest → Turned horizon snapshots old (v ∷ more) rest up → Follows up (number_in v.stamp)
 follows horizon snapshots old v more rest up h t = let o = opened horizon snapshots old v more rest up h t in under_follows up v o.before o.under
 
-pub turn_goes : (horizon : ℕ) (snapshots : List ℕ) (old : List Version) (v : Version) (more : List Version) (rest : ℕ) (up : Option ℕ) → 0 < suc rest → Turned horizon snapshots old (v ∷ more) (suc rest) up → goes horizon snapshots up (number_in v.stamp) ≡ true → Turned horizon snapshots old more rest (number_in v.stamp)
+pub turn_goes : (horizon : ℕ) (snapshots : List ℕ) (old : List Version) (v : Version) (more : List Version) (rest : ℕ) (up : Option ℕ) → 0 < rest → Turned horizon snapshots old (v ∷ more) rest up → goes horizon snapshots up (number_in v.stamp) ≡ true → Turned horizon snapshots old more (rest - 1) (number_in v.stamp)
 turn_goes horizon snapshots old v more rest up h t e =
-    let o = opened horizon snapshots old v more (suc rest) up h t in
-    record { before = o.before; kept = o.kept; stand = o.stand; many = (let m = o.many in omega (arith, m));
-        left = ap (λ ws. o.kept ++ ws) (sym (swept_goes horizon snapshots up v o.before e)) ∙ o.left;
-        last = o.last; under = under_next v.stamp o.before o.chain.0; chain = o.chain.1 }
+    let o = opened horizon snapshots old v more rest up h t in
+    record {
+      before = o.before;
+      kept = o.kept;
+      stand = o.stand;
+      many = (let m = o.many in omega (arith, m));
+      left = ap (λ ws. o.kept ++ ws) (sym (swept_goes horizon snapshots up v o.before e)) ∙ o.left;
+      last = o.last;
+      under = under_next v.stamp o.before o.chain.0;
+      chain = o.chain.1;
+    }
 
 regroup : (xs : List Version) (v : Version) (ys : List Version) → (xs ++ v ∷ []) ++ ys ≡ xs ++ (v ∷ ys)
 regroup [] v ys = refl
@@ -121,13 +133,19 @@ regroup_end : (xs ys : List Version) (v : Version) → (xs ++ ys) ++ v ∷ [] �
 regroup_end [] ys v = refl
 regroup_end (x ∷ xs) ys v = ap (λ zs. x ∷ zs) (regroup_end xs ys v)
 
-pub turn_stays : (horizon : ℕ) (snapshots : List ℕ) (old : List Version) (v : Version) (more : List Version) (rest : ℕ) (up : Option ℕ) → 0 < suc rest → Turned horizon snapshots old (v ∷ more) (suc rest) up → goes horizon snapshots up (number_in v.stamp) ≡ false → Turned horizon snapshots old (more ++ v ∷ []) rest (number_in v.stamp)
+pub turn_stays : (horizon : ℕ) (snapshots : List ℕ) (old : List Version) (v : Version) (more : List Version) (rest : ℕ) (up : Option ℕ) → 0 < rest → Turned horizon snapshots old (v ∷ more) rest up → goes horizon snapshots up (number_in v.stamp) ≡ false → Turned horizon snapshots old (more ++ v ∷ []) (rest - 1) (number_in v.stamp)
 turn_stays horizon snapshots old v more rest up h t e =
-    let o = opened horizon snapshots old v more (suc rest) up h t in
-    record { before = o.before; kept = o.kept ++ v ∷ [];
-        stand = ap (λ ws. ws ++ v ∷ []) o.stand ∙ regroup_end o.before o.kept v; many = (let m = o.many in omega (arith, m));
-        left = regroup o.kept v (swept horizon snapshots (number_in v.stamp) o.before) ∙ ap (λ ws. o.kept ++ ws) (sym (swept_stays horizon snapshots up v o.before e)) ∙ o.left;
-        last = o.last; under = under_next v.stamp o.before o.chain.0; chain = o.chain.1 }
+    let o = opened horizon snapshots old v more rest up h t in
+    record {
+      before = o.before;
+      kept = o.kept ++ v ∷ [];
+      stand = ap (λ ws. ws ++ v ∷ []) o.stand ∙ regroup_end o.before o.kept v;
+      many = (let m = o.many in omega (arith, m));
+      left = regroup o.kept v (swept horizon snapshots (number_in v.stamp) o.before) ∙ ap (λ ws. o.kept ++ ws) (sym (swept_stays horizon snapshots up v o.before e)) ∙ o.left;
+      last = o.last;
+      under = under_next v.stamp o.before o.chain.0;
+      chain = o.chain.1;
+    }
 
 -- at the end nothing is left to settle
 pub ended : (horizon : ℕ) (snapshots : List ℕ) (old items : List Version) (up : Option ℕ) → Turned horizon snapshots old items 0 up → (items ≡ swept horizon snapshots None old) × (up ≡ last_number None old)

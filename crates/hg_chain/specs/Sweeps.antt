@@ -1,5 +1,5 @@
 -- What a sweep removes: versions that no reader sees, also in the middle of a chain.
-use Rattle.std.specs.Prelude.{ℕ, ◌<◌, ◌≤◌, List, [], ◌∷◌, map, filter, count_by, Bool, false, not, ◌&&◌, nat_le, nat_lt, IsTrue, Option, Some, None, ⊤}
+use Rattle.std.specs.Prelude.{ℕ, ◌≤◌, List, [], ◌∷◌, map, filter, count_by, Bool, false, not, ◌&&◌, nat_le, nat_lt, IsTrue, Option, Some, None, ⊤}
 use Rattle.std.specs.List.{list_any}
 use Rattle.hg_base.specs.Lists.{Each}
 use Rattle.hg_chain.specs.declared.version.Version.{Version}

@@ -48,12 +48,7 @@ impl Merge {
 }
 
 // Passes the snapshots at or over the number.
-fn pass_from<L: Ledger>(
-    snapshots: &[u64],
-    left: usize,
-    up: u64,
-    steps: &mut Steps<L>,
-) -> usize
+fn pass_from<L: Ledger>(snapshots: &[u64], left: usize, up: u64, steps: &mut Steps<L>) -> usize
     requires within { left ≤ length snapshots.now }
     requires passed { Each (λ s. up ≤ s) (drop left snapshots.now) }
     ensures within { result ≤ left }

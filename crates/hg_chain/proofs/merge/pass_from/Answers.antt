@@ -1,4 +1,4 @@
-use Rattle.std.proofs.Common.{◌≡◌, ◌<◌, ◌≤◌, length, arith}
+use Rattle.std.proofs.Common.{◌<◌, ◌≤◌, length, arith}
 use Rattle.hg_chain.proofs.Merges.{pass_one}
 use Rattle.hg_chain.proofs.merge.pass_from.Goals as goal
 
@@ -9,5 +9,5 @@ loop-left-preserved g c =
     record {
       within = omega (arith, c.loop-left.invariant.within);
       passed = pass_one c.args.up c.loop-left.left c.args.snapshots.now some within (omega (arith, c.if-snapshots-left.true)) c.loop-left.invariant.passed;
-      cost = omega (arith, c.loop-left.invariant.cost, c.tick.ensures, some)
+      cost = omega (arith, c.loop-left.invariant.cost, c.tick.ensures, some);
     }

@@ -1,7 +1,6 @@
-use Rattle.std.proofs.Common.{◌≡◌, ◌∙◌, None, ap, sym, subst}
-use Rattle.std.specs.Bool.{OnFalse}
+use Rattle.std.proofs.Common.{None, sym, subst}
 use Rattle.hg_chain.specs.Versions.{IsChain}
-use Rattle.hg_chain.specs.Sweeps.{swept, goes, last_number, IsClean, MayStay}
+use Rattle.hg_chain.specs.Sweeps.{IsClean}
 use Rattle.hg_chain.proofs.Sweeps.{swept_is_chain, all_clean, base_stays}
 use Rattle.hg_chain.proofs.chain.Chain.sweep.Goals as goal
 
