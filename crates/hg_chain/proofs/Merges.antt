@@ -5,7 +5,7 @@ use Rattle.std.proofs.lemmas.Bool.Decides.{nat_tests}
 use Rattle.hg_base.specs.Lists.{Each}
 use Rattle.hg_base.proofs.ListFacts.{cases, each_keeps}
 use Rattle.hg_chain.specs.Sweeps.{Rises, is_within, is_in_use, goes}
-use Rattle.hg_chain.specs.Merging.{Follows, HasPassed, last_from}
+use Rattle.hg_chain.specs.Merging.{Follows, HasPassed, last_reaches}
 
 not_within : (n up s : ℕ) (b : Bool) → up ≤ s → b ≡ false → (is_within n up s || b) ≡ false
 not_within n up s b h e = grind (arith, nat_tests)
@@ -52,7 +52,7 @@ le_of m n e = grind (arith, nat_tests)
 lt_of : (m n : ℕ) → nat_le m n ≡ false → n < m
 lt_of m n e = grind (arith, nat_tests)
 
-pub in_use : (n up left : ℕ) (xs : List ℕ) → Rises xs → left ≤ length xs → Each (λ s. up ≤ s) (drop left xs) → (0 < left → slice_index xs (left - 1) < up) → last_from n left xs ≡ is_in_use xs n up
+pub in_use : (n up left : ℕ) (xs : List ℕ) → Rises xs → left ≤ length xs → Each (λ s. up ≤ s) (drop left xs) → (0 < left → slice_index xs (left - 1) < up) → last_reaches n left xs ≡ is_in_use xs n up
 in_use n up zero xs r h p b = sym (none_passed n up xs p)
 in_use n up (suc k) xs r h p b =
     let less : k < length xs = omega (arith, h) in
@@ -83,3 +83,8 @@ pass_one up left xs some h a p =
 
 pub goes_here : (horizon : ℕ) (xs : List ℕ) (up n : ℕ) (seen : Bool) → up ≤ horizon → seen ≡ is_in_use xs n up → not seen ≡ goes horizon xs (Some up) (Some n)
 goes_here horizon xs up n seen h e = grind (arith, nat_tests)
+
+-- at first none is passed
+pub none_behind : (xs : List ℕ) → drop (length xs) xs ≡ []
+none_behind [] = refl
+none_behind (x ∷ xs) = none_behind xs

@@ -14,6 +14,6 @@ HasPassed None left snapshots = drop left snapshots ≡ []
 HasPassed (Some up) left snapshots = Each (λ s. up ≤ s) (drop left snapshots)
 
 -- whether the last of the first so many snapshots is at or over the number
-abbrev pub last_from : ℕ → ℕ → List ℕ → Bool
-last_from n zero snapshots = false
-last_from n (suc k) snapshots = nat_le n (slice_index snapshots k)
+abbrev pub last_reaches : ℕ → ℕ → List ℕ → Bool
+last_reaches n zero snapshots = false
+last_reaches n (suc k) snapshots = nat_le n (slice_index snapshots k)

@@ -1,5 +1,5 @@
 -- What a sweep removes: versions that no reader sees, also in the middle of a chain.
-use Rattle.std.specs.Prelude.{ℕ, ◌≤◌, List, [], ◌∷◌, map, filter, count_by, Bool, false, not, ◌&&◌, nat_le, nat_lt, IsTrue, Option, Some, None, ⊤}
+use Rattle.std.specs.Prelude.{ℕ, ◌≤◌, List, [], ◌∷◌, map, filter, count_by, Bool, false, not, ◌&&◌, nat_le, nat_lt, IsTrue, Option, Some, None, ⊤, ◌⊎◌, Contains}
 use Rattle.std.specs.List.{list_any}
 use Rattle.hg_base.specs.Lists.{Each}
 use Rattle.hg_chain.specs.declared.version.Version.{Version}
@@ -26,11 +26,15 @@ goes horizon snapshots (Some up) (Some n) = nat_le up horizon && not (is_in_use 
 goes horizon snapshots None n = false
 goes horizon snapshots (Some up) None = false
 
--- a version is where it may stay: if its successor is numbered at or below the horizon, a snapshot lies in its lifetime
+-- whether it may stay: where its successor is numbered at or below the horizon, a snapshot lies in its lifetime
 abbrev pub MayStay : ℕ → List ℕ → Option ℕ → Option ℕ → Type 0
 MayStay horizon snapshots (Some up) (Some n) = up ≤ horizon → IsTrue (is_in_use snapshots n up)
 MayStay horizon snapshots None n = ⊤
 MayStay horizon snapshots (Some up) None = ⊤
+
+-- a reader that a sweep has to leave as it is: its snapshot is at or over the horizon, or is one of those handed in
+abbrev pub IsProtected : ℕ → List ℕ → ℕ → Type 0
+IsProtected horizon snapshots s = (horizon ≤ s) ⊎ Contains snapshots s
 
 -- ---- the versions of a record
 
@@ -39,21 +43,22 @@ abbrev pub with_successors : Option ℕ → List Version → List (Option ℕ ×
 with_successors up [] = []
 with_successors up (v ∷ vs) = (up, v) ∷ with_successors (number_in v.stamp) vs
 
--- the number of the last version, or up where there is none
-abbrev pub last_number : Option ℕ → List Version → Option ℕ
-last_number up [] = up
-last_number up (v ∷ vs) = last_number (number_in v.stamp) vs
-
 abbrev pub goes_after : ℕ → List ℕ → Option ℕ × Version → Bool
 goes_after horizon snapshots p = goes horizon snapshots p.0 (number_in p.1.stamp)
 
--- what a sweep leaves, and how many it removes
-abbrev pub swept : ℕ → List ℕ → Option ℕ → List Version → List Version
-swept horizon snapshots up vs = map (λ p. p.1) (filter (λ p. not (goes_after horizon snapshots p)) (with_successors up vs))
+-- what a sweep leaves, and how many versions it removes
+abbrev pub swept : ℕ → List ℕ → List Version → List Version
+swept horizon snapshots vs = map (λ p. p.1) (filter (λ p. not (goes_after horizon snapshots p)) (with_successors None vs))
 
-abbrev pub swept_away : ℕ → List ℕ → Option ℕ → List Version → ℕ
-swept_away horizon snapshots up vs = count_by (goes_after horizon snapshots) (with_successors up vs)
+abbrev pub swept_away : ℕ → List ℕ → List Version → ℕ
+swept_away horizon snapshots vs = count_by (goes_after horizon snapshots) (with_successors None vs)
 
 -- each version may stay
-abbrev pub IsClean : ℕ → List ℕ → Option ℕ → List Version → Type 0
-IsClean horizon snapshots up vs = Each (λ p. MayStay horizon snapshots p.0 (number_in p.1.stamp)) (with_successors up vs)
+abbrev pub IsClean : ℕ → List ℕ → List Version → Type 0
+IsClean horizon snapshots vs = Each (λ p. MayStay horizon snapshots p.0 (number_in p.1.stamp)) (with_successors None vs)
+
+-- the number of the last version
+abbrev pub last_number : List Version → Option ℕ
+last_number [] = None
+last_number (v ∷ []) = number_in v.stamp
+last_number (v ∷ w ∷ vs) = last_number (w ∷ vs)

@@ -1,10 +1,10 @@
 //! The versions of one record, with the calls that change them.
 
-ghost use Rattle.std.specs.Prelude.{◌≡◌, [], drop, not, IsTrue, IfOk, IfErr, IsOk, OnOk, OnErr, option_and_then, length, take, ◌<◌, slice_get, None, find, count_by, ◌-◌, ◌+◌, ◌≤◌, option_to_list};
+ghost use Rattle.std.specs.Prelude.{ℕ, ◌≡◌, [], drop, not, IsTrue, IfOk, IfErr, IsOk, OnOk, OnErr, option_and_then, length, take, ◌<◌, slice_get, None, find, count_by, ◌-◌, ◌+◌, ◌≤◌, option_to_list};
 ghost use Rattle.std.specs.Bool.{OnFalse};
 ghost use Rattle.std.specs.Option.{option_copied};
 ghost use Rattle.hg_base.specs.Lists.{Each};
-ghost use Rattle.hg_chain.specs.Sweeps.{Rises, swept, swept_away, goes, last_number, IsClean, MayStay};
+ghost use Rattle.hg_chain.specs.Sweeps.{Rises, swept, swept_away, goes, last_number, IsClean, MayStay, IsProtected};
 ghost use Rattle.hg_chain.specs.Versions.{IsChain, NoOther, IsBelow, is_open_by, image_at, image_by, installed, stamped, left_by, oldest_at, others_at, numbered_image, is_at_most};
 
 use crate::merge::Merge;
@@ -187,11 +187,12 @@ impl Chain {
         steps: &mut Steps<L>,
     ) -> Swept
         requires { Rises snapshots.now }
-        ensures left { self.new ≡ swept horizon snapshots.now None self.old }
-        ensures gone { result.gone ≡ swept_away horizon snapshots.now None self.old }
-        ensures base_gone { result.base_gone ≡ goes horizon snapshots.now (last_number None self.old) base }
-        ensures clean { IsClean horizon snapshots.now None self.new }
-        ensures base_clean { OnFalse result.base_gone (MayStay horizon snapshots.now (last_number None self.new) base) }
+        ensures left { self.new ≡ swept horizon snapshots.now self.old }
+        ensures gone { result.gone ≡ swept_away horizon snapshots.now self.old }
+        ensures base_gone { result.base_gone ≡ goes horizon snapshots.now (last_number self.old) base }
+        ensures clean { IsClean horizon snapshots.now self.new }
+        ensures base_clean { OnFalse result.base_gone (MayStay horizon snapshots.now (last_number self.new) base) }
+        ensures seen { (s : ℕ) → IsProtected horizon snapshots.now s → image_at s self.new ≡ image_at s self.old }
         ensures cost { steps.new ≤ steps.old + length self.old + length (option_to_list base) + length snapshots.now }
     {
         sweep_all(&mut self.versions, base, horizon, snapshots, steps)
@@ -208,9 +209,9 @@ fn sweep_all<L: Ledger>(
 ) -> Swept
     requires chain { IsChain versions.old.items }
     requires rises { Rises snapshots.now }
-    ensures left { versions.new.items ≡ swept horizon snapshots.now None versions.old.items }
-    ensures gone { result.gone ≡ swept_away horizon snapshots.now None versions.old.items }
-    ensures base_gone { result.base_gone ≡ goes horizon snapshots.now (last_number None versions.old.items) base }
+    ensures left { versions.new.items ≡ swept horizon snapshots.now versions.old.items }
+    ensures gone { result.gone ≡ swept_away horizon snapshots.now versions.old.items }
+    ensures base_gone { result.base_gone ≡ goes horizon snapshots.now (last_number versions.old.items) base }
     ensures cost { steps.new ≤ steps.old + length versions.old.items + length (option_to_list base) + length snapshots.now }
 {
     let all = versions.len();

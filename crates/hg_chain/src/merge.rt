@@ -3,7 +3,7 @@
 ghost use Rattle.std.specs.Prelude.{◌≡◌, ◌+◌, ◌<◌, ◌≤◌, length, drop, slice_index, ◌-◌};
 ghost use Rattle.hg_base.specs.Lists.{Each};
 ghost use Rattle.hg_chain.specs.Sweeps.{Rises, goes};
-ghost use Rattle.hg_chain.specs.Merging.{Follows, HasPassed, last_from};
+ghost use Rattle.hg_chain.specs.Merging.{Follows, HasPassed, last_reaches};
 
 use hg_base::Steps;
 use std::sync::ledger::Ledger;
@@ -67,7 +67,7 @@ fn pass_from<L: Ledger>(snapshots: &[u64], left: usize, up: u64, steps: &mut Ste
 // Whether the last of the first `left` snapshots is at or over the number.
 fn is_seen(snapshots: &[u64], left: usize, number: u64) -> bool
     requires { left ≤ length snapshots.now }
-    ensures { result ≡ last_from number left snapshots.now }
+    ensures { result ≡ last_reaches number left snapshots.now }
 {
     left > 0 && snapshots[left - 1] >= number
 }

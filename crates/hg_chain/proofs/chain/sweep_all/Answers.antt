@@ -2,8 +2,18 @@ use Rattle.std.proofs.Common.{◌≡◌, ◌<◌, ◌∷◌, false, sym, ◌∙�
 use Rattle.hg_chain.specs.Versions.{number_in}
 use Rattle.hg_chain.specs.Sweeps.{goes}
 use Rattle.hg_chain.specs.Merging.{Follows}
-use Rattle.hg_chain.proofs.Sweeps.{Turned, turn_stays, follows, ended_length}
+use Rattle.hg_chain.proofs.Merges.{none_behind}
+use Rattle.hg_chain.proofs.Turns.{Turned, begun, turn_stays, follows, ended_length}
 use Rattle.hg_chain.proofs.chain.sweep_all.Goals as goal
+
+pub loop-rest-init : goal.loop-rest-init
+loop-rest-init g c =
+    record {
+      turned = begun c.args.horizon c.args.snapshots.now c.args.versions.now.items c.len-all.result (omega (arith, c.len-all.ensures)) c.requires.chain;
+      passed = none_behind c.args.snapshots.now;
+      within = omega arith;
+      cost = omega (arith, c.len-all.ensures);
+    }
 
 pub loop-rest-preserved-then-not-settle : goal.loop-rest-preserved-then-not-settle
 loop-rest-preserved-then-not-settle g c =

@@ -1,6 +1,6 @@
 use Rattle.std.proofs.Common.{◌≡◌, ◌+◌, ◌≤◌, length}
 use Rattle.hg_chain.specs.Merging.{HasPassed}
-use Rattle.hg_chain.proofs.Sweeps.{Turned}
+use Rattle.hg_chain.proofs.Turns.{Turned}
 use Rattle.hg_chain.proofs.chain.sweep_all.Given as goal
 
 abbrev pub invariant-loop-rest : goal.invariant-loop-rest
