@@ -20,9 +20,9 @@
 //! One old snapshot holds a cut back, although it sees one version alone. `sweep` goes between the snapshots: it takes
 //! each version in whose lifetime none of them lies. With snapshots 5 and 1 in use, 7 and 3 go:
 //!
-//!     versions    9       7       5       3       1
-//!     lifetimes   |       [ 7  8 ][ 5  6 ][ 3  4 ][ 1  2 ]
-//!     snapshots                     ^               ^
+//!     lifetimes   [ .. 9 ][ 8 7 ][ 6 5 ][ 4 3 ][ 2 1 ]
+//!     versions         9      7      5      3      1
+//!     snapshots                      5             1
 //!
 //! New readers begin at or over the horizon, so a version goes only where its successor is numbered at or below it.
 //! Numbers and snapshots are both in order, so one merge from the greatest down tells all, and each turn settles one
