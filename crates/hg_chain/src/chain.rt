@@ -1,16 +1,19 @@
 //! The versions of one record, with the calls that change them.
 
-ghost use Rattle.std.specs.Prelude.{◌≡◌, [], drop, not, IsTrue, IfOk, IfErr, IsOk, OnOk, OnErr, option_and_then, length, take, ◌<◌, slice_get, None, find, count_by, ◌-◌, ◌≤◌};
+ghost use Rattle.std.specs.Prelude.{ℕ, ◌≡◌, [], drop, not, IsTrue, IfOk, IfErr, IsOk, OnOk, OnErr, option_and_then, length, take, ◌<◌, slice_get, None, find, count_by, ◌-◌, ◌+◌, ◌≤◌, option_to_list};
 ghost use Rattle.std.specs.Bool.{OnFalse};
 ghost use Rattle.std.specs.Option.{option_copied};
 ghost use Rattle.hg_base.specs.Lists.{Each};
-ghost use Rattle.hg_chain.specs.Versions.{NoOther, IsBelow, is_open_by, image_at, image_by, installed, stamped, left_by, oldest_at, others_at, numbered_image, is_at_most};
+ghost use Rattle.hg_chain.specs.Sweeps.{Rises, swept, swept_away, goes, last_number, IsClean, MayStay, IsProtected};
+ghost use Rattle.hg_chain.specs.Versions.{IsChain, NoOther, IsBelow, is_open_by, image_at, image_by, installed, stamped, left_by, oldest_at, others_at, numbered_image, is_at_most};
 
+use crate::merge::Merge;
 use crate::version::{Stamp, Version};
-use hg_base::{Image, NoMemory, Writer};
+use hg_base::{Image, NoMemory, Steps, Writer};
 use std::alloc::Global;
 use std::collections::VecDeque;
 use std::marker::Model;
+use std::sync::ledger::Ledger;
 
 /// A record's versions, newest first.
 #[derive(Debug, Drop)]
@@ -36,6 +39,13 @@ impl Model for Chain {
 pub struct Cut {
     pub image: Option<(u64, Image)>,
     pub gone: u64,
+}
+
+/// How many versions a sweep took away, and whether the oldest image that stands behind them is to go too.
+#[derive(Clone, Copy, Debug)]
+pub struct Swept {
+    pub gone: u64,
+    pub base_gone: bool,
 }
 
 impl Chain {
@@ -163,6 +173,64 @@ impl Chain {
             image: handed(take_tail(&mut self.versions, kept)),
             gone: (all - kept - 1) as u64,
         }
+    }
+
+    /// Removes every version that no snapshot sees: its successor is numbered at or below the horizon, and none of the
+    /// ascending snapshots lies in its lifetime, which runs from its own number up to, and not including, its
+    /// successor's. The answer says the same of an oldest image numbered `base` that stands behind the chain. One turn
+    /// settles one version or passes one snapshot.
+    pub fn sweep<L: Ledger>(
+        &mut self,
+        base: Option<u64>,
+        horizon: u64,
+        snapshots: &[u64],
+        steps: &mut Steps<L>,
+    ) -> Swept
+        requires { Rises snapshots.now }
+        ensures left { self.new ≡ swept horizon snapshots.now self.old }
+        ensures gone { result.gone ≡ swept_away horizon snapshots.now self.old }
+        ensures base_gone { result.base_gone ≡ goes horizon snapshots.now (last_number self.old) base }
+        ensures clean { IsClean horizon snapshots.now self.new }
+        ensures base_clean { OnFalse result.base_gone (MayStay horizon snapshots.now (last_number self.new) base) }
+        ensures seen { (s : ℕ) → IsProtected horizon snapshots.now s → image_at s self.new ≡ image_at s self.old }
+        ensures cost { steps.new ≤ steps.old + length self.old + length (option_to_list base) + length snapshots.now }
+    {
+        sweep_all(&mut self.versions, base, horizon, snapshots, steps)
+    }
+}
+
+// Each version leaves at the front, and one that stays comes back at the end, for which there is room.
+fn sweep_all<L: Ledger>(
+    versions: &mut VecDeque<Version>,
+    base: Option<u64>,
+    horizon: u64,
+    snapshots: &[u64],
+    steps: &mut Steps<L>,
+) -> Swept
+    requires chain { IsChain versions.old.items }
+    requires rises { Rises snapshots.now }
+    ensures left { versions.new.items ≡ swept horizon snapshots.now versions.old.items }
+    ensures gone { result.gone ≡ swept_away horizon snapshots.now versions.old.items }
+    ensures base_gone { result.base_gone ≡ goes horizon snapshots.now (last_number versions.old.items) base }
+    ensures cost { steps.new ≤ steps.old + length versions.old.items + length (option_to_list base) + length snapshots.now }
+{
+    let all = versions.len();
+    let mut merge = Merge {
+        left: snapshots.len(),
+        successor: None,
+    };
+    let mut rest = all;
+    while rest > 0 {
+        rest -= 1;
+        if let Some(version) = versions.pop_front() {
+            if !merge.settle(horizon, snapshots, version.number(), steps) {
+                versions.push_back_reserved(version);
+            }
+        }
+    }
+    Swept {
+        gone: (all - versions.len()) as u64,
+        base_gone: base.is_some() && merge.settle(horizon, snapshots, base, steps),
     }
 }
 

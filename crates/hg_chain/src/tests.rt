@@ -1,10 +1,13 @@
-ghost use Rattle.std.specs.Prelude.{◌<◌, ℕ, OnOk};
+ghost use Rattle.std.specs.Prelude.{◌≡◌, ◌<◌, ℕ, OnOk};
 ghost use Rattle.hg_base.specs.Lists.{Each};
+ghost use Rattle.hg_chain.specs.Sweeps.{Rises};
 ghost use Rattle.hg_chain.specs.Versions.{IsBelow};
 
 use super::*;
-use hg_base::{Image, NoMemory, Row, Writer};
+use hg_base::{Image, NoMemory, Row, Steps, Writer};
 use std::alloc::Global;
+use std::marker::Brand;
+use std::sync::ledger::{Blank, Ledger};
 use std::test::Fail;
 
 const BY: Writer = Writer {
@@ -59,5 +62,69 @@ fn cuts_at_a_bound(rt: HostRuntime) -> Result<(), Fail> {
         assert_eq!(rt; value(chain.visible(9)), late, "late reader at {bound}");
         assert_eq!(rt; value(chain.visible(4)), early, "early reader at {bound}");
     }
+    Ok(())
+}
+
+fn sweep<L: Ledger>(
+    blank: Blank,
+    chain: &mut Chain,
+    base: Option<u64>,
+    horizon: u64,
+    snapshots: &[u64],
+) -> Swept
+    requires name { blank.name ≡ L.name }
+    requires parts { blank.parts ≡ L.parts }
+    requires some { 0 < blank.parts }
+    requires rises { Rises snapshots.now }
+{
+    let mut steps: Steps<L> = Steps::new(blank);
+    chain.sweep(base, horizon, snapshots, &mut steps)
+}
+
+fn number_seen(chain: &Chain, at: u64) -> i64 {
+    value(chain.visible(at)).unwrap_or(0)
+}
+
+// Versions 9, 7, 5, 3 and 1, swept with a horizon and two snapshots: how many went, and what readers at these numbers
+// see, where 0 is nothing.
+#[test]
+fn sweeps_between_snapshots(rt: HostRuntime) -> Result<(), Fail> {
+    let cases = [
+        (9, 1, 5, 2, [9, 5, 5, 1, 1]),
+        (6, 1, 5, 1, [9, 7, 5, 1, 1]),
+        (9, 7, 7, 3, [9, 7, 0, 0, 0]),
+        (9, 8, 8, 3, [9, 7, 0, 0, 0]),
+        (9, 9, 9, 4, [9, 0, 0, 0, 0]),
+        (2, 9, 9, 0, [9, 7, 5, 3, 1]),
+    ];
+    for (horizon, low, high, gone, seen) in cases {
+        let mut chain = Chain::new(rt.alloc());
+        add(rt.alloc(), &mut chain, 1)?;
+        add(rt.alloc(), &mut chain, 3)?;
+        add(rt.alloc(), &mut chain, 5)?;
+        add(rt.alloc(), &mut chain, 7)?;
+        add(rt.alloc(), &mut chain, 9)?;
+        let snapshots = [low.min(high), high];
+        let swept = sweep::<Brand>(Blank::new(1), &mut chain, None, horizon, &snapshots);
+        assert_eq!(rt; swept.gone, gone, "horizon {horizon}, {low} and {high}");
+        assert!(rt; !swept.base_gone);
+        let left = [9, 7, 5, 3, 1].map(|at| number_seen(&chain, at));
+        assert_eq!(rt; left, seen, "horizon {horizon}, {low} and {high}");
+    }
+    Ok(())
+}
+
+// A deletion numbered 4 stays, and the oldest image numbered 1 behind it is to go.
+#[test]
+fn the_newest_deletion_stays(rt: HostRuntime) -> Result<(), Fail> {
+    let mut chain = Chain::new(rt.alloc());
+    match chain.install(BY, Image { row: None }) {
+        Ok(_) => chain.stamp(BY, 4),
+        Err((_, refused)) => return Err(refused.into()),
+    }
+    let swept = sweep::<Brand>(Blank::new(1), &mut chain, Some(1), 4, &[]);
+    assert_eq!(rt; swept.gone, 0);
+    assert!(rt; swept.base_gone);
+    assert!(rt; chain.visible(4).is_some());
     Ok(())
 }

@@ -1,7 +1,7 @@
 //! A version of a record.
 
 ghost use Rattle.std.specs.Prelude.{◌≡◌};
-ghost use Rattle.hg_chain.specs.Versions.{is_at_most, is_written_by};
+ghost use Rattle.hg_chain.specs.Versions.{is_at_most, is_written_by, number_in};
 
 use hg_base::{Image, Writer};
 
@@ -28,6 +28,15 @@ impl Version {
         match self.stamp {
             Stamp::Written(_) => false,
             Stamp::Numbered { number, by: _ } => number <= bound,
+        }
+    }
+
+    pub fn number(&self) -> Option<u64>
+        ensures { result ≡ number_in self.now.stamp }
+    {
+        match self.stamp {
+            Stamp::Written(_) => None,
+            Stamp::Numbered { number, by: _ } => Some(number),
         }
     }
 
