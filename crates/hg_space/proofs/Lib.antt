@@ -1,0 +1,4 @@
+pub mod LinkFacts
+pub mod Keys
+pub mod IndexFacts
+pub mod PlaceFacts

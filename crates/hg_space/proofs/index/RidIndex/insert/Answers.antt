@@ -1,0 +1,19 @@
+use Rattle.std.proofs.Common.{◌∙◌, ap}
+use Rattle.hg_space.specs.Index.{place_of}
+use Rattle.hg_space.proofs.IndexFacts.{changed, inserted_distinct, other_stays}
+use Rattle.hg_space.proofs.index.RidIndex.insert.Goals as goal
+
+pub invariant_of-self-2 : goal.invariant_of-self-2
+invariant_of-self-2 c =
+    let es = c.self.inside.places.entries in
+    let put = changed es c.insert.new.self.entries c.args.rid _ c.in_ok-insert.ensures.updates.0 in
+    record {
+      ascends = c.in_ok-insert.ensures.ordered;
+      distinct = inserted_distinct es c.insert.new.self.entries c.args.rid c.args.place put (rw c.self.view_is c.requires.new_place) c.self.invariant.distinct;
+    }
+
+pub returns-clause-others : goal.returns-clause-others
+returns-clause-others c =
+    λ q apart.
+    let es = c.self.inside.places.entries in
+    other_stays es c.insert.new.self.entries c.args.rid _ (changed es c.insert.new.self.entries c.args.rid _ c.in_ok-insert.ensures.updates.0) q apart ∙ ap (λ fs. place_of fs q) c.self.view_is

@@ -1,0 +1,23 @@
+use Rattle.std.proofs.Common.{◌∙◌, ap}
+use Rattle.std.specs.Map.{remove_entry}
+use Rattle.hg_base.specs.History.{same_rid}
+use Rattle.hg_space.specs.Index.{place_of}
+use Rattle.hg_space.proofs.IndexFacts.{changed, removed_distinct, other_stays, taken_out}
+use Rattle.hg_space.proofs.index.RidIndex.remove.Goals as goal
+
+pub invariant_of-self : goal.invariant_of-self
+invariant_of-self c =
+    let es = c.self.inside.places.entries in
+    record {
+      ascends = c.remove.ensures.ordered;
+      distinct = removed_distinct es c.remove.new.self.entries c.args.rid (changed es c.remove.new.self.entries c.args.rid _ c.remove.ensures.updates.0) c.self.invariant.distinct;
+    }
+
+pub returns-clause-others : goal.returns-clause-others
+returns-clause-others c =
+    λ q apart.
+    let es = c.self.inside.places.entries in
+    other_stays es c.remove.new.self.entries c.args.rid _ (changed es c.remove.new.self.entries c.args.rid _ c.remove.ensures.updates.0) q apart ∙ ap (λ fs. place_of fs q) c.self.view_is
+
+pub returns-clause-list : goal.returns-clause-list
+returns-clause-list c = c.remove.ensures.entries ∙ taken_out c.self.inside.places.entries c.args.rid ∙ ap (remove_entry (same_rid c.args.rid)) c.self.view_is

@@ -1,0 +1,5 @@
+-- The places of a table space, and the index of records.
+pub mod Places
+pub mod Index
+-- How free places are linked: for the space itself.
+pub mod Links
