@@ -4,6 +4,10 @@ use Rattle.hg_core.specs.Marks.{MarkIsLength}
 use Rattle.hg_core.specs.Registers.{RegistersAgree}
 use Rattle.hg_core.specs.Bounds.{RecordsBoundSessions}
 use Rattle.hg_core.specs.Reach.{RecordsReachLogs}
+use Rattle.hg_core.specs.Logs.{begun_in, open_writes}
+use Rattle.hg_core.specs.Contents.{versions}
+use Rattle.hg_core.specs.Ordered.{ContentsAreOrdered}
+use Rattle.hg_core.specs.OpenWrites.{OpenWritesStand, StampedIsNext}
 use Rattle.hg_core.specs.Judged.{LogsAnswer}
 
 pub record IsSteady (s : CoreState) : Type 0 where
@@ -11,4 +15,7 @@ pub record IsSteady (s : CoreState) : Type 0 where
   pub registers_agree : RegistersAgree s.sessions s.tables s.phase s.register
   pub records_bound_sessions : RecordsBoundSessions s.phase s.pass
   pub records_reach_logs : RecordsReachLogs s.phase s.log s.pass
+  pub contents_are_ordered : ContentsAreOrdered s.mark s.history (versions s.buckets s.bucket)
+  pub open_writes_stand : OpenWritesStand s.mark (begun_in s.log) (open_writes s.log) (versions s.buckets s.bucket)
+  pub stamped_is_next : StampedIsNext s.mark (open_writes s.log) (versions s.buckets s.bucket) s.stamped_list
   pub logs_answer : LogsAnswer s.sessions s.each s.history s.phase s.log

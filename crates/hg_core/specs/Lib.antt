@@ -3,6 +3,8 @@ pub mod Words
 pub mod Logs
 pub mod Phases
 pub mod Passes
+pub mod Versions
+pub mod Contents
 pub mod State
 pub mod Events
 -- What holds between any two events, part by part, and in whole.
@@ -10,6 +12,8 @@ pub mod Marks
 pub mod Registers
 pub mod Bounds
 pub mod Reach
+pub mod Ordered
+pub mod OpenWrites
 pub mod Judged
 pub mod Invariant
 -- What follows of gathers, a run, and which steps would be wrong.

@@ -1,9 +1,11 @@
 //! What each event keeps, and what always holds. Each law is the contract of a function with no body.
 
 ghost use Rattle.std.specs.Prelude.{ℕ, List};
+ghost use Rattle.hg_base.specs.declared.rid.Rid.{Rid};
+ghost use Rattle.hg_base.specs.declared.image.Image.{Image};
 ghost use Rattle.hg_base.specs.declared.scope.Scope.{Scope};
 ghost use Rattle.hg_core.specs.State.{CoreState};
-ghost use Rattle.hg_core.specs.Events.{Probe, Enter, Fix, GoLive, End, Mark, Sample, Move, Publish, happens, May, Always};
+ghost use Rattle.hg_core.specs.Events.{Probe, Enter, Fix, GoLive, End, Mark, Sample, Move, Install, Undo, Stamp, Publish, happens, May, Always};
 ghost use Rattle.hg_core.specs.Invariant.{IsSteady};
 
 /// A session loads the mark, of which nobody knows.
@@ -44,6 +46,21 @@ pub fn sample_keeps()
 /// A pass moves a long snapshot to the tables that it declared, in the register and in its own record.
 pub fn move_keeps()
     ensures { (s : CoreState) (p j : ℕ) → IsSteady s → May s (Move p j) → IsSteady (happens s (Move p j)) }
+{}
+
+/// A session stores a write, which is open until it is undone or published.
+pub fn install_keeps()
+    ensures { (s : CoreState) (j : ℕ) (r : Rid) (image : Image) → IsSteady s → May s (Install j r image) → IsSteady (happens s (Install j r image)) }
+{}
+
+/// It takes an open write back.
+pub fn undo_keeps()
+    ensures { (s : CoreState) (j : ℕ) (r : Rid) → IsSteady s → May s (Undo j r) → IsSteady (happens s (Undo j r)) }
+{}
+
+/// A committer gives an open write the number that the mark will have next.
+pub fn stamp_keeps()
+    ensures { (s : CoreState) (j : ℕ) (r : Rid) → IsSteady s → May s (Stamp j r) → IsSteady (happens s (Stamp j r)) }
 {}
 
 /// The open transactions of some sessions join the history as one group, and the mark grows by one.

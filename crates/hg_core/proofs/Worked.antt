@@ -1,0 +1,294 @@
+-- The events of the worked runs may happen in their turn.
+use Rattle.std.proofs.Common.{◌≡◌, ℕ, List, [], ◌∷◌, ◌++◌, None, Some, Bool, true, false, ◌||◌, ◌&&◌, refl, sym, subst, arith}
+use Rattle.std.specs.Prelude.{if◌then◌else◌, IsSome, IsTrue}
+use Rattle.std.proofs.lemmas.Bool.Decides.{nat_tests}
+use Rattle.hg_base.specs.declared.rid.Rid.{Rid}
+use Rattle.hg_base.specs.declared.scope.Scope.TheVariants.{All, Declared}
+use Rattle.hg_base.specs.History.{same_rid}
+use Rattle.hg_core.specs.declared.log.LogEntry.{LogEntry}
+use Rattle.hg_core.specs.declared.log.LogEntry.TheVariants.{Began, Wrote, Undid}
+use Rattle.hg_core.specs.Logs.{current, is_plain, open_in, is_in}
+use Rattle.hg_core.specs.Phases.{IsSession}
+use Rattle.hg_core.specs.Contents.{bucket_of, is_stamped}
+use Rattle.hg_core.specs.State.{opened}
+use Rattle.hg_core.specs.Events.{Run, MayPublish}
+use Rattle.hg_core.specs.Worked.{one_rid, two_rid, row, slow_begin, long_snapshot, late_entry, early_sample, low_fix}
+
+first : IsSession 2 1
+first = record { first = omega arith; last = omega arith }
+
+second : IsSession 2 2
+second = record { first = omega arith; last = omega arith }
+
+-- what session 2 wrote is stamped
+abbrev pub wrote : List LogEntry
+wrote = Wrote one_rid row ∷ Began 0 All ∷ []
+
+stamped_all : (log : ℕ → List LogEntry) → log 2 ≡ wrote → (j : ℕ) (r : Rid) → IsTrue (is_in (2 ∷ []) j) → IsSome (open_in r (log j)) → IsTrue (is_stamped j r ((2, one_rid) ∷ []))
+stamped_all log e j r is_of some =
+    let two : 2 ≡ j = grind (arith, nat_tests) in
+    subst (λ k. IsTrue (is_stamped k r ((2, one_rid) ∷ []))) two (go (same_rid one_rid r) (subst (λ l. IsSome (open_in r l)) e (subst (λ k. IsSome (open_in r (log k))) (sym two) some)))
+  where
+    go : (b : Bool) → IsSome (if b then Some row else None) → IsTrue ((true && b) || false)
+    go true s = refl
+    go false s = cc
+
+publishes : (log : ℕ → List LogEntry) → log 2 ≡ wrote → MayPublish log ((2, one_rid) ∷ []) (2 ∷ [])
+publishes log e = record {
+  some = omega arith;
+  distinct = (refl, tt);
+  opened = (subst (λ l. IsSome (current l)) (sym e) refl, tt);
+  plain = (subst (λ l. IsTrue (is_plain l)) (sym e) refl, tt);
+  stamped = λ j. refl;
+  whole = stamped_all log e;
+}
+
+-- what session 1 wrote and took back isn't open
+none_left : (r : Rid) → open_in r (Undid two_rid ∷ Wrote two_rid row ∷ Began 0 (Declared 1) ∷ []) ≡ None
+none_left r = go (same_rid two_rid r)
+  where
+    go : (b : Bool) → (if b then None else (if b then Some row else None)) ≡ None
+    go true = refl
+    go false = refl
+
+pub every_event_runs : Run (opened 2 1 1 1) (slow_begin ++ long_snapshot)
+unfolding bucket_of
+every_event_runs = (
+  record { session = first; rests = refl; room = omega arith },
+  (
+    refl,
+    (
+      refl,
+      (
+        record { session = second; rests = refl; room = omega arith },
+        (
+          refl,
+          (
+            refl,
+            (
+              record { fixed = (0, refl); tables = tt },
+              (
+                (0, All, record { live = refl; table = refl; plain = refl; unstamped = refl; free = tt; newest = tt }),
+                (
+                  record { mine = refl; plain = refl },
+                  (
+                    publishes _ refl,
+                    (
+                      record { live = refl; none = λ r. refl },
+                      (
+                        (λ j. omega arith),
+                        (
+                          record { session = first; fresh = refl },
+                          (
+                            record { session = second; fresh = refl },
+                            (
+                              record { fixed = (0, refl); tables = omega arith },
+                              (
+                                (λ j. omega arith),
+                                (
+                                  record { session = first; fresh = refl },
+                                  (
+                                    (0, 1, record { shown = refl; loaded = refl }),
+                                    (
+                                      (0, Declared 1, record { live = refl; table = refl; plain = refl; unstamped = refl; free = tt; newest = tt }),
+                                      (
+                                        record { mine = refl; unstamped = refl },
+                                        (
+                                          record { live = refl; none = none_left },
+                                          tt,
+                                        ),
+                                      ),
+                                    ),
+                                  ),
+                                ),
+                              ),
+                            ),
+                          ),
+                        ),
+                      ),
+                    ),
+                  ),
+                ),
+              ),
+            ),
+          ),
+        ),
+      ),
+    ),
+  ),
+)
+
+pub slow_begin_runs : Run (opened 2 1 1 1) slow_begin
+unfolding bucket_of
+slow_begin_runs = (
+  record { session = first; rests = refl; room = omega arith },
+  (
+    refl,
+    (
+      refl,
+      (
+        record { session = second; rests = refl; room = omega arith },
+        (
+          refl,
+          (
+            refl,
+            (
+              record { fixed = (0, refl); tables = tt },
+              (
+                (0, All, record { live = refl; table = refl; plain = refl; unstamped = refl; free = tt; newest = tt }),
+                (
+                  record { mine = refl; plain = refl },
+                  (
+                    publishes _ refl,
+                    (
+                      record { live = refl; none = λ r. refl },
+                      (
+                        (λ j. omega arith),
+                        (
+                          record { session = first; fresh = refl },
+                          (
+                            record { session = second; fresh = refl },
+                            (
+                              record { fixed = (0, refl); tables = omega arith },
+                              tt,
+                            ),
+                          ),
+                        ),
+                      ),
+                    ),
+                  ),
+                ),
+              ),
+            ),
+          ),
+        ),
+      ),
+    ),
+  ),
+)
+
+pub late_entry_runs : Run (opened 2 1 1 1) late_entry
+unfolding bucket_of
+late_entry_runs = (
+  record { session = first; rests = refl; room = omega arith },
+  (
+    record { session = second; rests = refl; room = omega arith },
+    (
+      refl,
+      (
+        refl,
+        (
+          record { fixed = (0, refl); tables = tt },
+          (
+            (0, All, record { live = refl; table = refl; plain = refl; unstamped = refl; free = tt; newest = tt }),
+            (
+              record { mine = refl; plain = refl },
+              (
+                publishes _ refl,
+                (
+                  record { live = refl; none = λ r. refl },
+                  (
+                    (λ j. omega arith),
+                    (
+                      record { session = first; fresh = refl },
+                      (
+                        refl,
+                        tt,
+                      ),
+                    ),
+                  ),
+                ),
+              ),
+            ),
+          ),
+        ),
+      ),
+    ),
+  ),
+)
+
+pub early_sample_runs : Run (opened 2 1 1 1) early_sample
+unfolding bucket_of
+early_sample_runs = (
+  (λ j. omega arith),
+  (
+    record { session = first; fresh = refl },
+    (
+      record { session = first; rests = refl; room = omega arith },
+      (
+        refl,
+        (
+          refl,
+          (
+            record { fixed = (0, refl); tables = tt },
+            (
+              record { session = second; rests = refl; room = omega arith },
+              (
+                refl,
+                (
+                  refl,
+                  (
+                    record { fixed = (0, refl); tables = tt },
+                    (
+                      (0, All, record { live = refl; table = refl; plain = refl; unstamped = refl; free = tt; newest = tt }),
+                      (
+                        record { mine = refl; plain = refl },
+                        (
+                          publishes _ refl,
+                          (
+                            record { live = refl; none = λ r. refl },
+                            tt,
+                          ),
+                        ),
+                      ),
+                    ),
+                  ),
+                ),
+              ),
+            ),
+          ),
+        ),
+      ),
+    ),
+  ),
+)
+
+pub low_fix_runs : Run (opened 2 1 1 1) low_fix
+unfolding bucket_of
+low_fix_runs = (
+  record { session = first; rests = refl; room = omega arith },
+  (
+    refl,
+    (
+      refl,
+      (
+        record { session = second; rests = refl; room = omega arith },
+        (
+          refl,
+          (
+            refl,
+            (
+              record { fixed = (0, refl); tables = tt },
+              (
+                (0, All, record { live = refl; table = refl; plain = refl; unstamped = refl; free = tt; newest = tt }),
+                (
+                  record { mine = refl; plain = refl },
+                  (
+                    publishes _ refl,
+                    (
+                      record { live = refl; none = λ r. refl },
+                      (
+                        (λ j. omega arith),
+                        tt,
+                      ),
+                    ),
+                  ),
+                ),
+              ),
+            ),
+          ),
+        ),
+      ),
+    ),
+  ),
+)
