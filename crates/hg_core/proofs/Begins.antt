@@ -2,6 +2,7 @@
 use Rattle.std.proofs.Common.{◌≡◌, ℕ, ◌<◌, ◌≤◌, List, [], ◌∷◌, ◌++◌, length, Option, None, Some, false, ◌⊎◌, inl, inr, refl, sym, ap, ◌∙◌, subst, arith}
 use Rattle.std.specs.Prelude.{if◌then◌else◌, IfSome, IsSome, IsTrue}
 use Rattle.hg_base.specs.declared.rid.Rid.{Rid}
+use Rattle.hg_base.specs.declared.rid.TableId.{TableId}
 use Rattle.hg_base.specs.declared.image.Image.{Image}
 use Rattle.hg_base.specs.declared.scope.Scope.{Scope}
 use Rattle.hg_base.specs.History.{History}
@@ -22,9 +23,11 @@ use Rattle.hg_core.specs.Bounds.{Bounds}
 use Rattle.hg_core.specs.Judged.{Judged, FixedOver, LogsAnswer}
 use Rattle.hg_core.specs.Contents.{versions}
 use Rattle.hg_core.specs.OpenWrites.{OpenWritesStand, StampedIsNext}
+use Rattle.hg_core.specs.Covered.{Reads, IsProtected, MayCommit}
 use Rattle.hg_core.specs.Invariant.{IsSteady}
 use Rattle.hg_core.proofs.Indices.{by_number, put_here, put_else, Only, only_put, only_same}
 use Rattle.hg_core.proofs.LogSteps.{log_step}
+use Rattle.hg_core.proofs.Covering.{covers_less}
 use Rattle.hg_core.proofs.OpenWrites.{stand_alike, next_alike}
 use Rattle.hg_core.proofs.Recalls.{reach_step}
 
@@ -48,11 +51,13 @@ turn : (s : CoreState) (j : ℕ) (p : Phase) (register : ℕ → Register) (log 
     → ((q : ℕ) → IfSome (found j (s.pass q).loaded) (λ loaded. Bounds (s.pass q).mark loaded p))
     → Only s.log log j (added ++ s.log j)
     → (IsEntering (s.phase j) → IsTrue (has_begun added) ⊎ IsEntering p)
+    → ((table : TableId) (n : ℕ) → Reads table p n → IsProtected s.mark s.phase table n)
+    → ((r : Rid) → open_in r (log j) ≡ None)
     → OpenWritesStand s.mark (begun_in log) (open_writes log) (versions s.buckets s.bucket)
     → StampedIsNext s.mark (open_writes log) (versions s.buckets s.bucket) s.stamped_list
     → LogsAnswer s.sessions s.each s.history (put s.phase j p) log
     → IsSteady (record s { phase = put s.phase j p; register = register; log = log })
-turn s j p register log added h session up shows same bounds grown enters stand next answer = record {
+turn s j p register log added h session up shows same bounds grown enters narrow none stand next answer = record {
   mark_is_length = record {
     is_length = h.mark_is_length.is_length;
     sessions = by_number j (λ k b. PhaseUpTo s.mark (if b then p else s.phase k)) up (λ k other. h.mark_is_length.sessions k);
@@ -64,11 +69,21 @@ turn s j p register log added h session up shows same bounds grown enters stand 
   };
   records_bound_sessions = λ q. by_number j (λ k b. IfSome (found k (s.pass q).loaded) (λ loaded. Bounds (s.pass q).mark loaded (if b then p else s.phase k))) (bounds q) (λ k other. h.records_bound_sessions q k);
   records_reach_logs = reach_step s.phase (put s.phase j p) s.log log s.pass j p added h.records_reach_logs (only_put s.phase j p) grown enters;
+  covered = λ r. covers_less s.mark s.phase (put s.phase j p) s.history r (versions s.buckets s.bucket r) (λ n g. elim g [ inl e ↦ inl e | inr e ↦ still r.table n e.0 e.1 ]) (h.covered r);
+  open_writes_may_commit = may_commit;
   contents_are_ordered = h.contents_are_ordered;
   open_writes_stand = stand;
   stamped_is_next = next;
   logs_answer = answer;
 }
+  where
+    still : (table : TableId) (n k : ℕ) → Reads table (put s.phase j p k) n → IsProtected s.mark s.phase table n
+    still table n = by_number j (λ k b. Reads table (if b then p else s.phase k) n → IsProtected s.mark s.phase table n) (narrow table n) (λ k other reads. inr (k, reads))
+
+    may_commit : (k : ℕ) (r : Rid) (image : Image) → open_writes log k r ≡ Some image → MayCommit s.history r (put s.phase j p k)
+    may_commit = by_number j (λ k b. (r : Rid) (image : Image) → open_in r (log k) ≡ Some image → MayCommit s.history r (if b then p else s.phase k))
+        (λ r image e. absurd (let z = none r in cc))
+        (λ k other r image e. h.open_writes_may_commit k r image (sym (ap (open_in r) (grown.there k other)) ∙ e))
 
 -- its log stays
 quiet : (s : CoreState) (j : ℕ) (p : Phase) → IsSteady s → snapshot_in (s.phase j) ≡ snapshot_in p → FixedOver p (s.log j) → MayHaveBegun s.each p (begans (s.log j)) → LogsAnswer s.sessions s.each s.history (put s.phase j p) s.log
@@ -94,6 +109,7 @@ probe_kept s j h may = turn s j (Probed s.mark) s.register s.log [] h may.sessio
     (λ q. if_some_all _ _ (λ loaded. tt))
     (only_same s.log j)
     (λ e. let z = subst IsEntering may.rests e in absurd z)
+    (λ table n reads. absurd reads) (λ r. none_open s.history r (s.log j) (h.logs_answer.judged j) (h.logs_answer.reads j ∙ ap snapshot_in may.rests))
     h.open_writes_stand h.stamped_is_next
     (quiet s j (Probed s.mark) h (ap snapshot_in may.rests) tt may.room)
 
@@ -105,6 +121,7 @@ enter_kept s j f h may = turn s j (Entered f) (put s.register j (registers.Enter
     (λ q. if_some_all _ _ (λ loaded. tt))
     (only_same s.log j)
     (λ e. inr tt)
+    (λ table n reads. absurd reads) (λ r. none_open s.history r (s.log j) (h.logs_answer.judged j) (h.logs_answer.reads j ∙ ap snapshot_in may))
     h.open_writes_stand h.stamped_is_next
     (quiet s j (Entered f) h (ap snapshot_in may) tt (subst (λ p. MayHaveBegun s.each p (begans (s.log j))) may (h.logs_answer.room j)))
 
@@ -118,6 +135,7 @@ fix_kept s j f h may =
     (λ q. if_some_all _ _ (λ loaded. inl (h.mark_is_length.passes q)))
     (only_same s.log j)
     (λ e. inr tt)
+    (λ table n reads. inl reads) (λ r. none_open s.history r (s.log j) (h.logs_answer.judged j) (h.logs_answer.reads j ∙ ap snapshot_in may))
     h.open_writes_stand h.stamped_is_next
     (quiet s j (Fixed f s.mark) h (ap snapshot_in may) (subst (λ n. UpTo n (s.log j)) (sym h.mark_is_length.is_length) (h.logs_answer.within j)) (subst (λ p. MayHaveBegun s.each p (begans (s.log j))) may (h.logs_answer.room j)))
 
@@ -140,6 +158,8 @@ go_live_kept s j m scope h may =
     (λ q. bound_live _ f m scope _ (subst (λ p. IfSome (found j (s.pass q).loaded) (λ loaded. Bounds (s.pass q).mark loaded p)) at (h.records_bound_sessions q j)))
     (only_put s.log j (Began m scope ∷ s.log j))
     (λ e. inl refl)
+    (λ table n reads. inr (j, subst (λ q. Reads table q n) (sym at) reads.0))
+    (λ r. ap (open_in r) (put_here s.log j (Began m scope ∷ s.log j)))
     (stand_alike s.mark (begun_in s.log) (begun_in (put s.log j (Began m scope ∷ s.log j))) (open_writes s.log) _ (versions s.buckets s.bucket) opened (λ k r i. number k r i) h.open_writes_stand)
     (next_alike s.mark (open_writes s.log) _ (versions s.buckets s.bucket) s.stamped_list opened h.stamped_is_next)
     (log_step s.sessions s.each s.history s.phase (put s.phase j (Live m scope)) s.log (put s.log j (Began m scope ∷ s.log j)) j (Live m scope) (Began m scope ∷ s.log j) h.logs_answer (only_put s.phase j (Live m scope)) (only_put s.log j (Began m scope ∷ s.log j))
@@ -185,6 +205,7 @@ end_kept s j h may = turn s j Idle (put s.register j registers.Idle) (put s.log 
     (λ q. if_some_all _ _ (λ loaded. tt))
     (only_put s.log j (Over ∷ s.log j))
     (λ e. absurd (not_entering _ may.live e))
+    (λ table n reads. absurd reads) (λ r. ap (open_in r) (put_here s.log j (Over ∷ s.log j)))
     (stand_alike s.mark (begun_in s.log) (begun_in (put s.log j (Over ∷ s.log j))) (open_writes s.log) _ (versions s.buckets s.bucket) opened (λ k r i e. number k) h.open_writes_stand)
     (next_alike s.mark (open_writes s.log) _ (versions s.buckets s.bucket) s.stamped_list opened h.stamped_is_next)
     (log_step s.sessions s.each s.history s.phase (put s.phase j Idle) s.log (put s.log j (Over ∷ s.log j)) j Idle (Over ∷ s.log j) h.logs_answer (only_put s.phase j Idle) (only_put s.log j (Over ∷ s.log j))

@@ -33,6 +33,8 @@ mark_kept s p known h may =
         known = by_number p (λ q b. (j : ℕ) → (if b then fresh else s.pass q).known j ≤ length (s.log j)) may (λ q other. h.records_reach_logs.known q);
         stands = by_number p (λ q b. (j : ℕ) → IfSome (found j (if b then fresh else s.pass q).loaded) (λ register. StandsIn ((if b then fresh else s.pass q).known j) register (s.log j) (s.phase j))) (λ j. tt) (λ q other. h.records_reach_logs.stands q);
       };
+      covered = h.covered;
+      open_writes_may_commit = h.open_writes_may_commit;
       contents_are_ordered = h.contents_are_ordered;
       open_writes_stand = h.open_writes_stand;
       stamped_is_next = h.stamped_is_next;
@@ -70,6 +72,8 @@ sample_kept s p j h may =
             (λ k other. h.records_reach_logs.stands p k))
             (λ q other. h.records_reach_logs.stands q);
       };
+      covered = h.covered;
+      open_writes_may_commit = h.open_writes_may_commit;
       contents_are_ordered = h.contents_are_ordered;
       open_writes_stand = h.open_writes_stand;
       stamped_is_next = h.stamped_is_next;
@@ -138,6 +142,8 @@ move_kept s p j h (n, mask, may) =
             (λ k other. rw (found_else j k (s.pass p).loaded other) (h.records_reach_logs.stands p k)))
             (λ q other. h.records_reach_logs.stands q);
       };
+      covered = h.covered;
+      open_writes_may_commit = h.open_writes_may_commit;
       contents_are_ordered = h.contents_are_ordered;
       open_writes_stand = h.open_writes_stand;
       stamped_is_next = h.stamped_is_next;

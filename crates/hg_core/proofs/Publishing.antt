@@ -6,7 +6,7 @@ use Rattle.hg_base.specs.declared.rid.Rid.{Rid}
 use Rattle.hg_base.specs.declared.writer.Writer.{Writer}
 use Rattle.hg_base.specs.declared.image.Image.{Image}
 use Rattle.hg_base.specs.Lists.{Each}
-use Rattle.hg_base.specs.History.{History, group_image}
+use Rattle.hg_base.specs.History.{History, group_image, writes}
 use Rattle.hg_base.proofs.ListFacts.{cases}
 use Rattle.hg_core.specs.declared.phase.Phase.{Phase}
 use Rattle.hg_core.specs.declared.phase.Phase.TheVariants.{Idle, Probed, Entered, Fixed, Live}
@@ -17,6 +17,7 @@ use Rattle.hg_core.specs.Phases.{IsSession, snapshot_in, MayHaveBegun}
 use Rattle.hg_core.specs.Versions.{Version, is_numbered, unpublished}
 use Rattle.hg_core.specs.Contents.{versions, is_stamped}
 use Rattle.hg_core.specs.OpenWrites.{writer_of}
+use Rattle.hg_core.specs.Covered.{MayCommit}
 use Rattle.hg_core.specs.State.{CoreState}
 use Rattle.hg_core.specs.Events.{happens, May, MayPublish, Publish}
 use Rattle.hg_core.specs.Marks.{PhaseUpTo}
@@ -26,6 +27,8 @@ use Rattle.hg_core.proofs.Groups.{wider, length_more, commits_kept}
 use Rattle.hg_core.proofs.Recalls.{reach_grown}
 use Rattle.hg_core.proofs.Versions.{same_pair, ordered_next, unpublished_next, unnumbered_same}
 use Rattle.hg_core.proofs.Backing.{backed_published}
+use Rattle.hg_core.proofs.Past.{writes_old}
+use Rattle.hg_core.proofs.Covering.{covers_published}
 use Rattle.hg_core.proofs.OpenWrites.{stamped_has}
 use Rattle.hg_core.proofs.NewGroup.{writer_in, nobody_in}
 
@@ -130,6 +133,14 @@ publish_kept s js h may = record {
   registers_agree = h.registers_agree;
   records_bound_sessions = h.records_bound_sessions;
   records_reach_logs = reach_grown s.phase s.log (published_logs s.log js (suc s.mark)) (λ k. if is_in js k then Published (suc s.mark) ∷ [] else []) s.pass (λ k. grows k (is_in js k)) h.records_reach_logs;
+  covered = λ r. covers_published s.mark s.phase s.history (new_group s.log js) r (held r) h.mark_is_length.is_length h.mark_is_length.sessions (h.contents_are_ordered.ordered r)
+      (λ i e.
+      let who = writer_in r i s.log js may.plain e in
+      let own = h.open_writes_stand.owns r who.0 i who.2 in
+      (writer_of (begun_in s.log) who.0, own, in_group r (writer_of (begun_in s.log) who.0) i own ∙ who.1))
+      (λ e w i o. in_group r w i o ∙ out_of r w i o e (is_in js w.session) refl)
+      (h.covered r);
+  open_writes_may_commit = λ j r i e. let was = opened_old j r i (is_in js j) refl e in commits_later r j i was.1 was.0;
   contents_are_ordered = record {
     ordered = λ r. ordered_next s.mark (held r) (h.contents_are_ordered.ordered r);
     backed = λ r. backed_published s.mark s.history (new_group s.log js) r (held r) h.mark_is_length.is_length (h.contents_are_ordered.ordered r) (written r) (h.contents_are_ordered.backed r);
@@ -206,6 +217,32 @@ publish_kept s js h may = record {
             let same : z.0 ≡ w.session = one_owner r z.0 w.session a i z.2 mine in
             let x : open_in r (s.log w.session) ≡ Some a = subst (λ k. open_in r (s.log k) ≡ Some a) same z.2 in
             q ∙ sym x ∙ mine
+
+    -- who has open what the group doesn't write is not of the group
+    out_of : (r : Rid) (w : Writer) (i : Image) → unpublished s.mark (held r) ≡ Some (w, i) → group_image r (new_group s.log js) ≡ None → (b : Bool) → is_in js w.session ≡ b → b ≡ false
+    out_of r w i o e true q = absurd (let z = nobody_in r s.log js w.session may.plain e q in let y = (h.open_writes_stand.owned r w i o).1 in cc)
+    out_of r w i o e false q = refl
+
+    -- what another session has open the group doesn't write
+    not_written : (r : Rid) (j : ℕ) (i : Image) → open_in r (s.log j) ≡ Some i → is_in js j ≡ false → group_image r (new_group s.log js) ≡ None
+    not_written r j i o out = go (group_image r (new_group s.log js)) refl
+      where
+        go : (x : Option Image) → group_image r (new_group s.log js) ≡ x → group_image r (new_group s.log js) ≡ None
+        go None q = q
+        go (Some a) q = absurd (let z = writer_in r a s.log js may.plain q in let same : z.0 ≡ j = one_owner r z.0 j a i z.2 o in let y = z.1 in cc)
+
+    commits_later : (r : Rid) (j : ℕ) (i : Image) → open_in r (s.log j) ≡ Some i → is_in js j ≡ false → MayCommit (s.history ++ new_group s.log js ∷ []) r (s.phase j)
+    commits_later r j i o out = later (s.phase j) (h.open_writes_may_commit j r i o)
+      where
+        same : writes (s.history ++ new_group s.log js ∷ []) r ≡ writes s.history r
+        same = writes_old s.history (new_group s.log js) r (not_written r j i o out)
+
+        later : (p : Phase) → MayCommit s.history r p → MayCommit (s.history ++ new_group s.log js ∷ []) r p
+        later Idle m = m
+        later (Probed f) m = m
+        later (Entered f) m = m
+        later (Fixed f n) m = m
+        later (Live at scope) m = (m.0, subst (Each (λ (w : ℕ × Image). w.0 ≤ at)) (sym same) m.1)
 
     grows : (k : ℕ) (b : Bool) → (if b then Published (suc s.mark) ∷ s.log k else s.log k) ≡ (if b then Published (suc s.mark) ∷ [] else []) ++ s.log k
     grows k true = refl

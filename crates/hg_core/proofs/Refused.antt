@@ -1,11 +1,9 @@
 -- Wrong steps, each at a state that a run reaches, so that it meets the invariant. In each, session 2 committed a write.
-use Rattle.std.proofs.Common.{◌≡◌, ℕ, zero, suc, ◌<◌, ◌≤◌, List, [], ◌∷◌, inl, inr, refl, arith}
-use Rattle.std.specs.Prelude.{IsSome}
+use Rattle.std.proofs.Common.{◌≡◌, ℕ, List, inl, inr, refl, arith}
 use Rattle.hg_base.specs.declared.scope.Scope.{Scope}
 use Rattle.hg_base.specs.declared.scope.Scope.TheVariants.{All, Declared}
-use Rattle.hg_core.specs.declared.register.Register.TheVariants as registers
 use Rattle.hg_core.specs.declared.phase.Phase.TheVariants.{Entered}
-use Rattle.hg_core.specs.Passes.{found, IsWhole}
+use Rattle.hg_core.specs.Passes.{IsWhole}
 use Rattle.hg_core.specs.State.{CoreState, opened}
 use Rattle.hg_core.specs.Events.{Event, Sample, May, Run, run}
 use Rattle.hg_core.specs.Missed.{MissesNone}
@@ -13,7 +11,7 @@ use Rattle.hg_core.specs.Invariant.{IsSteady}
 use Rattle.hg_core.specs.Worked.{slow_begin, late_entry, early_sample, low_fix}
 use Rattle.hg_core.specs.Wrong.{live_by_one_load, mark_loaded_last, mark_alone, sampled_without_entering}
 use Rattle.hg_core.proofs.Runs.{steady_after}
-use Rattle.hg_core.proofs.Worked.{slow_begin_runs, late_entry_runs, early_sample_runs, low_fix_runs}
+use Rattle.hg_core.proofs.Worked.{slow_whole, slow_begin_runs, late_entry_runs, early_sample_runs, low_fix_runs}
 
 -- the state after a run of two sessions
 abbrev pub after : List Event → CoreState
@@ -45,16 +43,6 @@ left_out_refused keeps = elim ((keeps (after low_fix) 0 1 (steady low_fix low_fi
   | inl a ↦ omega arith
   | inr a ↦ a
 ]
-
--- the pass of the slow begin has loaded both registers
-slow_whole : IsWhole 2 ((after slow_begin).pass 0)
-slow_whole j session = go j session.first session.last
-  where
-    go : (k : ℕ) → 0 < k → k ≤ 2 → IsSome (found k ((2, registers.Idle) ∷ (1, registers.Entering 0) ∷ []))
-    go zero a b = absurd (omega arith)
-    go (suc zero) a b = refl
-    go (suc (suc zero)) a b = refl
-    go (suc (suc (suc k))) a b = absurd (omega arith)
 
 pub mark_alone_refused : ((s : CoreState) (p : ℕ) → IsSteady s → IsWhole s.sessions (s.pass p) → MissesNone (mark_alone (s.pass p)) (s.pass p) s.phase) → ⊥
 mark_alone_refused misses = elim (misses (after slow_begin) 0 (steady slow_begin slow_begin_runs) slow_whole 1 0 (Declared 1) (record { 0 = 0 }) refl refl) [

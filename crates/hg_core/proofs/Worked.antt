@@ -1,5 +1,5 @@
 -- The events of the worked runs may happen in their turn.
-use Rattle.std.proofs.Common.{◌≡◌, ℕ, List, [], ◌∷◌, ◌++◌, None, Some, Bool, true, false, ◌||◌, ◌&&◌, refl, sym, subst, arith}
+use Rattle.std.proofs.Common.{◌≡◌, ℕ, zero, suc, ◌<◌, ◌≤◌, List, [], ◌∷◌, ◌++◌, None, Some, Bool, true, false, ◌&&◌, ◌||◌, refl, sym, subst, arith}
 use Rattle.std.specs.Prelude.{if◌then◌else◌, IsSome, IsTrue}
 use Rattle.std.proofs.lemmas.Bool.Decides.{nat_tests}
 use Rattle.hg_base.specs.declared.rid.Rid.{Rid}
@@ -8,10 +8,12 @@ use Rattle.hg_base.specs.History.{same_rid}
 use Rattle.hg_core.specs.declared.log.LogEntry.{LogEntry}
 use Rattle.hg_core.specs.declared.log.LogEntry.TheVariants.{Began, Wrote, Undid}
 use Rattle.hg_core.specs.Logs.{current, is_plain, open_in, is_in}
+use Rattle.hg_core.specs.declared.register.Register.TheVariants as registers
+use Rattle.hg_core.specs.Passes.{found, IsWhole}
 use Rattle.hg_core.specs.Phases.{IsSession}
 use Rattle.hg_core.specs.Contents.{bucket_of, is_stamped}
 use Rattle.hg_core.specs.State.{opened}
-use Rattle.hg_core.specs.Events.{Run, MayPublish}
+use Rattle.hg_core.specs.Events.{Run, run, MayPublish}
 use Rattle.hg_core.specs.Worked.{one_rid, two_rid, row, slow_begin, long_snapshot, late_entry, early_sample, low_fix}
 
 first : IsSession 2 1
@@ -51,6 +53,16 @@ none_left r = go (same_rid two_rid r)
     go true = refl
     go false = refl
 
+-- the pass of the slow begin has loaded both registers
+pub slow_whole : IsWhole 2 ((run (opened 2 1 1 1) slow_begin).pass 0)
+slow_whole j session = go j session.first session.last
+  where
+    go : (k : ℕ) → 0 < k → k ≤ 2 → IsSome (found k ((2, registers.Idle) ∷ (1, registers.Entering 0) ∷ []))
+    go zero a b = absurd (omega arith)
+    go (suc zero) a b = refl
+    go (suc (suc zero)) a b = refl
+    go (suc (suc (suc k))) a b = absurd (omega arith)
+
 pub every_event_runs : Run (opened 2 1 1 1) (slow_begin ++ long_snapshot)
 unfolding bucket_of
 every_event_runs = (
@@ -84,18 +96,21 @@ every_event_runs = (
                             (
                               record { fixed = (0, refl); tables = omega arith },
                               (
-                                (λ j. omega arith),
+                                slow_whole,
                                 (
-                                  record { session = first; fresh = refl },
+                                  (λ j. omega arith),
                                   (
-                                    (0, 1, record { shown = refl; loaded = refl }),
+                                    record { session = first; fresh = refl },
                                     (
-                                      (0, Declared 1, record { live = refl; table = refl; plain = refl; unstamped = refl; free = tt; newest = tt }),
+                                      (0, 1, record { shown = refl; loaded = refl }),
                                       (
-                                        record { mine = refl; unstamped = refl },
+                                        (0, Declared 1, record { live = refl; table = refl; plain = refl; unstamped = refl; free = tt; newest = tt }),
                                         (
-                                          record { live = refl; none = none_left },
-                                          tt,
+                                          record { mine = refl; unstamped = refl },
+                                          (
+                                            record { live = refl; none = none_left },
+                                            tt,
+                                          ),
                                         ),
                                       ),
                                     ),

@@ -5,7 +5,7 @@ use Rattle.hg_base.specs.declared.rid.Rid.{Rid}
 use Rattle.hg_base.specs.declared.image.Image.{Image}
 use Rattle.hg_base.specs.declared.writer.Writer.{Writer}
 use Rattle.hg_base.specs.declared.scope.Snapshot.{Snapshot}
-use Rattle.hg_base.specs.History.{History}
+use Rattle.hg_base.specs.History.{History, same_rid}
 use Rattle.hg_base.proofs.HistoryFacts.{same_rid_itself}
 use Rattle.hg_core.specs.declared.log.LogEntry.{LogEntry}
 use Rattle.hg_core.specs.declared.log.LogEntry.TheVariants.{Wrote, Undid}
@@ -16,6 +16,7 @@ use Rattle.hg_core.specs.Phases.{snapshot_in}
 use Rattle.hg_core.specs.Versions.{installed, undone, stamped}
 use Rattle.hg_core.specs.Contents.{versions}
 use Rattle.hg_core.specs.OpenWrites.{writer_of}
+use Rattle.hg_core.specs.Covered.{Reads, Covers, MayCommit}
 use Rattle.hg_core.specs.Ordered.{IsOrdered, IsBacked}
 use Rattle.hg_core.specs.Judged.{Judge, Judged, FixedOver, LogsAnswer}
 use Rattle.hg_core.specs.State.{CoreState}
@@ -24,9 +25,10 @@ use Rattle.hg_core.specs.Invariant.{IsSteady}
 use Rattle.hg_core.proofs.Indices.{by_number, put_here, put_else, only_put, only_same}
 use Rattle.hg_core.proofs.LogSteps.{log_step}
 use Rattle.hg_core.proofs.Recalls.{reach_step}
-use Rattle.hg_core.proofs.Records.{at_record}
+use Rattle.hg_core.proofs.Records.{by_rid, at_record}
+use Rattle.hg_core.proofs.Covering.{covers_same, none_newer}
 use Rattle.hg_core.proofs.Begins.{none_open}
-use Rattle.hg_core.proofs.Versions.{installed_ordered, IsOpened, opened_is}
+use Rattle.hg_core.proofs.Versions.{installed_newest, installed_ordered, IsOpened, opened_is}
 use Rattle.hg_core.proofs.Backing.{backed_installed, backed_undone, backed_stamped}
 use Rattle.hg_core.proofs.OpenWrites.{OnlyWrite, stand_alike, stand_installed, next_installed, stand_undone, next_undone, stand_stamped, next_stamped}
 
@@ -116,6 +118,8 @@ install_kept s j r image h (at, scope, may) =
       registers_agree = h.registers_agree;
       records_bound_sessions = h.records_bound_sessions;
       records_reach_logs = reach_step s.phase s.phase s.log (put s.log j (Wrote r image ∷ s.log j)) s.pass j (s.phase j) (Wrote r image ∷ []) h.records_reach_logs (only_same s.phase j) (only_put s.log j (Wrote r image ∷ s.log j)) (λ e. inr e);
+      covered = at_record s.buckets s.bucket r (installed w image held) (λ q c. Covers s.mark s.phase s.history q c) (covers_same s.mark s.phase s.history r held (installed w image held) (λ n le. installed_newest n w image held) h.mark_is_length.sessions (h.covered r)) (λ q other. h.covered q);
+      open_writes_may_commit = by_number j (λ k t. (q : Rid) (i : Image) → open_in q (if t then Wrote r image ∷ s.log j else s.log k) ≡ Some i → MayCommit s.history q (s.phase k)) here (λ k other. h.open_writes_may_commit k);
       contents_are_ordered = record {
         ordered = at_record s.buckets s.bucket r (installed w image held) (λ q c. IsOrdered s.mark c) (installed_ordered s.mark w image held may.free (h.contents_are_ordered.ordered r)) (λ q other. h.contents_are_ordered.ordered q);
         backed = at_record s.buckets s.bucket r (installed w image held) (λ q c. IsBacked s.mark s.history q c) (backed_installed s.mark s.history r w image held (h.contents_are_ordered.backed r)) (λ q other. h.contents_are_ordered.backed q);
@@ -124,6 +128,12 @@ install_kept s j r image h (at, scope, may) =
       stamped_is_next = next_installed s.mark s.buckets s.bucket (begun_in s.log) (open_writes s.log) _ j r image s.stamped_list may.unstamped f h.stamped_is_next;
       logs_answer = answer_more s j (Wrote r image) h tt (subst IsSome (sym (h.logs_answer.reads j ∙ ap snapshot_in may.live)) refl);
     }
+  where
+    mine : MayCommit s.history r (s.phase j)
+    mine = subst (MayCommit s.history r) (sym may.live) (may.table, none_newer s.mark s.phase s.history r (versions s.buckets s.bucket r) at (h.covered r) (inr (j, subst (λ p. Reads r.table p at) (sym may.live) (refl, may.table))) may.newest)
+
+    here : (q : Rid) (i : Image) → (if same_rid r q then Some image else open_in q (s.log j)) ≡ Some i → MayCommit s.history q (s.phase j)
+    here = by_rid r (λ q t. (i : Image) → (if t then Some image else open_in q (s.log j)) ≡ Some i → MayCommit s.history q (s.phase j)) (λ i e. mine) (λ q other i e. h.open_writes_may_commit j q i e)
 
 pub undo_kept : (s : CoreState) (j : ℕ) (r : Rid) → IsSteady s → May s (Undo j r) → IsSteady (happens s (Undo j r))
 undo_kept s j r h may =
@@ -136,6 +146,8 @@ undo_kept s j r h may =
       registers_agree = h.registers_agree;
       records_bound_sessions = h.records_bound_sessions;
       records_reach_logs = reach_step s.phase s.phase s.log (put s.log j (Undid r ∷ s.log j)) s.pass j (s.phase j) (Undid r ∷ []) h.records_reach_logs (only_same s.phase j) (only_put s.log j (Undid r ∷ s.log j)) (λ e. inr e);
+      covered = at_record s.buckets s.bucket r (undone held) (λ q c. Covers s.mark s.phase s.history q c) (covers_same s.mark s.phase s.history r held (undone held) (λ n le. was.newest_undone n) h.mark_is_length.sessions (h.covered r)) (λ q other. h.covered q);
+      open_writes_may_commit = by_number j (λ k t. (q : Rid) (i : Image) → open_in q (if t then Undid r ∷ s.log j else s.log k) ≡ Some i → MayCommit s.history q (s.phase k)) here (λ k other. h.open_writes_may_commit k);
       contents_are_ordered = record {
         ordered = at_record s.buckets s.bucket r (undone held) (λ q c. IsOrdered s.mark c) was.ordered_undone (λ q other. h.contents_are_ordered.ordered q);
         backed = at_record s.buckets s.bucket r (undone held) (λ q c. IsBacked s.mark s.history q c) (backed_undone s.mark s.history r held (h.contents_are_ordered.backed r)) (λ q other. h.contents_are_ordered.backed q);
@@ -144,6 +156,9 @@ undo_kept s j r h may =
       stamped_is_next = next_undone s.mark s.buckets s.bucket (begun_in s.log) (open_writes s.log) _ j r s.stamped_list may.unstamped was f h.stamped_is_next;
       logs_answer = answer_more s j (Undid r) h tt (current_open s.history r was.image (s.log j) (h.logs_answer.judged j) (h.open_writes_stand.owned r w was.image was.owned).1);
     }
+  where
+    here : (q : Rid) (i : Image) → (if same_rid r q then None else open_in q (s.log j)) ≡ Some i → MayCommit s.history q (s.phase j)
+    here = by_rid r (λ q t. (i : Image) → (if t then None else open_in q (s.log j)) ≡ Some i → MayCommit s.history q (s.phase j)) (λ i e. absurd (cc)) (λ q other i e. h.open_writes_may_commit j q i e)
 
 pub stamp_kept : (s : CoreState) (j : ℕ) (r : Rid) → IsSteady s → May s (Stamp j r) → IsSteady (happens s (Stamp j r))
 stamp_kept s j r h may =
@@ -155,6 +170,8 @@ stamp_kept s j r h may =
       registers_agree = h.registers_agree;
       records_bound_sessions = h.records_bound_sessions;
       records_reach_logs = h.records_reach_logs;
+      covered = at_record s.buckets s.bucket r (stamped (suc s.mark) w held) (λ q c. Covers s.mark s.phase s.history q c) (covers_same s.mark s.phase s.history r held (stamped (suc s.mark) w held) was.newest_stamped h.mark_is_length.sessions (h.covered r)) (λ q other. h.covered q);
+      open_writes_may_commit = h.open_writes_may_commit;
       contents_are_ordered = record {
         ordered = at_record s.buckets s.bucket r (stamped (suc s.mark) w held) (λ q c. IsOrdered s.mark c) was.ordered_stamped (λ q other. h.contents_are_ordered.ordered q);
         backed = at_record s.buckets s.bucket r (stamped (suc s.mark) w held) (λ q c. IsBacked s.mark s.history q c) (backed_stamped s.mark s.history r w held (h.contents_are_ordered.backed r)) (λ q other. h.contents_are_ordered.backed q);

@@ -4,6 +4,7 @@ use Rattle.hg_base.specs.declared.scope.Scope.{Scope}
 use Rattle.hg_base.specs.declared.scope.Scope.TheVariants.{Declared}
 use Rattle.hg_base.specs.declared.rid.Rid.{Rid}
 use Rattle.hg_base.specs.declared.image.Image.{Image}
+use Rattle.hg_base.specs.declared.report.Kind.{Kind}
 use Rattle.hg_base.specs.Transcript.{has}
 use Rattle.hg_base.specs.Lists.{Each}
 use Rattle.hg_base.specs.History.{NoNumberTwice}
@@ -15,16 +16,18 @@ use Rattle.hg_core.specs.declared.log.LogEntry.TheVariants.{Began, Wrote, Undid,
 use Rattle.hg_core.specs.Words.{IsBelow}
 use Rattle.hg_core.specs.Logs.{current, begans, is_plain, open_in, begun_in, is_in, new_group, published_logs}
 use Rattle.hg_core.specs.Phases.{IsSession, snapshot_in}
-use Rattle.hg_core.specs.Passes.{PassRecord, found}
+use Rattle.hg_core.specs.Passes.{PassRecord, found, IsWhole}
 use Rattle.hg_core.specs.Versions.{newest_at, installed, undone, stamped, IsFreeFor, IsOpenBy}
 use Rattle.hg_core.specs.Contents.{versions, stored, is_stamped, has_stamped}
+use Rattle.hg_core.specs.Removal.{reclaimed}
 use Rattle.hg_core.specs.OpenWrites.{writer_of}
 use Rattle.hg_core.specs.State.{CoreState, opened}
 
 -- A session loads the mark (Probe), shows that it enters at it (Enter), loads the mark again (Fix), shows the second as
 -- its snapshot (GoLive), and goes to rest (End). A pass of a collector begins a record (Mark), loads a register (Sample)
 -- and moves a long snapshot (Move). A session stores a write (Install) or takes it back (Undo). A committer gives an open
--- write the next number (Stamp), and publishes the transactions of some sessions as one group (Publish).
+-- write the next number (Stamp), and publishes the transactions of some sessions as one group (Publish). A pass takes away
+-- versions of a record (Reclaim).
 pub data Event : Type 0 where
   Probe : (j : ℕ) → Event
   Enter : (j f : ℕ) → Event
@@ -38,6 +41,7 @@ pub data Event : Type 0 where
   Undo : (j : ℕ) → (r : Rid) → Event
   Stamp : (j : ℕ) → (r : Rid) → Event
   Publish : (sessions : List ℕ) → Event
+  Reclaim : (p : ℕ) → (kind : Kind) → (r : Rid) → Event
 
 -- f with another value at j
 abbrev pub put : {A : Type 0} → (ℕ → A) → ℕ → A → ℕ → A
@@ -76,6 +80,7 @@ happens s (Install j r image) = record s { bucket = stored s.buckets s.bucket r 
 happens s (Undo j r) = record s { bucket = stored s.buckets s.bucket r (undone (versions s.buckets s.bucket r)); log = put s.log j (Undid r ∷ s.log j) }
 happens s (Stamp j r) = record s { bucket = stored s.buckets s.bucket r (stamped (suc s.mark) (writer_of (begun_in s.log) j) (versions s.buckets s.bucket r)); stamped_list = (j, r) ∷ s.stamped_list }
 happens s (Publish sessions) = record s { mark = suc s.mark; history = s.history ++ new_group s.log sessions ∷ []; stamped_list = []; log = published_logs s.log sessions (suc s.mark) }
+happens s (Reclaim p kind r) = record s { bucket = stored s.buckets s.bucket r (reclaimed kind r.table (s.pass p) (versions s.buckets s.bucket r)) }
 
 -- a session may begin: it is at rest, and has begun fewer transactions than it may
 pub record MayProbe (s : CoreState) (j : ℕ) : Type 0 where
@@ -147,6 +152,7 @@ May s (Install j r image) = (at : ℕ) × (scope : Scope) × MayInstall s j r at
 May s (Undo j r) = MayUndo s j r
 May s (Stamp j r) = MayStamp s j r
 May s (Publish sessions) = MayPublish s.log s.stamped_list sessions
+May s (Reclaim p kind r) = IsWhole s.sessions (s.pass p)
 
 -- each event may happen in its turn
 abbrev pub Run : CoreState → List Event → Type 0

@@ -3,9 +3,10 @@
 ghost use Rattle.std.specs.Prelude.{ℕ, List};
 ghost use Rattle.hg_base.specs.declared.rid.Rid.{Rid};
 ghost use Rattle.hg_base.specs.declared.image.Image.{Image};
+ghost use Rattle.hg_base.specs.declared.report.Kind.{Kind};
 ghost use Rattle.hg_base.specs.declared.scope.Scope.{Scope};
 ghost use Rattle.hg_core.specs.State.{CoreState};
-ghost use Rattle.hg_core.specs.Events.{Probe, Enter, Fix, GoLive, End, Mark, Sample, Move, Install, Undo, Stamp, Publish, happens, May, Always};
+ghost use Rattle.hg_core.specs.Events.{Probe, Enter, Fix, GoLive, End, Mark, Sample, Move, Install, Undo, Stamp, Publish, Reclaim, happens, May, Always};
 ghost use Rattle.hg_core.specs.Invariant.{IsSteady};
 
 /// A session loads the mark, of which nobody knows.
@@ -66,6 +67,11 @@ pub fn stamp_keeps()
 /// The open transactions of some sessions join the history as one group, and the mark grows by one.
 pub fn publish_keeps()
     ensures { (s : CoreState) (sessions : List ℕ) → IsSteady s → May s (Publish sessions) → IsSteady (happens s (Publish sessions)) }
+{}
+
+/// A pass with a whole record takes away versions of a record, by its kind. No session reads them, or may come to.
+pub fn reclaim_keeps()
+    ensures { (s : CoreState) (p : ℕ) (kind : Kind) (r : Rid) → IsSteady s → May s (Reclaim p kind r) → IsSteady (happens s (Reclaim p kind r)) }
 {}
 
 /// The invariant holds after every list of events from the state in which a board opens.

@@ -39,7 +39,7 @@ mod theorems;
 pub use ask::Ask;
 pub use laws::{
     always_steady, end_keeps, enter_keeps, fix_keeps, go_live_keeps, install_keeps, mark_keeps,
-    move_keeps, probe_keeps, publish_keeps, sample_keeps, stamp_keeps, undo_keeps,
+    move_keeps, probe_keeps, publish_keeps, reclaim_keeps, sample_keeps, stamp_keeps, undo_keeps,
 };
 pub use log::LogEntry;
 pub use phase::Phase;
@@ -48,7 +48,8 @@ pub use refuted::{
 };
 pub use register::Register;
 pub use theorems::{
-    every_event_happens, mark_is_bounded, no_gather_misses_a_snapshot, words_are_exact,
+    every_event_happens, mark_is_bounded, no_gather_misses_a_snapshot, no_removal_is_seen,
+    words_are_exact,
 };
 
 #[cfg(test)]
