@@ -21,3 +21,4 @@ pub mod Worked
 pub mod Counting
 pub mod Words
 pub mod Refused
+pub mod Mistakes

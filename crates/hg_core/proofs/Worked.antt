@@ -3,6 +3,7 @@ use Rattle.std.proofs.Common.{◌≡◌, ℕ, zero, suc, ◌<◌, ◌≤◌, Lis
 use Rattle.std.specs.Prelude.{if◌then◌else◌, IsSome, IsTrue}
 use Rattle.std.proofs.lemmas.Bool.Decides.{nat_tests}
 use Rattle.hg_base.specs.declared.rid.Rid.{Rid}
+use Rattle.hg_base.specs.declared.image.Image.{Image}
 use Rattle.hg_base.specs.declared.scope.Scope.TheVariants.{All, Declared}
 use Rattle.hg_base.specs.History.{same_rid}
 use Rattle.hg_core.specs.declared.log.LogEntry.{LogEntry}
@@ -14,7 +15,7 @@ use Rattle.hg_core.specs.Phases.{IsSession}
 use Rattle.hg_core.specs.Contents.{bucket_of, is_stamped}
 use Rattle.hg_core.specs.State.{opened}
 use Rattle.hg_core.specs.Events.{Run, run, MayPublish}
-use Rattle.hg_core.specs.Worked.{one_rid, two_rid, row, slow_begin, long_snapshot, late_entry, early_sample, low_fix}
+use Rattle.hg_core.specs.Worked.{one_rid, two_rid, row, slow_begin, long_snapshot, late_entry, early_sample, low_fix, two_versions, moved_snapshot, open_write}
 
 first : IsSession 2 1
 first = record { first = omega arith; last = omega arith }
@@ -23,26 +24,26 @@ second : IsSession 2 2
 second = record { first = omega arith; last = omega arith }
 
 -- what session 2 wrote is stamped
-abbrev pub wrote : List LogEntry
-wrote = Wrote one_rid row ∷ Began 0 All ∷ []
+abbrev pub wrote : Image → ℕ → List LogEntry → List LogEntry
+wrote image at earlier = Wrote one_rid image ∷ Began at All ∷ earlier
 
-stamped_all : (log : ℕ → List LogEntry) → log 2 ≡ wrote → (j : ℕ) (r : Rid) → IsTrue (is_in (2 ∷ []) j) → IsSome (open_in r (log j)) → IsTrue (is_stamped j r ((2, one_rid) ∷ []))
-stamped_all log e j r is_of some =
+stamped_all : (log : ℕ → List LogEntry) (image : Image) (at : ℕ) (earlier : List LogEntry) → log 2 ≡ wrote image at earlier → (j : ℕ) (r : Rid) → IsTrue (is_in (2 ∷ []) j) → IsSome (open_in r (log j)) → IsTrue (is_stamped j r ((2, one_rid) ∷ []))
+stamped_all log image at earlier e j r is_of some =
     let two : 2 ≡ j = grind (arith, nat_tests) in
     subst (λ k. IsTrue (is_stamped k r ((2, one_rid) ∷ []))) two (go (same_rid one_rid r) (subst (λ l. IsSome (open_in r l)) e (subst (λ k. IsSome (open_in r (log k))) (sym two) some)))
   where
-    go : (b : Bool) → IsSome (if b then Some row else None) → IsTrue ((true && b) || false)
+    go : (b : Bool) → IsSome (if b then Some image else None) → IsTrue ((true && b) || false)
     go true s = refl
     go false s = cc
 
-publishes : (log : ℕ → List LogEntry) → log 2 ≡ wrote → MayPublish log ((2, one_rid) ∷ []) (2 ∷ [])
-publishes log e = record {
+publishes : (log : ℕ → List LogEntry) (image : Image) (at : ℕ) (earlier : List LogEntry) → log 2 ≡ wrote image at earlier → MayPublish log ((2, one_rid) ∷ []) (2 ∷ [])
+publishes log image at earlier e = record {
   some = omega arith;
   distinct = (refl, tt);
   opened = (subst (λ l. IsSome (current l)) (sym e) refl, tt);
   plain = (subst (λ l. IsTrue (is_plain l)) (sym e) refl, tt);
   stamped = λ j. refl;
-  whole = stamped_all log e;
+  whole = stamped_all log image at earlier e;
 }
 
 -- what session 1 wrote and took back isn't open
@@ -58,6 +59,24 @@ pub slow_whole : IsWhole 2 ((run (opened 2 1 1 1) slow_begin).pass 0)
 slow_whole j session = go j session.first session.last
   where
     go : (k : ℕ) → 0 < k → k ≤ 2 → IsSome (found k ((2, registers.Idle) ∷ (1, registers.Entering 0) ∷ []))
+    go zero a b = absurd (omega arith)
+    go (suc zero) a b = refl
+    go (suc (suc zero)) a b = refl
+    go (suc (suc (suc k))) a b = absurd (omega arith)
+
+pub two_whole : (image : Image) → IsWhole 2 ((run (opened 2 1 1 2) (two_versions image)).pass 0)
+two_whole image j session = go j session.first session.last
+  where
+    go : (k : ℕ) → 0 < k → k ≤ 2 → IsSome (found k ((2, registers.Idle) ∷ (1, registers.Live 1 (Declared 1) false) ∷ []))
+    go zero a b = absurd (omega arith)
+    go (suc zero) a b = refl
+    go (suc (suc zero)) a b = refl
+    go (suc (suc (suc k))) a b = absurd (omega arith)
+
+pub moved_whole : IsWhole 2 ((run (opened 2 1 1 2) moved_snapshot).pass 0)
+moved_whole j session = go j session.first session.last
+  where
+    go : (k : ℕ) → 0 < k → k ≤ 2 → IsSome (found k ((2, registers.Idle) ∷ (1, registers.Live 1 (Declared 1) true) ∷ []))
     go zero a b = absurd (omega arith)
     go (suc zero) a b = refl
     go (suc (suc zero)) a b = refl
@@ -84,7 +103,7 @@ every_event_runs = (
                 (
                   record { mine = refl; plain = refl },
                   (
-                    publishes _ refl,
+                    publishes _ _ _ _ refl,
                     (
                       record { live = refl; none = λ r. refl },
                       (
@@ -154,7 +173,7 @@ slow_begin_runs = (
                 (
                   record { mine = refl; plain = refl },
                   (
-                    publishes _ refl,
+                    publishes _ _ _ _ refl,
                     (
                       record { live = refl; none = λ r. refl },
                       (
@@ -199,7 +218,7 @@ late_entry_runs = (
             (
               record { mine = refl; plain = refl },
               (
-                publishes _ refl,
+                publishes _ _ _ _ refl,
                 (
                   record { live = refl; none = λ r. refl },
                   (
@@ -249,7 +268,7 @@ early_sample_runs = (
                       (
                         record { mine = refl; plain = refl },
                         (
-                          publishes _ refl,
+                          publishes _ _ _ _ refl,
                           (
                             record { live = refl; none = λ r. refl },
                             tt,
@@ -289,7 +308,7 @@ low_fix_runs = (
                 (
                   record { mine = refl; plain = refl },
                   (
-                    publishes _ refl,
+                    publishes _ _ _ _ refl,
                     (
                       record { live = refl; none = λ r. refl },
                       (
@@ -298,6 +317,186 @@ low_fix_runs = (
                       ),
                     ),
                   ),
+                ),
+              ),
+            ),
+          ),
+        ),
+      ),
+    ),
+  ),
+)
+
+pub two_versions_runs : (image : Image) → Run (opened 2 1 1 2) (two_versions image)
+unfolding bucket_of
+two_versions_runs image = (
+  record { session = second; rests = refl; room = omega arith },
+  (
+    refl,
+    (
+      refl,
+      (
+        record { fixed = (0, refl); tables = tt },
+        (
+          (0, All, record { live = refl; table = refl; plain = refl; unstamped = refl; free = tt; newest = tt }),
+          (
+            record { mine = refl; plain = refl },
+            (
+              publishes _ _ _ _ refl,
+              (
+                record { live = refl; none = λ r. refl },
+                (
+                  record { session = first; rests = refl; room = omega arith },
+                  (
+                    refl,
+                    (
+                      refl,
+                      (
+                        record { fixed = (1, refl); tables = omega arith },
+                        (
+                          record { session = second; rests = refl; room = omega arith },
+                          (
+                            refl,
+                            (
+                              refl,
+                              (
+                                record { fixed = (1, refl); tables = tt },
+                                (
+                                  (1, All, record { live = refl; table = refl; plain = refl; unstamped = refl; free = omega arith; newest = omega arith }),
+                                  (
+                                    record { mine = refl; plain = refl },
+                                    (
+                                      publishes _ _ _ _ refl,
+                                      (
+                                        record { live = refl; none = λ r. refl },
+                                        (
+                                          (λ j. omega arith),
+                                          (
+                                            record { session = first; fresh = refl },
+                                            (
+                                              record { session = second; fresh = refl },
+                                              tt,
+                                            ),
+                                          ),
+                                        ),
+                                      ),
+                                    ),
+                                  ),
+                                ),
+                              ),
+                            ),
+                          ),
+                        ),
+                      ),
+                    ),
+                  ),
+                ),
+              ),
+            ),
+          ),
+        ),
+      ),
+    ),
+  ),
+)
+
+pub moved_snapshot_runs : Run (opened 2 1 1 2) moved_snapshot
+unfolding bucket_of
+moved_snapshot_runs = (
+  record { session = second; rests = refl; room = omega arith },
+  (
+    refl,
+    (
+      refl,
+      (
+        record { fixed = (0, refl); tables = tt },
+        (
+          (0, All, record { live = refl; table = refl; plain = refl; unstamped = refl; free = tt; newest = tt }),
+          (
+            record { mine = refl; plain = refl },
+            (
+              publishes _ _ _ _ refl,
+              (
+                record { live = refl; none = λ r. refl },
+                (
+                  record { session = first; rests = refl; room = omega arith },
+                  (
+                    refl,
+                    (
+                      refl,
+                      (
+                        record { fixed = (1, refl); tables = omega arith },
+                        (
+                          record { session = second; rests = refl; room = omega arith },
+                          (
+                            refl,
+                            (
+                              refl,
+                              (
+                                record { fixed = (1, refl); tables = tt },
+                                (
+                                  (1, All, record { live = refl; table = refl; plain = refl; unstamped = refl; free = omega arith; newest = omega arith }),
+                                  (
+                                    record { mine = refl; plain = refl },
+                                    (
+                                      publishes _ _ _ _ refl,
+                                      (
+                                        record { live = refl; none = λ r. refl },
+                                        (
+                                          (λ j. omega arith),
+                                          (
+                                            record { session = first; fresh = refl },
+                                            (
+                                              record { session = second; fresh = refl },
+                                              (
+                                                (1, 1, record { shown = refl; loaded = refl }),
+                                                tt,
+                                              ),
+                                            ),
+                                          ),
+                                        ),
+                                      ),
+                                    ),
+                                  ),
+                                ),
+                              ),
+                            ),
+                          ),
+                        ),
+                      ),
+                    ),
+                  ),
+                ),
+              ),
+            ),
+          ),
+        ),
+      ),
+    ),
+  ),
+)
+
+pub open_write_runs : Run (opened 2 1 1 2) open_write
+unfolding bucket_of
+open_write_runs = (
+  record { session = first; rests = refl; room = omega arith },
+  (
+    refl,
+    (
+      refl,
+      (
+        record { fixed = (0, refl); tables = tt },
+        (
+          record { session = second; rests = refl; room = omega arith },
+          (
+            refl,
+            (
+              refl,
+              (
+                record { fixed = (0, refl); tables = tt },
+                (
+                  (0, All, record { live = refl; table = refl; plain = refl; unstamped = refl; free = tt; newest = tt }),
+                  tt,
                 ),
               ),
             ),

@@ -41,3 +41,20 @@ early_sample = Mark 0 (λ j. 0) ∷ Sample 0 1 ∷ Probe 1 ∷ Enter 1 0 ∷ Fix
 -- Session 1 loads the mark 0 twice. Session 2 commits, and a pass loads the mark 1.
 abbrev pub low_fix : List Event
 low_fix = Probe 1 ∷ Enter 1 0 ∷ Fix 1 0 ∷ commits ++ Mark 0 (λ j. 0) ∷ []
+
+-- session 2 begins again, at 1, writes the record again, commits, and is over
+abbrev pub commits_again : Image → List Event
+commits_again image = Probe 2 ∷ Enter 2 1 ∷ Fix 2 1 ∷ GoLive 2 1 All ∷ Install 2 one_rid image ∷ Stamp 2 one_rid ∷ Publish (2 ∷ []) ∷ End 2 ∷ []
+
+-- Session 2 commits the record. Session 1 goes live at 1. Session 2 commits the record again, with this image. A pass loads
+-- the mark 2, and both registers.
+abbrev pub two_versions : Image → List Event
+two_versions image = commits ++ Probe 1 ∷ Enter 1 1 ∷ Fix 1 1 ∷ GoLive 1 1 (Declared 1) ∷ commits_again image ++ Mark 0 (λ j. 0) ∷ Sample 0 1 ∷ Sample 0 2 ∷ []
+
+-- and the pass moves the snapshot of session 1
+abbrev pub moved_snapshot : List Event
+moved_snapshot = two_versions row ++ Move 0 1 ∷ []
+
+-- session 2 has written the record, and nothing is stamped; session 1 is live too
+abbrev pub open_write : List Event
+open_write = Probe 1 ∷ Enter 1 0 ∷ Fix 1 0 ∷ GoLive 1 0 All ∷ Probe 2 ∷ Enter 2 0 ∷ Fix 2 0 ∷ GoLive 2 0 All ∷ Install 2 one_rid row ∷ []

@@ -44,7 +44,10 @@ pub use laws::{
 pub use log::LogEntry;
 pub use phase::Phase;
 pub use refuted::{
-    horizon_without_entering_is_refuted, mark_loaded_last_is_refuted, one_load_is_refuted,
+    bound_without_moved_is_refuted, horizon_without_entering_is_refuted,
+    lifetime_without_own_number_is_refuted, mark_loaded_last_is_refuted,
+    newest_deletion_removed_is_refuted, one_load_is_refuted, publish_before_stamp_is_refuted,
+    second_writer_is_refuted,
 };
 pub use register::Register;
 pub use theorems::{
