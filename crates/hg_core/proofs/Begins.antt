@@ -27,6 +27,8 @@ use Rattle.hg_core.specs.Covered.{Reads, IsProtected, MayCommit}
 use Rattle.hg_core.specs.Invariant.{IsSteady}
 use Rattle.hg_core.proofs.Indices.{by_number, put_here, put_else, Only, only_put, only_same}
 use Rattle.hg_core.proofs.LogSteps.{log_step}
+use Rattle.hg_core.specs.Replies.{RepliesAnswer}
+use Rattle.hg_core.proofs.Replies.{replies_entry}
 use Rattle.hg_core.proofs.Covering.{covers_less}
 use Rattle.hg_core.proofs.OpenWrites.{stand_alike, next_alike}
 use Rattle.hg_core.proofs.Recalls.{reach_step}
@@ -51,13 +53,14 @@ turn : (s : CoreState) (j : ℕ) (p : Phase) (register : ℕ → Register) (log 
     → ((q : ℕ) → IfSome (found j (s.pass q).loaded) (λ loaded. Bounds (s.pass q).mark loaded p))
     → Only s.log log j (added ++ s.log j)
     → (IsEntering (s.phase j) → IsTrue (has_begun added) ⊎ IsEntering p)
+    → RepliesAnswer s.buckets s.history log
     → ((table : TableId) (n : ℕ) → Reads table p n → IsProtected s.mark s.phase table n)
     → ((r : Rid) → open_in r (log j) ≡ None)
     → OpenWritesStand s.mark (begun_in log) (open_writes log) (versions s.buckets s.bucket)
     → StampedIsNext s.mark (open_writes log) (versions s.buckets s.bucket) s.stamped_list
     → LogsAnswer s.sessions s.each s.history (put s.phase j p) log
     → IsSteady (record s { phase = put s.phase j p; register = register; log = log })
-turn s j p register log added h session up shows same bounds grown enters narrow none stand next answer = record {
+turn s j p register log added h session up shows same bounds grown enters replies narrow none stand next answer = record {
   mark_is_length = record {
     is_length = h.mark_is_length.is_length;
     sessions = by_number j (λ k b. PhaseUpTo s.mark (if b then p else s.phase k)) up (λ k other. h.mark_is_length.sessions k);
@@ -75,6 +78,7 @@ turn s j p register log added h session up shows same bounds grown enters narrow
   open_writes_stand = stand;
   stamped_is_next = next;
   logs_answer = answer;
+  replies_answer = replies;
 }
   where
     still : (table : TableId) (n k : ℕ) → Reads table (put s.phase j p k) n → IsProtected s.mark s.phase table n
@@ -109,6 +113,7 @@ probe_kept s j h may = turn s j (Probed s.mark) s.register s.log [] h may.sessio
     (λ q. if_some_all _ _ (λ loaded. tt))
     (only_same s.log j)
     (λ e. let z = subst IsEntering may.rests e in absurd z)
+    h.replies_answer
     (λ table n reads. absurd reads) (λ r. none_open s.history r (s.log j) (h.logs_answer.judged j) (h.logs_answer.reads j ∙ ap snapshot_in may.rests))
     h.open_writes_stand h.stamped_is_next
     (quiet s j (Probed s.mark) h (ap snapshot_in may.rests) tt may.room)
@@ -121,6 +126,7 @@ enter_kept s j f h may = turn s j (Entered f) (put s.register j (registers.Enter
     (λ q. if_some_all _ _ (λ loaded. tt))
     (only_same s.log j)
     (λ e. inr tt)
+    h.replies_answer
     (λ table n reads. absurd reads) (λ r. none_open s.history r (s.log j) (h.logs_answer.judged j) (h.logs_answer.reads j ∙ ap snapshot_in may))
     h.open_writes_stand h.stamped_is_next
     (quiet s j (Entered f) h (ap snapshot_in may) tt (subst (λ p. MayHaveBegun s.each p (begans (s.log j))) may (h.logs_answer.room j)))
@@ -135,6 +141,7 @@ fix_kept s j f h may =
     (λ q. if_some_all _ _ (λ loaded. inl (h.mark_is_length.passes q)))
     (only_same s.log j)
     (λ e. inr tt)
+    h.replies_answer
     (λ table n reads. inl reads) (λ r. none_open s.history r (s.log j) (h.logs_answer.judged j) (h.logs_answer.reads j ∙ ap snapshot_in may))
     h.open_writes_stand h.stamped_is_next
     (quiet s j (Fixed f s.mark) h (ap snapshot_in may) (subst (λ n. UpTo n (s.log j)) (sym h.mark_is_length.is_length) (h.logs_answer.within j)) (subst (λ p. MayHaveBegun s.each p (begans (s.log j))) may (h.logs_answer.room j)))
@@ -158,6 +165,7 @@ go_live_kept s j m scope h may =
     (λ q. bound_live _ f m scope _ (subst (λ p. IfSome (found j (s.pass q).loaded) (λ loaded. Bounds (s.pass q).mark loaded p)) at (h.records_bound_sessions q j)))
     (only_put s.log j (Began m scope ∷ s.log j))
     (λ e. inl refl)
+    (replies_entry s.buckets s.history s.log j (Began m scope) tt h.logs_answer.within tt h.replies_answer)
     (λ table n reads. inr (j, subst (λ q. Reads table q n) (sym at) reads.0))
     (λ r. ap (open_in r) (put_here s.log j (Began m scope ∷ s.log j)))
     (stand_alike s.mark (begun_in s.log) (begun_in (put s.log j (Began m scope ∷ s.log j))) (open_writes s.log) _ (versions s.buckets s.bucket) opened (λ k r i. number k r i) h.open_writes_stand)
@@ -205,6 +213,7 @@ end_kept s j h may = turn s j Idle (put s.register j registers.Idle) (put s.log 
     (λ q. if_some_all _ _ (λ loaded. tt))
     (only_put s.log j (Over ∷ s.log j))
     (λ e. absurd (not_entering _ may.live e))
+    (replies_entry s.buckets s.history s.log j Over tt h.logs_answer.within tt h.replies_answer)
     (λ table n reads. absurd reads) (λ r. ap (open_in r) (put_here s.log j (Over ∷ s.log j)))
     (stand_alike s.mark (begun_in s.log) (begun_in (put s.log j (Over ∷ s.log j))) (open_writes s.log) _ (versions s.buckets s.bucket) opened (λ k r i e. number k) h.open_writes_stand)
     (next_alike s.mark (open_writes s.log) _ (versions s.buckets s.bucket) s.stamped_list opened h.stamped_is_next)

@@ -38,6 +38,7 @@ mark_kept s p known h may =
       contents_are_ordered = h.contents_are_ordered;
       open_writes_stand = h.open_writes_stand;
       stamped_is_next = h.stamped_is_next;
+      replies_answer = h.replies_answer;
       logs_answer = h.logs_answer;
     }
 
@@ -77,6 +78,7 @@ sample_kept s p j h may =
       contents_are_ordered = h.contents_are_ordered;
       open_writes_stand = h.open_writes_stand;
       stamped_is_next = h.stamped_is_next;
+      replies_answer = h.replies_answer;
       logs_answer = h.logs_answer;
     }
 
@@ -147,5 +149,6 @@ move_kept s p j h (n, mask, may) =
       contents_are_ordered = h.contents_are_ordered;
       open_writes_stand = h.open_writes_stand;
       stamped_is_next = h.stamped_is_next;
+      replies_answer = h.replies_answer;
       logs_answer = h.logs_answer;
     }

@@ -10,10 +10,12 @@ pub mod NewGroup
 pub mod Sweep
 pub mod Past
 pub mod Covering
+pub mod Replies
 pub mod Begins
 pub mod Gathers
 pub mod Publishing
 pub mod Writing
+pub mod Looking
 pub mod Fences
 pub mod Reclaiming
 pub mod Runs

@@ -32,7 +32,7 @@ image_last r (w ∷ ws) = go (same_rid w.rid r) refl (image_last r ws)
     go false e later = image_left w.rid r (last_images ws) e ∙ later
 
 -- nothing was undone or published, so each stored write is open
-image_open : (r : Rid) (log : List LogEntry) → is_plain log ≡ true → image_in r (own_writes log) ≡ open_in r log
+pub image_open : (r : Rid) (log : List LogEntry) → is_plain log ≡ true → image_in r (own_writes log) ≡ open_in r log
 image_open r [] p = refl
 image_open r (Began at scope ∷ log) p = refl
 image_open r (Over ∷ log) p = refl

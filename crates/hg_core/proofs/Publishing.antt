@@ -17,6 +17,8 @@ use Rattle.hg_core.specs.Phases.{IsSession, snapshot_in, MayHaveBegun}
 use Rattle.hg_core.specs.Versions.{Version, is_numbered, unpublished}
 use Rattle.hg_core.specs.Contents.{versions, is_stamped}
 use Rattle.hg_core.specs.OpenWrites.{writer_of}
+use Rattle.hg_core.specs.Replies.{RepliesAnswer}
+use Rattle.hg_core.proofs.Replies.{replies_published}
 use Rattle.hg_core.specs.Covered.{MayCommit}
 use Rattle.hg_core.specs.State.{CoreState}
 use Rattle.hg_core.specs.Events.{happens, May, MayPublish, Publish}
@@ -60,7 +62,7 @@ each_in P [] j h e = absurd (let k : false ≡ true = e in cc)
 each_in P (i ∷ js) j h e = cases (i == j) (λ q. subst P ((Decides-eqb i j).0 q) h.0) (λ q. each_in P js j h.1 (sym (ap (λ b. b || is_in js j) q) ∙ e))
 
 -- a live session has fixed no number
-over_live : (p : Phase) (log : List LogEntry) → IsSome (snapshot_in p) → FixedOver p log
+pub over_live : (p : Phase) (log : List LogEntry) → IsSome (snapshot_in p) → FixedOver p log
 over_live Idle log some = tt
 over_live (Probed f) log some = tt
 over_live (Entered f) log some = tt
@@ -160,6 +162,7 @@ publish_kept s js h may = record {
     exact = λ r w i e. (unpublished_next s.mark (held r) w i (h.contents_are_ordered.ordered r) e).1;
     standing = λ j r e. absurd (let z : false ≡ true = e in cc);
   };
+  replies_answer = subst (λ n. RepliesAnswer s.buckets (s.history ++ new_group s.log js ∷ []) (published_logs s.log js (suc n))) (sym h.mark_is_length.is_length) (replies_published s.buckets s.history (new_group s.log js) s.log js h.logs_answer.within h.replies_answer);
   logs_answer = subst (λ n. LogsAnswer s.sessions s.each (s.history ++ new_group s.log js ∷ []) s.phase (published_logs s.log js (suc n))) (sym h.mark_is_length.is_length) (logs_published s.sessions s.each s.history s.phase s.log s.stamped_list js h.logs_answer session_of may);
 }
   where

@@ -107,5 +107,6 @@ reclaim_kept s p kind r h whole =
       records_bound_sessions = h.records_bound_sessions;
       open_writes_may_commit = h.open_writes_may_commit;
       records_reach_logs = h.records_reach_logs;
+      replies_answer = h.replies_answer;
       logs_answer = h.logs_answer;
     }

@@ -1,12 +1,13 @@
 -- Each event keeps the invariant, so it holds after every list of events.
 use Rattle.std.proofs.Common.{ℕ, List, [], ◌∷◌, inl, inr, refl, arith}
 use Rattle.hg_core.specs.State.{CoreState, opened}
-use Rattle.hg_core.specs.Events.{Event, Probe, Enter, Fix, GoLive, End, Mark, Sample, Move, Install, Undo, Stamp, Publish, Reclaim, happens, May, Run, run, Always}
+use Rattle.hg_core.specs.Events.{Event, Probe, Enter, Fix, GoLive, End, Mark, Sample, Move, Install, Undo, Stamp, Publish, Reclaim, Look, happens, May, Run, run, Always}
 use Rattle.hg_core.specs.Invariant.{IsSteady}
 use Rattle.hg_core.proofs.Begins.{probe_kept, enter_kept, fix_kept, go_live_kept, end_kept}
 use Rattle.hg_core.proofs.Gathers.{mark_kept, sample_kept, move_kept}
 use Rattle.hg_core.proofs.Writing.{install_kept, undo_kept, stamp_kept}
 use Rattle.hg_core.proofs.Publishing.{publish_kept}
+use Rattle.hg_core.proofs.Looking.{look_kept}
 use Rattle.hg_core.proofs.Reclaiming.{reclaim_kept}
 
 pub kept : (s : CoreState) (e : Event) → IsSteady s → May s e → IsSteady (happens s e)
@@ -23,6 +24,7 @@ kept s (Undo j r) h may = undo_kept s j r h may
 kept s (Stamp j r) h may = stamp_kept s j r h may
 kept s (Publish sessions) h may = publish_kept s sessions h may
 kept s (Reclaim p kind r) h may = reclaim_kept s p kind r h may
+kept s (Look j ask b rows) h may = look_kept s j ask b rows h may
 
 pub run_kept : (s : CoreState) (events : List Event) → IsSteady s → Run s events → IsSteady (run s events)
 run_kept s [] h r = h
@@ -34,6 +36,7 @@ opened_steady sessions tables buckets each = record {
   registers_agree = record { shows = λ j. refl; others = λ j. inr refl };
   records_bound_sessions = λ p j. tt;
   records_reach_logs = record { known = λ p j. omega arith; stands = λ p j. tt };
+  replies_answer = λ j. tt;
   covered = λ r. record { same = λ n g. refl; newest = inl refl };
   open_writes_may_commit = λ j r i e. absurd (cc);
   contents_are_ordered = record { ordered = λ r. tt; backed = λ r. tt };

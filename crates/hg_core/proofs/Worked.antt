@@ -123,12 +123,15 @@ every_event_runs = (
                                     (
                                       (0, 1, record { shown = refl; loaded = refl }),
                                       (
-                                        (0, Declared 1, record { live = refl; table = refl; plain = refl; unstamped = refl; free = tt; newest = tt }),
+                                        (0, Declared 1, record { live = refl; plain = refl; unstamped = refl; asks = refl }),
                                         (
-                                          record { mine = refl; unstamped = refl },
+                                          (0, Declared 1, record { live = refl; table = refl; plain = refl; unstamped = refl; free = tt; newest = tt }),
                                           (
-                                            record { live = refl; none = none_left },
-                                            tt,
+                                            record { mine = refl; unstamped = refl },
+                                            (
+                                              record { live = refl; none = none_left },
+                                              tt,
+                                            ),
                                           ),
                                         ),
                                       ),

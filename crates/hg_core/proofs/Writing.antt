@@ -1,6 +1,6 @@
 -- An open write comes, goes, and gets the next number.
-use Rattle.std.proofs.Common.{◌≡◌, ℕ, suc, List, [], ◌∷◌, Option, None, Some, inr, refl, sym, ap, ◌∙◌, subst}
-use Rattle.std.specs.Prelude.{if◌then◌else◌, IsSome, IsTrue, ⊤}
+use Rattle.std.proofs.Common.{◌≡◌, ℕ, suc, List, [], ◌∷◌, length, Option, None, Some, inr, refl, sym, ap, ◌∙◌, subst}
+use Rattle.std.specs.Prelude.{if◌then◌else◌, IsSome, IfSome, IsTrue, ⊤}
 use Rattle.hg_base.specs.declared.rid.Rid.{Rid}
 use Rattle.hg_base.specs.declared.image.Image.{Image}
 use Rattle.hg_base.specs.declared.writer.Writer.{Writer}
@@ -8,21 +8,22 @@ use Rattle.hg_base.specs.declared.scope.Snapshot.{Snapshot}
 use Rattle.hg_base.specs.History.{History, same_rid}
 use Rattle.hg_base.proofs.HistoryFacts.{same_rid_itself}
 use Rattle.hg_core.specs.declared.log.LogEntry.{LogEntry}
-use Rattle.hg_core.specs.declared.log.LogEntry.TheVariants.{Wrote, Undid}
-use Rattle.hg_core.specs.declared.phase.Phase.{Phase}
-use Rattle.hg_core.specs.declared.phase.Phase.TheVariants.{Idle, Probed, Entered, Fixed, Live}
-use Rattle.hg_core.specs.Logs.{current, begans, published, has_number, begun_in, open_in, open_writes, UpTo}
+use Rattle.hg_core.specs.declared.log.LogEntry.TheVariants.{Saw, Refused, Outside, Wrote, Undid}
+use Rattle.hg_core.specs.Logs.{current, begans, published, has_number, begun_in, open_in, open_writes, AnswerUpTo, UpTo}
 use Rattle.hg_core.specs.Phases.{snapshot_in}
 use Rattle.hg_core.specs.Versions.{installed, undone, stamped}
 use Rattle.hg_core.specs.Contents.{versions}
 use Rattle.hg_core.specs.OpenWrites.{writer_of}
 use Rattle.hg_core.specs.Covered.{Reads, Covers, MayCommit}
 use Rattle.hg_core.specs.Ordered.{IsOrdered, IsBacked}
-use Rattle.hg_core.specs.Judged.{Judge, Judged, FixedOver, LogsAnswer}
+use Rattle.hg_base.specs.Transcript.{has}
+use Rattle.hg_core.specs.Judged.{Judge, Judged, LogsAnswer}
 use Rattle.hg_core.specs.State.{CoreState}
 use Rattle.hg_core.specs.Events.{put, happens, May, Install, Undo, Stamp}
 use Rattle.hg_core.specs.Invariant.{IsSteady}
 use Rattle.hg_core.proofs.Indices.{by_number, put_here, put_else, only_put, only_same}
+use Rattle.hg_core.proofs.Publishing.{over_live}
+use Rattle.hg_core.proofs.Replies.{replies_entry}
 use Rattle.hg_core.proofs.LogSteps.{log_step}
 use Rattle.hg_core.proofs.Recalls.{reach_step}
 use Rattle.hg_core.proofs.Records.{by_rid, at_record}
@@ -34,53 +35,70 @@ use Rattle.hg_core.proofs.OpenWrites.{OnlyWrite, stand_alike, stand_installed, n
 
 -- ---- one entry more in the log of a session that stays in its phase
 
--- an entry that is no begin, number, end or refusal
-abbrev pub IsOwn : LogEntry → Type 0
-IsOwn (Wrote r image) = ⊤
-IsOwn (Undid r) = ⊤
-IsOwn _ = ⊥
+-- an entry of an open transaction that is no begin, number or end, and names no number over n
+abbrev pub IsOwn : ℕ → LogEntry → Type 0
+IsOwn n (Saw t low high b rows) = ⊤
+IsOwn n (Refused r answer) = AnswerUpTo n answer
+IsOwn n (Outside t) = ⊤
+IsOwn n (Wrote r image) = ⊤
+IsOwn n (Undid r) = ⊤
+IsOwn n _ = ⊥
 
-own_up : (n : ℕ) (e : LogEntry) (log : List LogEntry) → IsOwn e → UpTo n log → UpTo n (e ∷ log)
+own_up : (n : ℕ) (e : LogEntry) (log : List LogEntry) → IsOwn n e → UpTo n log → UpTo n (e ∷ log)
+own_up n (Saw t low high b rows) log own u = u
+own_up n (Refused r answer) log own u = (own, u)
+own_up n (Outside t) log own u = u
 own_up n (Wrote r image) log own u = u
 own_up n (Undid r) log own u = u
 own_up n _ log own u = absurd own
 
-own_same : (e : LogEntry) (log : List LogEntry) → IsOwn e → (current (e ∷ log) ≡ current log) × (begans (e ∷ log) ≡ begans log)
-own_same (Wrote r image) log own = (refl, refl)
-own_same (Undid r) log own = (refl, refl)
-own_same _ log own = absurd own
+own_same : (n : ℕ) (e : LogEntry) (log : List LogEntry) → IsOwn n e → (current (e ∷ log) ≡ current log) × (begans (e ∷ log) ≡ begans log)
+own_same n (Saw t low high b rows) log own = (refl, refl)
+own_same n (Refused r answer) log own = (refl, refl)
+own_same n (Outside t) log own = (refl, refl)
+own_same n (Wrote r image) log own = (refl, refl)
+own_same n (Undid r) log own = (refl, refl)
+own_same n _ log own = absurd own
 
-own_published : (n j : ℕ) (e : LogEntry) (log : List LogEntry) → IsOwn e → published n j (e ∷ log) ≡ published n j log
-own_published n j (Wrote r image) log own = refl
-own_published n j (Undid r) log own = refl
-own_published n j _ log own = absurd own
+own_published : (top n j : ℕ) (e : LogEntry) (log : List LogEntry) → IsOwn top e → published n j (e ∷ log) ≡ published n j log
+own_published top n j (Saw t low high b rows) log own = refl
+own_published top n j (Refused r answer) log own = refl
+own_published top n j (Outside t) log own = refl
+own_published top n j (Wrote r image) log own = refl
+own_published top n j (Undid r) log own = refl
+own_published top n j _ log own = absurd own
 
-own_named : (n : ℕ) (e : LogEntry) (log : List LogEntry) → IsOwn e → IsTrue (has_number n log) → IsTrue (has_number n (e ∷ log))
-own_named n (Wrote r image) log own h = h
-own_named n (Undid r) log own h = h
-own_named n _ log own h = absurd own
+own_named : (top n : ℕ) (e : LogEntry) (log : List LogEntry) → IsOwn top e → IsTrue (has_number n log) → IsTrue (has_number n (e ∷ log))
+own_named top n (Saw t low high b rows) log own h = h
+own_named top n (Refused r answer) log own h = h
+own_named top n (Outside t) log own h = h
+own_named top n (Wrote r image) log own h = h
+own_named top n (Undid r) log own h = h
+own_named top n _ log own h = absurd own
 
-own_fixed : (p : Phase) (e : LogEntry) (log : List LogEntry) → IsOwn e → FixedOver p log → FixedOver p (e ∷ log)
-own_fixed Idle e log own f = tt
-own_fixed (Probed k) e log own f = tt
-own_fixed (Entered k) e log own f = tt
-own_fixed (Fixed k m) e log own f = own_up m e log own f
-own_fixed (Live at scope) e log own f = tt
+own_judge : (top : ℕ) (h : History) (e : LogEntry) (log : List LogEntry) → IsOwn top e → IsSome (current log) → Judge h e log
+own_judge top h (Saw t low high b rows) log own s = s
+own_judge top h (Refused r answer) log own s = s
+own_judge top h (Outside t) log own s = s
+own_judge top h (Wrote r image) log own s = s
+own_judge top h (Undid r) log own s = s
+own_judge top h _ log own s = absurd own
 
-answer_more : (s : CoreState) (j : ℕ) (e : LogEntry) → IsSteady s → IsOwn e → Judge s.history e (s.log j) → LogsAnswer s.sessions s.each s.history s.phase (put s.log j (e ∷ s.log j))
-answer_more s j e h own judge =
-    let same = own_same e (s.log j) own in
+pub answer_more : (s : CoreState) (j : ℕ) (e : LogEntry) → IsSteady s → IsOwn (length s.history) e → IsSome (current (s.log j)) → LogsAnswer s.sessions s.each s.history s.phase (put s.log j (e ∷ s.log j))
+answer_more s j e h own some =
+    let top : ℕ = length s.history in
+    let same = own_same top e (s.log j) own in
     log_step s.sessions s.each s.history s.phase s.phase s.log (put s.log j (e ∷ s.log j)) j (s.phase j) (e ∷ s.log j) h.logs_answer (only_same s.phase j) (only_put s.log j (e ∷ s.log j))
     (same.0 ∙ h.logs_answer.reads j)
     (rw same.1 (h.logs_answer.room j))
-    (own_fixed (s.phase j) e (s.log j) own (h.logs_answer.fixed j))
-    (own_up _ e (s.log j) own (h.logs_answer.within j))
-    (judge, h.logs_answer.judged j)
-    (λ n. own_published n j e (s.log j) own)
-    (λ n. own_named n e (s.log j) own)
+    (over_live (s.phase j) (e ∷ s.log j) (subst IsSome (h.logs_answer.reads j) some))
+    (own_up top e (s.log j) own (h.logs_answer.within j))
+    (own_judge top s.history e (s.log j) own some, h.logs_answer.judged j)
+    (λ n. own_published top n j e (s.log j) own)
+    (λ n. own_named top n e (s.log j) own)
 
-begun_more : (log : ℕ → List LogEntry) (j : ℕ) (e : LogEntry) → IsOwn e → (k : ℕ) → begun_in (put log j (e ∷ log j)) k ≡ begun_in log k
-begun_more log j e own = by_number j (λ k b. begans (if b then e ∷ log j else log k) ≡ begans (log k)) (own_same e (log j) own).1 (λ k other. refl)
+pub begun_more : (log : ℕ → List LogEntry) (j : ℕ) (e : LogEntry) → begans (e ∷ log j) ≡ begans (log j) → (k : ℕ) → begun_in (put log j (e ∷ log j)) k ≡ begun_in log k
+begun_more log j e same = by_number j (λ k b. begans (if b then e ∷ log j else log k) ≡ begans (log k)) same (λ k other. refl)
 
 -- ---- open writes of the logs
 
@@ -99,7 +117,7 @@ opened_less log j r = record {
 }
 
 -- a session with an open write has a transaction open
-current_open : (h : History) (r : Rid) (image : Image) (log : List LogEntry) → Judged h log → open_in r log ≡ Some image → IsSome (current log)
+pub current_open : (h : History) (r : Rid) (image : Image) (log : List LogEntry) → Judged h log → open_in r log ≡ Some image → IsSome (current log)
 current_open h r image log judged e = go (current log) refl
   where
     go : (x : Option Snapshot) → current log ≡ x → IsSome x
@@ -124,8 +142,9 @@ install_kept s j r image h (at, scope, may) =
         ordered = at_record s.buckets s.bucket r (installed w image held) (λ q c. IsOrdered s.mark c) (installed_ordered s.mark w image held may.free (h.contents_are_ordered.ordered r)) (λ q other. h.contents_are_ordered.ordered q);
         backed = at_record s.buckets s.bucket r (installed w image held) (λ q c. IsBacked s.mark s.history q c) (backed_installed s.mark s.history r w image held (h.contents_are_ordered.backed r)) (λ q other. h.contents_are_ordered.backed q);
       };
-      open_writes_stand = stand_alike s.mark (begun_in s.log) _ _ _ _ (λ k q. refl) (λ k q i e. begun_more s.log j (Wrote r image) tt k) (stand_installed s.mark s.buckets s.bucket (begun_in s.log) (open_writes s.log) _ j r image may.free f h.open_writes_stand);
+      open_writes_stand = stand_alike s.mark (begun_in s.log) _ _ _ _ (λ k q. refl) (λ k q i e. begun_more s.log j (Wrote r image) refl k) (stand_installed s.mark s.buckets s.bucket (begun_in s.log) (open_writes s.log) _ j r image may.free f h.open_writes_stand);
       stamped_is_next = next_installed s.mark s.buckets s.bucket (begun_in s.log) (open_writes s.log) _ j r image s.stamped_list may.unstamped f h.stamped_is_next;
+      replies_answer = replies_entry s.buckets s.history s.log j (Wrote r image) tt h.logs_answer.within (subst (λ o. IfSome o (λ snapshot. IsTrue (has snapshot.scope r.table))) (sym (h.logs_answer.reads j ∙ ap snapshot_in may.live)) may.table, may.plain) h.replies_answer;
       logs_answer = answer_more s j (Wrote r image) h tt (subst IsSome (sym (h.logs_answer.reads j ∙ ap snapshot_in may.live)) refl);
     }
   where
@@ -152,8 +171,9 @@ undo_kept s j r h may =
         ordered = at_record s.buckets s.bucket r (undone held) (λ q c. IsOrdered s.mark c) was.ordered_undone (λ q other. h.contents_are_ordered.ordered q);
         backed = at_record s.buckets s.bucket r (undone held) (λ q c. IsBacked s.mark s.history q c) (backed_undone s.mark s.history r held (h.contents_are_ordered.backed r)) (λ q other. h.contents_are_ordered.backed q);
       };
-      open_writes_stand = stand_alike s.mark (begun_in s.log) _ _ _ _ (λ k q. refl) (λ k q i e. begun_more s.log j (Undid r) tt k) (stand_undone s.mark s.buckets s.bucket (begun_in s.log) (open_writes s.log) _ j r was f h.open_writes_stand);
+      open_writes_stand = stand_alike s.mark (begun_in s.log) _ _ _ _ (λ k q. refl) (λ k q i e. begun_more s.log j (Undid r) refl k) (stand_undone s.mark s.buckets s.bucket (begun_in s.log) (open_writes s.log) _ j r was f h.open_writes_stand);
       stamped_is_next = next_undone s.mark s.buckets s.bucket (begun_in s.log) (open_writes s.log) _ j r s.stamped_list may.unstamped was f h.stamped_is_next;
+      replies_answer = replies_entry s.buckets s.history s.log j (Undid r) tt h.logs_answer.within tt h.replies_answer;
       logs_answer = answer_more s j (Undid r) h tt (current_open s.history r was.image (s.log j) (h.logs_answer.judged j) (h.open_writes_stand.owned r w was.image was.owned).1);
     }
   where
@@ -178,5 +198,6 @@ stamp_kept s j r h may =
       };
       open_writes_stand = stand_stamped s.mark s.buckets s.bucket (begun_in s.log) (open_writes s.log) j r was h.open_writes_stand;
       stamped_is_next = next_stamped s.mark s.buckets s.bucket (begun_in s.log) (open_writes s.log) j r s.stamped_list was h.open_writes_stand h.stamped_is_next;
+      replies_answer = h.replies_answer;
       logs_answer = h.logs_answer;
     }

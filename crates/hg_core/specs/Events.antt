@@ -1,5 +1,5 @@
 -- The events: each is one atomic action of one actor.
-use Rattle.std.specs.Prelude.{◌≡◌, ℕ, suc, ◌<◌, ◌≤◌, List, [], ◌∷◌, ◌++◌, length, true, false, ◌==◌, if◌then◌else◌, Some, None, IsSome, IsNone, IfSome, IsTrue, IsFalse, ⊤}
+use Rattle.std.specs.Prelude.{◌≡◌, ℕ, ℤ, suc, ◌<◌, ◌≤◌, List, [], ◌∷◌, ◌++◌, length, true, false, ◌==◌, if◌then◌else◌, Option, Some, None, IsSome, IsNone, IfSome, IsTrue, IsFalse, ⊤}
 use Rattle.hg_base.specs.declared.scope.Scope.{Scope}
 use Rattle.hg_base.specs.declared.scope.Scope.TheVariants.{Declared}
 use Rattle.hg_base.specs.declared.rid.Rid.{Rid}
@@ -12,13 +12,19 @@ use Rattle.hg_core.specs.declared.register.Register.{Register}
 use Rattle.hg_core.specs.declared.register.Register.TheVariants as registers
 use Rattle.hg_core.specs.declared.phase.Phase.TheVariants.{Idle, Probed, Entered, Fixed, Live}
 use Rattle.hg_core.specs.declared.log.LogEntry.{LogEntry}
-use Rattle.hg_core.specs.declared.log.LogEntry.TheVariants.{Began, Wrote, Undid, Over}
+use Rattle.hg_core.specs.declared.log.LogEntry.TheVariants.{Began, Saw, Refused, Outside, Wrote, Undid, Over}
 use Rattle.hg_core.specs.Words.{IsBelow}
-use Rattle.hg_core.specs.Logs.{current, begans, is_plain, open_in, begun_in, is_in, new_group, published_logs}
+use Rattle.hg_core.specs.Logs.{current, number_in, begans, is_plain, open_in, begun_in, is_in, new_group, published_logs}
 use Rattle.hg_core.specs.Phases.{IsSession, snapshot_in}
 use Rattle.hg_core.specs.Passes.{PassRecord, found, IsWhole}
 use Rattle.hg_core.specs.Versions.{newest_at, installed, undone, stamped, IsFreeFor, IsOpenBy}
 use Rattle.hg_core.specs.Contents.{versions, stored, is_stamped, has_stamped}
+use Rattle.hg_base.specs.declared.line.Answer.{Answer}
+use Rattle.hg_base.specs.Replies.{AreRows}
+use Rattle.hg_core.specs.declared.ask.Ask.{Ask}
+use Rattle.hg_core.specs.declared.ask.Ask.TheVariants.{Read}
+use Rattle.hg_core.specs.declared.ask.Ask.TheVariants as asks
+use Rattle.hg_core.specs.Replies.{read_by, in_bucket, refusal}
 use Rattle.hg_core.specs.Removal.{reclaimed}
 use Rattle.hg_core.specs.OpenWrites.{writer_of}
 use Rattle.hg_core.specs.State.{CoreState, opened}
@@ -27,7 +33,7 @@ use Rattle.hg_core.specs.State.{CoreState, opened}
 -- its snapshot (GoLive), and goes to rest (End). A pass of a collector begins a record (Mark), loads a register (Sample)
 -- and moves a long snapshot (Move). A session stores a write (Install) or takes it back (Undo). A committer gives an open
 -- write the next number (Stamp), and publishes the transactions of some sessions as one group (Publish). A pass takes away
--- versions of a record (Reclaim).
+-- versions of a record (Reclaim). A session reads a range in a bucket, or tries a write, or names a table outside (Look).
 pub data Event : Type 0 where
   Probe : (j : ℕ) → Event
   Enter : (j f : ℕ) → Event
@@ -42,6 +48,7 @@ pub data Event : Type 0 where
   Stamp : (j : ℕ) → (r : Rid) → Event
   Publish : (sessions : List ℕ) → Event
   Reclaim : (p : ℕ) → (kind : Kind) → (r : Rid) → Event
+  Look : (j : ℕ) → (ask : Ask) → (b : ℕ) → (rows : List (ℕ × List ℤ)) → Event
 
 -- f with another value at j
 abbrev pub put : {A : Type 0} → (ℕ → A) → ℕ → A → ℕ → A
@@ -66,6 +73,17 @@ begun_record mark known = record { mark = mark; known = known; loaded = [] }
 abbrev pub sampled : PassRecord → ℕ → Register → PassRecord
 sampled pass j register = record pass { loaded = (j, register) ∷ pass.loaded }
 
+-- a log with a refusal, where there is one
+abbrev pub with_refusal : Rid → Option Answer → List LogEntry → List LogEntry
+with_refusal r None log = log
+with_refusal r (Some answer) log = Refused r answer ∷ log
+
+-- the log of session j after a look, in bucket b and with the rows that it finds there where it is a read
+abbrev pub looked : CoreState → ℕ → Ask → ℕ → List (ℕ × List ℤ) → List LogEntry
+looked s j (Read table low high) b rows = Saw table low high b rows ∷ s.log j
+looked s j (asks.Write r) b rows = with_refusal r (refusal s.mark (writer_of (begun_in s.log) j) (number_in (current (s.log j))) (versions s.buckets s.bucket r)) (s.log j)
+looked s j (asks.Outside table) b rows = Outside table ∷ s.log j
+
 -- the state after an event
 abbrev pub happens : CoreState → Event → CoreState
 happens s (Probe j) = record s { phase = put s.phase j (Probed s.mark) }
@@ -81,6 +99,7 @@ happens s (Undo j r) = record s { bucket = stored s.buckets s.bucket r (undone (
 happens s (Stamp j r) = record s { bucket = stored s.buckets s.bucket r (stamped (suc s.mark) (writer_of (begun_in s.log) j) (versions s.buckets s.bucket r)); stamped_list = (j, r) ∷ s.stamped_list }
 happens s (Publish sessions) = record s { mark = suc s.mark; history = s.history ++ new_group s.log sessions ∷ []; stamped_list = []; log = published_logs s.log sessions (suc s.mark) }
 happens s (Reclaim p kind r) = record s { bucket = stored s.buckets s.bucket r (reclaimed kind r.table (s.pass p) (versions s.buckets s.bucket r)) }
+happens s (Look j ask b rows) = record s { log = put s.log j (looked s j ask b rows) }
 
 -- a session may begin: it is at rest, and has begun fewer transactions than it may
 pub record MayProbe (s : CoreState) (j : ℕ) : Type 0 where
@@ -138,6 +157,19 @@ pub record MayPublish (log : ℕ → List LogEntry) (list : List (ℕ × Rid)) (
   pub stamped : (j : ℕ) → has_stamped j list ≡ is_in sessions j
   pub whole : (j : ℕ) (r : Rid) → IsTrue (is_in sessions j) → IsSome (open_in r (log j)) → IsTrue (is_stamped j r list)
 
+-- what a session asks: of its tables, and the rows are those of the bucket; or of no table of its scope
+abbrev pub Asks : CoreState → ℕ → ℕ → Scope → Ask → ℕ → List (ℕ × List ℤ) → Type 0
+Asks s j at scope (Read table low high) b rows = IsTrue (has scope table) × AreRows (in_bucket s.buckets b table (λ r. read_by (writer_of (begun_in s.log) j) at (versions s.buckets s.bucket r))) low high rows
+Asks s j at scope (asks.Write r) b rows = IsTrue (has scope r.table)
+Asks s j at scope (asks.Outside table) b rows = IsFalse (has scope table)
+
+-- a live session may look where nothing of its transaction was undone, stamped or published
+pub record MayLook (s : CoreState) (j : ℕ) (ask : Ask) (b : ℕ) (rows : List (ℕ × List ℤ)) (at : ℕ) (scope : Scope) : Type 0 where
+  pub live : s.phase j ≡ Live at scope
+  pub plain : IsTrue (is_plain (s.log j))
+  pub unstamped : IsFalse (has_stamped j s.stamped_list)
+  pub asks : Asks s j at scope ask b rows
+
 -- when an event may happen
 abbrev pub May : CoreState → Event → Type 0
 May s (Probe j) = MayProbe s j
@@ -153,6 +185,7 @@ May s (Undo j r) = MayUndo s j r
 May s (Stamp j r) = MayStamp s j r
 May s (Publish sessions) = MayPublish s.log s.stamped_list sessions
 May s (Reclaim p kind r) = IsWhole s.sessions (s.pass p)
+May s (Look j ask b rows) = (at : ℕ) × (scope : Scope) × MayLook s j ask b rows at scope
 
 -- each event may happen in its turn
 abbrev pub Run : CoreState → List Event → Type 0

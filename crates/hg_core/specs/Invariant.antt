@@ -10,6 +10,7 @@ use Rattle.hg_core.specs.Contents.{versions}
 use Rattle.hg_core.specs.Ordered.{ContentsAreOrdered}
 use Rattle.hg_core.specs.OpenWrites.{OpenWritesStand, StampedIsNext}
 use Rattle.hg_core.specs.Covered.{Covers, OpenWritesMayCommit}
+use Rattle.hg_core.specs.Replies.{RepliesAnswer}
 use Rattle.hg_core.specs.Judged.{LogsAnswer}
 
 pub record IsSteady (s : CoreState) : Type 0 where
@@ -22,4 +23,5 @@ pub record IsSteady (s : CoreState) : Type 0 where
   pub records_bound_sessions : RecordsBoundSessions s.phase s.pass
   pub open_writes_may_commit : OpenWritesMayCommit s.history s.phase (open_writes s.log)
   pub logs_answer : LogsAnswer s.sessions s.each s.history s.phase s.log
+  pub replies_answer : RepliesAnswer s.buckets s.history s.log
   pub records_reach_logs : RecordsReachLogs s.phase s.log s.pass

@@ -16,6 +16,7 @@ pub mod Reach
 pub mod Ordered
 pub mod OpenWrites
 pub mod Covered
+pub mod Replies
 pub mod Judged
 pub mod Invariant
 -- What follows of gathers, a run, and which steps would be wrong.

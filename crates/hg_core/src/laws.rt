@@ -1,12 +1,13 @@
 //! What each event keeps, and what always holds. Each law is the contract of a function with no body.
 
-ghost use Rattle.std.specs.Prelude.{ℕ, List};
+ghost use Rattle.std.specs.Prelude.{ℕ, ℤ, List};
 ghost use Rattle.hg_base.specs.declared.rid.Rid.{Rid};
 ghost use Rattle.hg_base.specs.declared.image.Image.{Image};
 ghost use Rattle.hg_base.specs.declared.report.Kind.{Kind};
 ghost use Rattle.hg_base.specs.declared.scope.Scope.{Scope};
+ghost use Rattle.hg_core.specs.declared.ask.Ask.{Ask};
 ghost use Rattle.hg_core.specs.State.{CoreState};
-ghost use Rattle.hg_core.specs.Events.{Probe, Enter, Fix, GoLive, End, Mark, Sample, Move, Install, Undo, Stamp, Publish, Reclaim, happens, May, Always};
+ghost use Rattle.hg_core.specs.Events.{Probe, Enter, Fix, GoLive, End, Mark, Sample, Move, Install, Undo, Stamp, Publish, Reclaim, Look, happens, May, Always};
 ghost use Rattle.hg_core.specs.Invariant.{IsSteady};
 
 /// A session loads the mark, of which nobody knows.
@@ -72,6 +73,11 @@ pub fn publish_keeps()
 /// A pass with a whole record takes away versions of a record, by its kind. No session reads them, or may come to.
 pub fn reclaim_keeps()
     ensures { (s : CoreState) (p : ℕ) (kind : Kind) (r : Rid) → IsSteady s → May s (Reclaim p kind r) → IsSteady (happens s (Reclaim p kind r)) }
+{}
+
+/// A session reads a range in a bucket, tries a write, or names a table outside. What it finds goes into its log.
+pub fn look_keeps()
+    ensures { (s : CoreState) (j : ℕ) (ask : Ask) (b : ℕ) (rows : List (ℕ × List ℤ)) → IsSteady s → May s (Look j ask b rows) → IsSteady (happens s (Look j ask b rows)) }
 {}
 
 /// The invariant holds after every list of events from the state in which a board opens.

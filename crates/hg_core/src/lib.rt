@@ -38,8 +38,9 @@ mod theorems;
 
 pub use ask::Ask;
 pub use laws::{
-    always_steady, end_keeps, enter_keeps, fix_keeps, go_live_keeps, install_keeps, mark_keeps,
-    move_keeps, probe_keeps, publish_keeps, reclaim_keeps, sample_keeps, stamp_keeps, undo_keeps,
+    always_steady, end_keeps, enter_keeps, fix_keeps, go_live_keeps, install_keeps, look_keeps,
+    mark_keeps, move_keeps, probe_keeps, publish_keeps, reclaim_keeps, sample_keeps, stamp_keeps,
+    undo_keeps,
 };
 pub use log::LogEntry;
 pub use phase::Phase;
@@ -52,7 +53,7 @@ pub use refuted::{
 pub use register::Register;
 pub use theorems::{
     every_event_happens, mark_is_bounded, no_gather_misses_a_snapshot, no_removal_is_seen,
-    words_are_exact,
+    replies_are_right, words_are_exact,
 };
 
 #[cfg(test)]

@@ -10,6 +10,7 @@ ghost use Rattle.hg_core.specs.Words.{IsRegister, word_of, register_of};
 ghost use Rattle.hg_core.specs.Passes.{IsWhole, horizon, table_bound, group_bound};
 ghost use Rattle.hg_core.specs.State.{CoreState, opened};
 ghost use Rattle.hg_core.specs.Held.{held};
+ghost use Rattle.hg_core.specs.Replies.{AreReplied};
 ghost use Rattle.hg_core.specs.Events.{Always, Run, run};
 ghost use Rattle.hg_core.specs.Invariant.{IsSteady};
 ghost use Rattle.hg_core.specs.Missed.{MissesNone};
@@ -35,6 +36,13 @@ pub fn no_removal_is_seen()
     ensures live { Always (λ s. (j at : ℕ) (scope : Scope) (r : Rid) → s.phase j ≡ Phase.Live at scope → IsTrue (has scope r.table) → held s r at ≡ visible s.history r at) }
     ensures fixed { Always (λ s. (j f m : ℕ) (r : Rid) → s.phase j ≡ Phase.Fixed f m → held s r m ≡ visible s.history r m) }
     ensures mark { Always (λ s. (r : Rid) → held s r s.mark ≡ visible s.history r s.mark) }
+{}
+
+/// Every reply is right. After every list of events, each entry of each session's log says what `hg_base` defines over the
+/// history: what a read finds is what a table shows that never reclaims, with the transaction's own writes, and a refused
+/// write shows its cause.
+pub fn replies_are_right()
+    ensures { Always (λ s. (j : ℕ) → AreReplied s.buckets s.history s.log j (s.log j)) }
 {}
 
 /// No commit number passes the number of sessions times how often each may begin.
