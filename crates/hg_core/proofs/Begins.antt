@@ -66,6 +66,8 @@ turn s j p register log added h session up shows same bounds grown enters replie
     sessions = by_number j (λ k b. PhaseUpTo s.mark (if b then p else s.phase k)) up (λ k other. h.mark_is_length.sessions k);
     passes = h.mark_is_length.passes;
   };
+  history = h.history;
+  no_update_is_lost = h.no_update_is_lost;
   registers_agree = record {
     shows = by_number j (λ k b. Shows s.tables (if b then p else s.phase k) (register k)) shows (λ k other. rw (same k other) (h.registers_agree.shows k));
     others = by_number j (λ k b. IsSession s.sessions k ⊎ ((if b then p else s.phase k) ≡ Idle)) (inl session) (λ k other. h.registers_agree.others k);

@@ -27,6 +27,8 @@ mark_kept s p known h may =
         sessions = h.mark_is_length.sessions;
         passes = by_number p (λ q b. (if b then fresh else s.pass q).mark ≤ s.mark) (omega arith) (λ q other. h.mark_is_length.passes q);
       };
+      history = h.history;
+      no_update_is_lost = h.no_update_is_lost;
       registers_agree = h.registers_agree;
       records_bound_sessions = by_number p (λ q b. (j : ℕ) → IfSome (found j (if b then fresh else s.pass q).loaded) (λ register. Bounds (if b then fresh else s.pass q).mark register (s.phase j))) (λ j. tt) (λ q other. h.records_bound_sessions q);
       records_reach_logs = record {
@@ -59,6 +61,8 @@ sample_kept s p j h may =
         sessions = h.mark_is_length.sessions;
         passes = by_number p (λ q b. (if b then more else s.pass q).mark ≤ s.mark) (h.mark_is_length.passes p) (λ q other. h.mark_is_length.passes q);
       };
+      history = h.history;
+      no_update_is_lost = h.no_update_is_lost;
       registers_agree = h.registers_agree;
       records_bound_sessions = by_number p (λ q b. (k : ℕ) → IfSome (found k (if b then more else s.pass q).loaded) (λ register. Bounds (if b then more else s.pass q).mark register (s.phase k)))
           (by_number j (λ k b. IfSome (if b then Some (s.register j) else found k (s.pass p).loaded) (λ register. Bounds (s.pass p).mark register (s.phase k)))
@@ -127,6 +131,8 @@ move_kept s p j h (n, mask, may) =
         sessions = h.mark_is_length.sessions;
         passes = by_number p (λ q b. (if b then more else s.pass q).mark ≤ s.mark) (h.mark_is_length.passes p) (λ q other. h.mark_is_length.passes q);
       };
+      history = h.history;
+      no_update_is_lost = h.no_update_is_lost;
       registers_agree = record {
         shows = by_number j (λ k b. Shows s.tables (s.phase k) (if b then moved (s.register j) else s.register k)) (rw may.shown now) (λ k other. h.registers_agree.shows k);
         others = h.registers_agree.others;

@@ -11,6 +11,8 @@ pub mod Sweep
 pub mod Past
 pub mod Covering
 pub mod Replies
+pub mod Updates
+pub mod Grouping
 pub mod Begins
 pub mod Gathers
 pub mod Publishing

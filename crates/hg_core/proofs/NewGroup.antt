@@ -48,10 +48,10 @@ commit_image r j log p = image_last r (own_writes log) ∙ image_open r log p
 
 -- ---- the group
 
-first_in : (j : ℕ) (js : List ℕ) → is_in (j ∷ js) j ≡ true
+pub first_in : (j : ℕ) (js : List ℕ) → is_in (j ∷ js) j ≡ true
 first_in j js = let same : (j == j) ≡ true = grind (arith, nat_tests) in ap (λ b. b || is_in js j) same
 
-rest_in : (k j : ℕ) (js : List ℕ) → is_in js k ≡ true → is_in (j ∷ js) k ≡ true
+pub rest_in : (k j : ℕ) (js : List ℕ) → is_in js k ≡ true → is_in (j ∷ js) k ≡ true
 rest_in k j js m = step (j == k) (is_in js k) m
   where
     step : (a b : Bool) → b ≡ true → (a || b) ≡ true

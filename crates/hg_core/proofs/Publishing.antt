@@ -28,6 +28,8 @@ use Rattle.hg_core.specs.Invariant.{IsSteady}
 use Rattle.hg_core.proofs.Groups.{wider, length_more, commits_kept}
 use Rattle.hg_core.proofs.Recalls.{reach_grown}
 use Rattle.hg_core.proofs.Versions.{same_pair, ordered_next, unpublished_next, unnumbered_same}
+use Rattle.hg_core.proofs.Updates.{some_is, update_more, group_loses_nothing}
+use Rattle.hg_core.proofs.Grouping.{history_more}
 use Rattle.hg_core.proofs.Backing.{backed_published}
 use Rattle.hg_core.proofs.Past.{writes_old}
 use Rattle.hg_core.proofs.Covering.{covers_published}
@@ -162,6 +164,8 @@ publish_kept s js h may = record {
     exact = λ r w i e. (unpublished_next s.mark (held r) w i (h.contents_are_ordered.ordered r) e).1;
     standing = λ j r e. absurd (let z : false ≡ true = e in cc);
   };
+  history = history_more s.history s.log s.stamped_list js h.history h.logs_answer.within may.some may.distinct may.plain may.stamped h.stamped_is_next.standing (λ r j k a b. let x = some_is (open_in r (s.log j)) a in let y = some_is (open_in r (s.log k)) b in one_owner r j k x.0 y.0 x.1 y.1);
+  no_update_is_lost = update_more s.history (new_group s.log js) h.no_update_is_lost (group_loses_nothing s.history s.phase s.log js h.logs_answer.reads h.open_writes_may_commit may.plain);
   replies_answer = subst (λ n. RepliesAnswer s.buckets (s.history ++ new_group s.log js ∷ []) (published_logs s.log js (suc n))) (sym h.mark_is_length.is_length) (replies_published s.buckets s.history (new_group s.log js) s.log js h.logs_answer.within h.replies_answer);
   logs_answer = subst (λ n. LogsAnswer s.sessions s.each (s.history ++ new_group s.log js ∷ []) s.phase (published_logs s.log js (suc n))) (sym h.mark_is_length.is_length) (logs_published s.sessions s.each s.history s.phase s.log s.stamped_list js h.logs_answer session_of may);
 }

@@ -87,6 +87,8 @@ reclaim_kept s p kind r h whole =
     let shape = shape_reclaimed s p kind r.table held h (h.contents_are_ordered.ordered r) in
     record {
       mark_is_length = h.mark_is_length;
+      history = h.history;
+      no_update_is_lost = h.no_update_is_lost;
       registers_agree = h.registers_agree;
       covered = at_record s.buckets s.bucket r vs (λ q c. Covers s.mark s.phase s.history q c) (covers_reclaimed s p kind r held h whole (h.covered r)) (λ q other. h.covered q);
       open_writes_stand = record {

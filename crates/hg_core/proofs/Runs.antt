@@ -36,6 +36,8 @@ opened_steady sessions tables buckets each = record {
   registers_agree = record { shows = λ j. refl; others = λ j. inr refl };
   records_bound_sessions = λ p j. tt;
   records_reach_logs = record { known = λ p j. omega arith; stands = λ p j. tt };
+  history = tt;
+  no_update_is_lost = tt;
   replies_answer = λ j. tt;
   covered = λ r. record { same = λ n g. refl; newest = inl refl };
   open_writes_may_commit = λ j r i e. absurd (cc);

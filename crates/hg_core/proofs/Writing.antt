@@ -133,6 +133,8 @@ install_kept s j r image h (at, scope, may) =
     let f = opened_more s.log j r image in
     record {
       mark_is_length = h.mark_is_length;
+      history = h.history;
+      no_update_is_lost = h.no_update_is_lost;
       registers_agree = h.registers_agree;
       records_bound_sessions = h.records_bound_sessions;
       records_reach_logs = reach_step s.phase s.phase s.log (put s.log j (Wrote r image ∷ s.log j)) s.pass j (s.phase j) (Wrote r image ∷ []) h.records_reach_logs (only_same s.phase j) (only_put s.log j (Wrote r image ∷ s.log j)) (λ e. inr e);
@@ -162,6 +164,8 @@ undo_kept s j r h may =
     let f = opened_less s.log j r in
     record {
       mark_is_length = h.mark_is_length;
+      history = h.history;
+      no_update_is_lost = h.no_update_is_lost;
       registers_agree = h.registers_agree;
       records_bound_sessions = h.records_bound_sessions;
       records_reach_logs = reach_step s.phase s.phase s.log (put s.log j (Undid r ∷ s.log j)) s.pass j (s.phase j) (Undid r ∷ []) h.records_reach_logs (only_same s.phase j) (only_put s.log j (Undid r ∷ s.log j)) (λ e. inr e);
@@ -187,6 +191,8 @@ stamp_kept s j r h may =
     let was : IsOpened s.mark w held = opened_is s.mark w held may.mine (h.contents_are_ordered.ordered r) in
     record {
       mark_is_length = h.mark_is_length;
+      history = h.history;
+      no_update_is_lost = h.no_update_is_lost;
       registers_agree = h.registers_agree;
       records_bound_sessions = h.records_bound_sessions;
       records_reach_logs = h.records_reach_logs;

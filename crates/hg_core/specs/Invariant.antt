@@ -1,5 +1,6 @@
 -- What holds between any two events. Each part speaks of the parts of the state that it needs.
 use Rattle.hg_base.specs.declared.rid.Rid.{Rid}
+use Rattle.hg_base.specs.History.{IsHistory, NoLostUpdate}
 use Rattle.hg_core.specs.State.{CoreState}
 use Rattle.hg_core.specs.Marks.{MarkIsLength}
 use Rattle.hg_core.specs.Registers.{RegistersAgree}
@@ -22,6 +23,8 @@ pub record IsSteady (s : CoreState) : Type 0 where
   pub contents_are_ordered : ContentsAreOrdered s.mark s.history (versions s.buckets s.bucket)
   pub records_bound_sessions : RecordsBoundSessions s.phase s.pass
   pub open_writes_may_commit : OpenWritesMayCommit s.history s.phase (open_writes s.log)
+  pub history : IsHistory s.history
+  pub no_update_is_lost : NoLostUpdate s.history
   pub logs_answer : LogsAnswer s.sessions s.each s.history s.phase s.log
   pub replies_answer : RepliesAnswer s.buckets s.history s.log
   pub records_reach_logs : RecordsReachLogs s.phase s.log s.pass

@@ -52,8 +52,8 @@ pub use refuted::{
 };
 pub use register::Register;
 pub use theorems::{
-    every_event_happens, mark_is_bounded, no_gather_misses_a_snapshot, no_removal_is_seen,
-    replies_are_right, words_are_exact,
+    every_event_happens, history_is_sound, mark_is_bounded, no_gather_misses_a_snapshot,
+    no_removal_is_seen, replies_are_right, words_are_exact,
 };
 
 #[cfg(test)]

@@ -4,7 +4,7 @@ ghost use Rattle.std.specs.Prelude.{◌≡◌, ℕ, ◌<◌, ◌≤◌, ◌*◌,
 ghost use Rattle.hg_base.specs.declared.rid.Rid.{Rid};
 ghost use Rattle.hg_base.specs.declared.rid.TableId.{TableId};
 ghost use Rattle.hg_base.specs.declared.scope.Scope.{Scope};
-ghost use Rattle.hg_base.specs.History.{visible};
+ghost use Rattle.hg_base.specs.History.{visible, IsHistory, NoLostUpdate};
 ghost use Rattle.hg_base.specs.Transcript.{has};
 ghost use Rattle.hg_core.specs.Words.{IsRegister, word_of, register_of};
 ghost use Rattle.hg_core.specs.Passes.{IsWhole, horizon, table_bound, group_bound};
@@ -43,6 +43,14 @@ pub fn no_removal_is_seen()
 /// write shows its cause.
 pub fn replies_are_right()
     ensures { Always (λ s. (j : ℕ) → AreReplied s.buckets s.history s.log j (s.log j)) }
+{}
+
+/// No update is lost. After every list of events, what a commit overwrites its transaction saw, or wrote itself. And each group
+/// of the history is one: it has a commit, each commit writes something and read below the group's number, and no session and
+/// no record occurs twice in it.
+pub fn history_is_sound()
+    ensures kept { Always (λ s. NoLostUpdate s.history) }
+    ensures groups { Always (λ s. IsHistory s.history) }
 {}
 
 /// No commit number passes the number of sessions times how often each may begin.
