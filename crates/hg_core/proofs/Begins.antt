@@ -66,6 +66,7 @@ turn s j p register log added h session up shows same bounds grown enters replie
     sessions = by_number j (λ k b. PhaseUpTo s.mark (if b then p else s.phase k)) up (λ k other. h.mark_is_length.sessions k);
     passes = h.mark_is_length.passes;
   };
+  taken_at_most_mark = h.taken_at_most_mark;
   history = h.history;
   no_update_is_lost = h.no_update_is_lost;
   registers_agree = record {
@@ -93,7 +94,7 @@ turn s j p register log added h session up shows same bounds grown enters replie
 
 -- its log stays
 quiet : (s : CoreState) (j : ℕ) (p : Phase) → IsSteady s → snapshot_in (s.phase j) ≡ snapshot_in p → FixedOver p (s.log j) → MayHaveBegun s.each p (begans (s.log j)) → LogsAnswer s.sessions s.each s.history (put s.phase j p) s.log
-quiet s j p h same over room = log_step s.sessions s.each s.history s.phase (put s.phase j p) s.log s.log j p (s.log j) h.logs_answer (only_put s.phase j p) (only_same s.log j) (h.logs_answer.reads j ∙ same) room over (h.logs_answer.within j) (h.logs_answer.judged j) (λ n. refl) (λ n e. e)
+quiet s j p h same over room = log_step s.sessions s.each s.history s.phase (put s.phase j p) s.log s.log j p (s.log j) h.logs_answer (only_put s.phase j p) (only_same s.log j) (h.logs_answer.reads j ∙ same) room over (h.logs_answer.within j) (h.logs_answer.judged j) (h.logs_answer.written j) (λ n. refl) (λ n e. e)
 
 -- only the board's sessions are not at rest
 session_at : (s : CoreState) (j : ℕ) → IsSteady s → (s.phase j ≡ Idle → ⊥) → IsSession s.sessions j
@@ -178,7 +179,7 @@ go_live_kept s j m scope h may =
     tt
     (below, h.logs_answer.within j)
     (record { within = below; over = over; alone = h.logs_answer.reads j ∙ ap snapshot_in at }, h.logs_answer.judged j)
-    (λ n. refl) (λ n e. e))
+    (h.logs_answer.written j) (λ n. refl) (λ n e. e))
   where
     none : (r : Rid) → open_in r (s.log j) ≡ None
     none r = none_open s.history r (s.log j) (h.logs_answer.judged j) (h.logs_answer.reads j ∙ ap snapshot_in may.fixed.1)
@@ -225,7 +226,7 @@ end_kept s j h may = turn s j Idle (put s.register j registers.Idle) (put s.log 
     tt
     (h.logs_answer.within j)
     (record { opened = subst IsSome (sym (h.logs_answer.reads j)) may.live; none = may.none }, h.logs_answer.judged j)
-    (λ n. refl) (λ n e. e))
+    (h.logs_answer.written j) (λ n. refl) (λ n e. e))
   where
     opened : (k : ℕ) (r : Rid) → open_writes (put s.log j (Over ∷ s.log j)) k r ≡ open_writes s.log k r
     opened = by_number j (λ k b. (r : Rid) → open_in r (if b then Over ∷ s.log j else s.log k) ≡ open_in r (s.log k)) (λ r. sym (may.none r)) (λ k other r. refl)

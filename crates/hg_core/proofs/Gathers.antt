@@ -27,6 +27,7 @@ mark_kept s p known h may =
         sessions = h.mark_is_length.sessions;
         passes = by_number p (λ q b. (if b then fresh else s.pass q).mark ≤ s.mark) (omega arith) (λ q other. h.mark_is_length.passes q);
       };
+      taken_at_most_mark = h.taken_at_most_mark;
       history = h.history;
       no_update_is_lost = h.no_update_is_lost;
       registers_agree = h.registers_agree;
@@ -61,6 +62,7 @@ sample_kept s p j h may =
         sessions = h.mark_is_length.sessions;
         passes = by_number p (λ q b. (if b then more else s.pass q).mark ≤ s.mark) (h.mark_is_length.passes p) (λ q other. h.mark_is_length.passes q);
       };
+      taken_at_most_mark = h.taken_at_most_mark;
       history = h.history;
       no_update_is_lost = h.no_update_is_lost;
       registers_agree = h.registers_agree;
@@ -131,6 +133,7 @@ move_kept s p j h (n, mask, may) =
         sessions = h.mark_is_length.sessions;
         passes = by_number p (λ q b. (if b then more else s.pass q).mark ≤ s.mark) (h.mark_is_length.passes p) (λ q other. h.mark_is_length.passes q);
       };
+      taken_at_most_mark = h.taken_at_most_mark;
       history = h.history;
       no_update_is_lost = h.no_update_is_lost;
       registers_agree = record {

@@ -17,7 +17,7 @@ use Rattle.hg_core.specs.declared.ask.Ask.TheVariants as asks
 use Rattle.hg_core.specs.declared.log.LogEntry.{LogEntry}
 use Rattle.hg_core.specs.declared.log.LogEntry.TheVariants.{Saw, Refused, Outside}
 use Rattle.hg_core.specs.declared.phase.Phase.TheVariants.{Live}
-use Rattle.hg_core.specs.Logs.{current, number_in, begans, begun_in, is_plain, own_writes, open_in, open_writes}
+use Rattle.hg_core.specs.Logs.{current, number_in, begans, wrotes, begun_in, is_plain, own_writes, open_in, open_writes}
 use Rattle.hg_core.specs.Phases.{snapshot_in}
 use Rattle.hg_core.specs.Versions.{Version, newest_at, unpublished}
 use Rattle.hg_core.specs.Contents.{versions, has_stamped}
@@ -25,7 +25,7 @@ use Rattle.hg_core.specs.OpenWrites.{writer_of}
 use Rattle.hg_core.specs.Covered.{Reads}
 use Rattle.hg_core.specs.Replies.{same_writer, read_by, in_bucket, refused_over, refused_by, refusal, writes_in, numbers_in, Refuses, IsReplied}
 use Rattle.hg_core.specs.State.{CoreState}
-use Rattle.hg_core.specs.Events.{put, with_refusal, happens, May, Look}
+use Rattle.hg_core.specs.Events.{put, with_refusal, happens, May, Look, Take}
 use Rattle.hg_core.specs.Invariant.{IsSteady}
 use Rattle.hg_core.proofs.Indices.{by_number, only_put, only_same}
 use Rattle.hg_core.proofs.Recalls.{reach_step}
@@ -71,15 +71,16 @@ look_own n (Refused r answer) l = (l, tt)
 look_own n (Outside t) l = (tt, tt)
 look_own n _ l = absurd l
 
-look_same : (n : ℕ) (e : LogEntry) (log : List LogEntry) → IsLook n e → ((r : Rid) → open_in r (e ∷ log) ≡ open_in r log) × (begans (e ∷ log) ≡ begans log)
-look_same n (Saw t low high b rows) log l = ((λ r. refl), refl)
-look_same n (Refused q answer) log l = ((λ r. refl), refl)
-look_same n (Outside t) log l = ((λ r. refl), refl)
+look_same : (n : ℕ) (e : LogEntry) (log : List LogEntry) → IsLook n e → ((r : Rid) → open_in r (e ∷ log) ≡ open_in r log) × (begans (e ∷ log) ≡ begans log) × (wrotes (e ∷ log) ≡ wrotes log)
+look_same n (Saw t low high b rows) log l = ((λ r. refl), refl, refl)
+look_same n (Refused q answer) log l = ((λ r. refl), refl, refl)
+look_same n (Outside t) log l = ((λ r. refl), refl, refl)
 look_same n _ log l = absurd l
 
 look_more : (s : CoreState) (j : ℕ) (e : LogEntry) → IsSteady s → IsLook (length s.history) e → IsSome (current (s.log j)) → IsReplied s.buckets s.history s.log j e (s.log j) → IsSteady (record s { log = put s.log j (e ∷ s.log j) })
 look_more s j e h look some replied = record {
   mark_is_length = h.mark_is_length;
+  taken_at_most_mark = h.taken_at_most_mark;
   history = h.history;
   no_update_is_lost = h.no_update_is_lost;
   registers_agree = h.registers_agree;
@@ -89,7 +90,7 @@ look_more s j e h look some replied = record {
   contents_are_ordered = h.contents_are_ordered;
   records_bound_sessions = h.records_bound_sessions;
   open_writes_may_commit = λ k r image o. h.open_writes_may_commit k r image (sym (opened k r) ∙ o);
-  logs_answer = answer_more s j e h own.0 some;
+  logs_answer = answer_more s j e h own.0 some (omega (arith, same.2, h.logs_answer.written j));
   replies_answer = replies_entry s.buckets s.history s.log j e own.1 h.logs_answer.within replied h.replies_answer;
   records_reach_logs = reach_step s.phase s.phase s.log (put s.log j (e ∷ s.log j)) s.pass j (s.phase j) (e ∷ []) h.records_reach_logs (only_same s.phase j) (only_put s.log j (e ∷ s.log j)) (λ x. inr x);
 }
@@ -97,7 +98,7 @@ look_more s j e h look some replied = record {
     own : IsOwn (length s.history) e × IsNoNumber e
     own = look_own (length s.history) e look
 
-    same : ((r : Rid) → open_in r (e ∷ s.log j) ≡ open_in r (s.log j)) × (begans (e ∷ s.log j) ≡ begans (s.log j))
+    same : ((r : Rid) → open_in r (e ∷ s.log j) ≡ open_in r (s.log j)) × (begans (e ∷ s.log j) ≡ begans (s.log j)) × (wrotes (e ∷ s.log j) ≡ wrotes (s.log j))
     same = look_same (length s.history) e (s.log j) look
 
     opened : (k : ℕ) (r : Rid) → open_writes (put s.log j (e ∷ s.log j)) k r ≡ open_writes s.log k r
@@ -189,3 +190,23 @@ look_kept s j (asks.Write r) b rows h (at, scope, may) = subst (λ n. IsSteady (
               does = subst (λ x. IsSome (image_in r (writes_in x (s.log k)))) (sym number) stands.does;
               after = subst (λ x. Each (λ c. at < c) (numbers_in x (s.log k))) (sym number) (subst (Each (λ c. at < c)) (sym stands.unnumbered) tt);
             })
+
+-- ---- a group taken
+
+pub take_kept : (s : CoreState) → IsSteady s → May s Take → IsSteady (happens s Take)
+take_kept s h may = record {
+  mark_is_length = h.mark_is_length;
+  registers_agree = h.registers_agree;
+  covered = h.covered;
+  open_writes_stand = h.open_writes_stand;
+  stamped_is_next = h.stamped_is_next;
+  contents_are_ordered = h.contents_are_ordered;
+  records_bound_sessions = h.records_bound_sessions;
+  open_writes_may_commit = h.open_writes_may_commit;
+  history = h.history;
+  no_update_is_lost = h.no_update_is_lost;
+  logs_answer = h.logs_answer;
+  replies_answer = h.replies_answer;
+  records_reach_logs = h.records_reach_logs;
+  taken_at_most_mark = omega (arith, may);
+}

@@ -12,7 +12,7 @@ use Rattle.hg_core.specs.declared.phase.Phase.{Phase}
 use Rattle.hg_core.specs.declared.phase.Phase.TheVariants.{Idle, Probed, Entered, Fixed, Live}
 use Rattle.hg_core.specs.declared.log.LogEntry.{LogEntry}
 use Rattle.hg_core.specs.declared.log.LogEntry.TheVariants.{Began, Saw, Refused, Outside, Wrote, Undid, Published, Over}
-use Rattle.hg_core.specs.Logs.{current, begans, begun_in, open_in, is_plain, has_number, new_group, is_in, published_logs, UpTo}
+use Rattle.hg_core.specs.Logs.{current, begans, wrotes, begun_in, open_in, is_plain, has_number, new_group, is_in, published_logs, UpTo}
 use Rattle.hg_core.specs.Phases.{IsSession, snapshot_in, MayHaveBegun}
 use Rattle.hg_core.specs.Versions.{Version, is_numbered, unpublished}
 use Rattle.hg_core.specs.Contents.{versions, is_stamped}
@@ -75,6 +75,7 @@ logs_published : (sessions each : ℕ) (h : History) (phase : ℕ → Phase) (lo
 logs_published sessions each h phase log list js a session_of may = record {
   reads = λ j. reads_new j (is_in js j);
   room = λ j. room_new j (is_in js j);
+  written = λ j. written_new j (is_in js j);
   fixed = λ j. fixed_new j (is_in js j) refl;
   within = λ j. within_new j (is_in js j);
   judged = λ j. judged_new j (is_in js j) refl;
@@ -114,6 +115,10 @@ logs_published sessions each h phase log list js a session_of may = record {
     room_new : (j : ℕ) (b : Bool) → MayHaveBegun each (phase j) (begans (if b then Published (suc (length h)) ∷ log j else log j))
     room_new j true = a.room j
     room_new j false = a.room j
+
+    written_new : (j : ℕ) (b : Bool) → wrotes (if b then Published (suc (length h)) ∷ log j else log j) ≤ each
+    written_new j true = a.written j
+    written_new j false = a.written j
 
     fixed_new : (j : ℕ) (b : Bool) → is_in js j ≡ b → FixedOver (phase j) (if b then Published (suc (length h)) ∷ log j else log j)
     fixed_new j true e = let some : IsSome (current (log j)) = each_in (λ i. IsSome (current (log i))) js j may.opened e in over_live (phase j) _ (subst IsSome (a.reads j) some)
@@ -166,6 +171,7 @@ publish_kept s js h may = record {
   };
   history = history_more s.history s.log s.stamped_list js h.history h.logs_answer.within may.some may.distinct may.plain may.stamped h.stamped_is_next.standing (λ r j k a b. let x = some_is (open_in r (s.log j)) a in let y = some_is (open_in r (s.log k)) b in one_owner r j k x.0 y.0 x.1 y.1);
   no_update_is_lost = update_more s.history (new_group s.log js) h.no_update_is_lost (group_loses_nothing s.history s.phase s.log js h.logs_answer.reads h.open_writes_may_commit may.plain);
+  taken_at_most_mark = omega (arith, h.taken_at_most_mark);
   replies_answer = subst (λ n. RepliesAnswer s.buckets (s.history ++ new_group s.log js ∷ []) (published_logs s.log js (suc n))) (sym h.mark_is_length.is_length) (replies_published s.buckets s.history (new_group s.log js) s.log js h.logs_answer.within h.replies_answer);
   logs_answer = subst (λ n. LogsAnswer s.sessions s.each (s.history ++ new_group s.log js ∷ []) s.phase (published_logs s.log js (suc n))) (sym h.mark_is_length.is_length) (logs_published s.sessions s.each s.history s.phase s.log s.stamped_list js h.logs_answer session_of may);
 }

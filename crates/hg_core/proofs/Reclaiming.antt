@@ -87,6 +87,7 @@ reclaim_kept s p kind r h whole =
     let shape = shape_reclaimed s p kind r.table held h (h.contents_are_ordered.ordered r) in
     record {
       mark_is_length = h.mark_is_length;
+      taken_at_most_mark = h.taken_at_most_mark;
       history = h.history;
       no_update_is_lost = h.no_update_is_lost;
       registers_agree = h.registers_agree;

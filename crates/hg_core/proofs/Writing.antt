@@ -1,5 +1,5 @@
 -- An open write comes, goes, and gets the next number.
-use Rattle.std.proofs.Common.{◌≡◌, ℕ, suc, List, [], ◌∷◌, length, Option, None, Some, inr, refl, sym, ap, ◌∙◌, subst}
+use Rattle.std.proofs.Common.{◌≡◌, ℕ, suc, ◌≤◌, List, [], ◌∷◌, length, Option, None, Some, Bool, true, false, inl, inr, refl, sym, ap, ◌∙◌, subst, arith}
 use Rattle.std.specs.Prelude.{if◌then◌else◌, IsSome, IfSome, IsTrue, ⊤}
 use Rattle.hg_base.specs.declared.rid.Rid.{Rid}
 use Rattle.hg_base.specs.declared.image.Image.{Image}
@@ -9,7 +9,7 @@ use Rattle.hg_base.specs.History.{History, same_rid}
 use Rattle.hg_base.proofs.HistoryFacts.{same_rid_itself}
 use Rattle.hg_core.specs.declared.log.LogEntry.{LogEntry}
 use Rattle.hg_core.specs.declared.log.LogEntry.TheVariants.{Saw, Refused, Outside, Wrote, Undid}
-use Rattle.hg_core.specs.Logs.{current, begans, published, has_number, begun_in, open_in, open_writes, AnswerUpTo, UpTo}
+use Rattle.hg_core.specs.Logs.{current, begans, wrotes, published, has_number, begun_in, open_in, open_writes, AnswerUpTo, UpTo}
 use Rattle.hg_core.specs.Phases.{snapshot_in}
 use Rattle.hg_core.specs.Versions.{installed, undone, stamped}
 use Rattle.hg_core.specs.Contents.{versions}
@@ -84,8 +84,8 @@ own_judge top h (Wrote r image) log own s = s
 own_judge top h (Undid r) log own s = s
 own_judge top h _ log own s = absurd own
 
-pub answer_more : (s : CoreState) (j : ℕ) (e : LogEntry) → IsSteady s → IsOwn (length s.history) e → IsSome (current (s.log j)) → LogsAnswer s.sessions s.each s.history s.phase (put s.log j (e ∷ s.log j))
-answer_more s j e h own some =
+pub answer_more : (s : CoreState) (j : ℕ) (e : LogEntry) → IsSteady s → IsOwn (length s.history) e → IsSome (current (s.log j)) → wrotes (e ∷ s.log j) ≤ s.each → LogsAnswer s.sessions s.each s.history s.phase (put s.log j (e ∷ s.log j))
+answer_more s j e h own some room =
     let top : ℕ = length s.history in
     let same = own_same top e (s.log j) own in
     log_step s.sessions s.each s.history s.phase s.phase s.log (put s.log j (e ∷ s.log j)) j (s.phase j) (e ∷ s.log j) h.logs_answer (only_same s.phase j) (only_put s.log j (e ∷ s.log j))
@@ -94,6 +94,7 @@ answer_more s j e h own some =
     (over_live (s.phase j) (e ∷ s.log j) (subst IsSome (h.logs_answer.reads j) some))
     (own_up top e (s.log j) own (h.logs_answer.within j))
     (own_judge top s.history e (s.log j) own some, h.logs_answer.judged j)
+    room
     (λ n. own_published top n j e (s.log j) own)
     (λ n. own_named top n e (s.log j) own)
 
@@ -133,6 +134,7 @@ install_kept s j r image h (at, scope, may) =
     let f = opened_more s.log j r image in
     record {
       mark_is_length = h.mark_is_length;
+      taken_at_most_mark = h.taken_at_most_mark;
       history = h.history;
       no_update_is_lost = h.no_update_is_lost;
       registers_agree = h.registers_agree;
@@ -147,7 +149,7 @@ install_kept s j r image h (at, scope, may) =
       open_writes_stand = stand_alike s.mark (begun_in s.log) _ _ _ _ (λ k q. refl) (λ k q i e. begun_more s.log j (Wrote r image) refl k) (stand_installed s.mark s.buckets s.bucket (begun_in s.log) (open_writes s.log) _ j r image may.free f h.open_writes_stand);
       stamped_is_next = next_installed s.mark s.buckets s.bucket (begun_in s.log) (open_writes s.log) _ j r image s.stamped_list may.unstamped f h.stamped_is_next;
       replies_answer = replies_entry s.buckets s.history s.log j (Wrote r image) tt h.logs_answer.within (subst (λ o. IfSome o (λ snapshot. IsTrue (has snapshot.scope r.table))) (sym (h.logs_answer.reads j ∙ ap snapshot_in may.live)) may.table, may.plain) h.replies_answer;
-      logs_answer = answer_more s j (Wrote r image) h tt (subst IsSome (sym (h.logs_answer.reads j ∙ ap snapshot_in may.live)) refl);
+      logs_answer = answer_more s j (Wrote r image) h tt (subst IsSome (sym (h.logs_answer.reads j ∙ ap snapshot_in may.live)) refl) (let k = may.room in omega arith);
     }
   where
     mine : MayCommit s.history r (s.phase j)
@@ -164,6 +166,7 @@ undo_kept s j r h may =
     let f = opened_less s.log j r in
     record {
       mark_is_length = h.mark_is_length;
+      taken_at_most_mark = h.taken_at_most_mark;
       history = h.history;
       no_update_is_lost = h.no_update_is_lost;
       registers_agree = h.registers_agree;
@@ -178,7 +181,7 @@ undo_kept s j r h may =
       open_writes_stand = stand_alike s.mark (begun_in s.log) _ _ _ _ (λ k q. refl) (λ k q i e. begun_more s.log j (Undid r) refl k) (stand_undone s.mark s.buckets s.bucket (begun_in s.log) (open_writes s.log) _ j r was f h.open_writes_stand);
       stamped_is_next = next_undone s.mark s.buckets s.bucket (begun_in s.log) (open_writes s.log) _ j r s.stamped_list may.unstamped was f h.stamped_is_next;
       replies_answer = replies_entry s.buckets s.history s.log j (Undid r) tt h.logs_answer.within tt h.replies_answer;
-      logs_answer = answer_more s j (Undid r) h tt (current_open s.history r was.image (s.log j) (h.logs_answer.judged j) (h.open_writes_stand.owned r w was.image was.owned).1);
+      logs_answer = answer_more s j (Undid r) h tt (current_open s.history r was.image (s.log j) (h.logs_answer.judged j) (h.open_writes_stand.owned r w was.image was.owned).1) (h.logs_answer.written j);
     }
   where
     here : (q : Rid) (i : Image) → (if same_rid r q then None else open_in q (s.log j)) ≡ Some i → MayCommit s.history q (s.phase j)
@@ -191,6 +194,7 @@ stamp_kept s j r h may =
     let was : IsOpened s.mark w held = opened_is s.mark w held may.mine (h.contents_are_ordered.ordered r) in
     record {
       mark_is_length = h.mark_is_length;
+      taken_at_most_mark = h.taken_at_most_mark;
       history = h.history;
       no_update_is_lost = h.no_update_is_lost;
       registers_agree = h.registers_agree;

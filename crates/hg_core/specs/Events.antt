@@ -14,7 +14,7 @@ use Rattle.hg_core.specs.declared.phase.Phase.TheVariants.{Idle, Probed, Entered
 use Rattle.hg_core.specs.declared.log.LogEntry.{LogEntry}
 use Rattle.hg_core.specs.declared.log.LogEntry.TheVariants.{Began, Saw, Refused, Outside, Wrote, Undid, Over}
 use Rattle.hg_core.specs.Words.{IsBelow}
-use Rattle.hg_core.specs.Logs.{current, number_in, begans, is_plain, open_in, begun_in, is_in, new_group, published_logs}
+use Rattle.hg_core.specs.Logs.{current, number_in, begans, wrotes, is_plain, open_in, begun_in, is_in, new_group, published_logs}
 use Rattle.hg_core.specs.Phases.{IsSession, snapshot_in}
 use Rattle.hg_core.specs.Passes.{PassRecord, found, IsWhole}
 use Rattle.hg_core.specs.Versions.{newest_at, installed, undone, stamped, IsFreeFor, IsOpenBy}
@@ -34,6 +34,7 @@ use Rattle.hg_core.specs.State.{CoreState, opened}
 -- and moves a long snapshot (Move). A session stores a write (Install) or takes it back (Undo). A committer gives an open
 -- write the next number (Stamp), and publishes the transactions of some sessions as one group (Publish). A pass takes away
 -- versions of a record (Reclaim). A session reads a range in a bucket, or tries a write, or names a table outside (Look).
+-- The group collector takes the oldest group out of the committer's list (Take).
 pub data Event : Type 0 where
   Probe : (j : ℕ) → Event
   Enter : (j f : ℕ) → Event
@@ -48,6 +49,7 @@ pub data Event : Type 0 where
   Stamp : (j : ℕ) → (r : Rid) → Event
   Publish : (sessions : List ℕ) → Event
   Reclaim : (p : ℕ) → (kind : Kind) → (r : Rid) → Event
+  Take : Event
   Look : (j : ℕ) → (ask : Ask) → (b : ℕ) → (rows : List (ℕ × List ℤ)) → Event
 
 -- f with another value at j
@@ -99,6 +101,7 @@ happens s (Undo j r) = record s { bucket = stored s.buckets s.bucket r (undone (
 happens s (Stamp j r) = record s { bucket = stored s.buckets s.bucket r (stamped (suc s.mark) (writer_of (begun_in s.log) j) (versions s.buckets s.bucket r)); stamped_list = (j, r) ∷ s.stamped_list }
 happens s (Publish sessions) = record s { mark = suc s.mark; history = s.history ++ new_group s.log sessions ∷ []; stamped_list = []; log = published_logs s.log sessions (suc s.mark) }
 happens s (Reclaim p kind r) = record s { bucket = stored s.buckets s.bucket r (reclaimed kind r.table (s.pass p) (versions s.buckets s.bucket r)) }
+happens s Take = record s { taken = suc s.taken }
 happens s (Look j ask b rows) = record s { log = put s.log j (looked s j ask b rows) }
 
 -- a session may begin: it is at rest, and has begun fewer transactions than it may
@@ -127,13 +130,14 @@ pub record MayEnd (s : CoreState) (j : ℕ) : Type 0 where
   pub live : IsSome (snapshot_in (s.phase j))
   pub none : (r : Rid) → open_in r (s.log j) ≡ None
 
--- A live session may write a record of its tables: nothing of its transaction was undone, stamped or published, nobody
+-- A live session that has written less often than it may, may write a record of its tables: nothing of its transaction was undone, stamped or published, nobody
 -- else has the record open, and its newest number is at or below the snapshot.
 pub record MayInstall (s : CoreState) (j : ℕ) (r : Rid) (at : ℕ) (scope : Scope) : Type 0 where
   pub live : s.phase j ≡ Live at scope
   pub table : IsTrue (has scope r.table)
   pub plain : IsTrue (is_plain (s.log j))
   pub unstamped : IsFalse (has_stamped j s.stamped_list)
+  pub room : wrotes (s.log j) < s.each
   pub free : IsFreeFor s.mark (writer_of (begun_in s.log) j) (versions s.buckets s.bucket r)
   pub newest : IfSome (newest_at s.mark (versions s.buckets s.bucket r)) (λ pair. pair.0 ≤ at)
 
@@ -185,6 +189,7 @@ May s (Undo j r) = MayUndo s j r
 May s (Stamp j r) = MayStamp s j r
 May s (Publish sessions) = MayPublish s.log s.stamped_list sessions
 May s (Reclaim p kind r) = IsWhole s.sessions (s.pass p)
+May s Take = s.taken < s.mark
 May s (Look j ask b rows) = (at : ℕ) × (scope : Scope) × MayLook s j ask b rows at scope
 
 -- each event may happen in its turn

@@ -1,4 +1,5 @@
 -- What holds between any two events. Each part speaks of the parts of the state that it needs.
+use Rattle.std.specs.Prelude.{◌≤◌}
 use Rattle.hg_base.specs.declared.rid.Rid.{Rid}
 use Rattle.hg_base.specs.History.{IsHistory, NoLostUpdate}
 use Rattle.hg_core.specs.State.{CoreState}
@@ -28,3 +29,4 @@ pub record IsSteady (s : CoreState) : Type 0 where
   pub logs_answer : LogsAnswer s.sessions s.each s.history s.phase s.log
   pub replies_answer : RepliesAnswer s.buckets s.history s.log
   pub records_reach_logs : RecordsReachLogs s.phase s.log s.pass
+  pub taken_at_most_mark : s.taken ≤ s.mark

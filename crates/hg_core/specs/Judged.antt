@@ -6,7 +6,7 @@ use Rattle.hg_core.specs.declared.phase.Phase.{Phase}
 use Rattle.hg_core.specs.declared.phase.Phase.TheVariants.{Idle, Probed, Entered, Fixed, Live}
 use Rattle.hg_core.specs.declared.log.LogEntry.{LogEntry}
 use Rattle.hg_core.specs.declared.log.LogEntry.TheVariants.{Began, Published, Over}
-use Rattle.hg_core.specs.Logs.{current, open_in, begans, is_plain, published, has_number, UpTo}
+use Rattle.hg_core.specs.Logs.{current, open_in, begans, wrotes, is_plain, published, has_number, UpTo}
 use Rattle.hg_core.specs.Phases.{IsSession, snapshot_in, MayHaveBegun}
 
 -- a begin: no other transaction is open, and the snapshot is at or over every number that the session's log has
@@ -57,6 +57,7 @@ pub record LogsAnswer (sessions each : ℕ) (history : History) (phase : ℕ →
   -- a session reads at the snapshot of the transaction that its log has open
   pub reads : (j : ℕ) → current (log j) ≡ snapshot_in (phase j)
   pub room : (j : ℕ) → MayHaveBegun each (phase j) (begans (log j))
+  pub written : (j : ℕ) → wrotes (log j) ≤ each
   pub fixed : (j : ℕ) → FixedOver (phase j) (log j)
   -- no number is over the mark
   pub within : (j : ℕ) → UpTo (length history) (log j)

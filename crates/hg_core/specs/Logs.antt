@@ -24,6 +24,12 @@ begans [] = 0
 begans (Began at scope ∷ log) = suc (begans log)
 begans (_ ∷ log) = begans log
 
+-- how many writes were stored
+abbrev pub wrotes : List LogEntry → ℕ
+wrotes [] = 0
+wrotes (Wrote rid image ∷ log) = suc (wrotes log)
+wrotes (_ ∷ log) = wrotes log
+
 -- whether a transaction was begun
 abbrev pub has_begun : List LogEntry → Bool
 has_begun [] = false

@@ -23,6 +23,8 @@ pub record CoreState : Type 0 where
   -- the committer's: the groups of commits, oldest first, and the writes that have the next number, each with its session
   pub history : History
   pub stamped_list : List (ℕ × Rid)
+  -- and how many groups were taken out of its list for the group collector
+  pub taken : ℕ
   -- a session's: its phase, and its log, newest entry first
   pub phase : ℕ → Phase
   pub log : ℕ → List LogEntry
@@ -42,6 +44,7 @@ opened sessions tables buckets each = record {
   register = λ j. registers.Idle;
   history = [];
   stamped_list = [];
+  taken = 0;
   phase = λ j. phases.Idle;
   log = λ j. [];
   bucket = λ b. [];

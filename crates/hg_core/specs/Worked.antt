@@ -5,7 +5,7 @@ use Rattle.hg_base.specs.declared.image.Image.{Image}
 use Rattle.hg_base.specs.declared.scope.Scope.TheVariants.{All, Declared}
 use Rattle.hg_base.specs.declared.report.Kind.TheVariants.{Interval}
 use Rattle.hg_core.specs.declared.ask.Ask.TheVariants.{Outside}
-use Rattle.hg_core.specs.Events.{Event, Probe, Enter, Fix, GoLive, End, Mark, Sample, Move, Install, Undo, Stamp, Publish, Reclaim, Look}
+use Rattle.hg_core.specs.Events.{Event, Probe, Enter, Fix, GoLive, End, Mark, Sample, Move, Install, Undo, Stamp, Publish, Reclaim, Take, Look}
 
 -- two records of table 0, and a row
 abbrev pub one_rid : Rid
@@ -26,11 +26,11 @@ commits = Probe 2 ∷ Enter 2 0 ∷ Fix 2 0 ∷ GoLive 2 0 All ∷ Install 2 one
 abbrev pub slow_begin : List Event
 slow_begin = Probe 1 ∷ Enter 1 0 ∷ Fix 1 0 ∷ commits ++ Mark 0 (λ j. 0) ∷ Sample 0 1 ∷ Sample 0 2 ∷ GoLive 1 0 (Declared 1) ∷ []
 
--- The pass takes away what session 1 doesn't need of the record. It begins a new record, finds session 1 live at 0, and moves
+-- The group is taken. The pass takes away what session 1 doesn't need of the record. It begins a new record, finds session 1 live at 0, and moves
 -- that snapshot to the table that it declared. Session 1 names another table, writes another record, takes that back, and is
 -- over.
 abbrev pub long_snapshot : List Event
-long_snapshot = Reclaim 0 Interval one_rid ∷ Mark 0 (λ j. 0) ∷ Sample 0 1 ∷ Move 0 1 ∷ Look 1 (Outside (record { 0 = 1 })) 0 [] ∷ Install 1 two_rid row ∷ Undo 1 two_rid ∷ End 1 ∷ []
+long_snapshot = Take ∷ Reclaim 0 Interval one_rid ∷ Mark 0 (λ j. 0) ∷ Sample 0 1 ∷ Move 0 1 ∷ Look 1 (Outside (record { 0 = 1 })) 0 [] ∷ Install 1 two_rid row ∷ Undo 1 two_rid ∷ End 1 ∷ []
 
 -- Session 1 loads the mark 0. Session 2 commits. A pass loads the mark 1 and finds session 1 idle, which then enters at 0.
 abbrev pub late_entry : List Event

@@ -7,7 +7,7 @@ ghost use Rattle.hg_base.specs.declared.report.Kind.{Kind};
 ghost use Rattle.hg_base.specs.declared.scope.Scope.{Scope};
 ghost use Rattle.hg_core.specs.declared.ask.Ask.{Ask};
 ghost use Rattle.hg_core.specs.State.{CoreState};
-ghost use Rattle.hg_core.specs.Events.{Probe, Enter, Fix, GoLive, End, Mark, Sample, Move, Install, Undo, Stamp, Publish, Reclaim, Look, happens, May, Always};
+ghost use Rattle.hg_core.specs.Events.{Probe, Enter, Fix, GoLive, End, Mark, Sample, Move, Install, Undo, Stamp, Publish, Reclaim, Take, Look, happens, May, Always};
 ghost use Rattle.hg_core.specs.Invariant.{IsSteady};
 
 /// A session loads the mark, of which nobody knows.
@@ -78,6 +78,11 @@ pub fn reclaim_keeps()
 /// A session reads a range in a bucket, tries a write, or names a table outside. What it finds goes into its log.
 pub fn look_keeps()
     ensures { (s : CoreState) (j : ℕ) (ask : Ask) (b : ℕ) (rows : List (ℕ × List ℤ)) → IsSteady s → May s (Look j ask b rows) → IsSteady (happens s (Look j ask b rows)) }
+{}
+
+/// The oldest group is taken out of the committer's list, for the group collector.
+pub fn take_keeps()
+    ensures { (s : CoreState) → IsSteady s → May s Take → IsSteady (happens s Take) }
 {}
 
 /// The invariant holds after every list of events from the state in which a board opens.

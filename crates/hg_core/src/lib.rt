@@ -40,7 +40,7 @@ pub use ask::Ask;
 pub use laws::{
     always_steady, end_keeps, enter_keeps, fix_keeps, go_live_keeps, install_keeps, look_keeps,
     mark_keeps, move_keeps, probe_keeps, publish_keeps, reclaim_keeps, sample_keeps, stamp_keeps,
-    undo_keeps,
+    take_keeps, undo_keeps,
 };
 pub use log::LogEntry;
 pub use phase::Phase;
