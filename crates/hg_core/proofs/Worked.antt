@@ -84,165 +84,431 @@ moved_whole j session = go j session.first session.last
 
 pub every_event_runs : Run (opened 2 1 1 1) (slow_begin ++ long_snapshot)
 unfolding bucket_of
-every_event_runs = (record { session = first; rests = refl; room = omega arith },
-  (refl,
-  (refl,
-  (record { session = second; rests = refl; room = omega arith },
-  (refl,
-  (refl,
-  (record { fixed = (0, refl); tables = tt },
-  ((0, All, record { live = refl; table = refl; plain = refl; unstamped = refl; room = omega arith; free = tt; newest = tt }),
-  (record { mine = refl; plain = refl },
-  (publishes _ _ _ _ refl,
-  (record { live = refl; none = λ r. refl },
-  ((λ j. omega arith),
-  (record { session = first; fresh = refl },
-  (record { session = second; fresh = refl },
-  (record { fixed = (0, refl); tables = omega arith },
-  (omega arith,
-  (slow_whole,
-  ((λ j. omega arith),
-  (record { session = first; fresh = refl },
-  ((0, 1, record { shown = refl; loaded = refl }),
-  ((0, Declared 1, record { live = refl; plain = refl; unstamped = refl; asks = refl }),
-  ((0, Declared 1, record { live = refl; table = refl; plain = refl; unstamped = refl; room = omega arith; free = tt; newest = tt }),
-  (record { mine = refl; unstamped = refl },
-  (record { live = refl; none = none_left },
-  tt))))))))))))))))))))))))
+every_event_runs = (
+  record { session = first; rests = refl; room = omega arith },
+  (
+    refl,
+    (
+      refl,
+      (
+        record { session = second; rests = refl; room = omega arith },
+        (
+          refl,
+          (
+            refl,
+            (
+              record { fixed = (0, refl); tables = tt },
+              (
+                (0, All, record { live = refl; table = refl; plain = refl; unstamped = refl; room = omega arith; free = tt; newest = tt }),
+                (
+                  record { mine = refl; plain = refl },
+                  (
+                    publishes _ _ _ _ refl,
+                    (
+                      record { live = refl; none = λ r. refl },
+                      (
+                        (λ j. omega arith),
+                        (
+                          record { session = first; fresh = refl },
+                          (
+                            record { session = second; fresh = refl },
+                            (
+                              record { fixed = (0, refl); tables = omega arith },
+                              (
+                                omega arith,
+                                (
+                                  slow_whole,
+                                  (
+                                    (λ j. omega arith),
+                                    (
+                                      record { session = first; fresh = refl },
+                                      (
+                                        (0, 1, record { shown = refl; loaded = refl }),
+                                        (
+                                          (0, Declared 1, record { live = refl; plain = refl; unstamped = refl; asks = refl }),
+                                          (
+                                            (0, Declared 1, record { live = refl; table = refl; plain = refl; unstamped = refl; room = omega arith; free = tt; newest = tt }),
+                                            (
+                                              record { mine = refl; unstamped = refl },
+                                              (
+                                                record { live = refl; none = none_left },
+                                                tt,
+                                              ),
+                                            ),
+                                          ),
+                                        ),
+                                      ),
+                                    ),
+                                  ),
+                                ),
+                              ),
+                            ),
+                          ),
+                        ),
+                      ),
+                    ),
+                  ),
+                ),
+              ),
+            ),
+          ),
+        ),
+      ),
+    ),
+  ),
+)
 
 pub slow_begin_runs : Run (opened 2 1 1 1) slow_begin
 unfolding bucket_of
-slow_begin_runs = (record { session = first; rests = refl; room = omega arith },
-  (refl,
-  (refl,
-  (record { session = second; rests = refl; room = omega arith },
-  (refl,
-  (refl,
-  (record { fixed = (0, refl); tables = tt },
-  ((0, All, record { live = refl; table = refl; plain = refl; unstamped = refl; room = omega arith; free = tt; newest = tt }),
-  (record { mine = refl; plain = refl },
-  (publishes _ _ _ _ refl,
-  (record { live = refl; none = λ r. refl },
-  ((λ j. omega arith),
-  (record { session = first; fresh = refl },
-  (record { session = second; fresh = refl },
-  (record { fixed = (0, refl); tables = omega arith },
-  tt)))))))))))))))
+slow_begin_runs = (
+  record { session = first; rests = refl; room = omega arith },
+  (
+    refl,
+    (
+      refl,
+      (
+        record { session = second; rests = refl; room = omega arith },
+        (
+          refl,
+          (
+            refl,
+            (
+              record { fixed = (0, refl); tables = tt },
+              (
+                (0, All, record { live = refl; table = refl; plain = refl; unstamped = refl; room = omega arith; free = tt; newest = tt }),
+                (
+                  record { mine = refl; plain = refl },
+                  (
+                    publishes _ _ _ _ refl,
+                    (
+                      record { live = refl; none = λ r. refl },
+                      (
+                        (λ j. omega arith),
+                        (
+                          record { session = first; fresh = refl },
+                          (
+                            record { session = second; fresh = refl },
+                            (
+                              record { fixed = (0, refl); tables = omega arith },
+                              tt,
+                            ),
+                          ),
+                        ),
+                      ),
+                    ),
+                  ),
+                ),
+              ),
+            ),
+          ),
+        ),
+      ),
+    ),
+  ),
+)
 
 pub late_entry_runs : Run (opened 2 1 1 1) late_entry
 unfolding bucket_of
-late_entry_runs = (record { session = first; rests = refl; room = omega arith },
-  (record { session = second; rests = refl; room = omega arith },
-  (refl,
-  (refl,
-  (record { fixed = (0, refl); tables = tt },
-  ((0, All, record { live = refl; table = refl; plain = refl; unstamped = refl; room = omega arith; free = tt; newest = tt }),
-  (record { mine = refl; plain = refl },
-  (publishes _ _ _ _ refl,
-  (record { live = refl; none = λ r. refl },
-  ((λ j. omega arith),
-  (record { session = first; fresh = refl },
-  (refl,
-  tt))))))))))))
+late_entry_runs = (
+  record { session = first; rests = refl; room = omega arith },
+  (
+    record { session = second; rests = refl; room = omega arith },
+    (
+      refl,
+      (
+        refl,
+        (
+          record { fixed = (0, refl); tables = tt },
+          (
+            (0, All, record { live = refl; table = refl; plain = refl; unstamped = refl; room = omega arith; free = tt; newest = tt }),
+            (
+              record { mine = refl; plain = refl },
+              (
+                publishes _ _ _ _ refl,
+                (
+                  record { live = refl; none = λ r. refl },
+                  (
+                    (λ j. omega arith),
+                    (
+                      record { session = first; fresh = refl },
+                      (
+                        refl,
+                        tt,
+                      ),
+                    ),
+                  ),
+                ),
+              ),
+            ),
+          ),
+        ),
+      ),
+    ),
+  ),
+)
 
 pub early_sample_runs : Run (opened 2 1 1 1) early_sample
 unfolding bucket_of
-early_sample_runs = ((λ j. omega arith),
-  (record { session = first; fresh = refl },
-  (record { session = first; rests = refl; room = omega arith },
-  (refl,
-  (refl,
-  (record { fixed = (0, refl); tables = tt },
-  (record { session = second; rests = refl; room = omega arith },
-  (refl,
-  (refl,
-  (record { fixed = (0, refl); tables = tt },
-  ((0, All, record { live = refl; table = refl; plain = refl; unstamped = refl; room = omega arith; free = tt; newest = tt }),
-  (record { mine = refl; plain = refl },
-  (publishes _ _ _ _ refl,
-  (record { live = refl; none = λ r. refl },
-  tt))))))))))))))
+early_sample_runs = (
+  (λ j. omega arith),
+  (
+    record { session = first; fresh = refl },
+    (
+      record { session = first; rests = refl; room = omega arith },
+      (
+        refl,
+        (
+          refl,
+          (
+            record { fixed = (0, refl); tables = tt },
+            (
+              record { session = second; rests = refl; room = omega arith },
+              (
+                refl,
+                (
+                  refl,
+                  (
+                    record { fixed = (0, refl); tables = tt },
+                    (
+                      (0, All, record { live = refl; table = refl; plain = refl; unstamped = refl; room = omega arith; free = tt; newest = tt }),
+                      (
+                        record { mine = refl; plain = refl },
+                        (
+                          publishes _ _ _ _ refl,
+                          (
+                            record { live = refl; none = λ r. refl },
+                            tt,
+                          ),
+                        ),
+                      ),
+                    ),
+                  ),
+                ),
+              ),
+            ),
+          ),
+        ),
+      ),
+    ),
+  ),
+)
 
 pub low_fix_runs : Run (opened 2 1 1 1) low_fix
 unfolding bucket_of
-low_fix_runs = (record { session = first; rests = refl; room = omega arith },
-  (refl,
-  (refl,
-  (record { session = second; rests = refl; room = omega arith },
-  (refl,
-  (refl,
-  (record { fixed = (0, refl); tables = tt },
-  ((0, All, record { live = refl; table = refl; plain = refl; unstamped = refl; room = omega arith; free = tt; newest = tt }),
-  (record { mine = refl; plain = refl },
-  (publishes _ _ _ _ refl,
-  (record { live = refl; none = λ r. refl },
-  ((λ j. omega arith),
-  tt))))))))))))
+low_fix_runs = (
+  record { session = first; rests = refl; room = omega arith },
+  (
+    refl,
+    (
+      refl,
+      (
+        record { session = second; rests = refl; room = omega arith },
+        (
+          refl,
+          (
+            refl,
+            (
+              record { fixed = (0, refl); tables = tt },
+              (
+                (0, All, record { live = refl; table = refl; plain = refl; unstamped = refl; room = omega arith; free = tt; newest = tt }),
+                (
+                  record { mine = refl; plain = refl },
+                  (
+                    publishes _ _ _ _ refl,
+                    (
+                      record { live = refl; none = λ r. refl },
+                      (
+                        (λ j. omega arith),
+                        tt,
+                      ),
+                    ),
+                  ),
+                ),
+              ),
+            ),
+          ),
+        ),
+      ),
+    ),
+  ),
+)
 
 pub two_versions_runs : (image : Image) → Run (opened 2 1 1 2) (two_versions image)
 unfolding bucket_of
-two_versions_runs image = (record { session = second; rests = refl; room = omega arith },
-  (refl,
-  (refl,
-  (record { fixed = (0, refl); tables = tt },
-  ((0, All, record { live = refl; table = refl; plain = refl; unstamped = refl; room = omega arith; free = tt; newest = tt }),
-  (record { mine = refl; plain = refl },
-  (publishes _ _ _ _ refl,
-  (record { live = refl; none = λ r. refl },
-  (record { session = first; rests = refl; room = omega arith },
-  (refl,
-  (refl,
-  (record { fixed = (1, refl); tables = omega arith },
-  (record { session = second; rests = refl; room = omega arith },
-  (refl,
-  (refl,
-  (record { fixed = (1, refl); tables = tt },
-  ((1, All, record { live = refl; table = refl; plain = refl; unstamped = refl; room = omega arith; free = omega arith; newest = omega arith }),
-  (record { mine = refl; plain = refl },
-  (publishes _ _ _ _ refl,
-  (record { live = refl; none = λ r. refl },
-  ((λ j. omega arith),
-  (record { session = first; fresh = refl },
-  (record { session = second; fresh = refl },
-  tt)))))))))))))))))))))))
+two_versions_runs image = (
+  record { session = second; rests = refl; room = omega arith },
+  (
+    refl,
+    (
+      refl,
+      (
+        record { fixed = (0, refl); tables = tt },
+        (
+          (0, All, record { live = refl; table = refl; plain = refl; unstamped = refl; room = omega arith; free = tt; newest = tt }),
+          (
+            record { mine = refl; plain = refl },
+            (
+              publishes _ _ _ _ refl,
+              (
+                record { live = refl; none = λ r. refl },
+                (
+                  record { session = first; rests = refl; room = omega arith },
+                  (
+                    refl,
+                    (
+                      refl,
+                      (
+                        record { fixed = (1, refl); tables = omega arith },
+                        (
+                          record { session = second; rests = refl; room = omega arith },
+                          (
+                            refl,
+                            (
+                              refl,
+                              (
+                                record { fixed = (1, refl); tables = tt },
+                                (
+                                  (1, All, record { live = refl; table = refl; plain = refl; unstamped = refl; room = omega arith; free = omega arith; newest = omega arith }),
+                                  (
+                                    record { mine = refl; plain = refl },
+                                    (
+                                      publishes _ _ _ _ refl,
+                                      (
+                                        record { live = refl; none = λ r. refl },
+                                        (
+                                          (λ j. omega arith),
+                                          (
+                                            record { session = first; fresh = refl },
+                                            (
+                                              record { session = second; fresh = refl },
+                                              tt,
+                                            ),
+                                          ),
+                                        ),
+                                      ),
+                                    ),
+                                  ),
+                                ),
+                              ),
+                            ),
+                          ),
+                        ),
+                      ),
+                    ),
+                  ),
+                ),
+              ),
+            ),
+          ),
+        ),
+      ),
+    ),
+  ),
+)
 
 pub moved_snapshot_runs : Run (opened 2 1 1 2) moved_snapshot
 unfolding bucket_of
-moved_snapshot_runs = (record { session = second; rests = refl; room = omega arith },
-  (refl,
-  (refl,
-  (record { fixed = (0, refl); tables = tt },
-  ((0, All, record { live = refl; table = refl; plain = refl; unstamped = refl; room = omega arith; free = tt; newest = tt }),
-  (record { mine = refl; plain = refl },
-  (publishes _ _ _ _ refl,
-  (record { live = refl; none = λ r. refl },
-  (record { session = first; rests = refl; room = omega arith },
-  (refl,
-  (refl,
-  (record { fixed = (1, refl); tables = omega arith },
-  (record { session = second; rests = refl; room = omega arith },
-  (refl,
-  (refl,
-  (record { fixed = (1, refl); tables = tt },
-  ((1, All, record { live = refl; table = refl; plain = refl; unstamped = refl; room = omega arith; free = omega arith; newest = omega arith }),
-  (record { mine = refl; plain = refl },
-  (publishes _ _ _ _ refl,
-  (record { live = refl; none = λ r. refl },
-  ((λ j. omega arith),
-  (record { session = first; fresh = refl },
-  (record { session = second; fresh = refl },
-  ((1, 1, record { shown = refl; loaded = refl }),
-  tt))))))))))))))))))))))))
+moved_snapshot_runs = (
+  record { session = second; rests = refl; room = omega arith },
+  (
+    refl,
+    (
+      refl,
+      (
+        record { fixed = (0, refl); tables = tt },
+        (
+          (0, All, record { live = refl; table = refl; plain = refl; unstamped = refl; room = omega arith; free = tt; newest = tt }),
+          (
+            record { mine = refl; plain = refl },
+            (
+              publishes _ _ _ _ refl,
+              (
+                record { live = refl; none = λ r. refl },
+                (
+                  record { session = first; rests = refl; room = omega arith },
+                  (
+                    refl,
+                    (
+                      refl,
+                      (
+                        record { fixed = (1, refl); tables = omega arith },
+                        (
+                          record { session = second; rests = refl; room = omega arith },
+                          (
+                            refl,
+                            (
+                              refl,
+                              (
+                                record { fixed = (1, refl); tables = tt },
+                                (
+                                  (1, All, record { live = refl; table = refl; plain = refl; unstamped = refl; room = omega arith; free = omega arith; newest = omega arith }),
+                                  (
+                                    record { mine = refl; plain = refl },
+                                    (
+                                      publishes _ _ _ _ refl,
+                                      (
+                                        record { live = refl; none = λ r. refl },
+                                        (
+                                          (λ j. omega arith),
+                                          (
+                                            record { session = first; fresh = refl },
+                                            (
+                                              record { session = second; fresh = refl },
+                                              (
+                                                (1, 1, record { shown = refl; loaded = refl }),
+                                                tt,
+                                              ),
+                                            ),
+                                          ),
+                                        ),
+                                      ),
+                                    ),
+                                  ),
+                                ),
+                              ),
+                            ),
+                          ),
+                        ),
+                      ),
+                    ),
+                  ),
+                ),
+              ),
+            ),
+          ),
+        ),
+      ),
+    ),
+  ),
+)
 
 pub open_write_runs : Run (opened 2 1 1 2) open_write
 unfolding bucket_of
-open_write_runs = (record { session = first; rests = refl; room = omega arith },
-  (refl,
-  (refl,
-  (record { fixed = (0, refl); tables = tt },
-  (record { session = second; rests = refl; room = omega arith },
-  (refl,
-  (refl,
-  (record { fixed = (0, refl); tables = tt },
-  ((0, All, record { live = refl; table = refl; plain = refl; unstamped = refl; room = omega arith; free = tt; newest = tt }),
-  tt)))))))))
+open_write_runs = (
+  record { session = first; rests = refl; room = omega arith },
+  (
+    refl,
+    (
+      refl,
+      (
+        record { fixed = (0, refl); tables = tt },
+        (
+          record { session = second; rests = refl; room = omega arith },
+          (
+            refl,
+            (
+              refl,
+              (
+                record { fixed = (0, refl); tables = tt },
+                (
+                  (0, All, record { live = refl; table = refl; plain = refl; unstamped = refl; room = omega arith; free = tt; newest = tt }),
+                  tt,
+                ),
+              ),
+            ),
+          ),
+        ),
+      ),
+    ),
+  ),
+)
