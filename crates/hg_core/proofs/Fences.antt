@@ -116,10 +116,10 @@ live_fenced s p j at scope h whole live =
       ]
     ]
 
-held_in_table : (pass : PassRecord) (j at : ℕ) (scope : Scope) (table : TableId) (register : Register) → IsHeld pass j at scope register → IsTrue (has scope table) → Contains (recorded table pass) at
+pub held_in_table : (pass : PassRecord) (j at : ℕ) (scope : Scope) (table : TableId) (register : Register) → IsHeld pass j at scope register → IsTrue (has scope table) → Contains (recorded table pass) at
 held_in_table pass j at scope table register held has_it = contains_live at j _ register pass.loaded held.loaded (passes_table table at register scope held.holds has_it)
 
-held_in_all : (pass : PassRecord) (j at : ℕ) (scope : Scope) (register : Register) → IsHeld pass j at scope register → Contains (all_recorded pass) at
+pub held_in_all : (pass : PassRecord) (j at : ℕ) (scope : Scope) (register : Register) → IsHeld pass j at scope register → Contains (all_recorded pass) at
 held_in_all pass j at scope register held = contains_live at j _ register pass.loaded held.loaded (passes_all at register scope held.holds)
 
 -- a number that was fixed is at or over the horizon
@@ -139,11 +139,11 @@ misses_none s p h whole j at scope table live has_it = elim (live_fenced s p j a
 
 -- ---- the bounds
 
-least_first : (n : ℕ) (xs : List ℕ) → least n xs ≤ n
+pub least_first : (n : ℕ) (xs : List ℕ) → least n xs ≤ n
 least_first n [] = omega arith
 least_first n (x ∷ xs) = omega (arith, least_first n xs)
 
-least_of : (n m : ℕ) (xs : List ℕ) → Contains xs m → least n xs ≤ m
+pub least_of : (n m : ℕ) (xs : List ℕ) → Contains xs m → least n xs ≤ m
 least_of n m [] c = absurd (let k = c.1 in omega arith)
 least_of n m (x ∷ xs) c = go c.0 c.1 c.2 (λ k. least_of n m xs k)
   where

@@ -27,12 +27,21 @@ mark_kept s p known h may =
         sessions = h.mark_is_length.sessions;
         passes = by_number p (λ q b. (if b then fresh else s.pass q).mark ≤ s.mark) (omega arith) (λ q other. h.mark_is_length.passes q);
       };
+      taken_at_most_mark = h.taken_at_most_mark;
+      history = h.history;
+      no_update_is_lost = h.no_update_is_lost;
       registers_agree = h.registers_agree;
       records_bound_sessions = by_number p (λ q b. (j : ℕ) → IfSome (found j (if b then fresh else s.pass q).loaded) (λ register. Bounds (if b then fresh else s.pass q).mark register (s.phase j))) (λ j. tt) (λ q other. h.records_bound_sessions q);
       records_reach_logs = record {
         known = by_number p (λ q b. (j : ℕ) → (if b then fresh else s.pass q).known j ≤ length (s.log j)) may (λ q other. h.records_reach_logs.known q);
         stands = by_number p (λ q b. (j : ℕ) → IfSome (found j (if b then fresh else s.pass q).loaded) (λ register. StandsIn ((if b then fresh else s.pass q).known j) register (s.log j) (s.phase j))) (λ j. tt) (λ q other. h.records_reach_logs.stands q);
       };
+      covered = h.covered;
+      open_writes_may_commit = h.open_writes_may_commit;
+      contents_are_ordered = h.contents_are_ordered;
+      open_writes_stand = h.open_writes_stand;
+      stamped_is_next = h.stamped_is_next;
+      replies_answer = h.replies_answer;
       logs_answer = h.logs_answer;
     }
 
@@ -53,6 +62,9 @@ sample_kept s p j h may =
         sessions = h.mark_is_length.sessions;
         passes = by_number p (λ q b. (if b then more else s.pass q).mark ≤ s.mark) (h.mark_is_length.passes p) (λ q other. h.mark_is_length.passes q);
       };
+      taken_at_most_mark = h.taken_at_most_mark;
+      history = h.history;
+      no_update_is_lost = h.no_update_is_lost;
       registers_agree = h.registers_agree;
       records_bound_sessions = by_number p (λ q b. (k : ℕ) → IfSome (found k (if b then more else s.pass q).loaded) (λ register. Bounds (if b then more else s.pass q).mark register (s.phase k)))
           (by_number j (λ k b. IfSome (if b then Some (s.register j) else found k (s.pass p).loaded) (λ register. Bounds (s.pass p).mark register (s.phase k)))
@@ -67,6 +79,12 @@ sample_kept s p j h may =
             (λ k other. h.records_reach_logs.stands p k))
             (λ q other. h.records_reach_logs.stands q);
       };
+      covered = h.covered;
+      open_writes_may_commit = h.open_writes_may_commit;
+      contents_are_ordered = h.contents_are_ordered;
+      open_writes_stand = h.open_writes_stand;
+      stamped_is_next = h.stamped_is_next;
+      replies_answer = h.replies_answer;
       logs_answer = h.logs_answer;
     }
 
@@ -115,6 +133,9 @@ move_kept s p j h (n, mask, may) =
         sessions = h.mark_is_length.sessions;
         passes = by_number p (λ q b. (if b then more else s.pass q).mark ≤ s.mark) (h.mark_is_length.passes p) (λ q other. h.mark_is_length.passes q);
       };
+      taken_at_most_mark = h.taken_at_most_mark;
+      history = h.history;
+      no_update_is_lost = h.no_update_is_lost;
       registers_agree = record {
         shows = by_number j (λ k b. Shows s.tables (s.phase k) (if b then moved (s.register j) else s.register k)) (rw may.shown now) (λ k other. h.registers_agree.shows k);
         others = h.registers_agree.others;
@@ -132,5 +153,11 @@ move_kept s p j h (n, mask, may) =
             (λ k other. rw (found_else j k (s.pass p).loaded other) (h.records_reach_logs.stands p k)))
             (λ q other. h.records_reach_logs.stands q);
       };
+      covered = h.covered;
+      open_writes_may_commit = h.open_writes_may_commit;
+      contents_are_ordered = h.contents_are_ordered;
+      open_writes_stand = h.open_writes_stand;
+      stamped_is_next = h.stamped_is_next;
+      replies_answer = h.replies_answer;
       logs_answer = h.logs_answer;
     }

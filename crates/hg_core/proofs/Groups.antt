@@ -64,7 +64,7 @@ pub length_more : (h : History) (g : Group) → length (h ++ g ∷ []) ≡ suc (
 length_more [] g = refl
 length_more (f ∷ fs) g = ap suc (length_more fs g)
 
-group_new : (first : ℕ) (h : History) (g : Group) → group_from first (h ++ g ∷ []) (first + length h) ≡ g
+pub group_new : (first : ℕ) (h : History) (g : Group) → group_from first (h ++ g ∷ []) (first + length h) ≡ g
 group_new first [] g = let e : (first == first + 0) ≡ true = grind (arith, nat_tests) in ap (λ b. if b then g else []) e
 group_new first (f ∷ fs) g =
     let e : (first == first + suc (length fs)) ≡ false = grind (arith, nat_tests) in
@@ -73,7 +73,7 @@ group_new first (f ∷ fs) g =
     ∙ ap (group_from (suc first) (fs ++ g ∷ [])) n
     ∙ group_new (suc first) fs g
 
-group_old : (first : ℕ) (h : History) (g : Group) (n : ℕ) → (n == first + length h) ≡ false → group_from first (h ++ g ∷ []) n ≡ group_from first h n
+pub group_old : (first : ℕ) (h : History) (g : Group) (n : ℕ) → (n == first + length h) ≡ false → group_from first (h ++ g ∷ []) n ≡ group_from first h n
 group_old first [] g n e = let k : (first == n) ≡ false = grind (arith, nat_tests) in ap (λ b. if b then g else []) k
 group_old first (f ∷ fs) g n e =
     let k : (n == suc first + length fs) ≡ false = grind (arith, nat_tests) in

@@ -1,10 +1,10 @@
 -- One log grows, or its session's phase changes.
-use Rattle.std.proofs.Common.{◌≡◌, ℕ, List, length, sym, ◌∙◌, subst}
+use Rattle.std.proofs.Common.{◌≡◌, ℕ, ◌≤◌, List, length, sym, ◌∙◌, subst}
 use Rattle.std.specs.Prelude.{IsTrue}
 use Rattle.hg_base.specs.History.{History, group_at}
 use Rattle.hg_core.specs.declared.phase.Phase.{Phase}
 use Rattle.hg_core.specs.declared.log.LogEntry.{LogEntry}
-use Rattle.hg_core.specs.Logs.{current, begans, published, has_number, UpTo}
+use Rattle.hg_core.specs.Logs.{current, begans, wrotes, published, has_number, UpTo}
 use Rattle.hg_core.specs.Phases.{snapshot_in, MayHaveBegun}
 use Rattle.hg_core.specs.Judged.{Judged, FixedOver, of_session, LogsAnswer}
 use Rattle.hg_core.proofs.Indices.{at_index, Only}
@@ -16,12 +16,14 @@ pub log_step : (sessions each : ℕ) (history : History) (phase phase' : ℕ →
     → FixedOver p l
     → UpTo (length history) l
     → Judged history l
+    → wrotes l ≤ each
     → ((n : ℕ) → published n j l ≡ published n j (log j))
     → ((n : ℕ) → IsTrue (has_number n (log j)) → IsTrue (has_number n l))
     → LogsAnswer sessions each history phase' log'
-log_step sessions each history phase phase' log log' j p l h op ol reads room fixed within judged commits named = record {
+log_step sessions each history phase phase' log log' j p l h op ol reads room fixed within judged wrote commits named = record {
   reads = at_index j (λ k. current (log' k) ≡ snapshot_in (phase' k)) (rw (ol.here, op.here) reads) (λ k other. rw (ol.there k other, op.there k other) (h.reads k));
   room = at_index j (λ k. MayHaveBegun each (phase' k) (begans (log' k))) (rw (ol.here, op.here) room) (λ k other. rw (ol.there k other, op.there k other) (h.room k));
+  written = at_index j (λ k. wrotes (log' k) ≤ each) (rw ol.here wrote) (λ k other. rw (ol.there k other) (h.written k));
   fixed = at_index j (λ k. FixedOver (phase' k) (log' k)) (rw (ol.here, op.here) fixed) (λ k other. rw (ol.there k other, op.there k other) (h.fixed k));
   within = at_index j (λ k. UpTo (length history) (log' k)) (rw ol.here within) (λ k other. rw (ol.there k other) (h.within k));
   judged = at_index j (λ k. Judged history (log' k)) (rw ol.here judged) (λ k other. rw (ol.there k other) (h.judged k));

@@ -1,16 +1,25 @@
 -- A group is published: the history, the mark and the logs of its sessions grow.
-use Rattle.std.proofs.Common.{◌≡◌, ℕ, suc, ◌<◌, ◌≤◌, inl, inr, List, [], ◌∷◌, ◌++◌, length, Bool, true, false, refl, sym, ap, ◌∙◌, subst, arith}
+use Rattle.std.proofs.Common.{◌≡◌, ℕ, suc, ◌<◌, ◌≤◌, inl, inr, List, [], ◌∷◌, ◌++◌, length, Option, None, Some, Bool, true, false, refl, sym, ap, ◌∙◌, subst, arith}
 use Rattle.std.specs.Prelude.{◌==◌, ◌||◌, if◌then◌else◌, IsSome, IsTrue}
 use Rattle.std.proofs.lemmas.Bool.Decides.{Decides-eqb, nat_tests}
+use Rattle.hg_base.specs.declared.rid.Rid.{Rid}
+use Rattle.hg_base.specs.declared.writer.Writer.{Writer}
+use Rattle.hg_base.specs.declared.image.Image.{Image}
 use Rattle.hg_base.specs.Lists.{Each}
-use Rattle.hg_base.specs.History.{History}
+use Rattle.hg_base.specs.History.{History, group_image, writes}
 use Rattle.hg_base.proofs.ListFacts.{cases}
 use Rattle.hg_core.specs.declared.phase.Phase.{Phase}
 use Rattle.hg_core.specs.declared.phase.Phase.TheVariants.{Idle, Probed, Entered, Fixed, Live}
 use Rattle.hg_core.specs.declared.log.LogEntry.{LogEntry}
 use Rattle.hg_core.specs.declared.log.LogEntry.TheVariants.{Began, Saw, Refused, Outside, Wrote, Undid, Published, Over}
-use Rattle.hg_core.specs.Logs.{current, begans, is_plain, has_number, new_group, is_in, published_logs, UpTo}
+use Rattle.hg_core.specs.Logs.{current, begans, wrotes, begun_in, open_in, is_plain, has_number, new_group, is_in, published_logs, UpTo}
 use Rattle.hg_core.specs.Phases.{IsSession, snapshot_in, MayHaveBegun}
+use Rattle.hg_core.specs.Versions.{Version, is_numbered, unpublished}
+use Rattle.hg_core.specs.Contents.{versions, is_stamped}
+use Rattle.hg_core.specs.OpenWrites.{writer_of}
+use Rattle.hg_core.specs.Replies.{RepliesAnswer}
+use Rattle.hg_core.proofs.Replies.{replies_published}
+use Rattle.hg_core.specs.Covered.{MayCommit}
 use Rattle.hg_core.specs.State.{CoreState}
 use Rattle.hg_core.specs.Events.{happens, May, MayPublish, Publish}
 use Rattle.hg_core.specs.Marks.{PhaseUpTo}
@@ -18,6 +27,14 @@ use Rattle.hg_core.specs.Judged.{Judge, Judged, FixedOver, IsNamed, LogsAnswer}
 use Rattle.hg_core.specs.Invariant.{IsSteady}
 use Rattle.hg_core.proofs.Groups.{wider, length_more, commits_kept}
 use Rattle.hg_core.proofs.Recalls.{reach_grown}
+use Rattle.hg_core.proofs.Versions.{same_pair, ordered_next, unpublished_next, unnumbered_same}
+use Rattle.hg_core.proofs.Updates.{some_is, update_more, group_loses_nothing}
+use Rattle.hg_core.proofs.Grouping.{history_more}
+use Rattle.hg_core.proofs.Backing.{backed_published}
+use Rattle.hg_core.proofs.Past.{writes_old}
+use Rattle.hg_core.proofs.Covering.{covers_published}
+use Rattle.hg_core.proofs.OpenWrites.{stamped_has}
+use Rattle.hg_core.proofs.NewGroup.{writer_in, nobody_in}
 
 phase_wider : (n m : ℕ) (p : Phase) → n ≤ m → PhaseUpTo n p → PhaseUpTo m p
 phase_wider n m Idle k u = tt
@@ -47,17 +64,18 @@ each_in P [] j h e = absurd (let k : false ≡ true = e in cc)
 each_in P (i ∷ js) j h e = cases (i == j) (λ q. subst P ((Decides-eqb i j).0 q) h.0) (λ q. each_in P js j h.1 (sym (ap (λ b. b || is_in js j) q) ∙ e))
 
 -- a live session has fixed no number
-over_live : (p : Phase) (log : List LogEntry) → IsSome (snapshot_in p) → FixedOver p log
+pub over_live : (p : Phase) (log : List LogEntry) → IsSome (snapshot_in p) → FixedOver p log
 over_live Idle log some = tt
 over_live (Probed f) log some = tt
 over_live (Entered f) log some = tt
 over_live (Fixed f m) log some = cc
 over_live (Live at scope) log some = tt
 
-logs_published : (sessions each : ℕ) (h : History) (phase : ℕ → Phase) (log : ℕ → List LogEntry) (js : List ℕ) → LogsAnswer sessions each h phase log → ((j : ℕ) → IsSome (current (log j)) → IsSession sessions j) → MayPublish log js → LogsAnswer sessions each (h ++ new_group log js ∷ []) phase (published_logs log js (suc (length h)))
-logs_published sessions each h phase log js a session_of may = record {
+logs_published : (sessions each : ℕ) (h : History) (phase : ℕ → Phase) (log : ℕ → List LogEntry) (list : List (ℕ × Rid)) (js : List ℕ) → LogsAnswer sessions each h phase log → ((j : ℕ) → IsSome (current (log j)) → IsSession sessions j) → MayPublish log list js → LogsAnswer sessions each (h ++ new_group log js ∷ []) phase (published_logs log js (suc (length h)))
+logs_published sessions each h phase log list js a session_of may = record {
   reads = λ j. reads_new j (is_in js j);
   room = λ j. room_new j (is_in js j);
+  written = λ j. written_new j (is_in js j);
   fixed = λ j. fixed_new j (is_in js j) refl;
   within = λ j. within_new j (is_in js j);
   judged = λ j. judged_new j (is_in js j) refl;
@@ -98,6 +116,10 @@ logs_published sessions each h phase log js a session_of may = record {
     room_new j true = a.room j
     room_new j false = a.room j
 
+    written_new : (j : ℕ) (b : Bool) → wrotes (if b then Published (suc (length h)) ∷ log j else log j) ≤ each
+    written_new j true = a.written j
+    written_new j false = a.written j
+
     fixed_new : (j : ℕ) (b : Bool) → is_in js j ≡ b → FixedOver (phase j) (if b then Published (suc (length h)) ∷ log j else log j)
     fixed_new j true e = let some : IsSome (current (log j)) = each_in (λ i. IsSome (current (log i))) js j may.opened e in over_live (phase j) _ (subst IsSome (a.reads j) some)
     fixed_new j false e = a.fixed j
@@ -120,7 +142,38 @@ publish_kept s js h may = record {
   registers_agree = h.registers_agree;
   records_bound_sessions = h.records_bound_sessions;
   records_reach_logs = reach_grown s.phase s.log (published_logs s.log js (suc s.mark)) (λ k. if is_in js k then Published (suc s.mark) ∷ [] else []) s.pass (λ k. grows k (is_in js k)) h.records_reach_logs;
-  logs_answer = subst (λ n. LogsAnswer s.sessions s.each (s.history ++ new_group s.log js ∷ []) s.phase (published_logs s.log js (suc n))) (sym h.mark_is_length.is_length) (logs_published s.sessions s.each s.history s.phase s.log js h.logs_answer session_of may);
+  covered = λ r. covers_published s.mark s.phase s.history (new_group s.log js) r (held r) h.mark_is_length.is_length h.mark_is_length.sessions (h.contents_are_ordered.ordered r)
+      (λ i e.
+      let who = writer_in r i s.log js may.plain e in
+      let own = h.open_writes_stand.owns r who.0 i who.2 in
+      (writer_of (begun_in s.log) who.0, own, in_group r (writer_of (begun_in s.log) who.0) i own ∙ who.1))
+      (λ e w i o. in_group r w i o ∙ out_of r w i o e (is_in js w.session) refl)
+      (h.covered r);
+  open_writes_may_commit = λ j r i e. let was = opened_old j r i (is_in js j) refl e in commits_later r j i was.1 was.0;
+  contents_are_ordered = record {
+    ordered = λ r. ordered_next s.mark (held r) (h.contents_are_ordered.ordered r);
+    backed = λ r. backed_published s.mark s.history (new_group s.log js) r (held r) h.mark_is_length.is_length (h.contents_are_ordered.ordered r) (written r) (h.contents_are_ordered.backed r);
+  };
+  open_writes_stand = record {
+    owned = λ r w i e.
+        let was = unpublished_next s.mark (held r) w i (h.contents_are_ordered.ordered r) e in
+        let own = h.open_writes_stand.owned r w i was.0 in
+        let out : is_in js w.session ≡ false = sym (in_group r w i was.0) ∙ was.1 in
+        (own.0 ∙ ap (λ n. writer w.session n) (sym (begun_new w.session (is_in js w.session))), opened_new w.session r out ∙ own.1);
+    owns = λ r j i e.
+        let was = opened_old j r i (is_in js j) refl e in
+        let own = h.open_writes_stand.owns r j i was.1 in
+        unnumbered_same s.mark (suc s.mark) (held r) (in_group r (writer_of (begun_in s.log) j) i own ∙ was.0) ∙ own ∙ ap (λ n. Some (writer j n, i)) (sym (begun_new j (is_in js j)));
+  };
+  stamped_is_next = record {
+    exact = λ r w i e. (unpublished_next s.mark (held r) w i (h.contents_are_ordered.ordered r) e).1;
+    standing = λ j r e. absurd (let z : false ≡ true = e in cc);
+  };
+  history = history_more s.history s.log s.stamped_list js h.history h.logs_answer.within may.some may.distinct may.plain may.stamped h.stamped_is_next.standing (λ r j k a b. let x = some_is (open_in r (s.log j)) a in let y = some_is (open_in r (s.log k)) b in one_owner r j k x.0 y.0 x.1 y.1);
+  no_update_is_lost = update_more s.history (new_group s.log js) h.no_update_is_lost (group_loses_nothing s.history s.phase s.log js h.logs_answer.reads h.open_writes_may_commit may.plain);
+  taken_at_most_mark = omega (arith, h.taken_at_most_mark);
+  replies_answer = subst (λ n. RepliesAnswer s.buckets (s.history ++ new_group s.log js ∷ []) (published_logs s.log js (suc n))) (sym h.mark_is_length.is_length) (replies_published s.buckets s.history (new_group s.log js) s.log js h.logs_answer.within h.replies_answer);
+  logs_answer = subst (λ n. LogsAnswer s.sessions s.each (s.history ++ new_group s.log js ∷ []) s.phase (published_logs s.log js (suc n))) (sym h.mark_is_length.is_length) (logs_published s.sessions s.each s.history s.phase s.log s.stamped_list js h.logs_answer session_of may);
 }
   where
     session_of : (j : ℕ) → IsSome (current (s.log j)) → IsSession s.sessions j
@@ -128,6 +181,81 @@ publish_kept s js h may = record {
       | inl session ↦ session
       | inr rests ↦ (let z : IsSome (snapshot_in Idle) = subst IsSome (h.logs_answer.reads j ∙ ap snapshot_in rests) some in cc)
     ]
+
+    held : Rid → List Version
+    held = versions s.buckets s.bucket
+
+    writer : ℕ → ℕ → Writer
+    writer j n = record { session = j; transaction = n }
+
+    -- what isn't published has a number where its session is of the group
+    in_group : (r : Rid) (w : Writer) (i : Image) → unpublished s.mark (held r) ≡ Some (w, i) → is_numbered (held r) ≡ is_in js w.session
+    in_group r w i e = h.stamped_is_next.exact r w i e ∙ go (is_in js w.session) refl (is_stamped w.session r s.stamped_list) refl
+      where
+        go : (a : Bool) → is_in js w.session ≡ a → (b : Bool) → is_stamped w.session r s.stamped_list ≡ b → b ≡ a
+        go true p true q = refl
+        go true p false q = absurd (let own = (h.open_writes_stand.owned r w i e).1 in let z = may.whole w.session r p (subst IsSome (sym own) refl) in cc)
+        go false p true q = absurd (let z = stamped_has w.session r s.stamped_list q in let y = may.stamped w.session in cc)
+        go false p false q = refl
+
+    begun_new : (k : ℕ) (b : Bool) → begans (if b then Published (suc s.mark) ∷ s.log k else s.log k) ≡ begans (s.log k)
+    begun_new k true = refl
+    begun_new k false = refl
+
+    opened_new : (k : ℕ) (r : Rid) → is_in js k ≡ false → open_in r (published_logs s.log js (suc s.mark) k) ≡ open_in r (s.log k)
+    opened_new k r e = ap (λ b. open_in r (if b then Published (suc s.mark) ∷ s.log k else s.log k)) e
+
+    opened_old : (k : ℕ) (r : Rid) (i : Image) (b : Bool) → is_in js k ≡ b → open_in r (if b then Published (suc s.mark) ∷ s.log k else s.log k) ≡ Some i → (is_in js k ≡ false) × (open_in r (s.log k) ≡ Some i)
+    opened_old k r i true e o = cc
+    opened_old k r i false e o = (e, o)
+
+    -- two sessions that have a record open are one
+    one_owner : (r : Rid) (j k : ℕ) (a b : Image) → open_in r (s.log j) ≡ Some a → open_in r (s.log k) ≡ Some b → j ≡ k
+    one_owner r j k a b p q = ap (λ x. x.0.session) (same_pair (writer_of (begun_in s.log) j, a) (writer_of (begun_in s.log) k, b) (sym (h.open_writes_stand.owns r j a p) ∙ h.open_writes_stand.owns r k b q))
+
+    -- the group writes what is stamped
+    written : (r : Rid) (w : Writer) (i : Image) → unpublished s.mark (held r) ≡ Some (w, i) → is_numbered (held r) ≡ true → group_image r (new_group s.log js) ≡ Some i
+    written r w i e n = go (group_image r (new_group s.log js)) refl
+      where
+        mine : open_in r (s.log w.session) ≡ Some i
+        mine = (h.open_writes_stand.owned r w i e).1
+
+        is_of : is_in js w.session ≡ true
+        is_of = sym (in_group r w i e) ∙ n
+
+        go : (x : Option Image) → group_image r (new_group s.log js) ≡ x → group_image r (new_group s.log js) ≡ Some i
+        go None q = absurd (let z = nobody_in r s.log js w.session may.plain q is_of in let y = mine in cc)
+        go (Some a) q =
+            let z = writer_in r a s.log js may.plain q in
+            let same : z.0 ≡ w.session = one_owner r z.0 w.session a i z.2 mine in
+            let x : open_in r (s.log w.session) ≡ Some a = subst (λ k. open_in r (s.log k) ≡ Some a) same z.2 in
+            q ∙ sym x ∙ mine
+
+    -- who has open what the group doesn't write is not of the group
+    out_of : (r : Rid) (w : Writer) (i : Image) → unpublished s.mark (held r) ≡ Some (w, i) → group_image r (new_group s.log js) ≡ None → (b : Bool) → is_in js w.session ≡ b → b ≡ false
+    out_of r w i o e true q = absurd (let z = nobody_in r s.log js w.session may.plain e q in let y = (h.open_writes_stand.owned r w i o).1 in cc)
+    out_of r w i o e false q = refl
+
+    -- what another session has open the group doesn't write
+    not_written : (r : Rid) (j : ℕ) (i : Image) → open_in r (s.log j) ≡ Some i → is_in js j ≡ false → group_image r (new_group s.log js) ≡ None
+    not_written r j i o out = go (group_image r (new_group s.log js)) refl
+      where
+        go : (x : Option Image) → group_image r (new_group s.log js) ≡ x → group_image r (new_group s.log js) ≡ None
+        go None q = q
+        go (Some a) q = absurd (let z = writer_in r a s.log js may.plain q in let same : z.0 ≡ j = one_owner r z.0 j a i z.2 o in let y = z.1 in cc)
+
+    commits_later : (r : Rid) (j : ℕ) (i : Image) → open_in r (s.log j) ≡ Some i → is_in js j ≡ false → MayCommit (s.history ++ new_group s.log js ∷ []) r (s.phase j)
+    commits_later r j i o out = later (s.phase j) (h.open_writes_may_commit j r i o)
+      where
+        same : writes (s.history ++ new_group s.log js ∷ []) r ≡ writes s.history r
+        same = writes_old s.history (new_group s.log js) r (not_written r j i o out)
+
+        later : (p : Phase) → MayCommit s.history r p → MayCommit (s.history ++ new_group s.log js ∷ []) r p
+        later Idle m = m
+        later (Probed f) m = m
+        later (Entered f) m = m
+        later (Fixed f n) m = m
+        later (Live at scope) m = (m.0, subst (Each (λ (w : ℕ × Image). w.0 ≤ at)) (sym same) m.1)
 
     grows : (k : ℕ) (b : Bool) → (if b then Published (suc s.mark) ∷ s.log k else s.log k) ≡ (if b then Published (suc s.mark) ∷ [] else []) ++ s.log k
     grows k true = refl

@@ -1,11 +1,14 @@
 -- Each event keeps the invariant, so it holds after every list of events.
-use Rattle.std.proofs.Common.{ℕ, List, [], ◌∷◌, inr, refl, arith}
+use Rattle.std.proofs.Common.{ℕ, List, [], ◌∷◌, inl, inr, refl, arith}
 use Rattle.hg_core.specs.State.{CoreState, opened}
-use Rattle.hg_core.specs.Events.{Event, Probe, Enter, Fix, GoLive, End, Mark, Sample, Move, Publish, happens, May, Run, run, Always}
+use Rattle.hg_core.specs.Events.{Event, Probe, Enter, Fix, GoLive, End, Mark, Sample, Move, Install, Undo, Stamp, Publish, Reclaim, Take, Look, happens, May, Run, run, Always}
 use Rattle.hg_core.specs.Invariant.{IsSteady}
 use Rattle.hg_core.proofs.Begins.{probe_kept, enter_kept, fix_kept, go_live_kept, end_kept}
 use Rattle.hg_core.proofs.Gathers.{mark_kept, sample_kept, move_kept}
+use Rattle.hg_core.proofs.Writing.{install_kept, undo_kept, stamp_kept}
 use Rattle.hg_core.proofs.Publishing.{publish_kept}
+use Rattle.hg_core.proofs.Looking.{look_kept, take_kept}
+use Rattle.hg_core.proofs.Reclaiming.{reclaim_kept}
 
 pub kept : (s : CoreState) (e : Event) → IsSteady s → May s e → IsSteady (happens s e)
 kept s (Probe j) h may = probe_kept s j h may
@@ -16,7 +19,13 @@ kept s (End j) h may = end_kept s j h may
 kept s (Mark p known) h may = mark_kept s p known h may
 kept s (Sample p j) h may = sample_kept s p j h may
 kept s (Move p j) h may = move_kept s p j h may
+kept s (Install j r image) h may = install_kept s j r image h may
+kept s (Undo j r) h may = undo_kept s j r h may
+kept s (Stamp j r) h may = stamp_kept s j r h may
 kept s (Publish sessions) h may = publish_kept s sessions h may
+kept s (Reclaim p kind r) h may = reclaim_kept s p kind r h may
+kept s Take h may = take_kept s h may
+kept s (Look j ask b rows) h may = look_kept s j ask b rows h may
 
 pub run_kept : (s : CoreState) (events : List Event) → IsSteady s → Run s events → IsSteady (run s events)
 run_kept s [] h r = h
@@ -28,7 +37,16 @@ opened_steady sessions tables buckets each = record {
   registers_agree = record { shows = λ j. refl; others = λ j. inr refl };
   records_bound_sessions = λ p j. tt;
   records_reach_logs = record { known = λ p j. omega arith; stands = λ p j. tt };
-  logs_answer = record { reads = λ j. refl; room = λ j. omega arith; fixed = λ j. tt; within = λ j. tt; judged = λ j. tt; commits = λ n j. refl; named = λ n some last. absurd (omega arith) };
+  taken_at_most_mark = omega arith;
+  history = tt;
+  no_update_is_lost = tt;
+  replies_answer = λ j. tt;
+  covered = λ r. record { same = λ n g. refl; newest = inl refl };
+  open_writes_may_commit = λ j r i e. absurd (cc);
+  contents_are_ordered = record { ordered = λ r. tt; backed = λ r. tt };
+  open_writes_stand = record { owned = λ r w i e. absurd (cc); owns = λ r j i e. absurd (cc) };
+  stamped_is_next = record { exact = λ r w i e. absurd (cc); standing = λ j r e. absurd (cc) };
+  logs_answer = record { reads = λ j. refl; room = λ j. omega arith; written = λ j. omega arith; fixed = λ j. tt; within = λ j. tt; judged = λ j. tt; commits = λ n j. refl; named = λ n some last. absurd (omega arith) };
 }
 
 pub steady_after : Always IsSteady

@@ -1,23 +1,40 @@
 -- The events: each is one atomic action of one actor.
-use Rattle.std.specs.Prelude.{◌≡◌, ℕ, suc, ◌<◌, ◌≤◌, List, [], ◌∷◌, ◌++◌, length, true, false, ◌==◌, if◌then◌else◌, Some, IsSome, IsNone, IsTrue, ⊤}
+use Rattle.std.specs.Prelude.{◌≡◌, ℕ, ℤ, suc, ◌<◌, ◌≤◌, List, [], ◌∷◌, ◌++◌, length, true, false, ◌==◌, if◌then◌else◌, Option, Some, None, IsSome, IsNone, IfSome, IsTrue, IsFalse, ⊤}
 use Rattle.hg_base.specs.declared.scope.Scope.{Scope}
 use Rattle.hg_base.specs.declared.scope.Scope.TheVariants.{Declared}
+use Rattle.hg_base.specs.declared.rid.Rid.{Rid}
+use Rattle.hg_base.specs.declared.image.Image.{Image}
+use Rattle.hg_base.specs.declared.report.Kind.{Kind}
+use Rattle.hg_base.specs.Transcript.{has}
 use Rattle.hg_base.specs.Lists.{Each}
 use Rattle.hg_base.specs.History.{NoNumberTwice}
 use Rattle.hg_core.specs.declared.register.Register.{Register}
 use Rattle.hg_core.specs.declared.register.Register.TheVariants as registers
 use Rattle.hg_core.specs.declared.phase.Phase.TheVariants.{Idle, Probed, Entered, Fixed, Live}
 use Rattle.hg_core.specs.declared.log.LogEntry.{LogEntry}
-use Rattle.hg_core.specs.declared.log.LogEntry.TheVariants.{Began, Over}
+use Rattle.hg_core.specs.declared.log.LogEntry.TheVariants.{Began, Saw, Refused, Outside, Wrote, Undid, Over}
 use Rattle.hg_core.specs.Words.{IsBelow}
-use Rattle.hg_core.specs.Logs.{current, begans, is_plain, new_group, published_logs}
+use Rattle.hg_core.specs.Logs.{current, number_in, begans, wrotes, is_plain, open_in, begun_in, is_in, new_group, published_logs}
 use Rattle.hg_core.specs.Phases.{IsSession, snapshot_in}
-use Rattle.hg_core.specs.Passes.{PassRecord, found}
+use Rattle.hg_core.specs.Passes.{PassRecord, found, IsWhole}
+use Rattle.hg_core.specs.Versions.{newest_at, installed, undone, stamped, IsFreeFor, IsOpenBy}
+use Rattle.hg_core.specs.Contents.{versions, stored, is_stamped, has_stamped}
+use Rattle.hg_base.specs.declared.line.Answer.{Answer}
+use Rattle.hg_base.specs.Replies.{AreRows}
+use Rattle.hg_core.specs.declared.ask.Ask.{Ask}
+use Rattle.hg_core.specs.declared.ask.Ask.TheVariants.{Read}
+use Rattle.hg_core.specs.declared.ask.Ask.TheVariants as asks
+use Rattle.hg_core.specs.Replies.{read_by, in_bucket, refusal}
+use Rattle.hg_core.specs.Removal.{reclaimed}
+use Rattle.hg_core.specs.OpenWrites.{writer_of}
 use Rattle.hg_core.specs.State.{CoreState, opened}
 
 -- A session loads the mark (Probe), shows that it enters at it (Enter), loads the mark again (Fix), shows the second as
 -- its snapshot (GoLive), and goes to rest (End). A pass of a collector begins a record (Mark), loads a register (Sample)
--- and moves a long snapshot (Move). A committer publishes the transactions of some sessions as one group (Publish).
+-- and moves a long snapshot (Move). A session stores a write (Install) or takes it back (Undo). A committer gives an open
+-- write the next number (Stamp), and publishes the transactions of some sessions as one group (Publish). A pass takes away
+-- versions of a record (Reclaim). A session reads a range in a bucket, or tries a write, or names a table outside (Look).
+-- The group collector takes the oldest group out of the committer's list (Take).
 pub data Event : Type 0 where
   Probe : (j : ℕ) → Event
   Enter : (j f : ℕ) → Event
@@ -27,7 +44,13 @@ pub data Event : Type 0 where
   Mark : (p : ℕ) → (known : ℕ → ℕ) → Event
   Sample : (p j : ℕ) → Event
   Move : (p j : ℕ) → Event
+  Install : (j : ℕ) → (r : Rid) → (image : Image) → Event
+  Undo : (j : ℕ) → (r : Rid) → Event
+  Stamp : (j : ℕ) → (r : Rid) → Event
   Publish : (sessions : List ℕ) → Event
+  Reclaim : (p : ℕ) → (kind : Kind) → (r : Rid) → Event
+  Take : Event
+  Look : (j : ℕ) → (ask : Ask) → (b : ℕ) → (rows : List (ℕ × List ℤ)) → Event
 
 -- f with another value at j
 abbrev pub put : {A : Type 0} → (ℕ → A) → ℕ → A → ℕ → A
@@ -52,6 +75,17 @@ begun_record mark known = record { mark = mark; known = known; loaded = [] }
 abbrev pub sampled : PassRecord → ℕ → Register → PassRecord
 sampled pass j register = record pass { loaded = (j, register) ∷ pass.loaded }
 
+-- a log with a refusal, where there is one
+abbrev pub with_refusal : Rid → Option Answer → List LogEntry → List LogEntry
+with_refusal r None log = log
+with_refusal r (Some answer) log = Refused r answer ∷ log
+
+-- the log of session j after a look, in bucket b and with the rows that it finds there where it is a read
+abbrev pub looked : CoreState → ℕ → Ask → ℕ → List (ℕ × List ℤ) → List LogEntry
+looked s j (Read table low high) b rows = Saw table low high b rows ∷ s.log j
+looked s j (asks.Write r) b rows = with_refusal r (refusal s.mark (writer_of (begun_in s.log) j) (number_in (current (s.log j))) (versions s.buckets s.bucket r)) (s.log j)
+looked s j (asks.Outside table) b rows = Outside table ∷ s.log j
+
 -- the state after an event
 abbrev pub happens : CoreState → Event → CoreState
 happens s (Probe j) = record s { phase = put s.phase j (Probed s.mark) }
@@ -62,7 +96,13 @@ happens s (End j) = record s { phase = put s.phase j Idle; register = put s.regi
 happens s (Mark p known) = record s { pass = put s.pass p (begun_record s.mark known) }
 happens s (Sample p j) = record s { pass = put s.pass p (sampled (s.pass p) j (s.register j)) }
 happens s (Move p j) = record s { register = put s.register j (moved (s.register j)); pass = put s.pass p (record (s.pass p) { loaded = moved_in j (s.pass p).loaded }) }
-happens s (Publish sessions) = record s { mark = suc s.mark; history = s.history ++ new_group s.log sessions ∷ []; log = published_logs s.log sessions (suc s.mark) }
+happens s (Install j r image) = record s { bucket = stored s.buckets s.bucket r (installed (writer_of (begun_in s.log) j) image (versions s.buckets s.bucket r)); log = put s.log j (Wrote r image ∷ s.log j) }
+happens s (Undo j r) = record s { bucket = stored s.buckets s.bucket r (undone (versions s.buckets s.bucket r)); log = put s.log j (Undid r ∷ s.log j) }
+happens s (Stamp j r) = record s { bucket = stored s.buckets s.bucket r (stamped (suc s.mark) (writer_of (begun_in s.log) j) (versions s.buckets s.bucket r)); stamped_list = (j, r) ∷ s.stamped_list }
+happens s (Publish sessions) = record s { mark = suc s.mark; history = s.history ++ new_group s.log sessions ∷ []; stamped_list = []; log = published_logs s.log sessions (suc s.mark) }
+happens s (Reclaim p kind r) = record s { bucket = stored s.buckets s.bucket r (reclaimed kind r.table (s.pass p) (versions s.buckets s.bucket r)) }
+happens s Take = record s { taken = suc s.taken }
+happens s (Look j ask b rows) = record s { log = put s.log j (looked s j ask b rows) }
 
 -- a session may begin: it is at rest, and has begun fewer transactions than it may
 pub record MayProbe (s : CoreState) (j : ℕ) : Type 0 where
@@ -85,12 +125,54 @@ pub record MayMove (s : CoreState) (p j : ℕ) (number mask : ℕ) : Type 0 wher
   pub shown : s.register j ≡ registers.Live number (Declared mask) false
   pub loaded : found j (s.pass p).loaded ≡ Some (registers.Live number (Declared mask) false)
 
--- some sessions may publish: none twice, and nothing of their open transactions was undone or published
-pub record MayPublish (log : ℕ → List LogEntry) (sessions : List ℕ) : Type 0 where
+-- a session may go to rest: it reads at a snapshot, and has no open write
+pub record MayEnd (s : CoreState) (j : ℕ) : Type 0 where
+  pub live : IsSome (snapshot_in (s.phase j))
+  pub none : (r : Rid) → open_in r (s.log j) ≡ None
+
+-- A live session that has written less often than it may, may write a record of its tables: nothing of its transaction was undone, stamped or published, nobody
+-- else has the record open, and its newest number is at or below the snapshot.
+pub record MayInstall (s : CoreState) (j : ℕ) (r : Rid) (at : ℕ) (scope : Scope) : Type 0 where
+  pub live : s.phase j ≡ Live at scope
+  pub table : IsTrue (has scope r.table)
+  pub plain : IsTrue (is_plain (s.log j))
+  pub unstamped : IsFalse (has_stamped j s.stamped_list)
+  pub room : wrotes (s.log j) < s.each
+  pub free : IsFreeFor s.mark (writer_of (begun_in s.log) j) (versions s.buckets s.bucket r)
+  pub newest : IfSome (newest_at s.mark (versions s.buckets s.bucket r)) (λ pair. pair.0 ≤ at)
+
+-- an open write may go where none of its transaction is stamped
+pub record MayUndo (s : CoreState) (j : ℕ) (r : Rid) : Type 0 where
+  pub mine : IsOpenBy (writer_of (begun_in s.log) j) (versions s.buckets s.bucket r)
+  pub unstamped : IsFalse (has_stamped j s.stamped_list)
+
+-- an open write may get the next number where none of its transaction was undone
+pub record MayStamp (s : CoreState) (j : ℕ) (r : Rid) : Type 0 where
+  pub mine : IsOpenBy (writer_of (begun_in s.log) j) (versions s.buckets s.bucket r)
+  pub plain : IsTrue (is_plain (s.log j))
+
+-- Some sessions may publish: none twice, and nothing of their open transactions was undone or published. The list of
+-- stamped writes has a write of each of them and of nobody else, and each of their open writes.
+pub record MayPublish (log : ℕ → List LogEntry) (list : List (ℕ × Rid)) (sessions : List ℕ) : Type 0 where
   pub some : 0 < length sessions
   pub distinct : NoNumberTwice sessions
   pub opened : Each (λ j. IsSome (current (log j))) sessions
   pub plain : Each (λ j. IsTrue (is_plain (log j))) sessions
+  pub stamped : (j : ℕ) → has_stamped j list ≡ is_in sessions j
+  pub whole : (j : ℕ) (r : Rid) → IsTrue (is_in sessions j) → IsSome (open_in r (log j)) → IsTrue (is_stamped j r list)
+
+-- what a session asks: of its tables, and the rows are those of the bucket; or of no table of its scope
+abbrev pub Asks : CoreState → ℕ → ℕ → Scope → Ask → ℕ → List (ℕ × List ℤ) → Type 0
+Asks s j at scope (Read table low high) b rows = IsTrue (has scope table) × AreRows (in_bucket s.buckets b table (λ r. read_by (writer_of (begun_in s.log) j) at (versions s.buckets s.bucket r))) low high rows
+Asks s j at scope (asks.Write r) b rows = IsTrue (has scope r.table)
+Asks s j at scope (asks.Outside table) b rows = IsFalse (has scope table)
+
+-- a live session may look where nothing of its transaction was undone, stamped or published
+pub record MayLook (s : CoreState) (j : ℕ) (ask : Ask) (b : ℕ) (rows : List (ℕ × List ℤ)) (at : ℕ) (scope : Scope) : Type 0 where
+  pub live : s.phase j ≡ Live at scope
+  pub plain : IsTrue (is_plain (s.log j))
+  pub unstamped : IsFalse (has_stamped j s.stamped_list)
+  pub asks : Asks s j at scope ask b rows
 
 -- when an event may happen
 abbrev pub May : CoreState → Event → Type 0
@@ -98,11 +180,17 @@ May s (Probe j) = MayProbe s j
 May s (Enter j f) = s.phase j ≡ Probed f
 May s (Fix j f) = s.phase j ≡ Entered f
 May s (GoLive j m scope) = MayGoLive s j m scope
-May s (End j) = IsSome (snapshot_in (s.phase j))
+May s (End j) = MayEnd s j
 May s (Mark p known) = (j : ℕ) → known j ≤ length (s.log j)
 May s (Sample p j) = MaySample s p j
 May s (Move p j) = (number : ℕ) × (mask : ℕ) × MayMove s p j number mask
-May s (Publish sessions) = MayPublish s.log sessions
+May s (Install j r image) = (at : ℕ) × (scope : Scope) × MayInstall s j r at scope
+May s (Undo j r) = MayUndo s j r
+May s (Stamp j r) = MayStamp s j r
+May s (Publish sessions) = MayPublish s.log s.stamped_list sessions
+May s (Reclaim p kind r) = IsWhole s.sessions (s.pass p)
+May s Take = s.taken < s.mark
+May s (Look j ask b rows) = (at : ℕ) × (scope : Scope) × MayLook s j ask b rows at scope
 
 -- each event may happen in its turn
 abbrev pub Run : CoreState → List Event → Type 0

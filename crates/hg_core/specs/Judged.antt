@@ -1,11 +1,12 @@
 -- What the logs say: of begins, and of the order in which numbers stand.
 use Rattle.std.specs.Prelude.{◌≡◌, ℕ, ◌<◌, ◌≤◌, List, [], ◌∷◌, length, filter, ◌==◌, IsSome, IsTrue, None, ⊤}
+use Rattle.hg_base.specs.declared.rid.Rid.{Rid}
 use Rattle.hg_base.specs.History.{History, Group, group_at}
 use Rattle.hg_core.specs.declared.phase.Phase.{Phase}
 use Rattle.hg_core.specs.declared.phase.Phase.TheVariants.{Idle, Probed, Entered, Fixed, Live}
 use Rattle.hg_core.specs.declared.log.LogEntry.{LogEntry}
-use Rattle.hg_core.specs.declared.log.LogEntry.TheVariants.{Began, Published}
-use Rattle.hg_core.specs.Logs.{current, begans, is_plain, published, has_number, UpTo}
+use Rattle.hg_core.specs.declared.log.LogEntry.TheVariants.{Began, Published, Over}
+use Rattle.hg_core.specs.Logs.{current, open_in, begans, wrotes, is_plain, published, has_number, UpTo}
 use Rattle.hg_core.specs.Phases.{IsSession, snapshot_in, MayHaveBegun}
 
 -- a begin: no other transaction is open, and the snapshot is at or over every number that the session's log has
@@ -19,10 +20,16 @@ pub record IsPublish (earlier : List LogEntry) : Type 0 where
   pub opened : IsSome (current earlier)
   pub plain : IsTrue (is_plain earlier)
 
+-- an end: a transaction is open, and none of its writes is
+pub record IsEnd (earlier : List LogEntry) : Type 0 where
+  pub opened : IsSome (current earlier)
+  pub none : (r : Rid) → open_in r earlier ≡ None
+
 -- an entry after those before it: a transaction is open, unless the entry begins one
 abbrev pub Judge : History → LogEntry → List LogEntry → Type 0
 Judge h (Began at scope) earlier = IsBegin h at earlier
 Judge h (Published number) earlier = IsPublish earlier
+Judge h Over earlier = IsEnd earlier
 Judge h _ earlier = IsSome (current earlier)
 
 -- each entry of a log
@@ -50,6 +57,7 @@ pub record LogsAnswer (sessions each : ℕ) (history : History) (phase : ℕ →
   -- a session reads at the snapshot of the transaction that its log has open
   pub reads : (j : ℕ) → current (log j) ≡ snapshot_in (phase j)
   pub room : (j : ℕ) → MayHaveBegun each (phase j) (begans (log j))
+  pub written : (j : ℕ) → wrotes (log j) ≤ each
   pub fixed : (j : ℕ) → FixedOver (phase j) (log j)
   -- no number is over the mark
   pub within : (j : ℕ) → UpTo (length history) (log j)

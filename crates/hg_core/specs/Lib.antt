@@ -3,6 +3,9 @@ pub mod Words
 pub mod Logs
 pub mod Phases
 pub mod Passes
+pub mod Versions
+pub mod Contents
+pub mod Removal
 pub mod State
 pub mod Events
 -- What holds between any two events, part by part, and in whole.
@@ -10,9 +13,14 @@ pub mod Marks
 pub mod Registers
 pub mod Bounds
 pub mod Reach
+pub mod Ordered
+pub mod OpenWrites
+pub mod Covered
+pub mod Replies
 pub mod Judged
 pub mod Invariant
 -- What follows of gathers, a run, and which steps would be wrong.
 pub mod Missed
+pub mod Held
 pub mod Worked
 pub mod Wrong

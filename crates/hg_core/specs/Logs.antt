@@ -2,9 +2,11 @@
 use Rattle.std.specs.Prelude.{ℕ, suc, ◌≤◌, List, [], ◌∷◌, ◌++◌, map, Bool, true, false, ◌||◌, ◌==◌, if◌then◌else◌, Option, Some, None, ⊤}
 use Rattle.std.specs.List.{list_any}
 use Rattle.hg_base.specs.declared.scope.Snapshot.{Snapshot}
+use Rattle.hg_base.specs.declared.rid.Rid.{Rid}
+use Rattle.hg_base.specs.declared.image.Image.{Image}
 use Rattle.hg_base.specs.declared.line.Answer.{Answer}
 use Rattle.hg_base.specs.declared.line.Answer.TheVariants.{Newer}
-use Rattle.hg_base.specs.History.{Write, Commit, Group}
+use Rattle.hg_base.specs.History.{Write, Commit, Group, same_rid}
 use Rattle.hg_base.specs.Transcript.{last_images}
 use Rattle.hg_core.specs.declared.log.LogEntry.{LogEntry}
 use Rattle.hg_core.specs.declared.log.LogEntry.TheVariants.{Began, Refused, Wrote, Undid, Published, Over}
@@ -21,6 +23,12 @@ abbrev pub begans : List LogEntry → ℕ
 begans [] = 0
 begans (Began at scope ∷ log) = suc (begans log)
 begans (_ ∷ log) = begans log
+
+-- how many writes were stored
+abbrev pub wrotes : List LogEntry → ℕ
+wrotes [] = 0
+wrotes (Wrote rid image ∷ log) = suc (wrotes log)
+wrotes (_ ∷ log) = wrotes log
 
 -- whether a transaction was begun
 abbrev pub has_begun : List LogEntry → Bool
@@ -44,6 +52,23 @@ own_writes (Began at scope ∷ log) = []
 own_writes (Over ∷ log) = []
 own_writes (Wrote rid image ∷ log) = record { rid = rid; image = image } ∷ own_writes log
 own_writes (_ ∷ log) = own_writes log
+
+-- the open write of r in the transaction that is not over: its last stored one, unless it was undone or published
+abbrev pub open_in : Rid → List LogEntry → Option Image
+open_in r [] = None
+open_in r (Began at scope ∷ log) = None
+open_in r (Over ∷ log) = None
+open_in r (Published number ∷ log) = None
+open_in r (Wrote rid image ∷ log) = if same_rid rid r then Some image else open_in r log
+open_in r (Undid rid ∷ log) = if same_rid rid r then None else open_in r log
+open_in r (_ ∷ log) = open_in r log
+
+-- the open writes of all sessions, and how many transactions each has begun
+abbrev pub open_writes : (ℕ → List LogEntry) → ℕ → Rid → Option Image
+open_writes log j r = open_in r (log j)
+
+abbrev pub begun_in : (ℕ → List LogEntry) → ℕ → ℕ
+begun_in log j = begans (log j)
 
 -- the number of a snapshot, and 0 where there is none
 abbrev pub number_in : Option Snapshot → ℕ

@@ -1,11 +1,13 @@
 -- The state of a board and of all who use it. Each part has one owner.
 use Rattle.std.specs.Prelude.{ℕ, List, []}
+use Rattle.hg_base.specs.declared.rid.Rid.{Rid}
 use Rattle.hg_base.specs.History.{History}
 use Rattle.hg_core.specs.declared.register.Register.{Register}
 use Rattle.hg_core.specs.declared.register.Register.TheVariants as registers
 use Rattle.hg_core.specs.declared.phase.Phase.{Phase}
 use Rattle.hg_core.specs.declared.phase.Phase.TheVariants as phases
 use Rattle.hg_core.specs.declared.log.LogEntry.{LogEntry}
+use Rattle.hg_core.specs.Contents.{Content}
 use Rattle.hg_core.specs.Passes.{PassRecord, no_record}
 
 -- Sessions are counted from 1, and so are commit numbers.
@@ -18,11 +20,16 @@ pub record CoreState : Type 0 where
   -- the words, which all may load: the mark, and the register of each session
   pub mark : ℕ
   pub register : ℕ → Register
-  -- the committer's: the groups of commits, oldest first
+  -- the committer's: the groups of commits, oldest first, and the writes that have the next number, each with its session
   pub history : History
+  pub stamped_list : List (ℕ × Rid)
+  -- and how many groups were taken out of its list for the group collector
+  pub taken : ℕ
   -- a session's: its phase, and its log, newest entry first
   pub phase : ℕ → Phase
   pub log : ℕ → List LogEntry
+  -- a bucket's: its records with their versions
+  pub bucket : ℕ → Content
   -- a collector pass's: its record
   pub pass : ℕ → PassRecord
 
@@ -36,7 +43,10 @@ opened sessions tables buckets each = record {
   mark = 0;
   register = λ j. registers.Idle;
   history = [];
+  stamped_list = [];
+  taken = 0;
   phase = λ j. phases.Idle;
   log = λ j. [];
+  bucket = λ b. [];
   pass = λ p. no_record;
 }

@@ -1,13 +1,62 @@
--- A run of two sessions and a pass in which each kind of event happens.
-use Rattle.std.specs.Prelude.{List, [], ◌∷◌}
+-- Runs of two sessions and a pass. In each, session 2 commits a write, so that the mark grows from 0 to 1.
+use Rattle.std.specs.Prelude.{List, [], ◌∷◌, ◌++◌, Some, pos}
+use Rattle.hg_base.specs.declared.rid.Rid.{Rid}
+use Rattle.hg_base.specs.declared.image.Image.{Image}
 use Rattle.hg_base.specs.declared.scope.Scope.TheVariants.{All, Declared}
-use Rattle.hg_core.specs.Events.{Event, Probe, Enter, Fix, GoLive, End, Mark, Sample, Move, Publish}
+use Rattle.hg_base.specs.declared.report.Kind.TheVariants.{Interval}
+use Rattle.hg_core.specs.declared.ask.Ask.TheVariants.{Outside}
+use Rattle.hg_core.specs.Events.{Event, Probe, Enter, Fix, GoLive, End, Mark, Sample, Move, Install, Undo, Stamp, Publish, Reclaim, Take, Look}
 
--- Session 1 loads the mark 0 twice. Session 2 begins, commits, and is over, so the mark is 1. A pass loads the mark, finds
--- session 1 entering at 0 and session 2 idle. Then session 1 goes live at 0.
+-- two records of table 0, and a row
+abbrev pub one_rid : Rid
+one_rid = record { table = record { 0 = 0 }; key = 5 }
+
+abbrev pub two_rid : Rid
+two_rid = record { table = record { 0 = 0 }; key = 6 }
+
+abbrev pub row : Image
+row = record { row = Some (pos 7 ∷ []) }
+
+-- session 2 begins, writes a row, commits it, and is over
+abbrev pub commits : List Event
+commits = Probe 2 ∷ Enter 2 0 ∷ Fix 2 0 ∷ GoLive 2 0 All ∷ Install 2 one_rid row ∷ Stamp 2 one_rid ∷ Publish (2 ∷ []) ∷ End 2 ∷ []
+
+-- Session 1 loads the mark 0 twice. Session 2 commits, so the mark is 1. A pass loads the mark, finds session 1 entering at
+-- 0 and session 2 idle. Then session 1 goes live at 0.
 abbrev pub slow_begin : List Event
-slow_begin = Probe 1 ∷ Enter 1 0 ∷ Fix 1 0 ∷ Probe 2 ∷ Enter 2 0 ∷ Fix 2 0 ∷ GoLive 2 0 All ∷ Publish (2 ∷ []) ∷ End 2 ∷ Mark 0 (λ j. 0) ∷ Sample 0 1 ∷ Sample 0 2 ∷ GoLive 1 0 (Declared 1) ∷ []
+slow_begin = Probe 1 ∷ Enter 1 0 ∷ Fix 1 0 ∷ commits ++ Mark 0 (λ j. 0) ∷ Sample 0 1 ∷ Sample 0 2 ∷ GoLive 1 0 (Declared 1) ∷ []
 
--- The pass begins a new record, finds session 1 live at 0, and moves that snapshot to the table that it declared.
+-- The group is taken. The pass takes away what session 1 doesn't need of the record. It begins a new record, finds session 1 live at 0, and moves
+-- that snapshot to the table that it declared. Session 1 names another table, writes another record, takes that back, and is
+-- over.
 abbrev pub long_snapshot : List Event
-long_snapshot = Mark 0 (λ j. 0) ∷ Sample 0 1 ∷ Move 0 1 ∷ End 1 ∷ []
+long_snapshot = Take ∷ Reclaim 0 Interval one_rid ∷ Mark 0 (λ j. 0) ∷ Sample 0 1 ∷ Move 0 1 ∷ Look 1 (Outside (record { 0 = 1 })) 0 [] ∷ Install 1 two_rid row ∷ Undo 1 two_rid ∷ End 1 ∷ []
+
+-- Session 1 loads the mark 0. Session 2 commits. A pass loads the mark 1 and finds session 1 idle, which then enters at 0.
+abbrev pub late_entry : List Event
+late_entry = Probe 1 ∷ commits ++ Mark 0 (λ j. 0) ∷ Sample 0 1 ∷ Enter 1 0 ∷ []
+
+-- A pass loads the mark 0 and finds session 1 idle, which then goes live at 0. Session 2 commits.
+abbrev pub early_sample : List Event
+early_sample = Mark 0 (λ j. 0) ∷ Sample 0 1 ∷ Probe 1 ∷ Enter 1 0 ∷ Fix 1 0 ∷ GoLive 1 0 All ∷ commits
+
+-- Session 1 loads the mark 0 twice. Session 2 commits, and a pass loads the mark 1.
+abbrev pub low_fix : List Event
+low_fix = Probe 1 ∷ Enter 1 0 ∷ Fix 1 0 ∷ commits ++ Mark 0 (λ j. 0) ∷ []
+
+-- session 2 begins again, at 1, writes the record again, commits, and is over
+abbrev pub commits_again : Image → List Event
+commits_again image = Probe 2 ∷ Enter 2 1 ∷ Fix 2 1 ∷ GoLive 2 1 All ∷ Install 2 one_rid image ∷ Stamp 2 one_rid ∷ Publish (2 ∷ []) ∷ End 2 ∷ []
+
+-- Session 2 commits the record. Session 1 goes live at 1. Session 2 commits the record again, with this image. A pass loads
+-- the mark 2, and both registers.
+abbrev pub two_versions : Image → List Event
+two_versions image = commits ++ Probe 1 ∷ Enter 1 1 ∷ Fix 1 1 ∷ GoLive 1 1 (Declared 1) ∷ commits_again image ++ Mark 0 (λ j. 0) ∷ Sample 0 1 ∷ Sample 0 2 ∷ []
+
+-- and the pass moves the snapshot of session 1
+abbrev pub moved_snapshot : List Event
+moved_snapshot = two_versions row ++ Move 0 1 ∷ []
+
+-- session 2 has written the record, and nothing is stamped; session 1 is live too
+abbrev pub open_write : List Event
+open_write = Probe 1 ∷ Enter 1 0 ∷ Fix 1 0 ∷ GoLive 1 0 All ∷ Probe 2 ∷ Enter 2 0 ∷ Fix 2 0 ∷ GoLive 2 0 All ∷ Install 2 one_rid row ∷ []

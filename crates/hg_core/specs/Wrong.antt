@@ -1,11 +1,21 @@
 -- Wrong steps. Each is refuted by a state that meets the invariant.
-use Rattle.std.specs.Prelude.{ℕ, ◌∷◌, false}
+use Rattle.std.specs.Prelude.{◌≡◌, ℕ, ◌<◌, ◌≤◌, List, [], ◌∷◌, length, Bool, false, ◌&&◌, not, nat_le, nat_lt, if◌then◌else◌, Option, Some, None, is_none, IsSome, IfSome, IsTrue, IsFalse}
+use Rattle.std.specs.List.{list_any}
+use Rattle.hg_base.specs.declared.rid.Rid.{Rid}
+use Rattle.hg_base.specs.Lists.{Each}
+use Rattle.hg_base.specs.History.{NoNumberTwice}
+use Rattle.hg_base.specs.Transcript.{has}
+use Rattle.hg_core.specs.declared.log.LogEntry.{LogEntry}
+use Rattle.hg_core.specs.Logs.{current, is_plain}
+use Rattle.hg_core.specs.Versions.{Version, stamp_number, is_up_to, newest_at}
+use Rattle.hg_core.specs.Contents.{versions, stored, has_stamped}
+use Rattle.hg_core.specs.Removal.{swept, cut}
 use Rattle.hg_base.specs.declared.scope.Scope.{Scope}
 use Rattle.hg_core.specs.declared.register.Register.{Register}
 use Rattle.hg_core.specs.declared.register.Register.TheVariants as registers
 use Rattle.hg_core.specs.declared.phase.Phase.TheVariants.{Live}
 use Rattle.hg_core.specs.declared.log.LogEntry.TheVariants.{Began}
-use Rattle.hg_core.specs.Passes.{PassRecord}
+use Rattle.hg_core.specs.Passes.{PassRecord, horizon, live_numbers, recorded, least}
 use Rattle.hg_core.specs.State.{CoreState}
 use Rattle.hg_core.specs.Events.{put, sampled}
 
@@ -30,3 +40,53 @@ without_entering (registers.Live number scope moved) = registers.Live number sco
 -- a pass that loads a register and leaves out its entering number
 abbrev pub sampled_without_entering : CoreState → ℕ → ℕ → CoreState
 sampled_without_entering s p j = record s { pass = put s.pass p (sampled (s.pass p) j (without_entering (s.register j))) }
+
+-- a state with these versions for a record
+abbrev pub left_with : CoreState → Rid → List Version → CoreState
+left_with s r vs = record s { bucket = stored s.buckets s.bucket r vs }
+
+-- whether a version goes whose lifetime begins behind its own number
+abbrev pub goes_early : ℕ → List ℕ → Option ℕ → Option ℕ → Bool
+goes_early horizon snapshots None number = false
+goes_early horizon snapshots (Some u) None = false
+goes_early horizon snapshots (Some u) (Some n) = nat_le u horizon && not (list_any (λ s. nat_lt n s && nat_lt s u) snapshots)
+
+-- what a sweep by that test leaves
+abbrev pub swept_early : ℕ → List ℕ → Option ℕ → List Version → List Version
+swept_early horizon snapshots successor [] = []
+swept_early horizon snapshots successor (v ∷ vs) =
+    if goes_early horizon snapshots successor (stamp_number v.stamp)
+    then swept_early horizon snapshots (stamp_number v.stamp) vs
+    else v ∷ swept_early horizon snapshots (stamp_number v.stamp) vs
+
+-- a sweep with lifetimes that don't have their own number
+abbrev pub lifetime_past : CoreState → ℕ → Rid → CoreState
+lifetime_past s p r = left_with s r (swept_early (horizon (s.pass p)) (recorded r.table (s.pass p)) None (versions s.buckets s.bucket r))
+
+-- a cut at a bound that leaves out all moved snapshots
+abbrev pub cut_past_moved : CoreState → ℕ → Rid → CoreState
+cut_past_moved s p r = left_with s r (cut (least (horizon (s.pass p)) (live_numbers (λ scope moved. not moved) (s.pass p).loaded)) (versions s.buckets s.bucket r))
+
+-- the versions without the newest, where that is a deletion at or below a horizon
+abbrev pub without_deletion : ℕ → List Version → List Version
+without_deletion horizon [] = []
+without_deletion horizon (v ∷ vs) = if is_up_to horizon (stamp_number v.stamp) && is_none v.image.row then vs else v ∷ vs
+
+-- a sweep that takes a deletion though older versions stay
+abbrev pub newest_deletion_removed : CoreState → ℕ → Rid → CoreState
+newest_deletion_removed s p r = left_with s r (without_deletion (horizon (s.pass p)) (swept (horizon (s.pass p)) (recorded r.table (s.pass p)) None (versions s.buckets s.bucket r)))
+
+-- some sessions may publish, as far as their logs tell, whatever is stamped
+pub record MayPublishEarly (log : ℕ → List LogEntry) (sessions : List ℕ) : Type 0 where
+  pub some : 0 < length sessions
+  pub distinct : NoNumberTwice sessions
+  pub opened : Each (λ j. IsSome (current (log j))) sessions
+  pub plain : Each (λ j. IsTrue (is_plain (log j))) sessions
+
+-- a session may write, whoever else has the record open
+pub record MayInstallOver (s : CoreState) (j : ℕ) (r : Rid) (at : ℕ) (scope : Scope) : Type 0 where
+  pub live : s.phase j ≡ Live at scope
+  pub table : IsTrue (has scope r.table)
+  pub plain : IsTrue (is_plain (s.log j))
+  pub unstamped : IsFalse (has_stamped j s.stamped_list)
+  pub newest : IfSome (newest_at s.mark (versions s.buckets s.bucket r)) (λ pair. pair.0 ≤ at)

@@ -1,9 +1,13 @@
 //! What each event keeps, and what always holds. Each law is the contract of a function with no body.
 
-ghost use Rattle.std.specs.Prelude.{ℕ, List};
+ghost use Rattle.std.specs.Prelude.{ℕ, ℤ, List};
+ghost use Rattle.hg_base.specs.declared.rid.Rid.{Rid};
+ghost use Rattle.hg_base.specs.declared.image.Image.{Image};
+ghost use Rattle.hg_base.specs.declared.report.Kind.{Kind};
 ghost use Rattle.hg_base.specs.declared.scope.Scope.{Scope};
+ghost use Rattle.hg_core.specs.declared.ask.Ask.{Ask};
 ghost use Rattle.hg_core.specs.State.{CoreState};
-ghost use Rattle.hg_core.specs.Events.{Probe, Enter, Fix, GoLive, End, Mark, Sample, Move, Publish, happens, May, Always};
+ghost use Rattle.hg_core.specs.Events.{Probe, Enter, Fix, GoLive, End, Mark, Sample, Move, Install, Undo, Stamp, Publish, Reclaim, Take, Look, happens, May, Always};
 ghost use Rattle.hg_core.specs.Invariant.{IsSteady};
 
 /// A session loads the mark, of which nobody knows.
@@ -46,9 +50,39 @@ pub fn move_keeps()
     ensures { (s : CoreState) (p j : ℕ) → IsSteady s → May s (Move p j) → IsSteady (happens s (Move p j)) }
 {}
 
+/// A session stores a write, which is open until it is undone or published.
+pub fn install_keeps()
+    ensures { (s : CoreState) (j : ℕ) (r : Rid) (image : Image) → IsSteady s → May s (Install j r image) → IsSteady (happens s (Install j r image)) }
+{}
+
+/// It takes an open write back.
+pub fn undo_keeps()
+    ensures { (s : CoreState) (j : ℕ) (r : Rid) → IsSteady s → May s (Undo j r) → IsSteady (happens s (Undo j r)) }
+{}
+
+/// A committer gives an open write the number that the mark will have next.
+pub fn stamp_keeps()
+    ensures { (s : CoreState) (j : ℕ) (r : Rid) → IsSteady s → May s (Stamp j r) → IsSteady (happens s (Stamp j r)) }
+{}
+
 /// The open transactions of some sessions join the history as one group, and the mark grows by one.
 pub fn publish_keeps()
     ensures { (s : CoreState) (sessions : List ℕ) → IsSteady s → May s (Publish sessions) → IsSteady (happens s (Publish sessions)) }
+{}
+
+/// A pass with a whole record takes away versions of a record, by its kind. No session reads them, or may come to.
+pub fn reclaim_keeps()
+    ensures { (s : CoreState) (p : ℕ) (kind : Kind) (r : Rid) → IsSteady s → May s (Reclaim p kind r) → IsSteady (happens s (Reclaim p kind r)) }
+{}
+
+/// A session reads a range in a bucket, tries a write, or names a table outside. What it finds goes into its log.
+pub fn look_keeps()
+    ensures { (s : CoreState) (j : ℕ) (ask : Ask) (b : ℕ) (rows : List (ℕ × List ℤ)) → IsSteady s → May s (Look j ask b rows) → IsSteady (happens s (Look j ask b rows)) }
+{}
+
+/// The oldest group is taken out of the committer's list, for the group collector.
+pub fn take_keeps()
+    ensures { (s : CoreState) → IsSteady s → May s Take → IsSteady (happens s Take) }
 {}
 
 /// The invariant holds after every list of events from the state in which a board opens.

@@ -1,4 +1,4 @@
-//! The state machine under every concurrent claim: snapshots, gathers and moves.
+//! The state machine under every concurrent claim: snapshots, commits, and the removal of old versions.
 //!
 //! There are no threads here. An event is one atomic action of one actor, and one invariant holds after every list of
 //! events (`always_steady`). So nothing above has to argue about an order of steps again.
@@ -11,18 +11,31 @@
 //!     Probe   load the mark: f      idle               Mark    load the mark: M, which begins a record
 //!     Enter   store the register    entering f         Sample  load one register, for each session in turn
 //!     Fix     load the mark: m      entering f         Move    exchange a live register for the same, moved
-//!     GoLive  store the register    live at m
-//!     End     store the register    idle               committer
-//!                                                      Publish store the mark: one more
+//!     GoLive  store the register    live at m          Reclaim take versions of a record away
+//!     Look    read, or try a write  live at m
+//!     Install store a write         live at m          committer
+//!     Undo    take it back          live at m          Stamp   give a write the next number
+//!     End     store the register    idle               Publish store the mark: one more
+//!                                                      Take    hand the oldest group to its collector
 //!
 //! A session that a pass finds idle has its second load of the mark still before it, so it goes live at M or over it. One
 //! that the pass finds entering f goes live at f or over it. So the horizon of a record, the least of M and of all the
 //! numbers that enter, is at or below every snapshot that the pass did not find live (`no_gather_misses_a_snapshot`).
-//! With one load less, with the registers before M, or with a horizon that is M alone, a snapshot is missed: the laws
-//! that end in `is_refuted` have a state for each.
 //!
 //! A live register shows which tables its transaction declared. A snapshot that is long in use is moved: it then holds
 //! back those tables alone.
+//!
+//! A bucket holds the versions of its records, newest first:
+//!
+//!     written by 3/7  ->  9, by 2/4  ->  5, by 1/2  ->  oldest 3
+//!
+//! At most the first isn't published: an open write, or one that is stamped with the next number. A version lives from its
+//! number up to, and not including, its successor's. A sweep takes it where the successor is at or below the horizon and no
+//! snapshot that counts for the table is in that lifetime. A cut takes all at or below a bound but the newest, and that too
+//! where it is a deletion. So a reader finds what a table shows that never reclaims (`no_removal_is_seen`), every reply is
+//! right (`replies_are_right`), and no update is lost (`history_is_sound`).
+//!
+//! Each law that ends in `is_refuted` has a state that a wrong step spoils.
 //!
 //! `specs/` has the state, the events and the invariant, a part a file. `Register` and `Ask` are the types of the layer
 //! above. Of `Phase` and `LogEntry` contracts alone speak.
@@ -38,17 +51,22 @@ mod theorems;
 
 pub use ask::Ask;
 pub use laws::{
-    always_steady, end_keeps, enter_keeps, fix_keeps, go_live_keeps, mark_keeps, move_keeps,
-    probe_keeps, publish_keeps, sample_keeps,
+    always_steady, end_keeps, enter_keeps, fix_keeps, go_live_keeps, install_keeps, look_keeps,
+    mark_keeps, move_keeps, probe_keeps, publish_keeps, reclaim_keeps, sample_keeps, stamp_keeps,
+    take_keeps, undo_keeps,
 };
 pub use log::LogEntry;
 pub use phase::Phase;
 pub use refuted::{
-    horizon_without_entering_is_refuted, mark_loaded_last_is_refuted, one_load_is_refuted,
+    bound_without_moved_is_refuted, horizon_without_entering_is_refuted,
+    lifetime_without_own_number_is_refuted, mark_loaded_last_is_refuted,
+    newest_deletion_removed_is_refuted, one_load_is_refuted, publish_before_stamp_is_refuted,
+    second_writer_is_refuted,
 };
 pub use register::Register;
 pub use theorems::{
-    every_event_happens, mark_is_bounded, no_gather_misses_a_snapshot, words_are_exact,
+    every_event_happens, history_is_sound, mark_is_bounded, no_gather_misses_a_snapshot,
+    no_removal_is_seen, replies_are_right, words_are_exact,
 };
 
 #[cfg(test)]

@@ -1,13 +1,15 @@
 //! Steps that would be wrong. Each is refuted by a state that meets the invariant.
 
-ghost use Rattle.std.specs.Prelude.{◌≡◌, ℕ};
+ghost use Rattle.std.specs.Prelude.{◌≡◌, ℕ, List};
+ghost use Rattle.hg_base.specs.declared.rid.Rid.{Rid};
+ghost use Rattle.hg_base.specs.declared.image.Image.{Image};
 ghost use Rattle.hg_base.specs.declared.scope.Scope.{Scope};
 ghost use Rattle.hg_core.specs.Passes.{IsWhole};
 ghost use Rattle.hg_core.specs.State.{CoreState};
-ghost use Rattle.hg_core.specs.Events.{Sample, May};
+ghost use Rattle.hg_core.specs.Events.{Sample, Install, Publish, May, happens};
 ghost use Rattle.hg_core.specs.Invariant.{IsSteady};
 ghost use Rattle.hg_core.specs.Missed.{MissesNone};
-ghost use Rattle.hg_core.specs.Wrong.{live_by_one_load, mark_loaded_last, mark_alone, sampled_without_entering};
+ghost use Rattle.hg_core.specs.Wrong.{live_by_one_load, mark_loaded_last, mark_alone, sampled_without_entering, lifetime_past, cut_past_moved, newest_deletion_removed, MayPublishEarly, MayInstallOver};
 
 use crate::phase::Phase;
 
@@ -26,4 +28,29 @@ pub fn mark_loaded_last_is_refuted()
 pub fn horizon_without_entering_is_refuted()
     ensures sample { ((s : CoreState) (p j : ℕ) → IsSteady s → May s (Sample p j) → IsSteady (sampled_without_entering s p j)) → ⊥ }
     ensures horizon { ((s : CoreState) (p : ℕ) → IsSteady s → IsWhole s.sessions (s.pass p) → MissesNone (mark_alone (s.pass p)) (s.pass p) s.phase) → ⊥ }
+{}
+
+/// A version is read at its own number, so a sweep must not count its lifetime from behind it.
+pub fn lifetime_without_own_number_is_refuted()
+    ensures { ((s : CoreState) (p : ℕ) (r : Rid) → IsSteady s → IsWhole s.sessions (s.pass p) → IsSteady (lifetime_past s p r)) → ⊥ }
+{}
+
+/// A bound must count a moved snapshot for the tables that it declared.
+pub fn bound_without_moved_is_refuted()
+    ensures { ((s : CoreState) (p : ℕ) (r : Rid) → IsSteady s → IsWhole s.sessions (s.pass p) → IsSteady (cut_past_moved s p r)) → ⊥ }
+{}
+
+/// A sweep must leave the newest version, even where it is a deletion: an older row would be found again.
+pub fn newest_deletion_removed_is_refuted()
+    ensures { ((s : CoreState) (p : ℕ) (r : Rid) → IsSteady s → IsWhole s.sessions (s.pass p) → IsSteady (newest_deletion_removed s p r)) → ⊥ }
+{}
+
+/// All writes of a group must be stamped before the mark grows.
+pub fn publish_before_stamp_is_refuted()
+    ensures { ((s : CoreState) (sessions : List ℕ) → IsSteady s → MayPublishEarly s.log sessions → IsSteady (happens s (Publish sessions))) → ⊥ }
+{}
+
+/// A write must be refused where another session has the record open.
+pub fn second_writer_is_refuted()
+    ensures { ((s : CoreState) (j : ℕ) (r : Rid) (image : Image) (at : ℕ) (scope : Scope) → IsSteady s → MayInstallOver s j r at scope → IsSteady (happens s (Install j r image))) → ⊥ }
 {}

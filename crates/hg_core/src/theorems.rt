@@ -1,12 +1,16 @@
 //! What follows of the laws, in the words of the subject.
 
 ghost use Rattle.std.specs.Prelude.{◌≡◌, ℕ, ◌<◌, ◌≤◌, ◌*◌, ◌^◌, ◌++◌, IsTrue};
+ghost use Rattle.hg_base.specs.declared.rid.Rid.{Rid};
 ghost use Rattle.hg_base.specs.declared.rid.TableId.{TableId};
 ghost use Rattle.hg_base.specs.declared.scope.Scope.{Scope};
+ghost use Rattle.hg_base.specs.History.{visible, IsHistory, NoLostUpdate};
 ghost use Rattle.hg_base.specs.Transcript.{has};
 ghost use Rattle.hg_core.specs.Words.{IsRegister, word_of, register_of};
 ghost use Rattle.hg_core.specs.Passes.{IsWhole, horizon, table_bound, group_bound};
 ghost use Rattle.hg_core.specs.State.{CoreState, opened};
+ghost use Rattle.hg_core.specs.Held.{held};
+ghost use Rattle.hg_core.specs.Replies.{AreReplied};
 ghost use Rattle.hg_core.specs.Events.{Always, Run, run};
 ghost use Rattle.hg_core.specs.Invariant.{IsSteady};
 ghost use Rattle.hg_core.specs.Missed.{MissesNone};
@@ -23,6 +27,30 @@ pub fn no_gather_misses_a_snapshot()
     ensures fixed { Always (λ s. (p j f m : ℕ) → IsWhole s.sessions (s.pass p) → s.phase j ≡ Phase.Fixed f m → horizon (s.pass p) ≤ m) }
     ensures table { Always (λ s. (p j at : ℕ) (scope : Scope) (t : TableId) → IsWhole s.sessions (s.pass p) → s.phase j ≡ Phase.Live at scope → IsTrue (has scope t) → table_bound t (s.pass p) ≤ at) }
     ensures group { Always (λ s. (p j at : ℕ) (scope : Scope) → IsWhole s.sessions (s.pass p) → s.phase j ≡ Phase.Live at scope → group_bound (s.pass p) ≤ at) }
+{}
+
+/// No removal is seen. After every list of events, each live session finds of each record of its tables what a table that
+/// never reclaims would show it at its snapshot. And so does one that is yet to go live at a number that it fixed, whatever
+/// tables it will have, and one that will fix the mark.
+pub fn no_removal_is_seen()
+    ensures live { Always (λ s. (j at : ℕ) (scope : Scope) (r : Rid) → s.phase j ≡ Phase.Live at scope → IsTrue (has scope r.table) → held s r at ≡ visible s.history r at) }
+    ensures fixed { Always (λ s. (j f m : ℕ) (r : Rid) → s.phase j ≡ Phase.Fixed f m → held s r m ≡ visible s.history r m) }
+    ensures mark { Always (λ s. (r : Rid) → held s r s.mark ≡ visible s.history r s.mark) }
+{}
+
+/// Every reply is right. After every list of events, each entry of each session's log says what `hg_base` defines over the
+/// history: what a read finds is what a table shows that never reclaims, with the transaction's own writes, and a refused
+/// write shows its cause.
+pub fn replies_are_right()
+    ensures { Always (λ s. (j : ℕ) → AreReplied s.buckets s.history s.log j (s.log j)) }
+{}
+
+/// No update is lost. After every list of events, what a commit overwrites its transaction saw, or wrote itself. And each group
+/// of the history is one: it has a commit, each commit writes something and read below the group's number, and no session and
+/// no record occurs twice in it.
+pub fn history_is_sound()
+    ensures kept { Always (λ s. NoLostUpdate s.history) }
+    ensures groups { Always (λ s. IsHistory s.history) }
 {}
 
 /// No commit number passes the number of sessions times how often each may begin.

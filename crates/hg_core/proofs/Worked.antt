@@ -1,0 +1,514 @@
+-- The events of the worked runs may happen in their turn.
+use Rattle.std.proofs.Common.{◌≡◌, ℕ, zero, suc, ◌<◌, ◌≤◌, List, [], ◌∷◌, ◌++◌, None, Some, Bool, true, false, ◌&&◌, ◌||◌, refl, sym, subst, arith}
+use Rattle.std.specs.Prelude.{if◌then◌else◌, IsSome, IsTrue}
+use Rattle.std.proofs.lemmas.Bool.Decides.{nat_tests}
+use Rattle.hg_base.specs.declared.rid.Rid.{Rid}
+use Rattle.hg_base.specs.declared.image.Image.{Image}
+use Rattle.hg_base.specs.declared.scope.Scope.TheVariants.{All, Declared}
+use Rattle.hg_base.specs.History.{same_rid}
+use Rattle.hg_core.specs.declared.log.LogEntry.{LogEntry}
+use Rattle.hg_core.specs.declared.log.LogEntry.TheVariants.{Began, Wrote, Undid}
+use Rattle.hg_core.specs.Logs.{current, is_plain, open_in, is_in}
+use Rattle.hg_core.specs.declared.register.Register.TheVariants as registers
+use Rattle.hg_core.specs.Passes.{found, IsWhole}
+use Rattle.hg_core.specs.Phases.{IsSession}
+use Rattle.hg_core.specs.Contents.{bucket_of, is_stamped}
+use Rattle.hg_core.specs.State.{opened}
+use Rattle.hg_core.specs.Events.{Run, run, MayPublish}
+use Rattle.hg_core.specs.Worked.{one_rid, two_rid, row, slow_begin, long_snapshot, late_entry, early_sample, low_fix, two_versions, moved_snapshot, open_write}
+
+first : IsSession 2 1
+first = record { first = omega arith; last = omega arith }
+
+second : IsSession 2 2
+second = record { first = omega arith; last = omega arith }
+
+-- what session 2 wrote is stamped
+abbrev pub wrote : Image → ℕ → List LogEntry → List LogEntry
+wrote image at earlier = Wrote one_rid image ∷ Began at All ∷ earlier
+
+stamped_all : (log : ℕ → List LogEntry) (image : Image) (at : ℕ) (earlier : List LogEntry) → log 2 ≡ wrote image at earlier → (j : ℕ) (r : Rid) → IsTrue (is_in (2 ∷ []) j) → IsSome (open_in r (log j)) → IsTrue (is_stamped j r ((2, one_rid) ∷ []))
+stamped_all log image at earlier e j r is_of some =
+    let two : 2 ≡ j = grind (arith, nat_tests) in
+    subst (λ k. IsTrue (is_stamped k r ((2, one_rid) ∷ []))) two (go (same_rid one_rid r) (subst (λ l. IsSome (open_in r l)) e (subst (λ k. IsSome (open_in r (log k))) (sym two) some)))
+  where
+    go : (b : Bool) → IsSome (if b then Some image else None) → IsTrue ((true && b) || false)
+    go true s = refl
+    go false s = cc
+
+publishes : (log : ℕ → List LogEntry) (image : Image) (at : ℕ) (earlier : List LogEntry) → log 2 ≡ wrote image at earlier → MayPublish log ((2, one_rid) ∷ []) (2 ∷ [])
+publishes log image at earlier e = record {
+  some = omega arith;
+  distinct = (refl, tt);
+  opened = (subst (λ l. IsSome (current l)) (sym e) refl, tt);
+  plain = (subst (λ l. IsTrue (is_plain l)) (sym e) refl, tt);
+  stamped = λ j. refl;
+  whole = stamped_all log image at earlier e;
+}
+
+-- what session 1 wrote and took back isn't open
+none_left : (r : Rid) → open_in r (Undid two_rid ∷ Wrote two_rid row ∷ Began 0 (Declared 1) ∷ []) ≡ None
+none_left r = go (same_rid two_rid r)
+  where
+    go : (b : Bool) → (if b then None else (if b then Some row else None)) ≡ None
+    go true = refl
+    go false = refl
+
+-- the pass of the slow begin has loaded both registers
+pub slow_whole : IsWhole 2 ((run (opened 2 1 1 1) slow_begin).pass 0)
+slow_whole j session = go j session.first session.last
+  where
+    go : (k : ℕ) → 0 < k → k ≤ 2 → IsSome (found k ((2, registers.Idle) ∷ (1, registers.Entering 0) ∷ []))
+    go zero a b = absurd (omega arith)
+    go (suc zero) a b = refl
+    go (suc (suc zero)) a b = refl
+    go (suc (suc (suc k))) a b = absurd (omega arith)
+
+pub two_whole : (image : Image) → IsWhole 2 ((run (opened 2 1 1 2) (two_versions image)).pass 0)
+two_whole image j session = go j session.first session.last
+  where
+    go : (k : ℕ) → 0 < k → k ≤ 2 → IsSome (found k ((2, registers.Idle) ∷ (1, registers.Live 1 (Declared 1) false) ∷ []))
+    go zero a b = absurd (omega arith)
+    go (suc zero) a b = refl
+    go (suc (suc zero)) a b = refl
+    go (suc (suc (suc k))) a b = absurd (omega arith)
+
+pub moved_whole : IsWhole 2 ((run (opened 2 1 1 2) moved_snapshot).pass 0)
+moved_whole j session = go j session.first session.last
+  where
+    go : (k : ℕ) → 0 < k → k ≤ 2 → IsSome (found k ((2, registers.Idle) ∷ (1, registers.Live 1 (Declared 1) true) ∷ []))
+    go zero a b = absurd (omega arith)
+    go (suc zero) a b = refl
+    go (suc (suc zero)) a b = refl
+    go (suc (suc (suc k))) a b = absurd (omega arith)
+
+pub every_event_runs : Run (opened 2 1 1 1) (slow_begin ++ long_snapshot)
+unfolding bucket_of
+every_event_runs = (
+  record { session = first; rests = refl; room = omega arith },
+  (
+    refl,
+    (
+      refl,
+      (
+        record { session = second; rests = refl; room = omega arith },
+        (
+          refl,
+          (
+            refl,
+            (
+              record { fixed = (0, refl); tables = tt },
+              (
+                (0, All, record { live = refl; table = refl; plain = refl; unstamped = refl; room = omega arith; free = tt; newest = tt }),
+                (
+                  record { mine = refl; plain = refl },
+                  (
+                    publishes _ _ _ _ refl,
+                    (
+                      record { live = refl; none = λ r. refl },
+                      (
+                        (λ j. omega arith),
+                        (
+                          record { session = first; fresh = refl },
+                          (
+                            record { session = second; fresh = refl },
+                            (
+                              record { fixed = (0, refl); tables = omega arith },
+                              (
+                                omega arith,
+                                (
+                                  slow_whole,
+                                  (
+                                    (λ j. omega arith),
+                                    (
+                                      record { session = first; fresh = refl },
+                                      (
+                                        (0, 1, record { shown = refl; loaded = refl }),
+                                        (
+                                          (0, Declared 1, record { live = refl; plain = refl; unstamped = refl; asks = refl }),
+                                          (
+                                            (0, Declared 1, record { live = refl; table = refl; plain = refl; unstamped = refl; room = omega arith; free = tt; newest = tt }),
+                                            (
+                                              record { mine = refl; unstamped = refl },
+                                              (
+                                                record { live = refl; none = none_left },
+                                                tt,
+                                              ),
+                                            ),
+                                          ),
+                                        ),
+                                      ),
+                                    ),
+                                  ),
+                                ),
+                              ),
+                            ),
+                          ),
+                        ),
+                      ),
+                    ),
+                  ),
+                ),
+              ),
+            ),
+          ),
+        ),
+      ),
+    ),
+  ),
+)
+
+pub slow_begin_runs : Run (opened 2 1 1 1) slow_begin
+unfolding bucket_of
+slow_begin_runs = (
+  record { session = first; rests = refl; room = omega arith },
+  (
+    refl,
+    (
+      refl,
+      (
+        record { session = second; rests = refl; room = omega arith },
+        (
+          refl,
+          (
+            refl,
+            (
+              record { fixed = (0, refl); tables = tt },
+              (
+                (0, All, record { live = refl; table = refl; plain = refl; unstamped = refl; room = omega arith; free = tt; newest = tt }),
+                (
+                  record { mine = refl; plain = refl },
+                  (
+                    publishes _ _ _ _ refl,
+                    (
+                      record { live = refl; none = λ r. refl },
+                      (
+                        (λ j. omega arith),
+                        (
+                          record { session = first; fresh = refl },
+                          (
+                            record { session = second; fresh = refl },
+                            (
+                              record { fixed = (0, refl); tables = omega arith },
+                              tt,
+                            ),
+                          ),
+                        ),
+                      ),
+                    ),
+                  ),
+                ),
+              ),
+            ),
+          ),
+        ),
+      ),
+    ),
+  ),
+)
+
+pub late_entry_runs : Run (opened 2 1 1 1) late_entry
+unfolding bucket_of
+late_entry_runs = (
+  record { session = first; rests = refl; room = omega arith },
+  (
+    record { session = second; rests = refl; room = omega arith },
+    (
+      refl,
+      (
+        refl,
+        (
+          record { fixed = (0, refl); tables = tt },
+          (
+            (0, All, record { live = refl; table = refl; plain = refl; unstamped = refl; room = omega arith; free = tt; newest = tt }),
+            (
+              record { mine = refl; plain = refl },
+              (
+                publishes _ _ _ _ refl,
+                (
+                  record { live = refl; none = λ r. refl },
+                  (
+                    (λ j. omega arith),
+                    (
+                      record { session = first; fresh = refl },
+                      (
+                        refl,
+                        tt,
+                      ),
+                    ),
+                  ),
+                ),
+              ),
+            ),
+          ),
+        ),
+      ),
+    ),
+  ),
+)
+
+pub early_sample_runs : Run (opened 2 1 1 1) early_sample
+unfolding bucket_of
+early_sample_runs = (
+  (λ j. omega arith),
+  (
+    record { session = first; fresh = refl },
+    (
+      record { session = first; rests = refl; room = omega arith },
+      (
+        refl,
+        (
+          refl,
+          (
+            record { fixed = (0, refl); tables = tt },
+            (
+              record { session = second; rests = refl; room = omega arith },
+              (
+                refl,
+                (
+                  refl,
+                  (
+                    record { fixed = (0, refl); tables = tt },
+                    (
+                      (0, All, record { live = refl; table = refl; plain = refl; unstamped = refl; room = omega arith; free = tt; newest = tt }),
+                      (
+                        record { mine = refl; plain = refl },
+                        (
+                          publishes _ _ _ _ refl,
+                          (
+                            record { live = refl; none = λ r. refl },
+                            tt,
+                          ),
+                        ),
+                      ),
+                    ),
+                  ),
+                ),
+              ),
+            ),
+          ),
+        ),
+      ),
+    ),
+  ),
+)
+
+pub low_fix_runs : Run (opened 2 1 1 1) low_fix
+unfolding bucket_of
+low_fix_runs = (
+  record { session = first; rests = refl; room = omega arith },
+  (
+    refl,
+    (
+      refl,
+      (
+        record { session = second; rests = refl; room = omega arith },
+        (
+          refl,
+          (
+            refl,
+            (
+              record { fixed = (0, refl); tables = tt },
+              (
+                (0, All, record { live = refl; table = refl; plain = refl; unstamped = refl; room = omega arith; free = tt; newest = tt }),
+                (
+                  record { mine = refl; plain = refl },
+                  (
+                    publishes _ _ _ _ refl,
+                    (
+                      record { live = refl; none = λ r. refl },
+                      (
+                        (λ j. omega arith),
+                        tt,
+                      ),
+                    ),
+                  ),
+                ),
+              ),
+            ),
+          ),
+        ),
+      ),
+    ),
+  ),
+)
+
+pub two_versions_runs : (image : Image) → Run (opened 2 1 1 2) (two_versions image)
+unfolding bucket_of
+two_versions_runs image = (
+  record { session = second; rests = refl; room = omega arith },
+  (
+    refl,
+    (
+      refl,
+      (
+        record { fixed = (0, refl); tables = tt },
+        (
+          (0, All, record { live = refl; table = refl; plain = refl; unstamped = refl; room = omega arith; free = tt; newest = tt }),
+          (
+            record { mine = refl; plain = refl },
+            (
+              publishes _ _ _ _ refl,
+              (
+                record { live = refl; none = λ r. refl },
+                (
+                  record { session = first; rests = refl; room = omega arith },
+                  (
+                    refl,
+                    (
+                      refl,
+                      (
+                        record { fixed = (1, refl); tables = omega arith },
+                        (
+                          record { session = second; rests = refl; room = omega arith },
+                          (
+                            refl,
+                            (
+                              refl,
+                              (
+                                record { fixed = (1, refl); tables = tt },
+                                (
+                                  (1, All, record { live = refl; table = refl; plain = refl; unstamped = refl; room = omega arith; free = omega arith; newest = omega arith }),
+                                  (
+                                    record { mine = refl; plain = refl },
+                                    (
+                                      publishes _ _ _ _ refl,
+                                      (
+                                        record { live = refl; none = λ r. refl },
+                                        (
+                                          (λ j. omega arith),
+                                          (
+                                            record { session = first; fresh = refl },
+                                            (
+                                              record { session = second; fresh = refl },
+                                              tt,
+                                            ),
+                                          ),
+                                        ),
+                                      ),
+                                    ),
+                                  ),
+                                ),
+                              ),
+                            ),
+                          ),
+                        ),
+                      ),
+                    ),
+                  ),
+                ),
+              ),
+            ),
+          ),
+        ),
+      ),
+    ),
+  ),
+)
+
+pub moved_snapshot_runs : Run (opened 2 1 1 2) moved_snapshot
+unfolding bucket_of
+moved_snapshot_runs = (
+  record { session = second; rests = refl; room = omega arith },
+  (
+    refl,
+    (
+      refl,
+      (
+        record { fixed = (0, refl); tables = tt },
+        (
+          (0, All, record { live = refl; table = refl; plain = refl; unstamped = refl; room = omega arith; free = tt; newest = tt }),
+          (
+            record { mine = refl; plain = refl },
+            (
+              publishes _ _ _ _ refl,
+              (
+                record { live = refl; none = λ r. refl },
+                (
+                  record { session = first; rests = refl; room = omega arith },
+                  (
+                    refl,
+                    (
+                      refl,
+                      (
+                        record { fixed = (1, refl); tables = omega arith },
+                        (
+                          record { session = second; rests = refl; room = omega arith },
+                          (
+                            refl,
+                            (
+                              refl,
+                              (
+                                record { fixed = (1, refl); tables = tt },
+                                (
+                                  (1, All, record { live = refl; table = refl; plain = refl; unstamped = refl; room = omega arith; free = omega arith; newest = omega arith }),
+                                  (
+                                    record { mine = refl; plain = refl },
+                                    (
+                                      publishes _ _ _ _ refl,
+                                      (
+                                        record { live = refl; none = λ r. refl },
+                                        (
+                                          (λ j. omega arith),
+                                          (
+                                            record { session = first; fresh = refl },
+                                            (
+                                              record { session = second; fresh = refl },
+                                              (
+                                                (1, 1, record { shown = refl; loaded = refl }),
+                                                tt,
+                                              ),
+                                            ),
+                                          ),
+                                        ),
+                                      ),
+                                    ),
+                                  ),
+                                ),
+                              ),
+                            ),
+                          ),
+                        ),
+                      ),
+                    ),
+                  ),
+                ),
+              ),
+            ),
+          ),
+        ),
+      ),
+    ),
+  ),
+)
+
+pub open_write_runs : Run (opened 2 1 1 2) open_write
+unfolding bucket_of
+open_write_runs = (
+  record { session = first; rests = refl; room = omega arith },
+  (
+    refl,
+    (
+      refl,
+      (
+        record { fixed = (0, refl); tables = tt },
+        (
+          record { session = second; rests = refl; room = omega arith },
+          (
+            refl,
+            (
+              refl,
+              (
+                record { fixed = (0, refl); tables = tt },
+                (
+                  (0, All, record { live = refl; table = refl; plain = refl; unstamped = refl; room = omega arith; free = tt; newest = tt }),
+                  tt,
+                ),
+              ),
+            ),
+          ),
+        ),
+      ),
+    ),
+  ),
+)

@@ -1,0 +1,47 @@
+-- What a collector's pass takes of a record's versions.
+-- The interval rule, and a bound for each table, are those of Lee et al., "Hybrid Garbage Collection for Multi-Version
+-- Concurrency Control in SAP HANA", SIGMOD 2016, in outline.
+use Rattle.std.specs.Prelude.{ℕ, ℤ, List, [], ◌∷◌, Option, Some, None, Bool, false, ◌&&◌, not, nat_le, nat_lt, if◌then◌else◌}
+use Rattle.std.specs.List.{list_any}
+use Rattle.hg_base.specs.declared.rid.TableId.{TableId}
+use Rattle.hg_base.specs.declared.report.Kind.{Kind}
+use Rattle.hg_base.specs.declared.report.Kind.TheVariants.{Group, Interval, Table}
+use Rattle.hg_core.specs.Passes.{PassRecord, horizon, recorded, group_bound, table_bound}
+use Rattle.hg_core.specs.Versions.{Version, Oldest, stamp_number, is_up_to}
+
+-- whether a snapshot is at or over n and below u
+abbrev pub any_between : ℕ → ℕ → List ℕ → Bool
+any_between n u snapshots = list_any (λ s. nat_le n s && nat_lt s u) snapshots
+
+-- Whether a version goes. It lives from its number up to, and not including, its successor's. It goes where the successor
+-- is at or below the horizon, and no snapshot is in that lifetime. The newest stays, and an open write.
+abbrev pub goes : ℕ → List ℕ → Option ℕ → Option ℕ → Bool
+goes horizon snapshots None number = false
+goes horizon snapshots (Some u) None = false
+goes horizon snapshots (Some u) (Some n) = nat_le u horizon && not (any_between n u snapshots)
+
+-- what a sweep leaves of the versions behind a successor with that number
+abbrev pub swept : ℕ → List ℕ → Option ℕ → List Version → List Version
+swept horizon snapshots successor [] = []
+swept horizon snapshots successor (v ∷ vs) =
+    if goes horizon snapshots successor (stamp_number v.stamp)
+    then swept horizon snapshots (stamp_number v.stamp) vs
+    else v ∷ swept horizon snapshots (stamp_number v.stamp) vs
+
+-- a row with its number is the oldest image; a deletion leaves nothing
+abbrev pub oldest : Option ℕ → Option (List ℤ) → List Version
+oldest None row = []
+oldest (Some number) None = []
+oldest (Some number) (Some row) = record { stamp = Oldest number; image = record { row = Some row } } ∷ []
+
+-- what a cut leaves: all versions over the bound, and the newest of the others as the oldest image
+abbrev pub cut : ℕ → List Version → List Version
+cut bound [] = []
+cut bound (v ∷ vs) = if is_up_to bound (stamp_number v.stamp) then oldest (stamp_number v.stamp) v.image.row else v ∷ cut bound vs
+
+-- what a pass leaves: the group collector cuts at its bound, the table collector at the table's bound, and the interval
+-- collector sweeps with the horizon and the snapshots that count for the table
+abbrev pub reclaimed : Kind → TableId → PassRecord → List Version → List Version
+reclaimed Group table pass vs = cut (group_bound pass) vs
+reclaimed Table table pass vs = cut (table_bound table pass) vs
+reclaimed Interval table pass vs = swept (horizon pass) (recorded table pass) None vs
