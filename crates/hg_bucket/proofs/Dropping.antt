@@ -1,0 +1,121 @@
+-- A record that has lost its last version: it leaves the index, and its place is free.
+use Rattle.std.proofs.Common.{◌≡◌, ℕ, zero, suc, ◌+◌, ◌<◌, List, [], ◌∷◌, length, Bool, true, false, Option, Some, None, refl, sym, ap, ◌∙◌, cond, subst, set, arith}
+use Rattle.std.specs.Prelude.{IsFalse, IsSome, unwrap_or, option_map, slice_index_or}
+use Rattle.std.specs.Map.{lookup, keys_of, remove_entry}
+use Rattle.std.specs.List.{IsDistinct, slice_get}
+use Rattle.std.proofs.lemmas.Option.{none-some, same_Some}
+use Rattle.std.proofs.lemmas.Map.{NonePasses}
+use Rattle.std.proofs.lemmas.Map.Keys.{IsDistinct-tail}
+use Rattle.std.proofs.lemmas.Map.Entries.{none_past_head}
+use Rattle.hg_base.specs.declared.rid.Rid.{Rid}
+use Rattle.hg_base.specs.History.{same_rid}
+use Rattle.hg_base.specs.Lists.{Each}
+use Rattle.hg_chain.specs.declared.version.Version.{Version}
+use Rattle.hg_space.specs.Index.{place_of, AreDistinct}
+use Rattle.hg_space.specs.Places.{Seat, free, image_at, IsTaken}
+use Rattle.hg_space.proofs.Keys.{rids_equiv}
+use Rattle.hg_bucket.specs.Held.{versions_of, left, OthersStay}
+use Rattle.hg_bucket.specs.Parts.{chain_of, whole, records_of, AreWhole, IsOver, IsRow}
+use Rattle.hg_bucket.proofs.Reading.{found, alike}
+use Rattle.hg_bucket.proofs.Sums.{left_step}
+
+pub seat_apart : (places : List Seat) (p q : ℕ) (x : Seat) → (q ≡ p → ⊥) → slice_index_or (set places p x) q free ≡ slice_index_or places q free
+seat_apart [] p q x h = refl
+seat_apart (y ∷ places) zero zero x h = absurd (h refl)
+seat_apart (y ∷ places) zero (suc q) x h = refl
+seat_apart (y ∷ places) (suc p) zero x h = refl
+seat_apart (y ∷ places) (suc p) (suc q) x h = seat_apart places p q x (λ e. h (ap suc e))
+
+-- the record r has left the index, where it had the place p, and no other has
+pub record Leaves (es fs : List (Rid × ℕ)) (r : Rid) (p : ℕ) : Type 0 where
+  pub had : place_of es r ≡ Some p
+  pub gone : place_of fs r ≡ None
+  pub others : (q : Rid) → IsFalse (same_rid r q) → place_of fs q ≡ place_of es q
+  pub distinct : AreDistinct es
+
+pub apart_of : (es fs : List (Rid × ℕ)) (r : Rid) (p : ℕ) → Leaves es fs r p → (q : Rid) (n : ℕ) → place_of fs q ≡ Some n → same_rid r q ≡ false
+apart_of es fs r p h q n k = go (same_rid r q) refl
+  where
+    go : (b : Bool) → same_rid r q ≡ b → b ≡ false
+    go true same = absurd (none-some n (sym h.gone ∙ sym (alike fs r q same) ∙ k))
+    go false apart = refl
+
+-- the places of the others are other places
+pub place_apart : (es fs : List (Rid × ℕ)) (r : Rid) (p : ℕ) → Leaves es fs r p → (q : Rid) (n : ℕ) → place_of fs q ≡ Some n → n ≡ p → ⊥
+place_apart es fs r p h q n k e =
+    let apart = apart_of es fs r p h q n k in
+    let same : same_rid r q ≡ true = h.distinct r q p h.had (sym (h.others q apart) ∙ k ∙ ap Some e) in
+    let both : true ≡ false = sym same ∙ apart in
+    absurd cc
+
+-- what is so of all records but one, which is dropped, is so of all that are left
+pub record AreWholeBut (r : Rid) (es : List (Rid × ℕ)) (cs : List (Rid × List Version)) (places : List Seat) : Type 0 where
+  pub taken : (q : Rid) (n : ℕ) → place_of es q ≡ Some n → IsTaken places n
+  pub held : (q : Rid) (n : ℕ) → same_rid r q ≡ false → place_of es q ≡ Some n → 0 < length (whole (chain_of cs q) (image_at places n))
+  pub chained : (q : Rid) (vs : List Version) → lookup (same_rid q) cs ≡ Some vs → (same_rid r q ≡ false) × IsSome (place_of es q) × (0 < length vs)
+  pub falls : (q : Rid) (n : ℕ) → place_of es q ≡ Some n → Each (λ v. IsOver v.stamp (image_at places n)) (chain_of cs q)
+  pub rows : (q : Rid) (n : ℕ) → place_of es q ≡ Some n → IsRow (image_at places n)
+
+pub dropped : (es fs : List (Rid × ℕ)) (cs : List (Rid × List Version)) (places : List Seat) (r : Rid) (p : ℕ) → Leaves es fs r p → AreWholeBut r es cs places → AreWhole fs cs (set places p free)
+dropped es fs cs places r p h old =
+    record {
+      taken = λ q n k. subst IsSome (sym (stays q n k)) (old.taken q n (was q n k));
+      held = λ q n k. subst (λ im. 0 < length (whole (chain_of cs q) im)) (sym (image q n k)) (old.held q n (apart_of es fs r p h q n k) (was q n k));
+      chained = λ q vs k. let c = old.chained q vs k in (subst IsSome (sym (h.others q c.0)) c.1, c.2);
+      falls = λ q n k. subst (λ im. Each (λ v. IsOver v.stamp im) (chain_of cs q)) (sym (image q n k)) (old.falls q n (was q n k));
+      rows = λ q n k. subst IsRow (sym (image q n k)) (old.rows q n (was q n k));
+    }
+  where
+    was : (q : Rid) (n : ℕ) → place_of fs q ≡ Some n → place_of es q ≡ Some n
+    was q n k = sym (h.others q (apart_of es fs r p h q n k)) ∙ k
+
+    stays : (q : Rid) (n : ℕ) → place_of fs q ≡ Some n → slice_index_or (set places p free) n free ≡ slice_index_or places n free
+    stays q n k = seat_apart places p n free (place_apart es fs r p h q n k)
+
+    image : (q : Rid) (n : ℕ) → place_of fs q ≡ Some n → image_at (set places p free) n ≡ image_at places n
+    image q n k = ap (λ seat. image_at (seat ∷ []) 0) (stays q n k)
+
+pub none_left : (es fs : List (Rid × ℕ)) (cs : List (Rid × List Version)) (places : List Seat) (r : Rid) (p : ℕ) → Leaves es fs r p → versions_of (records_of fs cs places) r ≡ []
+none_left es fs cs places r p h = ap (λ o. unwrap_or o []) (found fs cs places r ∙ ap (option_map (λ p. whole (chain_of cs r) (image_at places p))) h.gone)
+
+pub others_keep : (es fs : List (Rid × ℕ)) (cs : List (Rid × List Version)) (places : List Seat) (r : Rid) (p : ℕ) → Leaves es fs r p → OthersStay (records_of es cs places) (records_of fs cs (set places p free)) r
+others_keep es fs cs places r p h q apart =
+    ap (λ o. unwrap_or o []) (found fs cs (set places p free) q ∙ go (place_of fs q) refl ∙ ap (option_map (λ n. whole (chain_of cs q) (image_at places n))) (h.others q apart) ∙ sym (found es cs places q))
+  where
+    go : (o : Option ℕ) → place_of fs q ≡ o → option_map (λ n. whole (chain_of cs q) (image_at (set places p free) n)) (place_of fs q) ≡ option_map (λ n. whole (chain_of cs q) (image_at places n)) (place_of fs q)
+    go None k = ap (option_map (λ n. whole (chain_of cs q) (image_at (set places p free) n))) k ∙ sym (ap (option_map (λ n. whole (chain_of cs q) (image_at places n))) k)
+    go (Some n) k =
+        ap (option_map (λ n. whole (chain_of cs q) (image_at (set places p free) n))) k
+        ∙ ap (λ seat. Some (whole (chain_of cs q) (image_at (seat ∷ []) 0))) (seat_apart places p n free (place_apart es fs r p h q n k))
+        ∙ sym (ap (option_map (λ n. whole (chain_of cs q) (image_at places n))) k)
+
+-- ---- how many versions are held
+
+pub passes_at : (es : List (Rid × ℕ)) (r : Rid) → NonePasses (same_rid r) es → (i : ℕ) (e : Rid × ℕ) → slice_get es i ≡ Some e → same_rid r e.0 ≡ false
+passes_at [] r h i e k = absurd (none-some e k)
+passes_at (x ∷ es) r h zero e k = let same : x ≡ e = same_Some x e k in ap (λ y. same_rid r y.0) (sym same) ∙ h.0
+passes_at (x ∷ es) r h (suc i) e k = passes_at es r h.1 i e k
+
+-- where no entry has the place
+pub left_kept : (es : List (Rid × ℕ)) (cs : List (Rid × List Version)) (places : List Seat) (p : ℕ) → ((i : ℕ) (e : Rid × ℕ) → slice_get es i ≡ Some e → e.1 ≡ p → ⊥) → left (records_of es cs (set places p free)) ≡ left (records_of es cs places)
+left_kept [] cs places p h = refl
+left_kept (e ∷ es) cs places p h =
+    left_step e es cs (set places p free)
+    ∙ (λ i. length (whole (chain_of cs e.0) (image_at (seat_apart places p e.1 free (h 0 e refl) i ∷ []) 0)) + left_kept es cs places p (λ i x k. h (suc i) x k) i)
+    ∙ sym (left_step e es cs places)
+
+-- a record with no version leaves as many as there were
+pub left_dropped : (es : List (Rid × ℕ)) (cs : List (Rid × List Version)) (places : List Seat) (r : Rid) (p : ℕ) → IsDistinct same_rid (keys_of es) → place_of es r ≡ Some p → length (whole (chain_of cs r) (image_at places p)) ≡ 0 → ((i : ℕ) (e : Rid × ℕ) → slice_get es i ≡ Some e → same_rid r e.0 ≡ false → e.1 ≡ p → ⊥) → left (records_of (remove_entry (same_rid r) es) cs (set places p free)) ≡ left (records_of es cs places)
+left_dropped [] cs places r p d h none apart = absurd (none-some p h)
+left_dropped (e ∷ es) cs places r p d h none apart = go (same_rid r e.0) refl h (λ k. left_dropped es cs places r p (IsDistinct-tail same_rid e.0 (keys_of es) d) k none (λ i x j. apart (suc i) x j))
+  where
+    go : (b : Bool) → same_rid r e.0 ≡ b → cond b (Some e.1) (place_of es r) ≡ Some p → (place_of es r ≡ Some p → left (records_of (remove_entry (same_rid r) es) cs (set places p free)) ≡ left (records_of es cs places)) → left (records_of (cond b es (e ∷ remove_entry (same_rid r) es)) cs (set places p free)) ≡ left (records_of (e ∷ es) cs places)
+    go true same k rest =
+        let at : e.1 ≡ p = same_Some e.1 p k in
+        let zero_here : length (whole (chain_of cs e.0) (image_at places e.1)) ≡ 0 = (λ i. length (whole (unwrap_or (alike cs r e.0 same i) []) (image_at places (at i)))) ∙ none in
+        let tail = left_kept es cs places p (λ i x j. apart (suc i) x j (passes_at es r (none_past_head rids_equiv r e es d same) i x j)) in
+        omega (arith, left_step e es cs places, zero_here, tail)
+    go false other k rest =
+        let more = rest k in
+        let same : length (whole (chain_of cs e.0) (image_at (set places p free) e.1)) ≡ length (whole (chain_of cs e.0) (image_at places e.1)) = ap (λ seat. length (whole (chain_of cs e.0) (image_at (seat ∷ []) 0))) (seat_apart places p e.1 free (apart 0 e refl other)) in
+        omega (arith, left_step e (remove_entry (same_rid r) es) cs (set places p free), left_step e es cs places, more, same)

@@ -1,0 +1,4 @@
+pub mod Reading
+pub mod Changing
+pub mod Sums
+pub mod Dropping

@@ -1,0 +1,4 @@
+-- What a bucket holds, and what its calls do.
+pub mod Held
+pub mod Conflicts
+pub mod Parts

@@ -1,0 +1,76 @@
+-- What a bucket holds, read from its parts: for the bucket itself.
+use Rattle.std.specs.Prelude.{◌≡◌, ℕ, List, ◌∷◌, [], ◌++◌, map, Option, Some, None, IsSome, unwrap_or, option_map, option_to_list, nat_le, if◌then◌else◌, ◌<◌, ◌≤◌, ◌^◌, length, is_some, IsTrue, ⊤}
+use Rattle.std.specs.Map.{lookup}
+use Rattle.hg_base.specs.declared.rid.Rid.{Rid}
+use Rattle.hg_base.specs.declared.image.Image.{Image}
+use Rattle.hg_base.specs.History.{same_rid}
+use Rattle.hg_base.specs.Lists.{Each}
+use Rattle.hg_chain.specs.declared.version.Stamp.{Stamp}
+use Rattle.hg_chain.specs.declared.version.Stamp.TheVariants.{Written, Numbered}
+use Rattle.hg_chain.specs.declared.version.Version.{Version}
+use Rattle.hg_space.specs.Places.{Seat, Oldest, image_at}
+use Rattle.hg_space.specs.Index.{AreTaken, place_of}
+use Rattle.hg_bucket.specs.Held.{Kept, Held, IsBalanced}
+
+-- a version of a chain
+abbrev pub kept_as : Stamp → Image → Kept
+kept_as (Written w) image = record { number = None; by = Some w; image = image }
+kept_as (Numbered n w) image = record { number = Some n; by = Some w; image = image }
+
+abbrev pub kept : Version → Kept
+kept v = kept_as v.stamp v.image
+
+-- the oldest image of a record
+abbrev pub oldest : ℕ × Image → Kept
+oldest p = record { number = Some p.0; by = None; image = p.1 }
+
+-- a record's chain, empty where none is kept for it
+abbrev pub chain_of : List (Rid × List Version) → Rid → List Version
+chain_of chains r = unwrap_or (lookup (same_rid r) chains) []
+
+-- a chain that is kept for a record: none is, where it is empty
+abbrev pub some_chain : List Version → Option (List Version)
+some_chain [] = None
+some_chain (v ∷ vs) = Some (v ∷ vs)
+
+-- one record's chain is now this, and each other record's as before
+abbrev pub ChainIs : List (Rid × List Version) → List (Rid × List Version) → Rid → List Version → Type 0
+ChainIs old new r vs = (q : Rid) → lookup (same_rid q) new ≡ (if same_rid r q then some_chain vs else lookup (same_rid q) old)
+
+-- a record's versions: those of its chain, and behind them its oldest image
+abbrev pub whole : List Version → Oldest → List Kept
+whole vs image = map kept vs ++ option_to_list (option_map oldest image)
+
+-- an oldest image that a reader at a snapshot sees
+abbrev pub oldest_by : ℕ → Oldest → Option Image
+oldest_by at None = None
+oldest_by at (Some p) = if nat_le p.0 at then Some p.1 else None
+
+-- the records of the index, each with its versions
+abbrev pub records_of : List (Rid × ℕ) → List (Rid × List Version) → List Seat → List (Rid × List Kept)
+records_of index chains places = map (λ e. (e.0, whole (chain_of chains e.0) (image_at places e.1))) index
+
+-- the number is over that of the oldest image
+abbrev pub IsOver : Stamp → Oldest → Type 0
+IsOver (Written w) image = ⊤
+IsOver (Numbered n w) None = ⊤
+IsOver (Numbered n w) (Some p) = p.0 < n
+
+-- the oldest image is a row
+abbrev pub IsRow : Oldest → Type 0
+IsRow None = ⊤
+IsRow (Some p) = IsTrue (is_some p.1.row)
+
+-- what is always so of the parts: each record's place is taken, and its last version is not gone; each chain is of a
+-- record, and has a version; numbers fall down to the oldest image, which is a row
+pub record AreWhole (index : List (Rid × ℕ)) (chains : List (Rid × List Version)) (places : List Seat) : Type 0 where
+  pub taken : AreTaken index places
+  pub held : (r : Rid) (p : ℕ) → place_of index r ≡ Some p → 0 < length (whole (chain_of chains r) (image_at places p))
+  pub chained : (r : Rid) (vs : List Version) → lookup (same_rid r) chains ≡ Some vs → IsSome (place_of index r) × (0 < length vs)
+  pub falls : (r : Rid) (p : ℕ) → place_of index r ≡ Some p → Each (λ v. IsOver v.stamp (image_at places p)) (chain_of chains r)
+  pub rows : (r : Rid) (p : ℕ) → place_of index r ≡ Some p → IsRow (image_at places p)
+
+pub record IsSound (index : List (Rid × ℕ)) (chains : List (Rid × List Version)) (places : List Seat) (h : Held) : Type 0 where
+  pub whole : AreWhole index chains places
+  pub balance : IsBalanced h
+  pub small : h.made ≤ 2 ^ 40

@@ -1,0 +1,17 @@
+//! One bucket: records with their versions, and what became of all others.
+//!
+//!     record    chain, newest first                      oldest image
+//!     t/5       [ written by 3/7 ] -> [ 9 ] -> [ 6 ]     [ 4, row 10 ]
+//!     t/9                                                [ 2, row 20 ]
+//!     u/5       [ written by 1/2 ]
+//!
+//! Each record has a place in the table space from its first write on, so that a cut can put an image there and takes no
+//! memory. Only records with a chain can be shortened: a sweep or a cut of a table goes through the chains alone, and an
+//! oldest image is always a row. A record that loses its last version is dropped, and its place is free again.
+//!
+//! So far a bucket can be read, stamped and counted. What writes, undoes and shortens is to come.
+#![tactic(auto)]
+
+mod bucket;
+
+pub use bucket::Bucket;
