@@ -1,5 +1,6 @@
 pub mod ListFacts
 pub mod HistoryFacts
+pub mod RidOrder
 pub mod Extending
 pub mod Growth
 pub mod TextNumbers

@@ -2,6 +2,7 @@
 pub mod Lists
 pub mod Script
 pub mod History
+pub mod RidOrder
 pub mod Transcript
 pub mod Shape
 pub mod Replies
@@ -14,3 +15,4 @@ pub mod Text
 pub mod Reports
 pub mod Faults
 pub mod Memory
+pub mod Standard

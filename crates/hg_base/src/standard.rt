@@ -1,6 +1,7 @@
 //! Standard input and output as a source and a sink. What they hold is not known: this is the trusted edge.
 
 ghost use Rattle.std.specs.Prelude.{◌≡◌, None};
+ghost use Rattle.hg_base.specs.Standard.{failed_reads, failed_writes};
 
 use crate::fault::Failed;
 use crate::outside::{Sink, Source};
@@ -25,7 +26,7 @@ impl StdinSource {
 impl Source for StdinSource {
     ghost left = { λ _. None };
 
-    ghost faults = { λ s. s.faults };
+    ghost faults = { failed_reads };
 
     fn read(&mut self, into: &mut [u8]) -> Result<usize, Failed> {
         match self.inner.read(into) {
@@ -57,7 +58,7 @@ impl StdoutSink {
 impl Sink for StdoutSink {
     ghost taken = { λ _. None };
 
-    ghost faults = { λ s. s.faults };
+    ghost faults = { failed_writes };
 
     // An output that takes nothing has ended, and that is a fault.
     fn write(&mut self, piece: &[u8]) -> Result<usize, Failed> {

@@ -15,9 +15,10 @@ use Rattle.hg_chain.specs.declared.version.Stamp.{Stamp}
 use Rattle.hg_chain.specs.declared.version.Stamp.TheVariants.{Written, Numbered}
 use Rattle.hg_chain.specs.declared.version.Version.{Version}
 use Rattle.hg_chain.specs.Versions as chain
-use Rattle.hg_space.specs.Index.{place_of, rid_cmp}
+use Rattle.hg_base.specs.RidOrder.{rid_cmp}
+use Rattle.hg_space.specs.Index.{place_of}
 use Rattle.hg_space.specs.Places.{Seat, Oldest, image_at}
-use Rattle.hg_space.proofs.Keys.{at_rid, rids_equiv}
+use Rattle.hg_base.proofs.RidOrder.{at_rid, rids_equiv}
 use Rattle.hg_bucket.specs.Held.{versions_of, left, begins_open, stamped, IsBelow, OthersStay}
 use Rattle.hg_bucket.specs.Parts.{kept, kept_as, oldest, chain_of, whole, records_of, some_chain, ChainIs, AreWhole, IsOver}
 use Rattle.hg_bucket.proofs.Reading.{looked_up, alike, found, open_kept}

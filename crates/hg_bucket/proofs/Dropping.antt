@@ -13,7 +13,7 @@ use Rattle.hg_base.specs.Lists.{Each}
 use Rattle.hg_chain.specs.declared.version.Version.{Version}
 use Rattle.hg_space.specs.Index.{place_of, AreDistinct}
 use Rattle.hg_space.specs.Places.{Seat, free, image_at, IsTaken}
-use Rattle.hg_space.proofs.Keys.{rids_equiv}
+use Rattle.hg_base.proofs.RidOrder.{rids_equiv}
 use Rattle.hg_bucket.specs.Held.{versions_of, left, OthersStay}
 use Rattle.hg_bucket.specs.Parts.{chain_of, whole, records_of, AreWhole, IsOver, IsRow}
 use Rattle.hg_bucket.proofs.Reading.{found, alike}

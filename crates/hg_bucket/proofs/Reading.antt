@@ -15,9 +15,10 @@ use Rattle.hg_chain.specs.declared.version.Stamp.TheVariants.{Written, Numbered}
 use Rattle.hg_chain.specs.declared.version.Version.{Version}
 use Rattle.hg_chain.specs.Versions as chain
 use Rattle.hg_space.specs.Index as index
-use Rattle.hg_space.specs.Index.{place_of, rid_cmp}
+use Rattle.hg_base.specs.RidOrder.{rid_cmp}
+use Rattle.hg_space.specs.Index.{place_of}
 use Rattle.hg_space.specs.Places.{Seat, Oldest, image_at}
-use Rattle.hg_space.proofs.Keys.{at_rid, rids_equiv}
+use Rattle.hg_base.proofs.RidOrder.{at_rid, rids_equiv}
 use Rattle.hg_bucket.specs.Held.{Kept, versions_of, read_at, is_at_most, is_open_by, IsNextKey}
 use Rattle.hg_bucket.specs.Parts.{kept, kept_as, oldest, chain_of, whole, records_of, oldest_by}
 

@@ -13,7 +13,7 @@ use Rattle.hg_base.specs.History.{same_rid}
 use Rattle.hg_chain.specs.declared.version.Version.{Version}
 use Rattle.hg_space.specs.Index.{place_of}
 use Rattle.hg_space.specs.Places.{Seat, image_at}
-use Rattle.hg_space.proofs.Keys.{rids_equiv}
+use Rattle.hg_base.proofs.RidOrder.{rids_equiv}
 use Rattle.hg_bucket.specs.Held.{Kept, left}
 use Rattle.hg_bucket.specs.Parts.{chain_of, whole, records_of, ChainIs}
 use Rattle.hg_bucket.proofs.Reading.{alike}

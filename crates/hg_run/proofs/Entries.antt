@@ -15,7 +15,8 @@ use Rattle.hg_chain.specs.declared.version.Version.{Version}
 use Rattle.hg_chain.specs.Versions.{is_open_by}
 use Rattle.hg_base.proofs.ListFacts.{false_true}
 use Rattle.hg_run.specs.Records.{versions_of, held}
-use Rattle.hg_run.proofs.Keys.{rid_cmp, rids_total, at_rid, same_back, is_same}
+use Rattle.hg_base.specs.RidOrder.{rid_cmp}
+use Rattle.hg_base.proofs.RidOrder.{rids_total, at_rid, same_back, is_same}
 
 abbrev pub Kept : Type 0
 Kept = List (Rid × List Version)

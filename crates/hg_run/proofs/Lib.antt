@@ -9,7 +9,6 @@ pub mod Playing
 pub mod Versions
 pub mod Tying
 pub mod Living
-pub mod Keys
 pub mod Entries
 pub mod Changes
 pub mod Settling

@@ -18,7 +18,8 @@ use Rattle.hg_chain.specs.declared.version.Stamp.TheVariants.{Written, Numbered}
 use Rattle.hg_chain.specs.declared.version.Version.{Version}
 use Rattle.hg_chain.specs.Versions.{is_at_most, has_at_most, numbered_image, oldest_at, others_at}
 use Rattle.hg_run.specs.Records.{versions_of, held, row_at, lefts}
-use Rattle.hg_run.proofs.Keys.{rid_cmp, at_rid, is_same}
+use Rattle.hg_base.specs.RidOrder.{rid_cmp}
+use Rattle.hg_base.proofs.RidOrder.{at_rid, is_same}
 use Rattle.hg_run.proofs.Entries.{Kept}
 
 -- ---- one record

@@ -10,8 +10,9 @@ use Rattle.std.proofs.lemmas.Option.{none-some, same_Some}
 use Rattle.hg_base.specs.declared.rid.Rid.{Rid}
 use Rattle.hg_base.specs.declared.rid.TableId.{TableId}
 use Rattle.hg_base.specs.History.{same_rid}
-use Rattle.hg_space.specs.Index.{rid_cmp, place_of, HasPlace, AreDistinct, record_at, IsThere, IsNextKey}
-use Rattle.hg_space.proofs.Keys.{at_rid, rids_equiv, le_keys, le_tables, le_in_table}
+use Rattle.hg_base.specs.RidOrder.{rid_cmp}
+use Rattle.hg_space.specs.Index.{place_of, HasPlace, AreDistinct, record_at, IsThere, IsNextKey}
+use Rattle.hg_base.proofs.RidOrder.{at_rid, rids_equiv, le_keys, le_tables, le_in_table}
 
 pub looked_up : (es : List (Rid × ℕ)) (r : Rid) → lookup (is_at (rid_cmp r)) es ≡ place_of es r
 looked_up es r = ap (λ (test : Rid → Bool). lookup test es) (λ i k. at_rid r k i)

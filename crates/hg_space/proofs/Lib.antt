@@ -1,4 +1,3 @@
 pub mod LinkFacts
-pub mod Keys
 pub mod IndexFacts
 pub mod PlaceFacts

@@ -1,18 +1,13 @@
 -- The places of records, as a finite map: its entries in the order of the records.
 use Rattle.std.specs.Prelude.{◌≡◌, ℕ, ◌≤◌, List, Option, Some, IsTrue, IsSome}
 use Rattle.std.specs.Map.{lookup, keys_of}
-use Rattle.std.specs.declared.cmp.Ordering.{Ordering}
-use Rattle.std.specs.Ordering.{nat_cmp, ordering_then}
 use Rattle.std.specs.List.Sorted.{IsStrictlySortedBy}
 use Rattle.std.specs.Option.{MatchOption}
 use Rattle.hg_base.specs.declared.rid.Rid.{Rid}
 use Rattle.hg_base.specs.declared.rid.TableId.{TableId}
 use Rattle.hg_base.specs.History.{same_rid}
+use Rattle.hg_base.specs.RidOrder.{rid_cmp}
 use Rattle.hg_space.specs.Places.{Seat, IsTaken}
-
--- records are ordered by table, and then by key
-abbrev pub rid_cmp : Rid → Rid → Ordering
-rid_cmp a b = ordering_then (nat_cmp a.table.0 b.table.0) (nat_cmp a.key b.key)
 
 -- the entries stand in that order, no record twice
 abbrev pub Ascends : List (Rid × ℕ) → Type 0

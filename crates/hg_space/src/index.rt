@@ -5,7 +5,8 @@ ghost use Rattle.std.specs.BTreeMap.{insert_entry};
 ghost use Rattle.std.specs.Map.{remove_entry};
 ghost use Rattle.hg_base.specs.declared.rid.Rid.{Rid};
 ghost use Rattle.hg_base.specs.History.{same_rid};
-ghost use Rattle.hg_space.specs.Index.{rid_cmp, place_of, HasPlace, IsIndex, IsNextKey};
+ghost use Rattle.hg_base.specs.RidOrder.{rid_cmp};
+ghost use Rattle.hg_space.specs.Index.{place_of, HasPlace, IsIndex, IsNextKey};
 
 use hg_base::{NoMemory, Rid, TableId};
 use std::alloc::Global;

@@ -5,7 +5,7 @@ use Rattle.std.specs.BTreeMap.{get}
 use Rattle.std.proofs.lemmas.Result.{on_ok_weaker, on_err_weaker, IfOk-weaker}
 use Rattle.hg_chain.specs.Versions.{installed, is_open_by}
 use Rattle.hg_run.specs.Records.{held}
-use Rattle.hg_run.proofs.Keys.{rid_cmp}
+use Rattle.hg_base.specs.RidOrder.{rid_cmp}
 use Rattle.hg_run.proofs.Entries.{written, added}
 use Rattle.hg_run.proofs.Changes.{if_ok_both, grown}
 use Rattle.hg_run.proofs.records.Records.write.Goals as goal

@@ -1,19 +1,17 @@
 -- The order of record ids, and that ids which compare alike are of the same record.
-use Rattle.std.proofs.Common.{◌≡◌, ℕ, true, refl, ◌∙◌, arith}
+use Rattle.std.proofs.Common.{◌≡◌, ℕ, true, refl, ◌∙◌, arith, ◌≤◌, subst}
 use Rattle.std.specs.Prelude.{◌&&◌, ◌==◌}
 use Rattle.std.specs.declared.cmp.Ordering.{Ordering}
 use Rattle.std.specs.declared.cmp.Ordering.TheVariants.{Less, Equal, Greater}
 use Rattle.std.specs.Ordering.{nat_cmp, ordering_then, is_eq}
 use Rattle.std.specs.BTreeMap.{is_at}
-use Rattle.std.specs.Cmp.{IsTotalOrder}
+use Rattle.std.specs.BTreeMap.Range.{IsLeBy}
+use Rattle.std.specs.Cmp.{IsTotalOrder, IsEquivalence, eq_by_cmp_equiv}
 use Rattle.std.proofs.lemmas.Bool.Decides.{nat_tests}
 use Rattle.std.proofs.lemmas.Cmp.{on_total, then_total, nat_cmp_total, nat_eq_equiv}
 use Rattle.hg_base.specs.declared.rid.Rid.{Rid}
 use Rattle.hg_base.specs.History.{same_rid}
-
--- by table, and then by key
-abbrev pub rid_cmp : Rid → Rid → Ordering
-rid_cmp a b = ordering_then (nat_cmp a.table.0 b.table.0) (nat_cmp a.key b.key)
+use Rattle.hg_base.specs.RidOrder.{rid_cmp}
 
 pub rids_total : IsTotalOrder rid_cmp
 rids_total = then_total (on_total (λ (r : Rid). r.table.0) nat_cmp_total) (on_total (λ (r : Rid). r.key) nat_cmp_total)
@@ -36,3 +34,16 @@ same_back a b = λ i. nat_eq_equiv.symm a.table.0 b.table.0 i && nat_eq_equiv.sy
 
 pub is_same : (r : Rid) → same_rid r r ≡ true
 is_same r = λ i. nat_eq_equiv.refl r.table.0 i && nat_eq_equiv.refl r.key i
+
+pub rids_equiv : IsEquivalence same_rid
+rids_equiv = subst IsEquivalence (λ i a b. at_rid a b i) (eq_by_cmp_equiv rids_total)
+
+-- within a table by key, and else by table
+pub le_keys : (a b : Rid) → a.table.0 ≡ b.table.0 → a.key ≤ b.key → IsLeBy rid_cmp a b
+le_keys a b t k = grind (arith, nat_tests, t, k)
+
+pub le_tables : (a b : Rid) → IsLeBy rid_cmp a b → a.table.0 ≤ b.table.0
+le_tables a b h = grind (arith, nat_tests, h)
+
+pub le_in_table : (a b : Rid) → IsLeBy rid_cmp a b → a.table.0 ≡ b.table.0 → a.key ≤ b.key
+le_in_table a b h t = grind (arith, nat_tests, h, t)
