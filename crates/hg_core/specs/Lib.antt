@@ -19,6 +19,7 @@ pub mod Covered
 pub mod Replies
 pub mod Judged
 pub mod Invariant
+pub mod Reading
 -- What follows of gathers, a run, and which steps would be wrong.
 pub mod Missed
 pub mod Held
