@@ -1,21 +1,2 @@
-pub mod Known
-pub mod Exactly
-pub mod OwnWrites
-pub mod Standing
-pub mod Right
-pub mod Steps
-pub mod Counting
-pub mod Playing
-pub mod Versions
-pub mod Tying
-pub mod Living
-pub mod Entries
-pub mod Changes
-pub mod Settling
-pub mod Batches
-pub mod Keeping
-pub mod Committing
-pub mod Answering
-pub mod Closing
-pub mod Looping
-pub mod Playable
+mod Versions
+mod Showing

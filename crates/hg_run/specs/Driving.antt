@@ -1,120 +1,96 @@
--- How what the driver keeps shows the plain table.
-use Rattle.std.specs.Prelude.{◌≡◌, ℕ, suc, ◌+◌, ◌≤◌, ℤ, List, [], ◌∷◌, ◌++◌, length, drop, Bool, true, false, if◌then◌else◌, is_some, Option, Some, None, unwrap_or}
-use Rattle.std.specs.Option.{option_or}
+-- What the driver of a replay keeps, and how it shows the history and the logs of its sessions.
+use Rattle.std.specs.Prelude.{◌≡◌, ℕ, suc, ◌+◌, ◌<◌, ◌≤◌, List, [], ◌∷◌, ◌++◌, length, Bool, true, false, ◌==◌, if◌then◌else◌, is_some, Option, Some, None, option_map, get_or, IsTrue, IfSome, ⊤}
+use Rattle.std.specs.List.{cons_option}
 use Rattle.hg_base.specs.declared.rid.Rid.{Rid}
+use Rattle.hg_base.specs.declared.image.Image.{Image}
 use Rattle.hg_base.specs.declared.writer.Writer.{Writer}
-use Rattle.hg_base.specs.declared.line.Answer.{Answer}
-use Rattle.hg_base.specs.declared.line.Answer.TheVariants.{Ended, Committed}
-use Rattle.hg_base.specs.declared.line.Reply.{Reply}
+use Rattle.hg_base.specs.declared.scope.Snapshot.{Snapshot}
 use Rattle.hg_base.specs.Lists.{Each}
-use Rattle.hg_base.specs.History.{Write, History, NoneTwice, same_rid, is_among, image_in, visible, nothing}
-use Rattle.hg_base.specs.Transcript.{last_images}
-use Rattle.hg_chain.specs.declared.version.Version.{Version}
-use Rattle.hg_chain.specs.Versions.{IsBelow, is_open_by, image_by, image_at, installed, stamped}
-use Rattle.hg_run.specs.Plain.{Plain, inside, answer_row}
-use Rattle.hg_run.specs.Records.{versions_of, held}
+use Rattle.hg_base.specs.History.{Commit, Group, History, image_in, is_among, NoneTwice, writes}
+use Rattle.hg_core.specs.declared.log.LogEntry.{LogEntry}
+use Rattle.hg_core.specs.Logs.{current, begans, is_plain, own_writes, number_in}
+use Rattle.hg_core.specs.Events.{put}
+use Rattle.hg_bucket.specs.Held.{Held, Kept, open_write}
+use Rattle.hg_run.specs.Buckets.{versions_in}
 
--- ---- what the driver keeps
+-- ---- what it keeps
 
--- What the driver keeps: the versions of all records, how many transactions the session had, whether one is open, the
--- number of groups, the records that the open transaction wrote, each once, and how many versions were made.
-pub record Kept : Type 0 where
-  pub entries : List (Rid × List Version)
+-- Of a session: how many transactions it began, the snapshot of the one that is open, and the records that this one wrote.
+pub record Sitting : Type 0 where
   pub count : ℕ
-  pub opened : Bool
-  pub mark : ℕ
+  pub opened : Option Snapshot
   pub written : List Rid
-  pub made : ℕ
 
--- the session's transaction of this number
-abbrev pub writer : ℕ → Writer
-writer count = record { session = 1; transaction = count }
+-- Sessions are counted from 1; the one at 0 stays at rest.
+pub record Driven : Type 0 where
+  pub buckets : List Held
+  pub sessions : List Sitting
+  pub mark : ℕ
 
--- the versions without an open write of the transaction
-abbrev pub settled_part : Writer → List Version → List Version
-settled_part by vs = if is_open_by by vs then drop 1 vs else vs
+abbrev pub at_rest : Sitting
+at_rest = record { count = 0; opened = None; written = [] }
 
--- The versions of one record: its open write is the transaction's last write of it, and the others are numbered at or
--- below the number of groups, the newest having what is visible.
-pub record ShowsRecord (count : ℕ) (own : List Write) (h : History) (r : Rid) (vs : List Version) : Type 0 where
-  pub image : image_by (writer count) vs ≡ image_in r own
-  pub opened : is_open_by (writer count) vs ≡ is_some (image_in r own)
-  pub rest : Each (IsBelow (suc (length h))) (settled_part (writer count) vs)
-  pub newest : unwrap_or (image_at (length h) vs) nothing ≡ visible h r (length h)
+abbrev pub sitting : List Sitting → ℕ → Sitting
+sitting sessions j = get_or sessions j at_rest
 
--- what the driver keeps shows the table
-pub record IsKept (k : Kept) (t : Plain) : Type 0 where
-  pub count : k.count ≡ t.count
-  pub opened : k.opened ≡ t.opened
-  pub mark : k.mark ≡ length t.history
-  pub made : k.made ≡ t.made
-  pub held_is : held k.entries ≡ t.made
-  pub idle : t.opened ≡ false → t.own ≡ []
-  pub distinct : NoneTwice k.written
-  pub covers : (r : Rid) → is_among r k.written ≡ is_some (image_in r t.own)
-  pub many : length k.written ≡ length (last_images t.own)
-  pub records : (r : Rid) → ShowsRecord t.count t.own t.history r (versions_of k.entries r)
+-- the open transaction of session j
+abbrev pub writer_of : Driven → ℕ → Writer
+writer_of k j = record { session = j; transaction = (sitting k.sessions j).count }
 
--- ---- what each call does
+-- ---- what happened
 
-abbrev pub nothing_kept : Kept
-nothing_kept = record { entries = []; count = 0; opened = false; mark = 0; written = []; made = 0 }
+-- the groups of commits, and the log of each session
+pub record Past : Type 0 where
+  pub history : History
+  pub logs : ℕ → List LogEntry
 
--- the row that the transaction sees: its own write, and else the newest version at the mark
-abbrev pub row_kept : Kept → Rid → Option (List ℤ)
-row_kept k r = (unwrap_or (option_or (image_by (writer k.count) (versions_of k.entries r)) (image_at k.mark (versions_of k.entries r))) nothing).row
+-- with these entries more, newest first, in the log of session j
+abbrev pub with_entries : Past → ℕ → List LogEntry → Past
+with_entries p j entries = record p { logs = put p.logs j (entries ++ p.logs j) }
 
-abbrev pub reply_row : Bool → ℕ → Option (List ℤ) → Reply
-reply_row true mark row = inside (answer_row row)
-reply_row false mark row = record { at = Some mark; answer = answer_row row; number = None }
+-- ---- the versions of a record
 
-abbrev pub after_read : Bool → Kept → Kept
-after_read true k = k
-after_read false k = record k { count = k.count + 1 }
+-- the version that a commit in group n makes of r, if it writes it
+abbrev pub version_by : ℕ → Commit → Rid → Option Kept
+version_by n c r = option_map (λ image. record { number = Some n; by = Some (record { session = c.session; transaction = c.transaction }); image = image }) (image_in r c.images)
 
--- a put of the open transaction: one version more where it had no open write of the record
-pub record PutsInside (old new : Kept) (w : Write) : Type 0 where
-  pub count : new.count ≡ old.count
-  pub opened : new.opened ≡ old.opened
-  pub mark : new.mark ≡ old.mark
-  pub here : versions_of new.entries w.rid ≡ installed (writer old.count) w.image (versions_of old.entries w.rid)
-  pub others : (q : Rid) → same_rid q w.rid ≡ false → versions_of new.entries q ≡ versions_of old.entries q
-  pub held_is : held new.entries ≡ held old.entries + (if is_open_by (writer old.count) (versions_of old.entries w.rid) then 0 else 1)
-  pub made : new.made ≡ old.made + (if is_open_by (writer old.count) (versions_of old.entries w.rid) then 0 else 1)
-  pub written : new.written ≡ (if is_open_by (writer old.count) (versions_of old.entries w.rid) then old.written else old.written ++ w.rid ∷ [])
+abbrev pub group_versions : ℕ → Group → Rid → List Kept
+group_versions n [] r = []
+group_versions n (c ∷ cs) r = cons_option (version_by n c r) (group_versions n cs r)
 
--- a put outside: a transaction of its own, committed at once
-pub record PutsAlone (old new : Kept) (w : Write) : Type 0 where
-  pub count : new.count ≡ old.count + 1
-  pub opened : new.opened ≡ old.opened
-  pub mark : new.mark ≡ old.mark + 1
-  pub here : versions_of new.entries w.rid ≡ stamped (writer (old.count + 1)) (old.mark + 1) (installed (writer (old.count + 1)) w.image (versions_of old.entries w.rid))
-  pub others : (q : Rid) → same_rid q w.rid ≡ false → versions_of new.entries q ≡ versions_of old.entries q
-  pub held_is : held new.entries ≡ held old.entries + 1
-  pub made : new.made ≡ old.made + 1
-  pub written : new.written ≡ old.written
+-- every version that the groups make of r, newest first, where the first group has number n
+abbrev pub versions_from : ℕ → History → Rid → List Kept
+versions_from n [] r = []
+versions_from n (group ∷ groups) r = versions_from (suc n) groups r ++ group_versions n group r
 
-abbrev pub answer_written : List Rid → ℕ → Answer
-answer_written [] mark = Ended
-answer_written (r ∷ rids) mark = Committed (mark + 1)
+-- the session that has an open write of a record, and its image
+abbrev pub Owner : Type 0
+Owner = Option (ℕ × Image)
 
--- whether there is one
-abbrev pub is_any : List Rid → Bool
-is_any [] = false
-is_any (r ∷ rids) = true
+-- the open write, if there is one, of the session's transaction
+abbrev pub open_part : (ℕ → List LogEntry) → Owner → List Kept
+open_part logs None = []
+open_part logs (Some owner) = open_write (record { session = owner.0; transaction = begans (logs owner.0) }) owner.1 ∷ []
 
--- a commit: every record that was written gets the next number, if there is one
-pub record Commits (old new : Kept) : Type 0 where
-  pub count : new.count ≡ old.count
-  pub opened : new.opened ≡ false
-  pub mark : new.mark ≡ old.mark + (if is_any old.written then 1 else 0)
-  pub each : (r : Rid) → versions_of new.entries r ≡ (if is_among r old.written then stamped (writer old.count) (old.mark + 1) (versions_of old.entries r) else versions_of old.entries r)
-  pub held_is : held new.entries ≡ held old.entries
-  pub made : new.made ≡ old.made
-  pub written : new.written ≡ []
+abbrev pub owned_by : ℕ → Owner → Option Image
+owned_by j None = None
+owned_by j (Some owner) = if owner.0 == j then Some owner.1 else None
 
--- no number rises by more than one
-pub record GoesOn (old new : Kept) : Type 0 where
-  pub count : new.count ≤ old.count + 1
-  pub mark : new.mark ≤ old.mark + 1
-  pub made : new.made ≤ old.made + 1
+-- A record has the open write of at most one session, whose snapshot is at or over every number that wrote the record, and
+-- behind it every version that the history makes.
+pub record ShowsRecord (p : Past) (r : Rid) (vs : List Kept) : Type 0 where
+  pub owner : Owner
+  pub all : vs ≡ open_part p.logs owner ++ versions_from 1 p.history r
+  pub own : (j : ℕ) → image_in r (own_writes (p.logs j)) ≡ owned_by j owner
+  pub over : IfSome owner (λ o. Each (λ w. w.0 ≤ number_in (current (p.logs o.0))) (writes p.history r))
+
+-- ---- that it shows what happened
+
+-- what is kept of a session shows its log
+pub record IsSitting (s : Sitting) (log : List LogEntry) : Type 0 where
+  pub count : s.count ≡ begans log
+  pub opened : s.opened ≡ current log
+  pub distinct : NoneTwice s.written
+  pub covers : (r : Rid) → is_among r s.written ≡ is_some (image_in r (own_writes log))
+  pub plain : IsTrue (is_plain log)
+  pub idle : s.opened ≡ None → own_writes log ≡ []
