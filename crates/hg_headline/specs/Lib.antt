@@ -1,0 +1,5 @@
+-- What a command knows when it has printed its lines. A reader meets the definitions in this order.
+pub mod Logged
+pub mod Timely
+pub mod Met
+pub mod Replayed
