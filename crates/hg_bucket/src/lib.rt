@@ -13,5 +13,7 @@
 #![tactic(auto)]
 
 mod bucket;
+mod refusal;
 
 pub use bucket::Bucket;
+pub use refusal::WriteRefusal;

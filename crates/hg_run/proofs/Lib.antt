@@ -1,2 +1,7 @@
 mod Versions
 mod Showing
+mod Assumed
+mod Keeping
+mod LogFacts
+mod Parts
+mod Asking

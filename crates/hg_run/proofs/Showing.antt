@@ -118,6 +118,7 @@ pub record IsHeldBy (p : Past) (r : Rid) (j : ℕ) (w : Writer) : Type 0 where
   pub other : IsFalse (w.session == j)
   pub number : begans (p.logs w.session) ≡ w.transaction
   pub does : IsSome (image_in r (own_writes (p.logs w.session)))
+  pub unwritten : image_in r (own_writes (p.logs j)) ≡ None
 
 pub held_by : (p : Past) (r : Rid) (vs : List Kept) (j : ℕ) (w : Writer) → ShowsRecord p r vs → holder (by_of p.logs j) (length p.history) vs ≡ Some w → IsHeldBy p r j w
 held_by p r vs j w s e = go s.owner s.own (ap (holder (by_of p.logs j) (length p.history)) (sym s.all) ∙ e)
@@ -133,6 +134,7 @@ held_by p r vs j w s e = go s.owner s.own (ap (holder (by_of p.logs j) (length p
           other = t;
           number = refl;
           does = ap is_some (own i ∙ owned_itself i image);
+          unwritten = own j ∙ ap (λ b. cond b (Some image) None) t;
         })
 
     go : (o : Owner) → ((k : ℕ) → image_in r (own_writes (p.logs k)) ≡ owned_by k o) → holder (by_of p.logs j) (length p.history) (open_part p.logs o ++ V) ≡ Some w → IsHeldBy p r j w

@@ -1,9 +1,14 @@
 -- The versions of all records, as a list of buckets keeps them.
-use Rattle.std.specs.Prelude.{◌≡◌, ℕ, zero, suc, List, [], ◌∷◌, length, sum_by, IsFalse, ◌==◌, ◌<◌}
+use Rattle.std.specs.Prelude.{◌≡◌, ℕ, zero, suc, ◌+◌, ◌<◌, List, [], ◌∷◌, length, sum_by, Bool, not, ◌==◌, if◌then◌else◌, Option, Some, None, IsFalse, ⊤}
 use Rattle.hg_base.specs.declared.rid.Rid.{Rid}
-use Rattle.hg_base.specs.History.{same_rid}
+use Rattle.hg_base.specs.declared.image.Image.{Image}
+use Rattle.hg_base.specs.declared.writer.Writer.{Writer}
+use Rattle.hg_base.specs.History.{same_rid, is_among}
 use Rattle.hg_core.specs.Contents.{bucket_of}
-use Rattle.hg_bucket.specs.Held.{Held, Kept, versions_of}
+use Rattle.hg_bucket.specs.declared.refusal.WriteRefusal.{WriteRefusal}
+use Rattle.hg_bucket.specs.declared.refusal.WriteRefusal.TheVariants.{Open, Newer, NoMemory}
+use Rattle.hg_bucket.specs.Conflicts.{holder, newer}
+use Rattle.hg_bucket.specs.Held.{Held, Kept, versions_of, begins_open, installed}
 
 -- the records of bucket b, and none where there is no such bucket
 abbrev pub records_at : List Held → ℕ → List (Rid × List Kept)
@@ -36,3 +41,35 @@ pub record Becomes (old new : List Held) (r : Rid) (vs : List Kept) : Type 0 whe
   pub here : versions_in new r ≡ vs
   pub others : (q : Rid) → IsFalse (same_rid r q) → versions_in new q ≡ versions_in old q
   pub many : length new ≡ length old
+
+-- ---- writing
+
+-- A stored write: no other transaction holds the record, and no number of it is over the snapshot, unless the transaction wrote
+-- it before; then no version is added.
+pub record Stores (old new : List Held) (r : Rid) (by : Writer) (image : Image) (at mark : ℕ) (added : Bool) : Type 0 where
+  pub free : holder by mark (versions_in old r) ≡ None
+  pub newest : IsFalse (begins_open by (versions_in old r)) → newer at (versions_in old r) ≡ None
+  pub added_is : added ≡ not (begins_open by (versions_in old r))
+  pub becomes : Becomes old new r (installed by image (versions_in old r))
+  pub made : made_in new ≡ made_in old + (if begins_open by (versions_in old r) then 0 else 1)
+  pub undone : undone_in new ≡ undone_in old
+
+-- why a write is refused
+abbrev pub Refuses : List Kept → Writer → ℕ → ℕ → WriteRefusal → Type 0
+Refuses vs by at mark (Open writer) = holder by mark vs ≡ Some writer
+Refuses vs by at mark (Newer number) = (holder by mark vs ≡ None) × IsFalse (begins_open by vs) × (newer at vs ≡ Some number)
+Refuses vs by at mark NoMemory = ⊤
+
+-- ---- many records at once
+
+-- each of these records is changed, and no other
+pub record ChangesEach (old new : List Held) (rids : List Rid) (change : List Kept → List Kept) : Type 0 where
+  pub each : (r : Rid) → versions_in new r ≡ (if is_among r rids then change (versions_in old r) else versions_in old r)
+  pub many : length new ≡ length old
+  pub made : made_in new ≡ made_in old
+
+-- no record has a version
+pub record AreEmpty (buckets : List Held) : Type 0 where
+  pub none : (r : Rid) → versions_in buckets r ≡ []
+  pub made : made_in buckets ≡ 0
+  pub undone : undone_in buckets ≡ 0

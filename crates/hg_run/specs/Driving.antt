@@ -1,5 +1,5 @@
 -- What the driver of a replay keeps, and how it shows the history and the logs of its sessions.
-use Rattle.std.specs.Prelude.{◌≡◌, ℕ, suc, ◌+◌, ◌<◌, ◌≤◌, List, [], ◌∷◌, ◌++◌, length, Bool, true, false, ◌==◌, if◌then◌else◌, is_some, Option, Some, None, option_map, get_or, IsTrue, IfSome, ⊤}
+use Rattle.std.specs.Prelude.{◌≡◌, ℕ, suc, ◌+◌, ◌<◌, ◌≤◌, List, [], ◌∷◌, ◌++◌, length, Bool, true, false, ◌==◌, if◌then◌else◌, is_some, Option, Some, None, option_map, get_or, IsTrue, IsFalse, IfSome}
 use Rattle.std.specs.List.{cons_option}
 use Rattle.hg_base.specs.declared.rid.Rid.{Rid}
 use Rattle.hg_base.specs.declared.image.Image.{Image}
@@ -10,6 +10,7 @@ use Rattle.hg_base.specs.History.{Commit, Group, History, image_in, is_among, No
 use Rattle.hg_core.specs.declared.log.LogEntry.{LogEntry}
 use Rattle.hg_core.specs.Logs.{current, begans, is_plain, own_writes, number_in}
 use Rattle.hg_core.specs.Events.{put}
+use Rattle.hg_headline.specs.Logged.{Logged}
 use Rattle.hg_bucket.specs.Held.{Held, Kept, open_write}
 use Rattle.hg_run.specs.Buckets.{versions_in}
 
@@ -32,6 +33,13 @@ at_rest = record { count = 0; opened = None; written = [] }
 
 abbrev pub sitting : List Sitting → ℕ → Sitting
 sitting sessions j = get_or sessions j at_rest
+
+-- what is kept of a session with a transaction begun, and when its transaction is over
+abbrev pub begun : Sitting → Snapshot → Sitting
+begun s snapshot = record s { count = s.count + 1; opened = Some snapshot }
+
+abbrev pub rested : Sitting → Sitting
+rested s = record { count = s.count; opened = None; written = [] }
 
 -- the open transaction of session j
 abbrev pub writer_of : Driven → ℕ → Writer
@@ -94,3 +102,16 @@ pub record IsSitting (s : Sitting) (log : List LogEntry) : Type 0 where
   pub covers : (r : Rid) → is_among r s.written ≡ is_some (image_in r (own_writes log))
   pub plain : IsTrue (is_plain log)
   pub idle : s.opened ≡ None → own_writes log ≡ []
+
+-- what the driver keeps shows what happened
+pub record IsKept (k : Driven) (p : Past) : Type 0 where
+  pub mark : k.mark ≡ length p.history
+  pub sessions : (j : ℕ) → IsSitting (sitting k.sessions j) (p.logs j)
+  pub records : (r : Rid) → ShowsRecord p r (versions_in k.buckets r)
+  pub logged : Logged (length k.buckets) p.history p.logs
+
+-- session j is kept so now, and each other session as before
+pub record Sets (old new : List Sitting) (j : ℕ) (s : Sitting) : Type 0 where
+  pub here : sitting new j ≡ s
+  pub others : (i : ℕ) → IsFalse (i == j) → sitting new i ≡ sitting old i
+  pub many : length new ≡ length old

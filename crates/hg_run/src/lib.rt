@@ -1,4 +1,8 @@
 //! Scratch.
 #![tactic(auto)]
 
+//mod buckets;
+//mod driver;
+mod session;
+
 pub fn nothing() {}

@@ -1,0 +1,270 @@
+-- What a statement in an open transaction is answered, and the entries that it leaves.
+use Rattle.std.proofs.Common.{◌≡◌, ℕ, zero, suc, ◌+◌, ◌<◌, ◌≤◌, ◌⊎◌, inl, inr, ℤ, List, [], ◌∷◌, ◌++◌, length, Bool, true, false, Option, Some, None, refl, sym, ap, ◌∙◌, subst, arith}
+use Rattle.std.specs.Prelude.{cond, map, filter, is_some, unwrap_or, IsTrue, IsFalse, IsSome, IfSome, Contains, ◌==◌, ◌||◌, ⊤}
+use Rattle.std.specs.List.{list_any}
+use Rattle.std.proofs.lemmas.Bool.Decides.{Decides-eqb}
+use Rattle.hg_base.specs.declared.rid.Rid.{Rid}
+use Rattle.hg_base.specs.declared.rid.TableId.{TableId}
+use Rattle.hg_base.specs.declared.image.Image.{Image}
+use Rattle.hg_base.specs.declared.writer.Writer.{Writer}
+use Rattle.hg_base.specs.declared.scope.Snapshot.{Snapshot}
+use Rattle.hg_base.specs.declared.statement.Statement.{Statement}
+use Rattle.hg_base.specs.declared.statement.Statement.TheVariants.{Begin, Get, Put, Del, Scan, Commit, Rollback, Gc}
+use Rattle.hg_base.specs.declared.line.Answer.{Answer}
+use Rattle.hg_base.specs.declared.line.Answer.TheVariants.{Begun, Found, Nothing, Stored, Gone, Rows, Committed, Ended, Undone, Newer as NewerThan, OpenBy, Undeclared, Swept, Beside}
+use Rattle.hg_base.specs.Lists.{Each}
+use Rattle.hg_base.specs.History.{History, image_in, seen, nothing}
+use Rattle.hg_base.specs.Replies.{AreRows}
+use Rattle.hg_base.specs.Transcript.{has, table_of}
+use Rattle.hg_base.proofs.ListFacts.{cases, false_true, none_some}
+use Rattle.hg_core.specs.declared.log.LogEntry.{LogEntry}
+use Rattle.hg_core.specs.declared.log.LogEntry.TheVariants.{Saw, Refused, Outside, Wrote}
+use Rattle.hg_core.specs.Logs.{current, begans, is_plain, own_writes, number_in}
+use Rattle.hg_core.specs.Replies.{in_bucket, writes_in, numbers_in, IsReplied}
+use Rattle.hg_core.specs.Contents.{bucket_of}
+use Rattle.hg_core.specs.Events.{put}
+use Rattle.hg_core.specs.Reading.{Unprinted, saw, saws}
+use Rattle.hg_headline.specs.Met.{IsOpenWrite}
+use Rattle.hg_bucket.specs.Held.{Held, Kept, begins_open, installed, record_at}
+use Rattle.hg_bucket.specs.Conflicts.{holder, newer}
+use Rattle.hg_run.specs.Buckets.{Becomes, versions_in}
+use Rattle.hg_run.specs.Driving.{Sitting, Driven, Past, Owner, open_part, versions_from, Sets, IsKept, IsSitting, sitting, writer_of, with_entries}
+use Rattle.hg_run.specs.Answering.{IsAsked, IsWritten, answer_row}
+use Rattle.hg_run.proofs.Versions.{newest_over}
+use Rattle.hg_run.proofs.Showing.{IsFree, by_of, begins, held_by, same_number}
+use Rattle.hg_run.proofs.Keeping.{IsTelling, IsSame, telling_same, kept_telling, is_now, none_of, by_session, put_here, put_other, put_same, put_more}
+use Rattle.hg_run.proofs.Parts.{part_of, part_rows, parts_join}
+use Rattle.hg_run.proofs.LogFacts.{open_writes, open_unnumbered}
+
+-- what an answer leaves untold, where it leaves nothing
+abbrev pub untold : Unprinted
+untold = record { found = []; part = λ b. []; undone = [] }
+
+-- the snapshot of the open transaction, in its log
+pub reads_at : (k : Driven) (p : Past) (j : ℕ) (snapshot : Snapshot) → IsKept k p → (sitting k.sessions j).opened ≡ Some snapshot → current (p.logs j) ≡ Some snapshot
+reads_at k p j snapshot s opened = sym (s.sessions j).opened ∙ opened
+
+-- ---- one key
+
+pub key_itself : (m n : ℕ) → m ≤ n → n ≤ m → m ≡ n
+key_itself m n h k = omega (arith, h, k)
+
+pub one_row : (look : ℕ → Image) (key : ℕ) (row : List ℤ) → (look key).row ≡ Some row → AreRows look key key ((key, row) ∷ [])
+one_row look key row e =
+    let same : key ≤ key = omega arith in
+    record {
+      ascend = tt;
+      each = ((same, same, e), tt);
+      every = λ other low high. inl (let is : key ≡ other = key_itself key other low high in subst (λ m. ((key == m) || false) ≡ true) is (ap (λ b. b || false) (same_number key)));
+    }
+
+pub no_row : (look : ℕ → Image) (key : ℕ) → (look key).row ≡ None → AreRows look key key []
+no_row look key e = record {
+  ascend = tt;
+  each = tt;
+  every = λ other low high. inr (let is : key ≡ other = key_itself key other low high in ap (λ m. (look m).row) (sym is) ∙ e);
+}
+
+-- a record's own bucket shows it
+pub in_own : (buckets : ℕ) (f : Rid → Image) (r : Rid) → in_bucket buckets (bucket_of buckets r) r.table f r.key ≡ f r
+in_own buckets f r = ap (λ b. cond b (f r) nothing) (same_number (bucket_of buckets r))
+
+pub kept_saw : (k : Driven) (p : Past) (j : ℕ) (r : Rid) (snapshot : Snapshot) (rows : List (ℕ × List ℤ)) → (sitting k.sessions j).opened ≡ Some snapshot → IsTrue (has snapshot.scope r.table) → AreRows (in_bucket (length k.buckets) (bucket_of (length k.buckets) r) r.table (seen p.history (own_writes (p.logs j)) snapshot.at)) r.key r.key rows → IsKept k p → IsKept k (with_entries p j (saw (length k.buckets) r rows ∷ []))
+kept_saw k p j r snapshot rows opened within are s =
+    let now = reads_at k p j snapshot s opened in
+    kept_telling k p j (saw (length k.buckets) r rows) tt tt (ap is_some now) (is_now (current (p.logs j)) snapshot _ now (within, are)) s
+
+pub asked_get : (k : Driven) (p : Past) (n j : ℕ) (r : Rid) (snapshot : Snapshot) (answer : Answer) → (sitting k.sessions j).opened ≡ Some snapshot → IsTrue (has snapshot.scope r.table) → answer ≡ answer_row (seen p.history (own_writes (p.logs j)) snapshot.at r).row → IsKept k p → IsAsked k p n j (Get r) answer
+asked_get k p n j r snapshot answer opened within e s = subst (IsAsked k p n j (Get r)) (sym e) (go (seen p.history (own_writes (p.logs j)) snapshot.at r).row refl)
+  where
+    f : Rid → Image
+    f = seen p.history (own_writes (p.logs j)) snapshot.at
+
+    shows : (o : Option (List ℤ)) → (f r).row ≡ o → (in_bucket (length k.buckets) (bucket_of (length k.buckets) r) r.table f r.key).row ≡ o
+    shows o h = ap (λ (x : Image). x.row) (in_own (length k.buckets) f r) ∙ h
+
+    go : (o : Option (List ℤ)) → (f r).row ≡ o → IsAsked k p n j (Get r) (answer_row o)
+    go None h = record { u = untold; fits = tt; met = tt; newer = tt; kept = kept_saw k p j r snapshot [] opened within (no_row _ r.key (shows None h)) s }
+    go (Some row) h = record { u = untold; fits = tt; met = tt; newer = tt; kept = kept_saw k p j r snapshot ((r.key, row) ∷ []) opened within (one_row _ r.key row (shows (Some row) h)) s }
+
+-- ---- a write
+
+-- where a write finds its record free, for what is kept
+pub is_free : (k : Driven) (p : Past) (j : ℕ) (r : Rid) (snapshot : Snapshot) → IsKept k p → (sitting k.sessions j).opened ≡ Some snapshot → holder (writer_of k j) k.mark (versions_in k.buckets r) ≡ None → (IsFalse (begins_open (writer_of k j) (versions_in k.buckets r)) → newer snapshot.at (versions_in k.buckets r) ≡ None) → IsFree p r (versions_in k.buckets r) j
+is_free k p j r snapshot s opened free newest =
+    let by : writer_of k j ≡ by_of p.logs j = (λ i. record { session = j; transaction = (s.sessions j).count i }) in
+    let at : number_in (current (p.logs j)) ≡ snapshot.at = ap number_in (reads_at k p j snapshot s opened) in
+    record {
+      held = (λ i. holder (sym by i) (sym s.mark i) (versions_in k.buckets r)) ∙ free;
+      newest = λ e. ap (λ n. newer n (versions_in k.buckets r)) at ∙ newest (ap (λ w. begins_open w (versions_in k.buckets r)) by ∙ e);
+    }
+
+pub refused_open : (k : Driven) (p : Past) (j : ℕ) (r : Rid) (snapshot : Snapshot) (w : Writer) → IsKept k p → (sitting k.sessions j).opened ≡ Some snapshot → IsTrue (has snapshot.scope r.table) → holder (writer_of k j) k.mark (versions_in k.buckets r) ≡ Some w → IsWritten k p j r nothing (Some (OpenBy w))
+refused_open k p j r snapshot w s opened within e =
+    let by : writer_of k j ≡ by_of p.logs j = (λ i. record { session = j; transaction = (s.sessions j).count i }) in
+    let h = held_by p r (versions_in k.buckets r) j w (s.records r) ((λ i. holder (sym by i) (sym s.mark i) (versions_in k.buckets r)) ∙ e) in
+    let sit = s.sessions w.session in
+    let now = reads_at k p j snapshot s opened in
+    let theirs : IsSome (current (p.logs w.session)) = open_where (p.logs w.session) (λ e. sit.idle (sit.opened ∙ e)) h.does in
+    let writes : image_in r (writes_in w.transaction (p.logs w.session)) ≡ image_in r (own_writes (p.logs w.session)) = ap (image_in r) (ap (λ x. writes_in x (p.logs w.session)) (sym h.number) ∙ open_writes (p.logs w.session) theirs sit.plain) in
+    let numbers : numbers_in w.transaction (p.logs w.session) ≡ [] = ap (λ x. numbers_in x (p.logs w.session)) (sym h.number) ∙ open_unnumbered (p.logs w.session) theirs sit.plain in
+    (
+      record { opened = theirs; number = h.number; does = h.does },
+      kept_telling k p j (Refused r (OpenBy w)) tt tt (ap is_some now) (is_now (current (p.logs j)) snapshot _ now (within, (ap is_some h.unwritten, record {
+        other = h.other;
+        does = ap is_some writes ∙ h.does;
+        after = subst (Each (λ c. snapshot.at < c)) (sym numbers) tt;
+      }))) s,
+    )
+  where
+    open_where : (log : List LogEntry) → (current log ≡ None → own_writes log ≡ []) → IsSome (image_in r (own_writes log)) → IsSome (current log)
+    open_where log idle does = cases (is_some (current log)) (λ e. e) (λ e. absurd (false_true (ap (λ own. is_some (image_in r own)) (sym (idle (none_of (current log) e))) ∙ does)))
+
+pub refused_newer : (k : Driven) (p : Past) (j : ℕ) (r : Rid) (snapshot : Snapshot) (c : ℕ) → IsKept k p → (sitting k.sessions j).opened ≡ Some snapshot → IsTrue (has snapshot.scope r.table) → holder (writer_of k j) k.mark (versions_in k.buckets r) ≡ None → IsFalse (begins_open (writer_of k j) (versions_in k.buckets r)) → newer snapshot.at (versions_in k.buckets r) ≡ Some c → IsWritten k p j r nothing (Some (NewerThan c))
+refused_newer k p j r snapshot c s opened within free unwritten e =
+    let by : writer_of k j ≡ by_of p.logs j = (λ i. record { session = j; transaction = (s.sessions j).count i }) in
+    let now = reads_at k p j snapshot s opened in
+    let front : newer snapshot.at (open_part p.logs (s.records r).owner ++ versions_from 1 p.history r) ≡ Some c = ap (newer snapshot.at) (sym (s.records r).all) ∙ e in
+    let k2 = newest_over snapshot.at 1 c p.history r (behind (s.records r).owner front) in
+    let within_is : c ≤ length p.history = let l = k2.1 in omega (arith, l) in
+    let positive : 0 < c = let l = k2.0 in omega (arith, l) in
+    (
+      (positive, within_is),
+      kept_telling k p j (Refused r (NewerThan c)) tt within_is (ap is_some now) (is_now (current (p.logs j)) snapshot _ now (within, (
+        sym (begins p r (versions_in k.buckets r) j (s.records r)) ∙ ap (λ w. begins_open w (versions_in k.buckets r)) (sym by) ∙ unwritten,
+        record { over = k2.0; within = within_is; does = k2.2 },
+      ))) s,
+    )
+  where
+    behind : (o : Owner) → newer snapshot.at (open_part p.logs o ++ versions_from 1 p.history r) ≡ Some c → newer snapshot.at (versions_from 1 p.history r) ≡ Some c
+    behind None h = h
+    behind (Some owner) h = absurd (none_some None c refl h)
+
+-- ---- statements that write
+
+pub asked_put : (l : Driven) (p : Past) (n j : ℕ) (r : Rid) (row : List ℤ) (refusal : Option Answer) → IsWritten l p j r (record { row = Some row }) refusal → IsAsked l p n j (Put r row) (unwrap_or refusal Stored)
+asked_put l p n j r row None s = record { u = untold; fits = tt; met = tt; newer = tt; kept = s }
+asked_put l p n j r row (Some (NewerThan c)) s = record { u = untold; fits = tt; met = tt; newer = s.0; kept = s.1 }
+asked_put l p n j r row (Some (OpenBy w)) s = record { u = untold; fits = tt; met = s.0; newer = tt; kept = s.1 }
+asked_put l p n j r row (Some Stored) s = absurd s.0
+asked_put l p n j r row (Some (Found other)) s = absurd s.0
+asked_put l p n j r row (Some Nothing) s = absurd s.0
+asked_put l p n j r row (Some Gone) s = absurd s.0
+asked_put l p n j r row (Some (Rows rows)) s = absurd s.0
+asked_put l p n j r row (Some (Undeclared table)) s = absurd s.0
+asked_put l p n j r row (Some (Begun at)) s = absurd s.0
+asked_put l p n j r row (Some (Committed number)) s = absurd s.0
+asked_put l p n j r row (Some Ended) s = absurd s.0
+asked_put l p n j r row (Some Undone) s = absurd s.0
+asked_put l p n j r row (Some (Swept sweep)) s = absurd s.0
+asked_put l p n j r row (Some Beside) s = absurd s.0
+
+-- entries behind entries
+pub entries_more : (p : Past) (j : ℕ) (e : LogEntry) (entries : List LogEntry) → with_entries (with_entries p j entries) j (e ∷ []) ≡ with_entries p j (e ∷ entries)
+entries_more p j e entries = ap (λ logs. record { history = p.history; logs = logs }) (put_more p.logs j e (entries ++ p.logs j))
+
+-- a read changes nothing that is open
+pub open_still : (p : Past) (j : ℕ) (e : LogEntry) (r : Rid) (w : Writer) → IsTelling e → IsOpenWrite (with_entries p j (e ∷ [])).logs r w → IsOpenWrite p.logs r w
+open_still p j e r w telling s =
+    let same : IsSame (p.logs w.session) (put p.logs j (e ∷ p.logs j) w.session) = by_session (λ i. IsSame (p.logs i) (put p.logs j (e ∷ p.logs j) i)) j
+        (subst (IsSame (p.logs j)) (sym (put_here p.logs j (e ∷ p.logs j))) (telling_same e (p.logs j) telling))
+        (λ i f. subst (IsSame (p.logs i)) (sym (put_other p.logs j (e ∷ p.logs j) i f)) (record { own = refl; number = refl; current_is = refl; plain = refl }))
+        w.session in
+    record { opened = ap is_some (sym same.current_is) ∙ s.opened; number = sym same.number ∙ s.number; does = ap (λ own. is_some (image_in r own)) (sym same.own) ∙ s.does }
+
+abbrev pub found_row : List ℤ → Unprinted
+found_row row = record { found = row; part = λ b. []; undone = [] }
+
+pub asked_del : (l : Driven) (p : Past) (n j : ℕ) (r : Rid) (row : List ℤ) (refusal : Option Answer) → length l.buckets ≡ n → IsWritten l (with_entries p j (saw n r ((r.key, row) ∷ []) ∷ [])) j r nothing refusal → IsAsked l p n j (Del r) (unwrap_or refusal Gone)
+asked_del l p n j r row refusal many s = go refusal s
+  where
+    e : LogEntry
+    e = saw n r ((r.key, row) ∷ [])
+
+    q : Past
+    q = with_entries p j (e ∷ [])
+
+    kept : (x : LogEntry) → IsKept l (with_entries q j (x ∷ [])) → IsKept l (with_entries p j (x ∷ saw (length l.buckets) r ((r.key, row) ∷ []) ∷ []))
+    kept x k = subst (λ m. IsKept l (with_entries p j (x ∷ saw m r ((r.key, row) ∷ []) ∷ []))) (sym many) (subst (IsKept l) (entries_more p j x (e ∷ [])) k)
+
+    go : (refusal : Option Answer) → IsWritten l q j r nothing refusal → IsAsked l p n j (Del r) (unwrap_or refusal Gone)
+    go None s = record { u = found_row row; fits = tt; met = tt; newer = tt; kept = kept (Wrote r nothing) s }
+    go (Some (NewerThan c)) s = record { u = found_row row; fits = tt; met = tt; newer = s.0; kept = kept (Refused r (NewerThan c)) s.1 }
+    go (Some (OpenBy w)) s = record { u = found_row row; fits = tt; met = open_still p j e r w tt s.0; newer = tt; kept = kept (Refused r (OpenBy w)) s.1 }
+    go (Some Stored) s = absurd s.0
+    go (Some (Found other)) s = absurd s.0
+    go (Some Nothing) s = absurd s.0
+    go (Some Gone) s = absurd s.0
+    go (Some (Rows rows)) s = absurd s.0
+    go (Some (Undeclared table)) s = absurd s.0
+    go (Some (Begun at)) s = absurd s.0
+    go (Some (Committed number)) s = absurd s.0
+    go (Some Ended) s = absurd s.0
+    go (Some Undone) s = absurd s.0
+    go (Some (Swept sweep)) s = absurd s.0
+    go (Some Beside) s = absurd s.0
+
+-- nothing is there to delete
+pub asked_nothing : (k : Driven) (p : Past) (n j : ℕ) (r : Rid) (snapshot : Snapshot) → (sitting k.sessions j).opened ≡ Some snapshot → IsTrue (has snapshot.scope r.table) → (seen p.history (own_writes (p.logs j)) snapshot.at r).row ≡ None → IsKept k p → IsAsked k p n j (Del r) Nothing
+asked_nothing k p n j r snapshot opened within e s =
+    let f : Rid → Image = seen p.history (own_writes (p.logs j)) snapshot.at in
+    record { u = untold; fits = tt; met = tt; newer = tt; kept = kept_saw k p j r snapshot [] opened within (no_row _ r.key (ap (λ (x : Image). x.row) (in_own (length k.buckets) f r) ∙ e)) s }
+
+-- the state in which a deletion that finds a row is tried
+pub saw_row : (k : Driven) (p : Past) (j : ℕ) (r : Rid) (snapshot : Snapshot) (row : List ℤ) → (sitting k.sessions j).opened ≡ Some snapshot → IsTrue (has snapshot.scope r.table) → (seen p.history (own_writes (p.logs j)) snapshot.at r).row ≡ Some row → IsKept k p → IsKept k (with_entries p j (saw (length k.buckets) r ((r.key, row) ∷ []) ∷ []))
+saw_row k p j r snapshot row opened within e s =
+    let f : Rid → Image = seen p.history (own_writes (p.logs j)) snapshot.at in
+    kept_saw k p j r snapshot ((r.key, row) ∷ []) opened within (one_row _ r.key row (ap (λ (x : Image). x.row) (in_own (length k.buckets) f r) ∙ e)) s
+
+-- ---- a table that is not declared
+
+pub asked_undeclared : (k : Driven) (p : Past) (n j : ℕ) (table : TableId) (s : Statement) (snapshot : Snapshot) → (sitting k.sessions j).opened ≡ Some snapshot → IsFalse (has snapshot.scope table) → table_of s ≡ Some table → IsKept k p → IsAsked k p n j s (Undeclared table)
+asked_undeclared k p n j table s snapshot opened outside names h =
+    let now = reads_at k p j snapshot h opened in
+    let kept : IsKept k (with_entries p j (Outside table ∷ [])) = kept_telling k p j (Outside table) tt tt (ap is_some now) (is_now (current (p.logs j)) snapshot (λ snapshot. IsFalse (has snapshot.scope table)) now outside) h in
+    go s names kept
+  where
+    same : (t : TableId) → Some t ≡ Some table → table.0 ≡ t.0
+    same t e = ap (λ o. (unwrap_or o table).0) (sym e)
+
+    go : (s : Statement) → table_of s ≡ Some table → IsKept k (with_entries p j (Outside table ∷ [])) → IsAsked k p n j s (Undeclared table)
+    go (Get r) e kept = record { u = untold; fits = same r.table e; met = tt; newer = tt; kept = kept }
+    go (Put r row) e kept = record { u = untold; fits = same r.table e; met = tt; newer = tt; kept = kept }
+    go (Del r) e kept = record { u = untold; fits = same r.table e; met = tt; newer = tt; kept = kept }
+    go (Scan t low high) e kept = record { u = untold; fits = same t e; met = tt; newer = tt; kept = kept }
+    go (Begin scope) e kept = absurd (none_some None table refl e)
+    go Commit e kept = absurd (none_some None table refl e)
+    go Rollback e kept = absurd (none_some None table refl e)
+    go (Gc kind) e kept = absurd (none_some None table refl e)
+
+-- ---- a scan
+
+pub saws_same : (table : TableId) (low high : ℕ) (part : ℕ → List (ℕ × List ℤ)) (m : ℕ) (log : List LogEntry) → IsSame log (saws table low high part m ++ log)
+saws_same table low high part zero log = record { own = refl; number = refl; current_is = refl; plain = refl }
+saws_same table low high part (suc m) log = let h = saws_same table low high part m log in record { own = h.own; number = h.number; current_is = h.current_is; plain = h.plain }
+
+pub kept_saws : (k : Driven) (p : Past) (j : ℕ) (snapshot : Snapshot) (table : TableId) (low high : ℕ) (part : ℕ → List (ℕ × List ℤ)) → (sitting k.sessions j).opened ≡ Some snapshot → IsTrue (has snapshot.scope table) → ((b : ℕ) → AreRows (in_bucket (length k.buckets) b table (seen p.history (own_writes (p.logs j)) snapshot.at)) low high (part b)) → IsKept k p → (m : ℕ) → IsKept k (with_entries p j (saws table low high part m))
+kept_saws k p j snapshot table low high part opened within are s zero = subst (λ logs. IsKept k (record { history = p.history; logs = logs })) (sym (put_same p.logs j)) s
+kept_saws k p j snapshot table low high part opened within are s (suc m) =
+    let before = kept_saws k p j snapshot table low high part opened within are s m in
+    let q : Past = with_entries p j (saws table low high part m) in
+    let log : List LogEntry = saws table low high part m ++ p.logs j in
+    let now = reads_at k q j snapshot before opened in
+    let own : own_writes (q.logs j) ≡ own_writes (p.logs j) = ap own_writes (put_here p.logs j log) ∙ (saws_same table low high part m (p.logs j)).own in
+    let e : LogEntry = Saw table low high m (part m) in
+    subst (IsKept k) (entries_more p j e (saws table low high part m))
+    (kept_telling k q j e tt tt (ap is_some now) (is_now (current (q.logs j)) snapshot _ now (within, subst (λ ws. AreRows (in_bucket (length k.buckets) m table (seen p.history ws snapshot.at)) low high (part m)) (sym own) (are m))) before)
+
+abbrev pub in_parts : ℕ → TableId → List (ℕ × List ℤ) → Unprinted
+in_parts buckets table rows = record { found = []; part = part_of buckets table rows; undone = [] }
+
+pub asked_scan : (k : Driven) (p : Past) (n j : ℕ) (table : TableId) (low high : ℕ) (snapshot : Snapshot) (rows : List (ℕ × List ℤ)) → (sitting k.sessions j).opened ≡ Some snapshot → IsTrue (has snapshot.scope table) → AreRows (λ key. seen p.history (own_writes (p.logs j)) snapshot.at (record_at table key)) low high rows → IsKept k p → IsAsked k p n j (Scan table low high) (Rows rows)
+asked_scan k p n j table low high snapshot rows opened within are s =
+    let f : Rid → Image = seen p.history (own_writes (p.logs j)) snapshot.at in
+    record {
+      u = in_parts (length k.buckets) table rows;
+      fits = parts_join (length k.buckets) table rows s.logged.some are.ascend;
+      met = tt;
+      newer = tt;
+      kept = kept_saws k p j snapshot table low high (part_of (length k.buckets) table rows) opened within (λ b. part_rows (length k.buckets) table f low high rows b are) s (length k.buckets);
+    }

@@ -1,0 +1,73 @@
+-- What the driver's calls leave behind.
+use Rattle.std.specs.Prelude.{◌≡◌, ℕ, suc, ◌+◌, ◌<◌, ◌≤◌, ℤ, List, [], ◌∷◌, ◌++◌, length, Bool, true, false, is_some, Option, Some, None, IfSome, IsSome, ⊤}
+use Rattle.hg_base.specs.declared.rid.Rid.{Rid}
+use Rattle.hg_base.specs.declared.image.Image.{Image}
+use Rattle.hg_base.specs.declared.line.Answer.{Answer}
+use Rattle.hg_base.specs.declared.line.Answer.TheVariants.{Found, Nothing, Newer, OpenBy}
+use Rattle.hg_base.specs.declared.line.Reply.{Reply}
+use Rattle.hg_base.specs.declared.statement.Statement.{Statement}
+use Rattle.hg_base.specs.Transcript.{stored_by}
+use Rattle.hg_core.specs.declared.log.LogEntry.TheVariants.{Refused, Wrote}
+use Rattle.hg_core.specs.Logs.{own_writes, commit_in}
+use Rattle.hg_core.specs.Events.{put}
+use Rattle.hg_core.specs.Reading.{Unprinted, own_entries, log_after, close, Fits, FitsAnswer}
+use Rattle.hg_headline.specs.Timely.{IsTimely}
+use Rattle.hg_headline.specs.Met.{IsMetAnswer, IsOpenWrite}
+use Rattle.hg_run.specs.Buckets.{made_in}
+use Rattle.hg_run.specs.Driving.{Driven, Past, IsKept, sitting, with_entries}
+
+-- no count passes n: of transactions, commits and versions
+pub record IsWithin (n : ℕ) (k : Driven) : Type 0 where
+  pub counts : (j : ℕ) → (sitting k.sessions j).count ≤ n
+  pub mark : k.mark ≤ n
+  pub made : made_in k.buckets ≤ n
+
+-- a reply in a transaction
+abbrev pub inside : Answer → Reply
+inside answer = record { at = None; answer = answer; number = None }
+
+abbrev pub answer_row : Option (List ℤ) → Answer
+answer_row None = Nothing
+answer_row (Some row) = Found row
+
+abbrev pub newer_number : Answer → Option ℕ
+newer_number (Newer number) = Some number
+newer_number _ = None
+
+-- A get, put, del or scan in the open transaction: the answer fits, and its entries stand in the log.
+pub record IsAsked (k : Driven) (p : Past) (sessions j : ℕ) (s : Statement) (answer : Answer) : Type 0 where
+  pub u : Unprinted
+  pub fits : FitsAnswer (length k.buckets) u (own_writes (p.logs j)) s answer
+  pub met : IsMetAnswer sessions p.logs s answer
+  pub newer : IfSome (newer_number answer) (λ c. (0 < c) × (c ≤ length p.history))
+  pub kept : IsKept k (with_entries p j (own_entries (length k.buckets) u s answer))
+
+-- the groups with one more, which has the open transaction of session j alone
+abbrev pub with_commit : Past → ℕ → Past
+with_commit p j = record { history = p.history ++ (commit_in j (p.logs j) ∷ []) ∷ []; logs = put p.logs j (close (Some (suc (length p.history))) ++ p.logs j) }
+
+-- the end of the open transaction: it is committed by the next number where it wrote, and else it is over
+abbrev pub IsFinished : Driven → Past → ℕ → Option ℕ → Type 0
+IsFinished k p j None = (own_writes (p.logs j) ≡ []) × IsKept k (with_entries p j (close None))
+IsFinished k p j (Some number) = (0 < length (own_writes (p.logs j))) × (number ≡ suc (length p.history)) × IsKept k (with_commit p j)
+
+-- A statement of session j: the reply fits, no number falls, and its entries stand in the log.
+pub record IsAnswered (k : Driven) (p : Past) (sessions j : ℕ) (s : Statement) (reply : Reply) : Type 0 where
+  pub u : Unprinted
+  pub q : Past
+  pub fits : Fits (length k.buckets) u (p.logs j) s reply
+  pub met : IsMetAnswer sessions p.logs s reply.answer
+  pub timely : IsTimely (length p.history) (length q.history) s reply
+  pub kept : IsKept k q
+  pub logs : q.logs ≡ put p.logs j (log_after (length k.buckets) u s reply (p.logs j))
+
+-- a conflict that shows itself: another transaction has an open write of the record, or a group has a newer one
+abbrev pub IsConflict : Past → ℕ → Rid → Answer → Type 0
+IsConflict p j r (Newer number) = (0 < number) × (number ≤ length p.history)
+IsConflict p j r (OpenBy writer) = IsOpenWrite p.logs r writer
+IsConflict p j r _ = ⊥
+
+-- A write in the open transaction is stored, or refused for another's open write or for a newer commit.
+abbrev pub IsWritten : Driven → Past → ℕ → Rid → Image → Option Answer → Type 0
+IsWritten k p j r image None = IsKept k (with_entries p j (Wrote r image ∷ []))
+IsWritten k p j r image (Some answer) = IsConflict p j r answer × IsKept k (with_entries p j (Refused r answer ∷ []))
