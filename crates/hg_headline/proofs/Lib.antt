@@ -1,0 +1,13 @@
+pub mod Words
+pub mod Same
+pub mod Ties
+pub mod Adds
+pub mod Entries
+pub mod Right
+pub mod Lines
+pub mod Commits
+pub mod Whole
+pub mod Orderly
+pub mod Numbers
+pub mod OpenSnapshots
+pub mod Replaying

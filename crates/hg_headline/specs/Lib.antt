@@ -3,3 +3,4 @@ pub mod Logged
 pub mod Timely
 pub mod Met
 pub mod Replayed
+pub mod Gathered

@@ -1,5 +1,5 @@
 -- What a line of a replay shows of the logs as they stand before it: a replay has all sessions in one hand.
-use Rattle.std.specs.Prelude.{◌≡◌, ℕ, List, map, filter_map, Option, Some, IsTrue, IsSome, IfSome, option_map, ⊤}
+use Rattle.std.specs.Prelude.{◌≡◌, ℕ, List, map, filter_map, IsTrue, IsSome, IfSome, option_map, ⊤}
 use Rattle.std.specs.Bool.{MatchBool}
 use Rattle.hg_base.specs.declared.rid.Rid.{Rid}
 use Rattle.hg_base.specs.declared.writer.Writer.{Writer}

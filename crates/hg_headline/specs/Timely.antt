@@ -6,6 +6,7 @@ use Rattle.hg_base.specs.declared.statement.Record.{Record}
 use Rattle.hg_base.specs.declared.line.Answer.TheVariants.{Begun, Newer}
 use Rattle.hg_base.specs.declared.line.Reply.{Reply}
 use Rattle.hg_base.specs.declared.line.Line.{Line}
+use Rattle.hg_base.specs.Lists.{Each, present}
 use Rattle.hg_base.specs.Transcript.{committed_by}
 use Rattle.hg_base.specs.Shape.{report_of}
 
@@ -22,14 +23,19 @@ mark_in reply = option_map (λ sweep. sweep.mark) (report_of reply)
 abbrev pub commit_in : Statement → Reply → Option ℕ
 commit_in statement reply = option_or reply.number (committed_by statement reply.answer)
 
--- From top to next, no number falls: a snapshot and a mark are at or over all numbers printed before, and a commit number is
--- over them and over its own line's snapshot.
+-- the numbers that it read
+abbrev pub reads_in : Reply → List ℕ
+reads_in reply = present (snapshot_in reply ∷ newer_in reply ∷ mark_in reply ∷ [])
+
+-- Where each number printed before is at or below top, each one after it is at or below next. A snapshot and a mark are at or
+-- over all numbers before; a commit number is over them, and over those that its own line read.
 pub record IsTimely (top : ℕ) (next : ℕ) (statement : Statement) (reply : Reply) : Type 0 where
   pub grows : top ≤ next
-  pub snapshot : IfSome (snapshot_in reply) (λ at. (top ≤ at) × (at ≤ next))
-  pub mark : IfSome (mark_in reply) (λ m. (top ≤ m) × (m ≤ next))
-  pub newer : IfSome (newer_in reply) (λ c. (0 < c) × (c ≤ next))
-  pub commit : IfSome (commit_in statement reply) (λ c. (top < c) × (c ≤ next) × IfSome (snapshot_in reply) (λ at. at < c))
+  pub reads : Each (λ n. n ≤ next) (reads_in reply)
+  pub snapshot : IfSome (snapshot_in reply) (λ at. top ≤ at)
+  pub mark : IfSome (mark_in reply) (λ m. top ≤ m)
+  pub newer : IfSome (newer_in reply) (λ c. 0 < c)
+  pub commit : IfSome (commit_in statement reply) (λ c. (top < c) × (c ≤ next) × Each (λ n. n < c) (reads_in reply))
 
 -- line by line, where each number printed before is at or below the first top, and each one at the end at or below the last
 abbrev pub Rises : ℕ → List Record → List Line → ℕ → Type 0
