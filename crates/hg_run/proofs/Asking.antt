@@ -84,8 +84,8 @@ asked_get k p n j r snapshot answer opened within e s = subst (IsAsked k p n j (
     shows o h = ap (λ (x : Image). x.row) (in_own (length k.buckets) f r) ∙ h
 
     go : (o : Option (List ℤ)) → (f r).row ≡ o → IsAsked k p n j (Get r) (answer_row o)
-    go None h = record { u = untold; fits = tt; met = tt; newer = tt; kept = kept_saw k p j r snapshot [] opened within (no_row _ r.key (shows None h)) s }
-    go (Some row) h = record { u = untold; fits = tt; met = tt; newer = tt; kept = kept_saw k p j r snapshot ((r.key, row) ∷ []) opened within (one_row _ r.key row (shows (Some row) h)) s }
+    go None h = record { u = untold; fits = tt; met = tt; told = tt; newer = tt; wrote = λ log. refl; kept = kept_saw k p j r snapshot [] opened within (no_row _ r.key (shows None h)) s }
+    go (Some row) h = record { u = untold; fits = tt; met = tt; told = tt; newer = tt; wrote = λ log. refl; kept = kept_saw k p j r snapshot ((r.key, row) ∷ []) opened within (one_row _ r.key row (shows (Some row) h)) s }
 
 -- ---- a write
 
@@ -143,21 +143,10 @@ refused_newer k p j r snapshot c s opened within free unwritten e =
 -- ---- statements that write
 
 pub asked_put : (l : Driven) (p : Past) (n j : ℕ) (r : Rid) (row : List ℤ) (refusal : Option Answer) → IsWritten l p j r (record { row = Some row }) refusal → IsAsked l p n j (Put r row) (unwrap_or refusal Stored)
-asked_put l p n j r row None s = record { u = untold; fits = tt; met = tt; newer = tt; kept = s }
-asked_put l p n j r row (Some (NewerThan c)) s = record { u = untold; fits = tt; met = tt; newer = s.0; kept = s.1 }
-asked_put l p n j r row (Some (OpenBy w)) s = record { u = untold; fits = tt; met = s.0; newer = tt; kept = s.1 }
-asked_put l p n j r row (Some Stored) s = absurd s.0
-asked_put l p n j r row (Some (Found other)) s = absurd s.0
-asked_put l p n j r row (Some Nothing) s = absurd s.0
-asked_put l p n j r row (Some Gone) s = absurd s.0
-asked_put l p n j r row (Some (Rows rows)) s = absurd s.0
-asked_put l p n j r row (Some (Undeclared table)) s = absurd s.0
-asked_put l p n j r row (Some (Begun at)) s = absurd s.0
-asked_put l p n j r row (Some (Committed number)) s = absurd s.0
-asked_put l p n j r row (Some Ended) s = absurd s.0
-asked_put l p n j r row (Some Undone) s = absurd s.0
-asked_put l p n j r row (Some (Swept sweep)) s = absurd s.0
-asked_put l p n j r row (Some Beside) s = absurd s.0
+asked_put l p n j r row None s = record { u = untold; fits = tt; met = tt; told = tt; newer = tt; wrote = λ log. refl; kept = s }
+asked_put l p n j r row (Some (NewerThan c)) s = record { u = untold; fits = tt; met = tt; told = tt; newer = s.0; wrote = λ log. refl; kept = s.1 }
+asked_put l p n j r row (Some (OpenBy w)) s = record { u = untold; fits = tt; met = s.0; told = tt; newer = tt; wrote = λ log. refl; kept = s.1 }
+asked_put l p n j r row (Some _) s = absurd s.0
 
 -- entries behind entries
 pub entries_more : (p : Past) (j : ℕ) (e : LogEntry) (entries : List LogEntry) → with_entries (with_entries p j entries) j (e ∷ []) ≡ with_entries p j (e ∷ entries)
@@ -188,27 +177,16 @@ asked_del l p n j r row refusal many s = go refusal s
     kept x k = subst (λ m. IsKept l (with_entries p j (x ∷ saw m r ((r.key, row) ∷ []) ∷ []))) (sym many) (subst (IsKept l) (entries_more p j x (e ∷ [])) k)
 
     go : (refusal : Option Answer) → IsWritten l q j r nothing refusal → IsAsked l p n j (Del r) (unwrap_or refusal Gone)
-    go None s = record { u = found_row row; fits = tt; met = tt; newer = tt; kept = kept (Wrote r nothing) s }
-    go (Some (NewerThan c)) s = record { u = found_row row; fits = tt; met = tt; newer = s.0; kept = kept (Refused r (NewerThan c)) s.1 }
-    go (Some (OpenBy w)) s = record { u = found_row row; fits = tt; met = open_still p j e r w tt s.0; newer = tt; kept = kept (Refused r (OpenBy w)) s.1 }
-    go (Some Stored) s = absurd s.0
-    go (Some (Found other)) s = absurd s.0
-    go (Some Nothing) s = absurd s.0
-    go (Some Gone) s = absurd s.0
-    go (Some (Rows rows)) s = absurd s.0
-    go (Some (Undeclared table)) s = absurd s.0
-    go (Some (Begun at)) s = absurd s.0
-    go (Some (Committed number)) s = absurd s.0
-    go (Some Ended) s = absurd s.0
-    go (Some Undone) s = absurd s.0
-    go (Some (Swept sweep)) s = absurd s.0
-    go (Some Beside) s = absurd s.0
+    go None s = record { u = found_row row; fits = tt; met = tt; told = tt; newer = tt; wrote = λ log. refl; kept = kept (Wrote r nothing) s }
+    go (Some (NewerThan c)) s = record { u = found_row row; fits = tt; met = tt; told = tt; newer = s.0; wrote = λ log. refl; kept = kept (Refused r (NewerThan c)) s.1 }
+    go (Some (OpenBy w)) s = record { u = found_row row; fits = tt; met = open_still p j e r w tt s.0; told = tt; newer = tt; wrote = λ log. refl; kept = kept (Refused r (OpenBy w)) s.1 }
+    go (Some _) s = absurd s.0
 
 -- nothing is there to delete
 pub asked_nothing : (k : Driven) (p : Past) (n j : ℕ) (r : Rid) (snapshot : Snapshot) → (sitting k.sessions j).opened ≡ Some snapshot → IsTrue (has snapshot.scope r.table) → (seen p.history (own_writes (p.logs j)) snapshot.at r).row ≡ None → IsKept k p → IsAsked k p n j (Del r) Nothing
 asked_nothing k p n j r snapshot opened within e s =
     let f : Rid → Image = seen p.history (own_writes (p.logs j)) snapshot.at in
-    record { u = untold; fits = tt; met = tt; newer = tt; kept = kept_saw k p j r snapshot [] opened within (no_row _ r.key (ap (λ (x : Image). x.row) (in_own (length k.buckets) f r) ∙ e)) s }
+    record { u = untold; fits = tt; met = tt; told = tt; newer = tt; wrote = λ log. refl; kept = kept_saw k p j r snapshot [] opened within (no_row _ r.key (ap (λ (x : Image). x.row) (in_own (length k.buckets) f r) ∙ e)) s }
 
 -- the state in which a deletion that finds a row is tried
 pub saw_row : (k : Driven) (p : Past) (j : ℕ) (r : Rid) (snapshot : Snapshot) (row : List ℤ) → (sitting k.sessions j).opened ≡ Some snapshot → IsTrue (has snapshot.scope r.table) → (seen p.history (own_writes (p.logs j)) snapshot.at r).row ≡ Some row → IsKept k p → IsKept k (with_entries p j (saw (length k.buckets) r ((r.key, row) ∷ []) ∷ []))
@@ -228,10 +206,10 @@ asked_undeclared k p n j table s snapshot opened outside names h =
     same t e = ap (λ o. (unwrap_or o table).0) (sym e)
 
     go : (s : Statement) → table_of s ≡ Some table → IsKept k (with_entries p j (Outside table ∷ [])) → IsAsked k p n j s (Undeclared table)
-    go (Get r) e kept = record { u = untold; fits = same r.table e; met = tt; newer = tt; kept = kept }
-    go (Put r row) e kept = record { u = untold; fits = same r.table e; met = tt; newer = tt; kept = kept }
-    go (Del r) e kept = record { u = untold; fits = same r.table e; met = tt; newer = tt; kept = kept }
-    go (Scan t low high) e kept = record { u = untold; fits = same t e; met = tt; newer = tt; kept = kept }
+    go (Get r) e kept = record { u = untold; fits = same r.table e; met = tt; told = tt; newer = tt; wrote = λ log. refl; kept = kept }
+    go (Put r row) e kept = record { u = untold; fits = same r.table e; met = tt; told = tt; newer = tt; wrote = λ log. refl; kept = kept }
+    go (Del r) e kept = record { u = untold; fits = same r.table e; met = tt; told = tt; newer = tt; wrote = λ log. refl; kept = kept }
+    go (Scan t low high) e kept = record { u = untold; fits = same t e; met = tt; told = tt; newer = tt; wrote = λ log. refl; kept = kept }
     go (Begin scope) e kept = absurd (none_some None table refl e)
     go Commit e kept = absurd (none_some None table refl e)
     go Rollback e kept = absurd (none_some None table refl e)
@@ -265,6 +243,8 @@ asked_scan k p n j table low high snapshot rows opened within are s =
       u = in_parts (length k.buckets) table rows;
       fits = parts_join (length k.buckets) table rows s.logged.some are.ascend;
       met = tt;
+      told = tt;
       newer = tt;
+      wrote = λ log. (saws_same table low high (part_of (length k.buckets) table rows) (length k.buckets) log).own;
       kept = kept_saws k p j snapshot table low high (part_of (length k.buckets) table rows) opened within (λ b. part_rows (length k.buckets) table f low high rows b are) s (length k.buckets);
     }

@@ -5,3 +5,4 @@ mod Keeping
 mod LogFacts
 mod Parts
 mod Asking
+mod Statements

@@ -1,12 +1,14 @@
 -- What the driver's calls leave behind.
 use Rattle.std.specs.Prelude.{◌≡◌, ℕ, suc, ◌+◌, ◌<◌, ◌≤◌, ℤ, List, [], ◌∷◌, ◌++◌, length, Bool, true, false, is_some, Option, Some, None, IfSome, IsSome, ⊤}
+use Rattle.std.specs.List.{cons_option}
 use Rattle.hg_base.specs.declared.rid.Rid.{Rid}
 use Rattle.hg_base.specs.declared.image.Image.{Image}
 use Rattle.hg_base.specs.declared.line.Answer.{Answer}
-use Rattle.hg_base.specs.declared.line.Answer.TheVariants.{Found, Nothing, Newer, OpenBy}
+use Rattle.hg_base.specs.declared.line.Answer.TheVariants.{Stored, Found, Nothing, Gone, Rows, Newer, OpenBy, Undeclared}
 use Rattle.hg_base.specs.declared.line.Reply.{Reply}
 use Rattle.hg_base.specs.declared.statement.Statement.{Statement}
 use Rattle.hg_base.specs.Transcript.{stored_by}
+use Rattle.hg_core.specs.declared.log.LogEntry.{LogEntry}
 use Rattle.hg_core.specs.declared.log.LogEntry.TheVariants.{Refused, Wrote}
 use Rattle.hg_core.specs.Logs.{own_writes, commit_in}
 use Rattle.hg_core.specs.Events.{put}
@@ -34,12 +36,26 @@ abbrev pub newer_number : Answer → Option ℕ
 newer_number (Newer number) = Some number
 newer_number _ = None
 
+-- an answer to a get, put, del or scan
+abbrev pub IsTold : Answer → Type 0
+IsTold Stored = ⊤
+IsTold (Found row) = ⊤
+IsTold Nothing = ⊤
+IsTold Gone = ⊤
+IsTold (Rows rows) = ⊤
+IsTold (Newer number) = ⊤
+IsTold (OpenBy writer) = ⊤
+IsTold (Undeclared table) = ⊤
+IsTold _ = ⊥
+
 -- A get, put, del or scan in the open transaction: the answer fits, and its entries stand in the log.
 pub record IsAsked (k : Driven) (p : Past) (sessions j : ℕ) (s : Statement) (answer : Answer) : Type 0 where
   pub u : Unprinted
   pub fits : FitsAnswer (length k.buckets) u (own_writes (p.logs j)) s answer
   pub met : IsMetAnswer sessions p.logs s answer
+  pub told : IsTold answer
   pub newer : IfSome (newer_number answer) (λ c. (0 < c) × (c ≤ length p.history))
+  pub wrote : (log : List LogEntry) → own_writes (own_entries (length k.buckets) u s answer ++ log) ≡ cons_option (stored_by s answer) (own_writes log)
   pub kept : IsKept k (with_entries p j (own_entries (length k.buckets) u s answer))
 
 -- the groups with one more, which has the open transaction of session j alone
