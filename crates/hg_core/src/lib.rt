@@ -48,12 +48,14 @@ mod phase;
 mod refuted;
 mod register;
 mod theorems;
+mod version;
+mod visit;
 
 pub use ask::Ask;
 pub use laws::{
-    always_steady, end_keeps, enter_keeps, fix_keeps, go_live_keeps, install_keeps, look_keeps,
-    mark_keeps, move_keeps, probe_keeps, publish_keeps, reclaim_keeps, sample_keeps, stamp_keeps,
-    take_keeps, undo_keeps,
+    always_steady, arrive_keeps, end_keeps, enter_keeps, fix_keeps, go_live_keeps, install_keeps,
+    leave_keeps, look_keeps, mark_keeps, move_keeps, probe_keeps, publish_keeps, reclaim_keeps,
+    sample_keeps, split_keeps, stamp_keeps, take_keeps, undo_keeps,
 };
 pub use log::LogEntry;
 pub use phase::Phase;
@@ -68,6 +70,8 @@ pub use theorems::{
     every_event_happens, history_is_sound, mark_is_bounded, no_gather_misses_a_snapshot,
     no_removal_is_seen, replies_are_right, words_are_exact,
 };
+pub use version::{Stamp, Version};
+pub use visit::{Counters, Removed, Visit};
 
 #[cfg(test)]
 mod tests;

@@ -6,7 +6,7 @@ ghost use Rattle.hg_base.specs.declared.image.Image.{Image};
 ghost use Rattle.hg_base.specs.declared.scope.Scope.{Scope};
 ghost use Rattle.hg_core.specs.Passes.{IsWhole};
 ghost use Rattle.hg_core.specs.State.{CoreState};
-ghost use Rattle.hg_core.specs.Events.{Sample, Install, Publish, May, happens};
+ghost use Rattle.hg_core.specs.Events.{Sample, Install, Publish, MayReclaim, May, happens};
 ghost use Rattle.hg_core.specs.Invariant.{IsSteady};
 ghost use Rattle.hg_core.specs.Missed.{MissesNone};
 ghost use Rattle.hg_core.specs.Wrong.{live_by_one_load, mark_loaded_last, mark_alone, sampled_without_entering, lifetime_past, cut_past_moved, newest_deletion_removed, MayPublishEarly, MayInstallOver};
@@ -32,17 +32,17 @@ pub fn horizon_without_entering_is_refuted()
 
 /// A version is read at its own number, so a sweep must not count its lifetime from behind it.
 pub fn lifetime_without_own_number_is_refuted()
-    ensures { ((s : CoreState) (p : ℕ) (r : Rid) → IsSteady s → IsWhole s.sessions (s.pass p) → IsSteady (lifetime_past s p r)) → ⊥ }
+    ensures { ((s : CoreState) (p : ℕ) (r : Rid) → IsSteady s → MayReclaim s p r → IsSteady (lifetime_past s p r)) → ⊥ }
 {}
 
 /// A bound must count a moved snapshot for the tables that it declared.
 pub fn bound_without_moved_is_refuted()
-    ensures { ((s : CoreState) (p : ℕ) (r : Rid) → IsSteady s → IsWhole s.sessions (s.pass p) → IsSteady (cut_past_moved s p r)) → ⊥ }
+    ensures { ((s : CoreState) (p : ℕ) (r : Rid) → IsSteady s → MayReclaim s p r → IsSteady (cut_past_moved s p r)) → ⊥ }
 {}
 
 /// A sweep must leave the newest version, even where it is a deletion: an older row would be found again.
 pub fn newest_deletion_removed_is_refuted()
-    ensures { ((s : CoreState) (p : ℕ) (r : Rid) → IsSteady s → IsWhole s.sessions (s.pass p) → IsSteady (newest_deletion_removed s p r)) → ⊥ }
+    ensures { ((s : CoreState) (p : ℕ) (r : Rid) → IsSteady s → MayReclaim s p r → IsSteady (newest_deletion_removed s p r)) → ⊥ }
 {}
 
 /// All writes of a group must be stamped before the mark grows.

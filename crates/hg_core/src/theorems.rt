@@ -11,7 +11,7 @@ ghost use Rattle.hg_core.specs.Passes.{IsWhole, horizon, table_bound, group_boun
 ghost use Rattle.hg_core.specs.State.{CoreState, opened};
 ghost use Rattle.hg_core.specs.Held.{held};
 ghost use Rattle.hg_core.specs.Replies.{AreReplied};
-ghost use Rattle.hg_core.specs.Events.{Always, Run, run};
+ghost use Rattle.hg_core.specs.Steps.{Always, Run, run};
 ghost use Rattle.hg_core.specs.Invariant.{IsSteady};
 ghost use Rattle.hg_core.specs.Missed.{MissesNone};
 ghost use Rattle.hg_core.specs.Worked.{slow_begin, long_snapshot};
@@ -19,7 +19,7 @@ ghost use Rattle.hg_core.specs.Worked.{slow_begin, long_snapshot};
 use crate::phase::Phase;
 use crate::register::Register;
 
-/// No gather misses a snapshot. After every list of events, whatever number a session is live at, it is at or over the
+/// No gather misses a snapshot. After every list of steps, whatever number a session is live at, it is at or over the
 /// horizon of every whole record, or it stands in that record for each table of its scope. So no bound is over it that a
 /// collector takes from the record. A number that a session is about to go live at is at or over every horizon.
 pub fn no_gather_misses_a_snapshot()
@@ -29,7 +29,7 @@ pub fn no_gather_misses_a_snapshot()
     ensures group { Always (λ s. (p j at : ℕ) (scope : Scope) → IsWhole s.sessions (s.pass p) → s.phase j ≡ Phase.Live at scope → group_bound (s.pass p) ≤ at) }
 {}
 
-/// No removal is seen. After every list of events, each live session finds of each record of its tables what a table that
+/// No removal is seen. After every list of steps, each live session finds of each record of its tables what a table that
 /// never reclaims would show it at its snapshot. And so does one that is yet to go live at a number that it fixed, whatever
 /// tables it will have, and one that will fix the mark.
 pub fn no_removal_is_seen()
@@ -38,14 +38,14 @@ pub fn no_removal_is_seen()
     ensures mark { Always (λ s. (r : Rid) → held s r s.mark ≡ visible s.history r s.mark) }
 {}
 
-/// Every reply is right. After every list of events, each entry of each session's log says what `hg_base` defines over the
+/// Every reply is right. After every list of steps, each entry of each session's log says what `hg_base` defines over the
 /// history: what a read finds is what a table shows that never reclaims, with the transaction's own writes, and a refused
 /// write shows its cause.
 pub fn replies_are_right()
     ensures { Always (λ s. (j : ℕ) → AreReplied s.buckets s.history s.log j (s.log j)) }
 {}
 
-/// No update is lost. After every list of events, what a commit overwrites its transaction saw, or wrote itself. And each group
+/// No update is lost. After every list of steps, what a commit overwrites its transaction saw, or wrote itself. And each group
 /// of the history is one: it has a commit, each commit writes something and read below the group's number, and no session and
 /// no record occurs twice in it.
 pub fn history_is_sound()
@@ -60,11 +60,11 @@ pub fn mark_is_bounded()
 
 /// Each kind of event can happen. In this run a session goes live below the mark of a whole record, at its horizon.
 pub fn every_event_happens()
-    ensures run { Run (opened 2 1 1 1) (slow_begin ++ long_snapshot) }
-    ensures whole { IsWhole 2 ((run (opened 2 1 1 1) slow_begin).pass 0) }
-    ensures mark { ((run (opened 2 1 1 1) slow_begin).pass 0).mark ≡ 1 }
-    ensures horizon { horizon ((run (opened 2 1 1 1) slow_begin).pass 0) ≡ 0 }
-    ensures live { (run (opened 2 1 1 1) slow_begin).phase 1 ≡ Phase.Live 0 (Scope.Declared 1) }
+    ensures run { Run (opened 2 1 1 1 1) (slow_begin ++ long_snapshot) }
+    ensures whole { IsWhole 2 ((run (opened 2 1 1 1 1) slow_begin).pass 0) }
+    ensures mark { ((run (opened 2 1 1 1 1) slow_begin).pass 0).mark ≡ 1 }
+    ensures horizon { horizon ((run (opened 2 1 1 1 1) slow_begin).pass 0) ≡ 0 }
+    ensures live { (run (opened 2 1 1 1 1) slow_begin).phase 1 ≡ Phase.Live 0 (Scope.Declared 1) }
 {}
 
 /// A word shows one register, and each register of a board has a word.
