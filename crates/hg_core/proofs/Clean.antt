@@ -1,6 +1,6 @@
 -- What collectors leave is clean, or cut at a bound, and stays so.
-use Rattle.std.proofs.Common.{◌≡◌, ℕ, ℤ, suc, ◌<◌, ◌≤◌, List, [], ◌∷◌, Option, None, Some, Bool, true, false, ◌&&◌, ◌||◌, ◌⊎◌, inl, inr, refl, sym, ap, subst, arith}
-use Rattle.std.specs.Prelude.{if◌then◌else◌, cond, nat_le, nat_lt, IsSome, IsTrue}
+use Rattle.std.proofs.Common.{◌≡◌, ℕ, ℤ, suc, ◌<◌, ◌≤◌, List, [], ◌∷◌, Option, None, Some, Bool, true, false, ◌&&◌, ◌||◌, ◌⊎◌, inl, inr, refl, sym, ap, subst, arith, ◌++◌, not, filter, ◌∙◌}
+use Rattle.std.specs.Prelude.{if◌then◌else◌, cond, nat_le, nat_lt, IsSome, IsTrue, map}
 use Rattle.std.proofs.lemmas.Bool.Decides.{nat_tests}
 use Rattle.hg_base.specs.declared.writer.Writer.{Writer}
 use Rattle.hg_base.specs.declared.image.Image.{Image}
@@ -10,11 +10,11 @@ use Rattle.hg_base.specs.declared.report.Kind.TheVariants.{Group, Table, Interva
 use Rattle.hg_core.specs.declared.version.Stamp.{Stamp}
 use Rattle.hg_core.specs.declared.version.Stamp.TheVariants.{Written, Numbered, Oldest}
 use Rattle.hg_core.specs.declared.version.Version.{Version}
-use Rattle.hg_core.specs.Versions.{stamp_number, is_up_to, installed, undone, stamped, IsOpenBy}
+use Rattle.hg_core.specs.Versions.{stamp_number, is_up_to, installed, undone, stamped, IsOpenBy, first_at}
 use Rattle.hg_core.specs.Passes.{PassRecord, horizon, recorded, group_bound, table_bound}
 use Rattle.hg_core.specs.Removal.{any_between, goes, swept, oldest, cut, reclaimed}
 use Rattle.hg_core.specs.Ordered.{Falls, IsOrdered}
-use Rattle.hg_core.specs.Clean.{MayStay, MayAllStay, IsClean, IsOneRow, up_to, IsCutAt}
+use Rattle.hg_core.specs.Clean.{MayStay, MayAllStay, IsClean, IsOneRow, up_to, IsCutAt, with_successors, not_gone, past, as_oldest}
 
 -- ---- cut at a bound
 
@@ -275,3 +275,50 @@ stays_reclaimed mark top kind table pass vs o = record {
   cut = λ bound le k. cut_reclaimed bound kind table pass vs k;
   clean = λ horizon snapshots le c. clean_reclaimed top horizon snapshots kind table pass vs o c;
 }
+
+-- ---- which versions go
+
+swept_left : (horizon : ℕ) (snapshots : List ℕ) (successor : Option ℕ) (vs : List Version) → swept horizon snapshots successor vs ≡ map (λ (e : Option ℕ × Version). e.1) (filter (λ e. not (goes horizon snapshots e.0 (stamp_number e.1.stamp))) (with_successors successor vs))
+swept_left horizon snapshots successor [] = refl
+swept_left horizon snapshots successor (v ∷ vs) = go (goes horizon snapshots successor (stamp_number v.stamp)) (swept_left horizon snapshots (stamp_number v.stamp) vs)
+  where
+    rest : List (Option ℕ × Version)
+    rest = filter (λ e. not (goes horizon snapshots e.0 (stamp_number e.1.stamp))) (with_successors (stamp_number v.stamp) vs)
+
+    go : (t : Bool) → swept horizon snapshots (stamp_number v.stamp) vs ≡ map (λ (e : Option ℕ × Version). e.1) rest
+        → (if t then swept horizon snapshots (stamp_number v.stamp) vs else v ∷ swept horizon snapshots (stamp_number v.stamp) vs) ≡ map (λ (e : Option ℕ × Version). e.1) (cond (not t) ((successor, v) ∷ rest) rest)
+    go true later = later
+    go false later = ap (λ vs. v ∷ vs) later
+
+-- a sweep leaves what doesn't go, and nothing else
+pub swept_exactly : (horizon : ℕ) (snapshots : List ℕ) (vs : List Version) → swept horizon snapshots None vs ≡ not_gone horizon snapshots vs
+swept_exactly horizon snapshots vs = swept_left horizon snapshots None vs
+
+-- behind a number at or below the bound all are
+past_none : (bound n : ℕ) (vs : List Version) → n ≤ suc bound → Falls n vs → past bound vs ≡ []
+past_none bound n [] le f = refl
+past_none bound n (v ∷ vs) le f =
+    let low : is_up_to bound (stamp_number v.stamp) ≡ true = rw f.1 (let k : nat_le f.0 bound ≡ true = (let less = f.2 in grind (arith, nat_tests)) in k) in
+    ap (λ b. cond (not b) (v ∷ past bound vs) (past bound vs)) low ∙ past_none bound f.0 vs (omega (arith, le, f.2)) f.3
+
+cut_falling : (bound n : ℕ) (vs : List Version) → Falls n vs → cut bound vs ≡ past bound vs ++ as_oldest (first_at bound vs)
+cut_falling bound n [] f = refl
+cut_falling bound n (v ∷ vs) f = go (is_up_to bound (stamp_number v.stamp)) refl (cut_falling bound f.0 vs f.3)
+  where
+    low : is_up_to bound (stamp_number v.stamp) ≡ true → f.0 ≤ bound
+    low e = let k : nat_le f.0 bound ≡ true = subst (λ x. is_up_to bound x ≡ true) f.1 e in grind (arith, nat_tests)
+
+    go : (b : Bool) → is_up_to bound (stamp_number v.stamp) ≡ b → cut bound vs ≡ past bound vs ++ as_oldest (first_at bound vs)
+        → (if b then oldest (stamp_number v.stamp) v.image.row else v ∷ cut bound vs) ≡ cond (not b) (v ∷ past bound vs) (past bound vs) ++ as_oldest (if b then Some v else first_at bound vs)
+    go true e later = ap (λ ws. ws ++ oldest (stamp_number v.stamp) v.image.row) (sym (past_none bound f.0 vs (omega (arith, low e)) f.3))
+    go false e later = ap (λ ws. v ∷ ws) later
+
+-- a cut leaves what is past the bound, and of the others the newest as the oldest image
+pub cut_exactly : (mark bound : ℕ) (vs : List Version) → IsOrdered mark vs → cut bound vs ≡ past bound vs ++ as_oldest (first_at bound vs)
+cut_exactly mark bound [] o = refl
+cut_exactly mark bound (v ∷ vs) o = go v.stamp o
+  where
+    go : (x : Stamp) → IsOrdered mark (record { stamp = x; image = v.image } ∷ vs) → cut bound (record { stamp = x; image = v.image } ∷ vs) ≡ past bound (record { stamp = x; image = v.image } ∷ vs) ++ as_oldest (first_at bound (record { stamp = x; image = v.image } ∷ vs))
+    go (Written by) f = ap (λ ws. record { stamp = Written by; image = v.image } ∷ ws) (cut_falling bound (suc mark) vs f)
+    go (Numbered n by) f = cut_falling bound (suc n) (record { stamp = Numbered n by; image = v.image } ∷ vs) (n, refl, omega arith, f.1)
+    go (Oldest n) f = cut_falling bound (suc n) (record { stamp = Oldest n; image = v.image } ∷ vs) (n, refl, omega arith, f.1)

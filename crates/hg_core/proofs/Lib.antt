@@ -26,6 +26,7 @@ pub mod Looking
 pub mod Fences
 pub mod Reclaiming
 pub mod Seats
+pub mod Exact
 pub mod Runs
 pub mod Worked
 pub mod Counting

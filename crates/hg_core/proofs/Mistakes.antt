@@ -1,5 +1,5 @@
 -- Wrong removals and wrong writes, each at a state that a run reaches, so that it meets the invariant.
-use Rattle.std.proofs.Common.{◌≡◌, ℕ, ◌<◌, List, [], ◌∷◌, None, Some, inl, inr, refl, sym, ap, arith}
+use Rattle.std.proofs.Common.{◌≡◌, ℕ, ◌<◌, List, [], ◌∷◌, None, Some, inl, inr, refl, sym, ap, arith, true, false}
 use Rattle.std.specs.Prelude.{pos}
 use Rattle.hg_base.specs.declared.rid.Rid.{Rid}
 use Rattle.hg_base.specs.declared.image.Image.{Image}
@@ -7,16 +7,18 @@ use Rattle.hg_base.specs.declared.scope.Scope.{Scope}
 use Rattle.hg_base.specs.declared.scope.Scope.TheVariants.{All}
 use Rattle.hg_base.specs.declared.writer.Writer.{Writer}
 use Rattle.hg_base.specs.History.{nothing}
-use Rattle.hg_core.specs.Contents.{bucket_of}
+use Rattle.hg_core.specs.Contents.{bucket_of, versions}
 use Rattle.hg_core.specs.State.{CoreState, opened}
 use Rattle.hg_core.specs.Events.{MayReclaim, happens, Install, Publish}
 use Rattle.hg_core.specs.Steps.{Step, Run, run}
 use Rattle.hg_core.specs.Invariant.{IsSteady}
-use Rattle.hg_core.specs.Worked.{one_rid, row, two_versions, moved_snapshot, open_write}
-use Rattle.hg_core.specs.Wrong.{lifetime_past, cut_past_moved, newest_deletion_removed, MayPublishEarly, MayInstallOver}
+use Rattle.hg_core.specs.Worked.{one_rid, row, two_versions, moved_snapshot, open_write, late_snapshot}
+use Rattle.hg_core.specs.Wrong.{lifetime_past, cut_past_moved, newest_deletion_removed, MayPublishEarly, MayInstallOver, swept_late}
 use Rattle.hg_core.proofs.Versions.{same_pair}
 use Rattle.hg_core.proofs.Runs.{steady_after}
-use Rattle.hg_core.proofs.Worked.{two_whole, moved_whole, two_versions_runs, moved_snapshot_runs, open_write_runs}
+use Rattle.hg_core.proofs.Worked.{two_whole, moved_whole, two_versions_runs, moved_snapshot_runs, open_write_runs, late_whole, late_snapshot_runs}
+use Rattle.hg_core.specs.Clean.{IsClean}
+use Rattle.hg_core.specs.Passes.{horizon, recorded}
 
 -- the state after a run of two sessions that may each begin twice
 abbrev pub then : List Step → CoreState
@@ -64,3 +66,8 @@ second_writer_refused keeps = apart (writer 1) (writer 2) (ap (λ x. x.0) (same_
 
     now : IsSteady (happens (then open_write) (Install 1 one_rid row))
     now = keeps (then open_write) 1 one_rid row 0 All (steady open_write open_write_runs) (record { live = refl; table = refl; there = omega arith; plain = refl; unstamped = refl; newest = tt })
+
+-- the version that the newest succeeded at 2 stays, though no snapshot is in its lifetime
+pub successor_refused : ((s : CoreState) (p : ℕ) (r : Rid) → IsSteady s → MayReclaim s p r → IsClean (horizon (s.pass p)) (recorded r.table (s.pass p)) (swept_late (horizon (s.pass p)) (recorded r.table (s.pass p)) None (versions s.buckets s.bucket r))) → ⊥
+unfolding bucket_of
+successor_refused keeps = let z : false ≡ true = (keeps (then late_snapshot) 0 one_rid (steady late_snapshot late_snapshot_runs) (record { whole = late_whole; here = (refl, refl) })).1.0 (omega arith) in cc

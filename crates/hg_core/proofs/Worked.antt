@@ -16,7 +16,7 @@ use Rattle.hg_core.specs.Contents.{bucket_of, is_stamped}
 use Rattle.hg_core.specs.State.{opened}
 use Rattle.hg_core.specs.Events.{MayPublish}
 use Rattle.hg_core.specs.Steps.{Run, run}
-use Rattle.hg_core.specs.Worked.{one_rid, two_rid, row, slow_begin, long_snapshot, late_entry, early_sample, low_fix, two_versions, moved_snapshot, open_write}
+use Rattle.hg_core.specs.Worked.{one_rid, two_rid, row, slow_begin, long_snapshot, late_entry, early_sample, low_fix, two_versions, moved_snapshot, open_write, late_snapshot}
 
 first : IsSession 2 1
 first = record { first = omega arith; last = omega arith }
@@ -522,3 +522,16 @@ open_write_runs = (
     ),
   ),
 )
+
+pub late_whole : IsWhole 2 ((run (opened 2 1 1 1 2) late_snapshot).pass 0)
+late_whole j session = go j session.first session.last
+  where
+    go : (k : ℕ) → 0 < k → k ≤ 2 → IsSome (found k ((2, registers.Idle) ∷ (1, registers.Live 2 All false) ∷ []))
+    go zero a b = absurd (omega arith)
+    go (suc zero) a b = refl
+    go (suc (suc zero)) a b = refl
+    go (suc (suc (suc k))) a b = absurd (omega arith)
+
+pub late_snapshot_runs : Run (opened 2 1 1 1 2) late_snapshot
+unfolding bucket_of
+late_snapshot_runs = (record { session = second; rests = refl; room = omega arith }, (refl, (refl, (record { fixed = (0, refl); tables = tt }, ((0, All, record { live = refl; table = refl; there = omega arith; plain = refl; unstamped = refl; room = omega arith; free = tt; newest = tt }), (record { mine = refl; plain = refl }, (publishes _ _ _ _ refl, (record { live = refl; none = λ r. refl }, (record { session = second; rests = refl; room = omega arith }, (refl, (refl, (record { fixed = (1, refl); tables = tt }, ((1, All, record { live = refl; table = refl; there = omega arith; plain = refl; unstamped = refl; room = omega arith; free = omega arith; newest = omega arith }), (record { mine = refl; plain = refl }, (publishes _ _ _ _ refl, (record { live = refl; none = λ r. refl }, (record { session = first; rests = refl; room = omega arith }, (refl, (refl, (record { fixed = (2, refl); tables = tt }, ((λ j. omega arith), (record { session = first; fresh = refl }, (record { session = second; fresh = refl }, (record { pass = omega arith; bucket = omega arith }, tt))))))))))))))))))))))))

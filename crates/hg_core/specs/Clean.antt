@@ -1,8 +1,8 @@
 -- What a collector's pass leaves of a record's versions.
-use Rattle.std.specs.Prelude.{ℕ, ◌≤◌, List, [], ◌∷◌, filter, Option, Some, None, IsSome, IsTrue, ⊤}
+use Rattle.std.specs.Prelude.{ℕ, ◌≤◌, List, [], ◌∷◌, map, filter, not, Option, Some, None, IsSome, IsTrue, ⊤}
 use Rattle.hg_core.specs.declared.version.Version.{Version}
 use Rattle.hg_core.specs.Versions.{stamp_number, is_up_to}
-use Rattle.hg_core.specs.Removal.{any_between}
+use Rattle.hg_core.specs.Removal.{any_between, goes, oldest}
 
 -- a version may stay behind a successor: where that is at or below the horizon, a snapshot is in the version's lifetime
 abbrev pub MayStay : ℕ → List ℕ → Option ℕ → Option ℕ → Type 0
@@ -31,3 +31,23 @@ up_to n vs = filter (λ v. is_up_to n (stamp_number v.stamp)) vs
 -- of the versions numbered at or below the bound there is at most one, and that is no deletion
 abbrev pub IsCutAt : ℕ → List Version → Type 0
 IsCutAt bound vs = IsOneRow (up_to bound vs)
+
+-- ---- which versions go
+
+-- each version with its successor's number, where that of the first is given
+abbrev pub with_successors : Option ℕ → List Version → List (Option ℕ × Version)
+with_successors successor [] = []
+with_successors successor (v ∷ vs) = (successor, v) ∷ with_successors (stamp_number v.stamp) vs
+
+-- the versions that don't go
+abbrev pub not_gone : ℕ → List ℕ → List Version → List Version
+not_gone horizon snapshots vs = map (λ e. e.1) (filter (λ e. not (goes horizon snapshots e.0 (stamp_number e.1.stamp))) (with_successors None vs))
+
+-- the versions that have no number at or below n
+abbrev pub past : ℕ → List Version → List Version
+past n vs = filter (λ v. not (is_up_to n (stamp_number v.stamp))) vs
+
+-- the oldest image that a version becomes, if it is there
+abbrev pub as_oldest : Option Version → List Version
+as_oldest None = []
+as_oldest (Some v) = oldest (stamp_number v.stamp) v.image.row

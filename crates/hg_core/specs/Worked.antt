@@ -61,3 +61,8 @@ moved_snapshot = two_versions row ++ Act (Move 0 1) ∷ []
 -- session 2 has written the record, and nothing is stamped; session 1 is live too
 abbrev pub open_write : List Step
 open_write = acts (Probe 1 ∷ Enter 1 0 ∷ Fix 1 0 ∷ GoLive 1 0 All ∷ Probe 2 ∷ Enter 2 0 ∷ Fix 2 0 ∷ GoLive 2 0 All ∷ Install 2 one_rid row ∷ [])
+
+-- Session 2 commits the record twice. Session 1 goes live at 2, the number of the newest version. A pass loads the mark and
+-- both registers, and takes the bucket.
+abbrev pub late_snapshot : List Step
+late_snapshot = acts (commits ++ commits_again row ++ Probe 1 ∷ Enter 1 2 ∷ Fix 1 2 ∷ GoLive 1 2 All ∷ Mark 0 (λ j. 0) ∷ Sample 0 1 ∷ Sample 0 2 ∷ []) ++ Arrive 0 0 ∷ []

@@ -57,6 +57,20 @@ swept_early horizon snapshots successor (v ∷ vs) =
     then swept_early horizon snapshots (stamp_number v.stamp) vs
     else v ∷ swept_early horizon snapshots (stamp_number v.stamp) vs
 
+-- whether a version goes whose lifetime ends with its successor's number
+abbrev pub goes_late : ℕ → List ℕ → Option ℕ → Option ℕ → Bool
+goes_late horizon snapshots None number = false
+goes_late horizon snapshots (Some u) None = false
+goes_late horizon snapshots (Some u) (Some n) = nat_le u horizon && not (list_any (λ s. nat_le n s && nat_le s u) snapshots)
+
+-- what a sweep by that test leaves
+abbrev pub swept_late : ℕ → List ℕ → Option ℕ → List Version → List Version
+swept_late horizon snapshots successor [] = []
+swept_late horizon snapshots successor (v ∷ vs) =
+    if goes_late horizon snapshots successor (stamp_number v.stamp)
+    then swept_late horizon snapshots (stamp_number v.stamp) vs
+    else v ∷ swept_late horizon snapshots (stamp_number v.stamp) vs
+
 -- a sweep with lifetimes that don't have their own number
 abbrev pub lifetime_past : CoreState → ℕ → Rid → CoreState
 lifetime_past s p r = shortened s p Interval r (swept_early (horizon (s.pass p)) (recorded r.table (s.pass p)) None (versions s.buckets s.bucket r))

@@ -7,9 +7,16 @@ ghost use Rattle.hg_base.specs.declared.scope.Scope.{Scope};
 ghost use Rattle.hg_base.specs.History.{visible, IsHistory, NoLostUpdate};
 ghost use Rattle.hg_base.specs.Transcript.{has};
 ghost use Rattle.hg_core.specs.Words.{IsRegister, word_of, register_of};
-ghost use Rattle.hg_core.specs.Passes.{IsWhole, horizon, table_bound, group_bound};
+ghost use Rattle.hg_core.specs.Passes.{IsWhole, horizon, recorded, table_bound, group_bound};
 ghost use Rattle.hg_core.specs.State.{CoreState, opened};
-ghost use Rattle.hg_core.specs.Held.{held};
+ghost use Rattle.hg_core.specs.Held.{held, left_by};
+ghost use Rattle.hg_core.specs.Versions.{first_at};
+ghost use Rattle.hg_core.specs.Contents.{versions};
+ghost use Rattle.hg_core.specs.Clean.{IsClean, IsCutAt, past, as_oldest, not_gone};
+ghost use Rattle.hg_core.specs.Placed.{IsPlaced};
+ghost use Rattle.hg_core.specs.Counters.{CountersBalance};
+ghost use Rattle.hg_core.specs.Visits.{VisitsStay};
+ghost use Rattle.hg_core.specs.Events.{MayReclaim};
 ghost use Rattle.hg_core.specs.Replies.{AreReplied};
 ghost use Rattle.hg_core.specs.Steps.{Always, Run, run};
 ghost use Rattle.hg_core.specs.Invariant.{IsSteady};
@@ -18,6 +25,7 @@ ghost use Rattle.hg_core.specs.Worked.{slow_begin, long_snapshot};
 
 use crate::phase::Phase;
 use crate::register::Register;
+use hg_base::Kind;
 
 /// No gather misses a snapshot. After every list of steps, whatever number a session is live at, it is at or over the
 /// horizon of every whole record, or it stands in that record for each table of its scope. So no bound is over it that a
@@ -36,6 +44,35 @@ pub fn no_removal_is_seen()
     ensures live { Always (λ s. (j at : ℕ) (scope : Scope) (r : Rid) → s.phase j ≡ Phase.Live at scope → IsTrue (has scope r.table) → held s r at ≡ visible s.history r at) }
     ensures fixed { Always (λ s. (j f m : ℕ) (r : Rid) → s.phase j ≡ Phase.Fixed f m → held s r m ≡ visible s.history r m) }
     ensures mark { Always (λ s. (r : Rid) → held s r s.mark ≡ visible s.history r s.mark) }
+{}
+
+/// A removal is exact. After every list of steps, where a pass may take away versions of a record, a cut leaves all that are
+/// past its bound, and of the others the newest as the oldest image: so the record is cut there. A sweep leaves all that have
+/// no successor at or below the horizon, or a recorded number in their lifetime, and nothing else: so the record is clean.
+pub fn removal_is_exact()
+    ensures group { Always (λ s. (p : ℕ) (r : Rid) → MayReclaim s p r → IsCutAt (group_bound (s.pass p)) (left_by s p Kind.Group r)) }
+    ensures table { Always (λ s. (p : ℕ) (r : Rid) → MayReclaim s p r → IsCutAt (table_bound r.table (s.pass p)) (left_by s p Kind.Table r)) }
+    ensures interval { Always (λ s. (p : ℕ) (r : Rid) → MayReclaim s p r → IsClean (horizon (s.pass p)) (recorded r.table (s.pass p)) (left_by s p Kind.Interval r)) }
+    ensures by_group { Always (λ s. (p : ℕ) (r : Rid) → let vs = versions s.buckets s.bucket r in left_by s p Kind.Group r ≡ past (group_bound (s.pass p)) vs ++ as_oldest (first_at (group_bound (s.pass p)) vs)) }
+    ensures by_table { Always (λ s. (p : ℕ) (r : Rid) → let vs = versions s.buckets s.bucket r in left_by s p Kind.Table r ≡ past (table_bound r.table (s.pass p)) vs ++ as_oldest (first_at (table_bound r.table (s.pass p)) vs)) }
+    ensures by_interval { Always (λ s. (p : ℕ) (r : Rid) → left_by s p Kind.Interval r ≡ not_gone (horizon (s.pass p)) (recorded r.table (s.pass p)) (versions s.buckets s.bucket r)) }
+{}
+
+/// What a visit left stays. After every list of steps, each record of a bucket that was given back clean, or cut at a bound at
+/// or below the mark that the visit keeps, is so still.
+pub fn what_was_left_stays()
+    ensures { Always (λ s. VisitsStay s.passes s.buckets s.mark (versions s.buckets s.bucket) s.visits) }
+{}
+
+/// Counters balance. After every list of steps, of each bucket, what was made is what was undone, what each kind of collector
+/// removed, and what is held; and the logs and the visits tell all but the last.
+pub fn counters_balance()
+    ensures { Always (λ s. CountersBalance s.sessions s.buckets s.passes s.log s.bucket s.counters s.visits) }
+{}
+
+/// Each record stands in its own bucket, once, and its table is there.
+pub fn records_are_placed()
+    ensures { Always (λ s. (b : ℕ) → IsPlaced s.tables s.buckets b (s.bucket b)) }
 {}
 
 /// Every reply is right. After every list of steps, each entry of each session's log says what `hg_base` defines over the
