@@ -32,6 +32,8 @@ use Rattle.hg_core.proofs.Replies.{replies_entry}
 use Rattle.hg_core.proofs.Covering.{covers_less}
 use Rattle.hg_core.proofs.OpenWrites.{stand_alike, next_alike}
 use Rattle.hg_core.proofs.Recalls.{reach_step}
+use Rattle.hg_core.specs.Counters.{CountersBalance}
+use Rattle.hg_core.proofs.Tallies.{counters_entry}
 
 -- where no transaction is open, no write is
 pub none_open : (h : History) (r : Rid) (log : List LogEntry) → Judged h log → current log ≡ None → open_in r log ≡ None
@@ -59,8 +61,9 @@ turn : (s : CoreState) (j : ℕ) (p : Phase) (register : ℕ → Register) (log 
     → OpenWritesStand s.mark (begun_in log) (open_writes log) (versions s.buckets s.bucket)
     → StampedIsNext s.mark (open_writes log) (versions s.buckets s.bucket) s.stamped_list
     → LogsAnswer s.sessions s.each s.history (put s.phase j p) log
+    → CountersBalance s.sessions s.buckets s.passes log s.bucket s.counters s.visits
     → IsSteady (record s { phase = put s.phase j p; register = register; log = log })
-turn s j p register log added h session up shows same bounds grown enters replies narrow none stand next answer = record {
+turn s j p register log added h session up shows same bounds grown enters replies narrow none stand next answer counters = record {
   mark_is_length = record {
     is_length = h.mark_is_length.is_length;
     sessions = by_number j (λ k b. PhaseUpTo s.mark (if b then p else s.phase k)) up (λ k other. h.mark_is_length.sessions k);
@@ -78,6 +81,9 @@ turn s j p register log added h session up shows same bounds grown enters replie
   covered = λ r. covers_less s.mark s.phase (put s.phase j p) s.history r (versions s.buckets s.bucket r) (λ n g. elim g [ inl e ↦ inl e | inr e ↦ still r.table n e.0 e.1 ]) (h.covered r);
   open_writes_may_commit = may_commit;
   contents_are_ordered = h.contents_are_ordered;
+  contents_are_placed = h.contents_are_placed;
+  counters_balance = counters;
+  visits_stay = h.visits_stay;
   open_writes_stand = stand;
   stamped_is_next = next;
   logs_answer = answer;
@@ -97,7 +103,7 @@ quiet : (s : CoreState) (j : ℕ) (p : Phase) → IsSteady s → snapshot_in (s.
 quiet s j p h same over room = log_step s.sessions s.each s.history s.phase (put s.phase j p) s.log s.log j p (s.log j) h.logs_answer (only_put s.phase j p) (only_same s.log j) (h.logs_answer.reads j ∙ same) room over (h.logs_answer.within j) (h.logs_answer.judged j) (h.logs_answer.written j) (λ n. refl) (λ n e. e)
 
 -- only the board's sessions are not at rest
-session_at : (s : CoreState) (j : ℕ) → IsSteady s → (s.phase j ≡ Idle → ⊥) → IsSession s.sessions j
+pub session_at : (s : CoreState) (j : ℕ) → IsSteady s → (s.phase j ≡ Idle → ⊥) → IsSession s.sessions j
 session_at s j h awake = elim (h.registers_agree.others j) [ inl a ↦ a | inr a ↦ absurd (awake a) ]
 
 if_some_all : {X : Type 0} (o : Option X) (P : X → Type 0) → ((x : X) → P x) → IfSome o P
@@ -120,6 +126,7 @@ probe_kept s j h may = turn s j (Probed s.mark) s.register s.log [] h may.sessio
     (λ table n reads. absurd reads) (λ r. none_open s.history r (s.log j) (h.logs_answer.judged j) (h.logs_answer.reads j ∙ ap snapshot_in may.rests))
     h.open_writes_stand h.stamped_is_next
     (quiet s j (Probed s.mark) h (ap snapshot_in may.rests) tt may.room)
+    h.counters_balance
 
 pub enter_kept : (s : CoreState) (j f : ℕ) → IsSteady s → May s (Enter j f) → IsSteady (happens s (Enter j f))
 enter_kept s j f h may = turn s j (Entered f) (put s.register j (registers.Entering f)) s.log [] h (session_at s j h (λ e. cc))
@@ -133,6 +140,7 @@ enter_kept s j f h may = turn s j (Entered f) (put s.register j (registers.Enter
     (λ table n reads. absurd reads) (λ r. none_open s.history r (s.log j) (h.logs_answer.judged j) (h.logs_answer.reads j ∙ ap snapshot_in may))
     h.open_writes_stand h.stamped_is_next
     (quiet s j (Entered f) h (ap snapshot_in may) tt (subst (λ p. MayHaveBegun s.each p (begans (s.log j))) may (h.logs_answer.room j)))
+    h.counters_balance
 
 pub fix_kept : (s : CoreState) (j f : ℕ) → IsSteady s → May s (Fix j f) → IsSteady (happens s (Fix j f))
 fix_kept s j f h may =
@@ -148,6 +156,7 @@ fix_kept s j f h may =
     (λ table n reads. inl reads) (λ r. none_open s.history r (s.log j) (h.logs_answer.judged j) (h.logs_answer.reads j ∙ ap snapshot_in may))
     h.open_writes_stand h.stamped_is_next
     (quiet s j (Fixed f s.mark) h (ap snapshot_in may) (subst (λ n. UpTo n (s.log j)) (sym h.mark_is_length.is_length) (h.logs_answer.within j)) (subst (λ p. MayHaveBegun s.each p (begans (s.log j))) may (h.logs_answer.room j)))
+    h.counters_balance
 
 -- a fixed session's bound is a live one's
 bound_live : (mark f m : ℕ) (scope : Scope) (o : Option Register) → IfSome o (λ loaded. Bounds mark loaded (Fixed f m)) → IfSome o (λ loaded. Bounds mark loaded (Live m scope))
@@ -180,6 +189,7 @@ go_live_kept s j m scope h may =
     (below, h.logs_answer.within j)
     (record { within = below; over = over; alone = h.logs_answer.reads j ∙ ap snapshot_in at }, h.logs_answer.judged j)
     (h.logs_answer.written j) (λ n. refl) (λ n e. e))
+    (counters_entry s.sessions s.buckets s.passes s.log s.bucket s.counters s.visits j (Began m scope ∷ s.log j) (λ test. (refl, refl)) h.counters_balance)
   where
     none : (r : Rid) → open_in r (s.log j) ≡ None
     none r = none_open s.history r (s.log j) (h.logs_answer.judged j) (h.logs_answer.reads j ∙ ap snapshot_in may.fixed.1)
@@ -191,7 +201,7 @@ go_live_kept s j m scope h may =
     number = by_number j (λ k b. (r : Rid) (i : Image) → open_in r (s.log k) ≡ Some i → begans (if b then Began m scope ∷ s.log j else s.log k) ≡ begans (s.log k)) (λ r i e. absurd (let z = none r in cc)) (λ k other r i e. refl)
 
 -- a session that reads at a snapshot is live
-no_snapshot : (p : Phase) → IsSome (snapshot_in p) → p ≡ Idle → ⊥
+pub no_snapshot : (p : Phase) → IsSome (snapshot_in p) → p ≡ Idle → ⊥
 no_snapshot p some e = let z = subst (λ q. IsSome (snapshot_in q)) e some in cc
 
 not_entering : (p : Phase) → IsSome (snapshot_in p) → IsEntering p → ⊥
@@ -227,6 +237,7 @@ end_kept s j h may = turn s j Idle (put s.register j registers.Idle) (put s.log 
     (h.logs_answer.within j)
     (record { opened = subst IsSome (sym (h.logs_answer.reads j)) may.live; none = may.none }, h.logs_answer.judged j)
     (h.logs_answer.written j) (λ n. refl) (λ n e. e))
+    (counters_entry s.sessions s.buckets s.passes s.log s.bucket s.counters s.visits j (Over ∷ s.log j) (λ test. (refl, refl)) h.counters_balance)
   where
     opened : (k : ℕ) (r : Rid) → open_writes (put s.log j (Over ∷ s.log j)) k r ≡ open_writes s.log k r
     opened = by_number j (λ k b. (r : Rid) → open_in r (if b then Over ∷ s.log j else s.log k) ≡ open_in r (s.log k)) (λ r. sym (may.none r)) (λ k other r. refl)

@@ -1,8 +1,7 @@
 -- Each transaction has at most one commit number, and each group one of a session's transactions: so the mark is bounded.
-use Rattle.std.proofs.Common.{◌≡◌, ℕ, zero, suc, ◌+◌, ◌*◌, ◌<◌, ◌≤◌, List, [], ◌∷◌, length, Bool, true, false, refl, subst, arith}
+use Rattle.std.proofs.Common.{◌≡◌, ℕ, zero, suc, ◌*◌, ◌<◌, ◌≤◌, List, [], ◌∷◌, length, Bool, true, false, refl, subst, arith}
 use Rattle.std.specs.Prelude.{◌==◌, ◌||◌, if◌then◌else◌, nat_le, IsSome, IsTrue}
-use Rattle.std.proofs.Math.Nat.{suc-mul}
-use Rattle.std.proofs.lemmas.Bool.Decides.{Decides-eqb, nat_tests}
+use Rattle.std.proofs.lemmas.Bool.Decides.{nat_tests}
 use Rattle.hg_base.specs.History.{History}
 use Rattle.hg_base.proofs.ListFacts.{cases}
 use Rattle.hg_core.specs.declared.phase.Phase.{Phase}
@@ -13,33 +12,9 @@ use Rattle.hg_core.specs.Logs.{current, begans, is_plain, has_number}
 use Rattle.hg_core.specs.Phases.{MayHaveBegun}
 use Rattle.hg_core.specs.State.{CoreState}
 use Rattle.hg_core.specs.Judged.{Judged, IsNamed}
+use Rattle.hg_core.specs.Sums.{sum_to}
 use Rattle.hg_core.specs.Invariant.{IsSteady}
-
--- ---- sums over sessions
-
-sum_to : ℕ → (ℕ → ℕ) → ℕ
-sum_to zero f = 0
-sum_to (suc n) f = sum_to n f + f (suc n)
-
-sum_least : (n : ℕ) (f g : ℕ → ℕ) → ((k : ℕ) → f k ≤ g k) → sum_to n f ≤ sum_to n g
-unfolding sum_to
-sum_least zero f g le = omega arith
-sum_least (suc n) f g le = omega (arith, sum_least n f g le, le (suc n))
-
-sum_more : (n : ℕ) (f g : ℕ → ℕ) (j : ℕ) → 0 < j → j ≤ n → ((k : ℕ) → f k ≤ g k) → suc (f j) ≤ g j → suc (sum_to n f) ≤ sum_to n g
-unfolding sum_to
-sum_more zero f g j first last le more = absurd (omega arith)
-sum_more (suc n) f g j first last le more = cases (j == suc n)
-    (λ e.
-    let same : j ≡ suc n = (Decides-eqb j (suc n)).0 e in
-    let here : suc (f (suc n)) ≤ g (suc n) = subst (λ k. suc (f k) ≤ g k) same more in
-    omega (arith, sum_least n f g le, here))
-    (λ e. let less : j ≤ n = grind (arith, nat_tests) in omega (arith, sum_more n f g j first less le more, le (suc n)))
-
-sum_most : (n c : ℕ) (f : ℕ → ℕ) → ((k : ℕ) → f k ≤ c) → sum_to n f ≤ n * c
-unfolding sum_to
-sum_most zero c f le = omega arith
-sum_most (suc n) c f le = omega (arith, sum_most n c f le, le (suc n), suc-mul n c)
+use Rattle.hg_core.proofs.Sums.{sum_more, sum_most}
 
 -- ---- commit numbers of a log
 

@@ -11,7 +11,10 @@ use Rattle.hg_base.specs.History.{Group, History, nothing, group_image, writes, 
 use Rattle.hg_base.proofs.HistoryFacts.{visible_stays}
 use Rattle.hg_core.specs.declared.phase.Phase.{Phase}
 use Rattle.hg_core.specs.declared.phase.Phase.TheVariants.{Idle, Probed, Entered, Fixed, Live}
-use Rattle.hg_core.specs.Versions.{Stamp, Written, Numbered, Oldest, Version, first_at, pair_of, newest_at, is_numbered, unpublished_by, unpublished}
+use Rattle.hg_core.specs.declared.version.Stamp.{Stamp}
+use Rattle.hg_core.specs.declared.version.Stamp.TheVariants.{Written, Numbered, Oldest}
+use Rattle.hg_core.specs.declared.version.Version.{Version}
+use Rattle.hg_core.specs.Versions.{first_at, pair_of, newest_at, is_numbered, unpublished_by, unpublished}
 use Rattle.hg_core.specs.Removal.{swept, cut}
 use Rattle.hg_core.specs.Ordered.{Falls, IsOrdered}
 use Rattle.hg_core.specs.Covered.{image_of, last_pair, Reads, IsProtected, Covers}

@@ -28,6 +28,9 @@ mark_kept s p known h may =
         passes = by_number p (λ q b. (if b then fresh else s.pass q).mark ≤ s.mark) (omega arith) (λ q other. h.mark_is_length.passes q);
       };
       taken_at_most_mark = h.taken_at_most_mark;
+      contents_are_placed = h.contents_are_placed;
+      counters_balance = h.counters_balance;
+      visits_stay = h.visits_stay;
       history = h.history;
       no_update_is_lost = h.no_update_is_lost;
       registers_agree = h.registers_agree;
@@ -63,6 +66,9 @@ sample_kept s p j h may =
         passes = by_number p (λ q b. (if b then more else s.pass q).mark ≤ s.mark) (h.mark_is_length.passes p) (λ q other. h.mark_is_length.passes q);
       };
       taken_at_most_mark = h.taken_at_most_mark;
+      contents_are_placed = h.contents_are_placed;
+      counters_balance = h.counters_balance;
+      visits_stay = h.visits_stay;
       history = h.history;
       no_update_is_lost = h.no_update_is_lost;
       registers_agree = h.registers_agree;
@@ -134,6 +140,9 @@ move_kept s p j h (n, mask, may) =
         passes = by_number p (λ q b. (if b then more else s.pass q).mark ≤ s.mark) (h.mark_is_length.passes p) (λ q other. h.mark_is_length.passes q);
       };
       taken_at_most_mark = h.taken_at_most_mark;
+      contents_are_placed = h.contents_are_placed;
+      counters_balance = h.counters_balance;
+      visits_stay = h.visits_stay;
       history = h.history;
       no_update_is_lost = h.no_update_is_lost;
       registers_agree = record {

@@ -5,8 +5,13 @@ pub mod Records
 pub mod Versions
 pub mod OpenWrites
 pub mod Groups
-pub mod Backing
 pub mod NewGroup
+pub mod Backing
+pub mod Sums
+pub mod Placing
+pub mod Clean
+pub mod Visits
+pub mod Tallies
 pub mod Sweep
 pub mod Past
 pub mod Covering
@@ -20,6 +25,8 @@ pub mod Writing
 pub mod Looking
 pub mod Fences
 pub mod Reclaiming
+pub mod Seats
+pub mod Exact
 pub mod Runs
 pub mod Worked
 pub mod Counting

@@ -19,7 +19,8 @@ use Rattle.hg_core.specs.declared.log.LogEntry.TheVariants.{Saw, Refused, Outsid
 use Rattle.hg_core.specs.declared.phase.Phase.TheVariants.{Live}
 use Rattle.hg_core.specs.Logs.{current, number_in, begans, wrotes, begun_in, is_plain, own_writes, open_in, open_writes}
 use Rattle.hg_core.specs.Phases.{snapshot_in}
-use Rattle.hg_core.specs.Versions.{Version, newest_at, unpublished}
+use Rattle.hg_core.specs.declared.version.Version.{Version}
+use Rattle.hg_core.specs.Versions.{newest_at, unpublished}
 use Rattle.hg_core.specs.Contents.{versions, has_stamped}
 use Rattle.hg_core.specs.OpenWrites.{writer_of}
 use Rattle.hg_core.specs.Covered.{Reads}
@@ -34,6 +35,8 @@ use Rattle.hg_core.proofs.OpenWrites.{none_stamped, stand_alike, next_alike}
 use Rattle.hg_core.proofs.NewGroup.{image_open}
 use Rattle.hg_core.proofs.Replies.{writer_itself, read_own, read_other, backed_newest, group_does, open_is, IsNoNumber, replies_entry}
 use Rattle.hg_core.proofs.Writing.{IsOwn, answer_more, begun_more, current_open}
+use Rattle.hg_core.specs.Counters.{first_writes, undos}
+use Rattle.hg_core.proofs.Tallies.{counters_entry}
 
 -- ---- what is read is what is seen
 
@@ -77,6 +80,12 @@ look_same n (Refused q answer) log l = ((λ r. refl), refl, refl)
 look_same n (Outside t) log l = ((λ r. refl), refl, refl)
 look_same n _ log l = absurd l
 
+look_counts : (n : ℕ) (e : LogEntry) (log : List LogEntry) → IsLook n e → (test : Rid → Bool) → (first_writes test (e ∷ log) ≡ first_writes test log) × (undos test (e ∷ log) ≡ undos test log)
+look_counts n (Saw t low high b rows) log l test = (refl, refl)
+look_counts n (Refused q answer) log l test = (refl, refl)
+look_counts n (Outside t) log l test = (refl, refl)
+look_counts n _ log l test = absurd l
+
 look_more : (s : CoreState) (j : ℕ) (e : LogEntry) → IsSteady s → IsLook (length s.history) e → IsSome (current (s.log j)) → IsReplied s.buckets s.history s.log j e (s.log j) → IsSteady (record s { log = put s.log j (e ∷ s.log j) })
 look_more s j e h look some replied = record {
   mark_is_length = h.mark_is_length;
@@ -88,8 +97,11 @@ look_more s j e h look some replied = record {
   open_writes_stand = stand_alike s.mark (begun_in s.log) _ (open_writes s.log) _ _ opened (λ k r i o. begun_more s.log j e same.1 k) h.open_writes_stand;
   stamped_is_next = next_alike s.mark (open_writes s.log) _ _ _ opened h.stamped_is_next;
   contents_are_ordered = h.contents_are_ordered;
+  contents_are_placed = h.contents_are_placed;
+  visits_stay = h.visits_stay;
   records_bound_sessions = h.records_bound_sessions;
   open_writes_may_commit = λ k r image o. h.open_writes_may_commit k r image (sym (opened k r) ∙ o);
+  counters_balance = counters_entry s.sessions s.buckets s.passes s.log s.bucket s.counters s.visits j (e ∷ s.log j) (λ test. look_counts (length s.history) e (s.log j) look test) h.counters_balance;
   logs_answer = answer_more s j e h own.0 some (omega (arith, same.2, h.logs_answer.written j));
   replies_answer = replies_entry s.buckets s.history s.log j e own.1 h.logs_answer.within replied h.replies_answer;
   records_reach_logs = reach_step s.phase s.phase s.log (put s.log j (e ∷ s.log j)) s.pass j (s.phase j) (e ∷ []) h.records_reach_logs (only_same s.phase j) (only_put s.log j (e ∷ s.log j)) (λ x. inr x);
@@ -201,6 +213,9 @@ take_kept s h may = record {
   open_writes_stand = h.open_writes_stand;
   stamped_is_next = h.stamped_is_next;
   contents_are_ordered = h.contents_are_ordered;
+  contents_are_placed = h.contents_are_placed;
+  visits_stay = h.visits_stay;
+  counters_balance = h.counters_balance;
   records_bound_sessions = h.records_bound_sessions;
   open_writes_may_commit = h.open_writes_may_commit;
   history = h.history;

@@ -11,7 +11,13 @@ use Rattle.hg_base.specs.Transcript.{last_images}
 use Rattle.hg_base.proofs.HistoryFacts.{same_rid_equal}
 use Rattle.hg_core.specs.declared.log.LogEntry.{LogEntry}
 use Rattle.hg_core.specs.declared.log.LogEntry.TheVariants.{Began, Saw, Refused, Outside, Wrote, Undid, Published, Over}
-use Rattle.hg_core.specs.Logs.{is_plain, own_writes, open_in, commit_in, new_group, is_in}
+use Rattle.hg_base.specs.declared.writer.Writer.{Writer}
+use Rattle.hg_base.specs.History.{Group}
+use Rattle.std.specs.Prelude.{option_map}
+use Rattle.hg_core.specs.Logs.{is_plain, own_writes, open_in, commit_in, begun_in, new_group, is_in}
+use Rattle.hg_core.specs.OpenWrites.{writer_of}
+use Rattle.hg_core.specs.Ordered.{group_write}
+use Rattle.hg_core.proofs.Versions.{same_pair}
 
 -- ---- the last image of each record
 
@@ -74,3 +80,29 @@ nobody_in r log (k ∷ js) j p e m = go (image_in r (commit_in k (log k)).images
     go None w e true q m later = let same : k ≡ j = (Decides-eqb k j).0 q in subst (λ z. open_in r (log z) ≡ None) same (sym (commit_image r k (log k) p.0) ∙ w)
     go None w e false q m later = later e m
     go (Some a) w e b q m later = cc
+
+-- the image of a group's write is the group's image
+pub write_image : (r : Rid) (g : Group) → option_map (λ (p : Writer × Image). p.1) (group_write r g) ≡ group_image r g
+write_image r [] = refl
+write_image r (c ∷ cs) = go (image_in r c.images) (write_image r cs)
+  where
+    go : (x : Option Image) → option_map (λ (p : Writer × Image). p.1) (group_write r cs) ≡ group_image r cs
+        → option_map (λ (p : Writer × Image). p.1) (option_or (option_map (λ image. (record { session = c.session; transaction = c.transaction }, image)) x) (group_write r cs)) ≡ option_or x (group_image r cs)
+    go None later = later
+    go (Some a) later = refl
+
+-- the writer of r in the group is the open transaction of its session, which has r open with that image
+pub write_in : (r : Rid) (w : Writer) (i : Image) (log : ℕ → List LogEntry) (js : List ℕ) → Each (λ j. IsTrue (is_plain (log j))) js → group_write r (new_group log js) ≡ Some (w, i) → (w ≡ writer_of (begun_in log) w.session) × (open_in r (log w.session) ≡ Some i)
+write_in r w i log [] p e = cc
+write_in r w i log (j ∷ js) p e = go (image_in r (commit_in j (log j)).images) refl e (λ k. write_in r w i log js p.1 k)
+  where
+    go : (x : Option Image) → image_in r (commit_in j (log j)).images ≡ x → option_or (option_map (λ image. (writer_of (begun_in log) j, image)) x) (group_write r (new_group log js)) ≡ Some (w, i)
+        → (group_write r (new_group log js) ≡ Some (w, i) → (w ≡ writer_of (begun_in log) w.session) × (open_in r (log w.session) ≡ Some i))
+        → (w ≡ writer_of (begun_in log) w.session) × (open_in r (log w.session) ≡ Some i)
+    go None q e later = later e
+    go (Some a) q e later =
+        let pair = same_pair (writer_of (begun_in log) j, a) (w, i) e in
+        let who : writer_of (begun_in log) j ≡ w = ap (λ x. x.0) pair in
+        let image : a ≡ i = ap (λ x. x.1) pair in
+        let at : j ≡ w.session = ap (λ (x : Writer). x.session) who in
+        (subst (λ v. v ≡ writer_of (begun_in log) v.session) who refl, subst (λ k. open_in r (log k) ≡ Some i) at (sym (commit_image r j (log j) p.0) ∙ q ∙ ap Some image))

@@ -7,7 +7,8 @@ use Rattle.hg_base.specs.declared.writer.Writer.{Writer}
 use Rattle.hg_base.specs.declared.image.Image.{Image}
 use Rattle.hg_base.specs.History.{same_rid}
 use Rattle.hg_base.proofs.HistoryFacts.{same_rid_equal}
-use Rattle.hg_core.specs.Versions.{Version, is_numbered, unpublished, installed, undone, stamped, IsFreeFor}
+use Rattle.hg_core.specs.declared.version.Version.{Version}
+use Rattle.hg_core.specs.Versions.{is_numbered, unpublished, installed, undone, stamped, IsFreeFor}
 use Rattle.hg_core.specs.Contents.{Content, versions, stored, is_stamped, has_stamped}
 use Rattle.hg_core.specs.OpenWrites.{writer_of, OpenWritesStand, StampedIsNext}
 use Rattle.hg_core.proofs.Indices.{at_index}

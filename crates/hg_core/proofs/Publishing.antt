@@ -1,5 +1,5 @@
 -- A group is published: the history, the mark and the logs of its sessions grow.
-use Rattle.std.proofs.Common.{◌≡◌, ℕ, suc, ◌<◌, ◌≤◌, inl, inr, List, [], ◌∷◌, ◌++◌, length, Option, None, Some, Bool, true, false, refl, sym, ap, ◌∙◌, subst, arith}
+use Rattle.std.proofs.Common.{◌≡◌, ℕ, suc, ◌<◌, ◌≤◌, inl, inr, List, [], ◌∷◌, ◌++◌, length, Option, None, Some, Bool, true, false, refl, sym, ap, ◌∙◌, subst, arith, option_map}
 use Rattle.std.specs.Prelude.{◌==◌, ◌||◌, if◌then◌else◌, IsSome, IsTrue}
 use Rattle.std.proofs.lemmas.Bool.Decides.{Decides-eqb, nat_tests}
 use Rattle.hg_base.specs.declared.rid.Rid.{Rid}
@@ -14,7 +14,8 @@ use Rattle.hg_core.specs.declared.log.LogEntry.{LogEntry}
 use Rattle.hg_core.specs.declared.log.LogEntry.TheVariants.{Began, Saw, Refused, Outside, Wrote, Undid, Published, Over}
 use Rattle.hg_core.specs.Logs.{current, begans, wrotes, begun_in, open_in, is_plain, has_number, new_group, is_in, published_logs, UpTo}
 use Rattle.hg_core.specs.Phases.{IsSession, snapshot_in, MayHaveBegun}
-use Rattle.hg_core.specs.Versions.{Version, is_numbered, unpublished}
+use Rattle.hg_core.specs.declared.version.Version.{Version}
+use Rattle.hg_core.specs.Versions.{is_numbered, unpublished}
 use Rattle.hg_core.specs.Contents.{versions, is_stamped}
 use Rattle.hg_core.specs.OpenWrites.{writer_of}
 use Rattle.hg_core.specs.Replies.{RepliesAnswer}
@@ -34,7 +35,12 @@ use Rattle.hg_core.proofs.Backing.{backed_published}
 use Rattle.hg_core.proofs.Past.{writes_old}
 use Rattle.hg_core.proofs.Covering.{covers_published}
 use Rattle.hg_core.proofs.OpenWrites.{stamped_has}
-use Rattle.hg_core.proofs.NewGroup.{writer_in, nobody_in}
+use Rattle.hg_core.proofs.NewGroup.{writer_in, nobody_in, write_image, write_in}
+use Rattle.hg_core.specs.Ordered.{group_write}
+use Rattle.hg_core.specs.Counters.{first_writes, undos}
+use Rattle.hg_core.proofs.Tallies.{counters_quiet}
+use Rattle.hg_core.proofs.Visits.{visits_later}
+use Rattle.hg_core.proofs.Clean.{stays_same}
 
 phase_wider : (n m : ℕ) (p : Phase) → n ≤ m → PhaseUpTo n p → PhaseUpTo m p
 phase_wider n m Idle k u = tt
@@ -154,6 +160,9 @@ publish_kept s js h may = record {
     ordered = λ r. ordered_next s.mark (held r) (h.contents_are_ordered.ordered r);
     backed = λ r. backed_published s.mark s.history (new_group s.log js) r (held r) h.mark_is_length.is_length (h.contents_are_ordered.ordered r) (written r) (h.contents_are_ordered.backed r);
   };
+  contents_are_placed = h.contents_are_placed;
+  visits_stay = visits_later s.passes s.buckets s.mark (suc s.mark) held held s.visits (omega arith) (λ r. stays_same s.mark (held r)) h.visits_stay;
+  counters_balance = counters_quiet s.sessions s.buckets s.passes s.log (published_logs s.log js (suc s.mark)) s.bucket s.counters s.visits (λ k test. counted k test (is_in js k)) h.counters_balance;
   open_writes_stand = record {
     owned = λ r w i e.
         let was = unpublished_next s.mark (held r) w i (h.contents_are_ordered.ordered r) e in
@@ -198,6 +207,10 @@ publish_kept s js h may = record {
         go false p true q = absurd (let z = stamped_has w.session r s.stamped_list q in let y = may.stamped w.session in cc)
         go false p false q = refl
 
+    counted : (k : ℕ) (test : Rid → Bool) (b : Bool) → (first_writes test (if b then Published (suc s.mark) ∷ s.log k else s.log k) ≡ first_writes test (s.log k)) × (undos test (if b then Published (suc s.mark) ∷ s.log k else s.log k) ≡ undos test (s.log k))
+    counted k test true = (refl, refl)
+    counted k test false = (refl, refl)
+
     begun_new : (k : ℕ) (b : Bool) → begans (if b then Published (suc s.mark) ∷ s.log k else s.log k) ≡ begans (s.log k)
     begun_new k true = refl
     begun_new k false = refl
@@ -213,23 +226,20 @@ publish_kept s js h may = record {
     one_owner : (r : Rid) (j k : ℕ) (a b : Image) → open_in r (s.log j) ≡ Some a → open_in r (s.log k) ≡ Some b → j ≡ k
     one_owner r j k a b p q = ap (λ x. x.0.session) (same_pair (writer_of (begun_in s.log) j, a) (writer_of (begun_in s.log) k, b) (sym (h.open_writes_stand.owns r j a p) ∙ h.open_writes_stand.owns r k b q))
 
-    -- the group writes what is stamped
-    written : (r : Rid) (w : Writer) (i : Image) → unpublished s.mark (held r) ≡ Some (w, i) → is_numbered (held r) ≡ true → group_image r (new_group s.log js) ≡ Some i
-    written r w i e n = go (group_image r (new_group s.log js)) refl
+    -- the group writes what is stamped, by its writer
+    written : (r : Rid) (w : Writer) (i : Image) → unpublished s.mark (held r) ≡ Some (w, i) → is_numbered (held r) ≡ true → group_write r (new_group s.log js) ≡ Some (w, i)
+    written r w i e n = go (group_write r (new_group s.log js)) refl
       where
-        mine : open_in r (s.log w.session) ≡ Some i
-        mine = (h.open_writes_stand.owned r w i e).1
-
-        is_of : is_in js w.session ≡ true
-        is_of = sym (in_group r w i e) ∙ n
-
-        go : (x : Option Image) → group_image r (new_group s.log js) ≡ x → group_image r (new_group s.log js) ≡ Some i
-        go None q = absurd (let z = nobody_in r s.log js w.session may.plain q is_of in let y = mine in cc)
-        go (Some a) q =
-            let z = writer_in r a s.log js may.plain q in
-            let same : z.0 ≡ w.session = one_owner r z.0 w.session a i z.2 mine in
-            let x : open_in r (s.log w.session) ≡ Some a = subst (λ k. open_in r (s.log k) ≡ Some a) same z.2 in
-            q ∙ sym x ∙ mine
+        go : (x : Option (Writer × Image)) → group_write r (new_group s.log js) ≡ x → group_write r (new_group s.log js) ≡ Some (w, i)
+        go None q = absurd (
+            let own = (h.open_writes_stand.owned r w i e).1 in
+            let none : group_image r (new_group s.log js) ≡ None = sym (write_image r (new_group s.log js)) ∙ ap (option_map (λ (p : Writer × Image). p.1)) q in
+            let z = nobody_in r s.log js w.session may.plain none (sym (in_group r w i e) ∙ n) in
+            cc
+            )
+        go (Some p) q =
+            let z = write_in r p.0 p.1 s.log js may.plain q in
+            q ∙ ap (λ v. Some (v, p.1)) z.0 ∙ sym (h.open_writes_stand.owns r p.0.session p.1 z.1) ∙ e
 
     -- who has open what the group doesn't write is not of the group
     out_of : (r : Rid) (w : Writer) (i : Image) → unpublished s.mark (held r) ≡ Some (w, i) → group_image r (new_group s.log js) ≡ None → (b : Bool) → is_in js w.session ≡ b → b ≡ false

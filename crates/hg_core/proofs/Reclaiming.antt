@@ -1,5 +1,5 @@
 -- What a collector with a whole record takes away, no session reads.
-use Rattle.std.proofs.Common.{◌≡◌, ℕ, ◌≤◌, List, None, Some, ◌⊎◌, inl, inr, refl, sym, ◌∙◌, subst, arith}
+use Rattle.std.proofs.Common.{length, ◌-◌, ◌≡◌, ℕ, ◌≤◌, List, None, Some, ◌⊎◌, inl, inr, refl, sym, ◌∙◌, subst, arith}
 use Rattle.std.specs.Prelude.{Contains}
 use Rattle.hg_base.specs.declared.rid.Rid.{Rid}
 use Rattle.hg_base.specs.declared.rid.TableId.{TableId}
@@ -12,8 +12,9 @@ use Rattle.hg_core.specs.declared.phase.Phase.{Phase}
 use Rattle.hg_core.specs.declared.phase.Phase.TheVariants.{Idle, Probed, Entered, Fixed, Live}
 use Rattle.hg_core.specs.Logs.{begun_in, open_writes}
 use Rattle.hg_core.specs.Passes.{PassRecord, IsWhole, horizon, recorded, all_recorded, group_bound, table_bound}
-use Rattle.hg_core.specs.Versions.{Version, is_numbered, unpublished}
-use Rattle.hg_core.specs.Contents.{versions, is_stamped}
+use Rattle.hg_core.specs.declared.version.Version.{Version}
+use Rattle.hg_core.specs.Versions.{is_numbered, unpublished}
+use Rattle.hg_core.specs.Contents.{versions, is_stamped, bucket_of, stored}
 use Rattle.hg_core.specs.Removal.{reclaimed}
 use Rattle.hg_core.specs.Ordered.{IsOrdered, IsBacked}
 use Rattle.hg_core.specs.OpenWrites.{writer_of}
@@ -25,6 +26,12 @@ use Rattle.hg_core.proofs.Records.{at_record}
 use Rattle.hg_core.proofs.Sweep.{ordered_swept, ordered_cut, unpublished_swept, numbered_swept, numbered_cut, backed_swept, backed_cut}
 use Rattle.hg_core.proofs.Covering.{covers_cut, covers_swept}
 use Rattle.hg_core.proofs.Fences.{horizon_mark, least_first, least_of, live_fenced, fixed_fenced, held_in_table, held_in_all}
+use Rattle.hg_core.proofs.Tallies.{counters_shortened, length_reclaimed}
+use Rattle.hg_core.proofs.Visits.{visits_later, stays_stored, visits_changed, removing_each, visitor}
+use Rattle.hg_core.proofs.Clean.{stays_reclaimed}
+use Rattle.hg_core.proofs.Placing.{placed_stored}
+use Rattle.hg_core.proofs.Writing.{is_there}
+use Rattle.hg_core.specs.Visits.{removing}
 
 -- n is at or over the horizon; or it counts for the table, and is among all snapshots
 abbrev pub IsFenced : PassRecord → TableId → ℕ → Type 0
@@ -81,7 +88,8 @@ backed_reclaimed mark h r Table pass vs b = backed_cut mark h r (table_bound r.t
 backed_reclaimed mark h r Interval pass vs b = backed_swept mark h r (horizon pass) (recorded r.table pass) None vs b
 
 pub reclaim_kept : (s : CoreState) (p : ℕ) (kind : Kind) (r : Rid) → IsSteady s → May s (Reclaim p kind r) → IsSteady (happens s (Reclaim p kind r))
-reclaim_kept s p kind r h whole =
+reclaim_kept s p kind r h may =
+    let whole = may.whole in
     let held : List Version = versions s.buckets s.bucket r in
     let vs : List Version = reclaimed kind r.table (s.pass p) held in
     let shape = shape_reclaimed s p kind r.table held h (h.contents_are_ordered.ordered r) in
@@ -103,6 +111,12 @@ reclaim_kept s p kind r h whole =
             (λ w i e. numbered_reclaimed s.mark kind r.table (s.pass p) held w i e ∙ h.stamped_is_next.exact r w i (sym shape.1 ∙ e)) (λ q other. h.stamped_is_next.exact q);
         standing = h.stamped_is_next.standing;
       };
+      contents_are_placed = placed_stored s.tables s.buckets s.bucket r vs (λ some. is_there s r h (let fewer : length vs ≤ length held = length_reclaimed kind r.table (s.pass p) held in omega arith)) h.contents_are_placed;
+      counters_balance = counters_shortened s.sessions s.buckets s.passes s.log s.bucket s.counters s.visits p kind r vs (visitor s.passes s.buckets s.mark (versions s.buckets s.bucket) s.visits p (bucket_of s.buckets r) may.here h.visits_stay) may.here (length_reclaimed kind r.table (s.pass p) held) h.counters_balance;
+      visits_stay =
+          let less = visitor s.passes s.buckets s.mark (versions s.buckets s.bucket) s.visits p (bucket_of s.buckets r) may.here h.visits_stay in
+          let later = visits_later s.passes s.buckets s.mark s.mark (versions s.buckets s.bucket) (versions s.buckets (stored s.buckets s.bucket r vs)) s.visits (omega arith) (stays_stored s.mark s.buckets s.bucket r vs (stays_reclaimed s.mark s.mark kind r.table (s.pass p) held (h.contents_are_ordered.ordered r))) h.visits_stay in
+          visits_changed s.passes s.buckets s.mark (versions s.buckets (stored s.buckets s.bucket r vs)) s.visits p (removing kind (length held - length vs) (s.visits p)) less (removing_each s.buckets s.mark (bucket_of s.buckets r) (length held - length vs) (versions s.buckets (stored s.buckets s.bucket r vs)) kind (s.visits p) may.here (later.each p)) later;
       contents_are_ordered = record {
         ordered = at_record s.buckets s.bucket r vs (λ q c. IsOrdered s.mark c) shape.0 (λ q other. h.contents_are_ordered.ordered q);
         backed = at_record s.buckets s.bucket r vs (λ q c. IsBacked s.mark s.history q c) (backed_reclaimed s.mark s.history r kind (s.pass p) held (h.contents_are_ordered.backed r)) (λ q other. h.contents_are_ordered.backed q);

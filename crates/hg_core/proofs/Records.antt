@@ -5,7 +5,7 @@ use Rattle.std.proofs.lemmas.Bool.Decides.{nat_tests}
 use Rattle.hg_base.specs.declared.rid.Rid.{Rid}
 use Rattle.hg_base.specs.History.{same_rid}
 use Rattle.hg_base.proofs.HistoryFacts.{same_rid_equal}
-use Rattle.hg_core.specs.Versions.{Version}
+use Rattle.hg_core.specs.declared.version.Version.{Version}
 use Rattle.hg_core.specs.Contents.{Content, bucket_of, look, store, versions, stored}
 
 -- what holds of r where the test passes, and of others where it fails, holds of all
@@ -21,7 +21,12 @@ turned_rid q r = grind (arith, nat_tests)
 
 -- what a content shows after a store
 pub look_store : (q r : Rid) (vs : List Version) (es : Content) → look q (store r vs es) ≡ (if same_rid q r then vs else look q es)
-look_store q r vs [] = refl
+look_store q r [] [] = either (same_rid q r) []
+  where
+    either : (b : Bool) (es : List Version) → es ≡ (if b then es else es)
+    either true es = refl
+    either false es = refl
+look_store q r (v ∷ vs) [] = refl
 look_store q r vs (e ∷ es) = go (same_rid r e.0) refl (look_store q r vs es)
   where
     go : (b : Bool) → same_rid r e.0 ≡ b → look q (store r vs es) ≡ (if same_rid q r then vs else look q es) → look q (if b then (r, vs) ∷ es else e ∷ store r vs es) ≡ (if same_rid q r then vs else look q (e ∷ es))

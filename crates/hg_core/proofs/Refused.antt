@@ -5,7 +5,8 @@ use Rattle.hg_base.specs.declared.scope.Scope.TheVariants.{All, Declared}
 use Rattle.hg_core.specs.declared.phase.Phase.TheVariants.{Entered}
 use Rattle.hg_core.specs.Passes.{IsWhole}
 use Rattle.hg_core.specs.State.{CoreState, opened}
-use Rattle.hg_core.specs.Events.{Event, Sample, May, Run, run}
+use Rattle.hg_core.specs.Events.{Sample, May}
+use Rattle.hg_core.specs.Steps.{Step, Run, run}
 use Rattle.hg_core.specs.Missed.{MissesNone}
 use Rattle.hg_core.specs.Invariant.{IsSteady}
 use Rattle.hg_core.specs.Worked.{slow_begin, late_entry, early_sample, low_fix}
@@ -14,11 +15,11 @@ use Rattle.hg_core.proofs.Runs.{steady_after}
 use Rattle.hg_core.proofs.Worked.{slow_whole, slow_begin_runs, late_entry_runs, early_sample_runs, low_fix_runs}
 
 -- the state after a run of two sessions
-abbrev pub after : List Event → CoreState
-after events = run (opened 2 1 1 1) events
+abbrev pub after : List Step → CoreState
+after steps = run (opened 2 1 1 1 1) steps
 
-steady : (events : List Event) → Run (opened 2 1 1 1) events → IsSteady (after events)
-steady events runs = steady_after 2 1 1 1 events runs
+steady : (steps : List Step) → Run (opened 2 1 1 1 1) steps → IsSteady (after steps)
+steady steps runs = steady_after 2 1 1 1 1 steps runs
 
 -- ---- one load
 

@@ -16,8 +16,12 @@ use Rattle.hg_base.proofs.ListFacts.{any_more}
 use Rattle.hg_core.specs.declared.log.LogEntry.{LogEntry}
 use Rattle.hg_core.specs.declared.log.LogEntry.TheVariants.{Began, Saw, Refused, Outside, Wrote, Undid, Published, Over}
 use Rattle.hg_core.specs.Logs.{current, begans, is_plain, own_writes, open_in, is_in, published_logs, UpTo}
-use Rattle.hg_core.specs.Versions.{Stamp, Written, Numbered, Oldest, Version, stamp_number, is_up_to, first_at, paired, newest_at, is_numbered, unpublished_by, unpublished}
+use Rattle.hg_core.specs.declared.version.Stamp.{Stamp}
+use Rattle.hg_core.specs.declared.version.Stamp.TheVariants.{Written, Numbered, Oldest}
+use Rattle.hg_core.specs.declared.version.Version.{Version}
+use Rattle.hg_core.specs.Versions.{stamp_number, is_up_to, first_at, paired, newest_at, is_numbered, unpublished_by, unpublished}
 use Rattle.hg_core.specs.Ordered.{IsBacked}
+use Rattle.hg_core.proofs.Backing.{image_backed}
 use Rattle.hg_core.specs.Covered.{image_of}
 use Rattle.hg_core.specs.Replies.{same_writer, read_by, in_bucket, writes_in, numbers_in, Refuses, IsReplied, AreReplied, RepliesAnswer}
 use Rattle.hg_core.specs.Events.{put}
@@ -65,7 +69,7 @@ read_other mark at w (v ∷ vs) other = go v.stamp other
 
 pub backed_newest : (mark n : ℕ) (h : History) (r : Rid) (p : ℕ × Image) (vs : List Version) → n ≤ mark → IsBacked mark h r vs → newest_at n vs ≡ Some p → (p.0 ≤ n) × (group_image r (group_at h p.0) ≡ Some p.1)
 backed_newest mark n h r p [] le b e = cc
-backed_newest mark n h r p (v ∷ vs) le b e = go (stamp_number v.stamp) b.0 (sym (pair_if (is_up_to n (stamp_number v.stamp)) v (first_at n vs)) ∙ e) (λ k. backed_newest mark n h r p vs le b.1 k)
+backed_newest mark n h r p (v ∷ vs) le b e = go (stamp_number v.stamp) (image_backed mark h r v.stamp v.image b.0) (sym (pair_if (is_up_to n (stamp_number v.stamp)) v (first_at n vs)) ∙ e) (λ k. backed_newest mark n h r p vs le b.1 k)
   where
     same : (x y : ℕ × Image) → Some x ≡ Some y → x ≡ y
     same x y e = cc

@@ -1,7 +1,8 @@
 -- Each event keeps the invariant, so it holds after every list of events.
-use Rattle.std.proofs.Common.{ℕ, List, [], ◌∷◌, inl, inr, refl, arith}
+use Rattle.std.proofs.Common.{ℕ, List, [], ◌∷◌, inl, inr, refl, arith, ◌≡◌, sym, ◌∙◌}
 use Rattle.hg_core.specs.State.{CoreState, opened}
-use Rattle.hg_core.specs.Events.{Event, Probe, Enter, Fix, GoLive, End, Mark, Sample, Move, Install, Undo, Stamp, Publish, Reclaim, Take, Look, happens, May, Run, run, Always}
+use Rattle.hg_core.specs.Events.{Event, Probe, Enter, Fix, GoLive, End, Mark, Sample, Move, Install, Undo, Stamp, Publish, Reclaim, Take, Look, happens, May}
+use Rattle.hg_core.specs.Steps.{Step, Act, Arrive, Leave, Split, step, Can, Run, run, Always}
 use Rattle.hg_core.specs.Invariant.{IsSteady}
 use Rattle.hg_core.proofs.Begins.{probe_kept, enter_kept, fix_kept, go_live_kept, end_kept}
 use Rattle.hg_core.proofs.Gathers.{mark_kept, sample_kept, move_kept}
@@ -9,6 +10,11 @@ use Rattle.hg_core.proofs.Writing.{install_kept, undo_kept, stamp_kept}
 use Rattle.hg_core.proofs.Publishing.{publish_kept}
 use Rattle.hg_core.proofs.Looking.{look_kept, take_kept}
 use Rattle.hg_core.proofs.Reclaiming.{reclaim_kept}
+use Rattle.hg_core.proofs.Sums.{sum_none, below_none}
+use Rattle.hg_core.specs.Counters.{no_counters, removed_by}
+use Rattle.hg_base.specs.declared.report.Kind.{Kind}
+use Rattle.hg_base.specs.declared.report.Kind.TheVariants.{Group, Table, Interval}
+use Rattle.hg_core.proofs.Seats.{arrive_kept, leave_kept, split_kept}
 
 pub kept : (s : CoreState) (e : Event) → IsSteady s → May s e → IsSteady (happens s e)
 kept s (Probe j) h may = probe_kept s j h may
@@ -27,12 +33,26 @@ kept s (Reclaim p kind r) h may = reclaim_kept s p kind r h may
 kept s Take h may = take_kept s h may
 kept s (Look j ask b rows) h may = look_kept s j ask b rows h may
 
-pub run_kept : (s : CoreState) (events : List Event) → IsSteady s → Run s events → IsSteady (run s events)
-run_kept s [] h r = h
-run_kept s (e ∷ events) h r = run_kept (happens s e) events (kept s e h r.0) r.1
+step_kept : (s : CoreState) (e : Step) → IsSteady s → Can s e → IsSteady (step s e)
+step_kept s (Act event) h may = kept s event h may
+step_kept s (Arrive p b) h may = arrive_kept s p b h may
+step_kept s (Leave p) h may = leave_kept s p h may
+step_kept s (Split p) h may = split_kept s p h may
 
-opened_steady : (sessions tables buckets each : ℕ) → IsSteady (opened sessions tables buckets each)
-opened_steady sessions tables buckets each = record {
+pub run_kept : (s : CoreState) (steps : List Step) → IsSteady s → Run s steps → IsSteady (run s steps)
+run_kept s [] h r = h
+run_kept s (e ∷ steps) h r = run_kept (step s e) steps (step_kept s e h r.0) r.1
+
+none_removed : (kind : Kind) → removed_by kind no_counters.removed ≡ 0
+none_removed Group = refl
+none_removed Table = refl
+none_removed Interval = refl
+
+opened_steady : (sessions tables buckets passes each : ℕ) → IsSteady (opened sessions tables buckets passes each)
+opened_steady sessions tables buckets passes each = record {
+  contents_are_placed = λ b. record { bucket = tt; table = tt; once = tt };
+  counters_balance = record { made = λ b. sym (sum_none sessions); undone = λ b. sym (sum_none sessions); removed = λ kind b. none_removed kind ∙ sym (below_none passes); balance = λ b. refl };
+  visits_stay = record { each = λ p. tt; others = λ p. inr refl };
   mark_is_length = record { is_length = refl; sessions = λ j. tt; passes = λ p. omega arith };
   registers_agree = record { shows = λ j. refl; others = λ j. inr refl };
   records_bound_sessions = λ p j. tt;
@@ -50,4 +70,4 @@ opened_steady sessions tables buckets each = record {
 }
 
 pub steady_after : Always IsSteady
-steady_after sessions tables buckets each events r = run_kept (opened sessions tables buckets each) events (opened_steady sessions tables buckets each) r
+steady_after sessions tables buckets passes each steps r = run_kept (opened sessions tables buckets passes each) steps (opened_steady sessions tables buckets passes each) r

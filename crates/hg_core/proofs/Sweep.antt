@@ -5,12 +5,15 @@ use Rattle.std.proofs.lemmas.Bool.Decides.{nat_tests}
 use Rattle.hg_base.specs.declared.rid.Rid.{Rid}
 use Rattle.hg_base.specs.declared.writer.Writer.{Writer}
 use Rattle.hg_base.specs.declared.image.Image.{Image}
-use Rattle.hg_base.specs.History.{History, nothing}
-use Rattle.hg_core.specs.Versions.{Stamp, Written, Numbered, Oldest, Version, stamp_number, is_up_to, first_at, paired, pair_of, newest_at, is_numbered, unpublished}
+use Rattle.hg_base.specs.History.{History, nothing, group_at, group_image}
+use Rattle.hg_core.specs.declared.version.Stamp.{Stamp}
+use Rattle.hg_core.specs.declared.version.Stamp.TheVariants.{Written, Numbered, Oldest}
+use Rattle.hg_core.specs.declared.version.Version.{Version}
+use Rattle.hg_core.specs.Versions.{stamp_number, is_up_to, first_at, paired, pair_of, newest_at, is_numbered, unpublished}
 use Rattle.hg_core.specs.Removal.{any_between, goes, swept, oldest, cut}
 use Rattle.hg_core.specs.Ordered.{Falls, IsOrdered, IsBacked}
 use Rattle.hg_core.proofs.Versions.{falls_more}
-use Rattle.hg_core.proofs.Backing.{Stands}
+use Rattle.hg_core.proofs.Backing.{image_backed}
 
 -- ---- a sweep
 
@@ -177,16 +180,16 @@ backed_swept mark h r horizon snapshots successor (v ∷ vs) b = go (goes horizo
     go true later = later
     go false later = (b.0, later)
 
-backed_oldest : (mark : ℕ) (h : History) (r : Rid) (x : Option ℕ) (row : Option (List ℤ)) → Stands mark h r x (record { row = row }) → IsBacked mark h r (oldest x row)
+backed_oldest : (mark : ℕ) (h : History) (r : Rid) (x : Option ℕ) (row : Option (List ℤ)) → ((n : ℕ) → x ≡ Some n → n ≤ mark → group_image r (group_at h n) ≡ Some (record { row = row })) → IsBacked mark h r (oldest x row)
 backed_oldest mark h r None None f = tt
 backed_oldest mark h r None (Some row) f = tt
 backed_oldest mark h r (Some n) None f = tt
-backed_oldest mark h r (Some n) (Some row) f = (f, tt)
+backed_oldest mark h r (Some n) (Some row) f = (f n refl, tt)
 
 pub backed_cut : (mark : ℕ) (h : History) (r : Rid) (bound : ℕ) (vs : List Version) → IsBacked mark h r vs → IsBacked mark h r (cut bound vs)
 backed_cut mark h r bound [] b = tt
 backed_cut mark h r bound (v ∷ vs) b = go (is_up_to bound (stamp_number v.stamp)) (backed_cut mark h r bound vs b.1)
   where
     go : (t : Bool) → IsBacked mark h r (cut bound vs) → IsBacked mark h r (if t then oldest (stamp_number v.stamp) v.image.row else v ∷ cut bound vs)
-    go true later = backed_oldest mark h r (stamp_number v.stamp) v.image.row b.0
+    go true later = backed_oldest mark h r (stamp_number v.stamp) v.image.row (image_backed mark h r v.stamp v.image b.0)
     go false later = (b.0, later)

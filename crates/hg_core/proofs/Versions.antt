@@ -4,7 +4,10 @@ use Rattle.std.specs.Prelude.{nat_le}
 use Rattle.std.proofs.lemmas.Bool.Decides.{nat_tests}
 use Rattle.hg_base.specs.declared.writer.Writer.{Writer}
 use Rattle.hg_base.specs.declared.image.Image.{Image}
-use Rattle.hg_core.specs.Versions.{Stamp, Written, Numbered, Oldest, Version, newest_at, is_numbered, unpublished_by, unpublished, installed, undone, stamped, IsFreeFor, IsOpenBy}
+use Rattle.hg_core.specs.declared.version.Stamp.{Stamp}
+use Rattle.hg_core.specs.declared.version.Stamp.TheVariants.{Written, Numbered, Oldest}
+use Rattle.hg_core.specs.declared.version.Version.{Version}
+use Rattle.hg_core.specs.Versions.{newest_at, is_numbered, unpublished_by, unpublished, installed, undone, stamped, IsFreeFor, IsOpenBy}
 use Rattle.hg_core.specs.Ordered.{Falls, IsOrdered}
 
 pub same_pair : (p q : Writer × Image) → Some p ≡ Some q → p ≡ q

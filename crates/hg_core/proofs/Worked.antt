@@ -14,8 +14,9 @@ use Rattle.hg_core.specs.Passes.{found, IsWhole}
 use Rattle.hg_core.specs.Phases.{IsSession}
 use Rattle.hg_core.specs.Contents.{bucket_of, is_stamped}
 use Rattle.hg_core.specs.State.{opened}
-use Rattle.hg_core.specs.Events.{Run, run, MayPublish}
-use Rattle.hg_core.specs.Worked.{one_rid, two_rid, row, slow_begin, long_snapshot, late_entry, early_sample, low_fix, two_versions, moved_snapshot, open_write}
+use Rattle.hg_core.specs.Events.{MayPublish}
+use Rattle.hg_core.specs.Steps.{Run, run}
+use Rattle.hg_core.specs.Worked.{one_rid, two_rid, row, slow_begin, long_snapshot, late_entry, early_sample, low_fix, two_versions, moved_snapshot, open_write, late_snapshot}
 
 first : IsSession 2 1
 first = record { first = omega arith; last = omega arith }
@@ -55,7 +56,7 @@ none_left r = go (same_rid two_rid r)
     go false = refl
 
 -- the pass of the slow begin has loaded both registers
-pub slow_whole : IsWhole 2 ((run (opened 2 1 1 1) slow_begin).pass 0)
+pub slow_whole : IsWhole 2 ((run (opened 2 1 1 1 1) slow_begin).pass 0)
 slow_whole j session = go j session.first session.last
   where
     go : (k : ℕ) → 0 < k → k ≤ 2 → IsSome (found k ((2, registers.Idle) ∷ (1, registers.Entering 0) ∷ []))
@@ -64,7 +65,7 @@ slow_whole j session = go j session.first session.last
     go (suc (suc zero)) a b = refl
     go (suc (suc (suc k))) a b = absurd (omega arith)
 
-pub two_whole : (image : Image) → IsWhole 2 ((run (opened 2 1 1 2) (two_versions image)).pass 0)
+pub two_whole : (image : Image) → IsWhole 2 ((run (opened 2 1 1 1 2) (two_versions image)).pass 0)
 two_whole image j session = go j session.first session.last
   where
     go : (k : ℕ) → 0 < k → k ≤ 2 → IsSome (found k ((2, registers.Idle) ∷ (1, registers.Live 1 (Declared 1) false) ∷ []))
@@ -73,7 +74,7 @@ two_whole image j session = go j session.first session.last
     go (suc (suc zero)) a b = refl
     go (suc (suc (suc k))) a b = absurd (omega arith)
 
-pub moved_whole : IsWhole 2 ((run (opened 2 1 1 2) moved_snapshot).pass 0)
+pub moved_whole : IsWhole 2 ((run (opened 2 1 1 1 2) moved_snapshot).pass 0)
 moved_whole j session = go j session.first session.last
   where
     go : (k : ℕ) → 0 < k → k ≤ 2 → IsSome (found k ((2, registers.Idle) ∷ (1, registers.Live 1 (Declared 1) true) ∷ []))
@@ -82,7 +83,7 @@ moved_whole j session = go j session.first session.last
     go (suc (suc zero)) a b = refl
     go (suc (suc (suc k))) a b = absurd (omega arith)
 
-pub every_event_runs : Run (opened 2 1 1 1) (slow_begin ++ long_snapshot)
+pub every_event_runs : Run (opened 2 1 1 1 1) (slow_begin ++ long_snapshot)
 unfolding bucket_of
 every_event_runs = (
   record { session = first; rests = refl; room = omega arith },
@@ -99,7 +100,7 @@ every_event_runs = (
             (
               record { fixed = (0, refl); tables = tt },
               (
-                (0, All, record { live = refl; table = refl; plain = refl; unstamped = refl; room = omega arith; free = tt; newest = tt }),
+                (0, All, record { live = refl; table = refl; there = omega arith; plain = refl; unstamped = refl; room = omega arith; free = tt; newest = tt }),
                 (
                   record { mine = refl; plain = refl },
                   (
@@ -117,22 +118,31 @@ every_event_runs = (
                               (
                                 omega arith,
                                 (
-                                  slow_whole,
+                                  record { pass = omega arith; bucket = omega arith },
                                   (
-                                    (λ j. omega arith),
+                                    record { whole = slow_whole; here = (refl, refl) },
                                     (
-                                      record { session = first; fresh = refl },
+                                      (0, (refl, refl)),
                                       (
-                                        (0, 1, record { shown = refl; loaded = refl }),
+                                        omega arith,
                                         (
-                                          (0, Declared 1, record { live = refl; plain = refl; unstamped = refl; asks = refl }),
+                                          (λ j. omega arith),
                                           (
-                                            (0, Declared 1, record { live = refl; table = refl; plain = refl; unstamped = refl; room = omega arith; free = tt; newest = tt }),
+                                            record { session = first; fresh = refl },
                                             (
-                                              record { mine = refl; unstamped = refl },
+                                              (0, 1, record { shown = refl; loaded = refl }),
                                               (
-                                                record { live = refl; none = none_left },
-                                                tt,
+                                                (0, Declared 1, record { live = refl; plain = refl; unstamped = refl; asks = refl }),
+                                                (
+                                                  (0, Declared 1, record { live = refl; table = refl; there = omega arith; plain = refl; unstamped = refl; room = omega arith; free = tt; newest = tt }),
+                                                  (
+                                                    record { mine = refl; unstamped = refl },
+                                                    (
+                                                      record { live = refl; none = none_left },
+                                                      tt,
+                                                    ),
+                                                  ),
+                                                ),
                                               ),
                                             ),
                                           ),
@@ -158,7 +168,7 @@ every_event_runs = (
   ),
 )
 
-pub slow_begin_runs : Run (opened 2 1 1 1) slow_begin
+pub slow_begin_runs : Run (opened 2 1 1 1 1) slow_begin
 unfolding bucket_of
 slow_begin_runs = (
   record { session = first; rests = refl; room = omega arith },
@@ -175,7 +185,7 @@ slow_begin_runs = (
             (
               record { fixed = (0, refl); tables = tt },
               (
-                (0, All, record { live = refl; table = refl; plain = refl; unstamped = refl; room = omega arith; free = tt; newest = tt }),
+                (0, All, record { live = refl; table = refl; there = omega arith; plain = refl; unstamped = refl; room = omega arith; free = tt; newest = tt }),
                 (
                   record { mine = refl; plain = refl },
                   (
@@ -207,7 +217,7 @@ slow_begin_runs = (
   ),
 )
 
-pub late_entry_runs : Run (opened 2 1 1 1) late_entry
+pub late_entry_runs : Run (opened 2 1 1 1 1) late_entry
 unfolding bucket_of
 late_entry_runs = (
   record { session = first; rests = refl; room = omega arith },
@@ -220,7 +230,7 @@ late_entry_runs = (
         (
           record { fixed = (0, refl); tables = tt },
           (
-            (0, All, record { live = refl; table = refl; plain = refl; unstamped = refl; room = omega arith; free = tt; newest = tt }),
+            (0, All, record { live = refl; table = refl; there = omega arith; plain = refl; unstamped = refl; room = omega arith; free = tt; newest = tt }),
             (
               record { mine = refl; plain = refl },
               (
@@ -247,7 +257,7 @@ late_entry_runs = (
   ),
 )
 
-pub early_sample_runs : Run (opened 2 1 1 1) early_sample
+pub early_sample_runs : Run (opened 2 1 1 1 1) early_sample
 unfolding bucket_of
 early_sample_runs = (
   (λ j. omega arith),
@@ -270,7 +280,7 @@ early_sample_runs = (
                   (
                     record { fixed = (0, refl); tables = tt },
                     (
-                      (0, All, record { live = refl; table = refl; plain = refl; unstamped = refl; room = omega arith; free = tt; newest = tt }),
+                      (0, All, record { live = refl; table = refl; there = omega arith; plain = refl; unstamped = refl; room = omega arith; free = tt; newest = tt }),
                       (
                         record { mine = refl; plain = refl },
                         (
@@ -293,7 +303,7 @@ early_sample_runs = (
   ),
 )
 
-pub low_fix_runs : Run (opened 2 1 1 1) low_fix
+pub low_fix_runs : Run (opened 2 1 1 1 1) low_fix
 unfolding bucket_of
 low_fix_runs = (
   record { session = first; rests = refl; room = omega arith },
@@ -310,7 +320,7 @@ low_fix_runs = (
             (
               record { fixed = (0, refl); tables = tt },
               (
-                (0, All, record { live = refl; table = refl; plain = refl; unstamped = refl; room = omega arith; free = tt; newest = tt }),
+                (0, All, record { live = refl; table = refl; there = omega arith; plain = refl; unstamped = refl; room = omega arith; free = tt; newest = tt }),
                 (
                   record { mine = refl; plain = refl },
                   (
@@ -333,7 +343,7 @@ low_fix_runs = (
   ),
 )
 
-pub two_versions_runs : (image : Image) → Run (opened 2 1 1 2) (two_versions image)
+pub two_versions_runs : (image : Image) → Run (opened 2 1 1 1 2) (two_versions image)
 unfolding bucket_of
 two_versions_runs image = (
   record { session = second; rests = refl; room = omega arith },
@@ -344,7 +354,7 @@ two_versions_runs image = (
       (
         record { fixed = (0, refl); tables = tt },
         (
-          (0, All, record { live = refl; table = refl; plain = refl; unstamped = refl; room = omega arith; free = tt; newest = tt }),
+          (0, All, record { live = refl; table = refl; there = omega arith; plain = refl; unstamped = refl; room = omega arith; free = tt; newest = tt }),
           (
             record { mine = refl; plain = refl },
             (
@@ -368,7 +378,7 @@ two_versions_runs image = (
                               (
                                 record { fixed = (1, refl); tables = tt },
                                 (
-                                  (1, All, record { live = refl; table = refl; plain = refl; unstamped = refl; room = omega arith; free = omega arith; newest = omega arith }),
+                                  (1, All, record { live = refl; table = refl; there = omega arith; plain = refl; unstamped = refl; room = omega arith; free = omega arith; newest = omega arith }),
                                   (
                                     record { mine = refl; plain = refl },
                                     (
@@ -381,7 +391,7 @@ two_versions_runs image = (
                                             record { session = first; fresh = refl },
                                             (
                                               record { session = second; fresh = refl },
-                                              tt,
+                                              (record { pass = omega arith; bucket = omega arith }, tt),
                                             ),
                                           ),
                                         ),
@@ -406,7 +416,7 @@ two_versions_runs image = (
   ),
 )
 
-pub moved_snapshot_runs : Run (opened 2 1 1 2) moved_snapshot
+pub moved_snapshot_runs : Run (opened 2 1 1 1 2) moved_snapshot
 unfolding bucket_of
 moved_snapshot_runs = (
   record { session = second; rests = refl; room = omega arith },
@@ -417,7 +427,7 @@ moved_snapshot_runs = (
       (
         record { fixed = (0, refl); tables = tt },
         (
-          (0, All, record { live = refl; table = refl; plain = refl; unstamped = refl; room = omega arith; free = tt; newest = tt }),
+          (0, All, record { live = refl; table = refl; there = omega arith; plain = refl; unstamped = refl; room = omega arith; free = tt; newest = tt }),
           (
             record { mine = refl; plain = refl },
             (
@@ -441,7 +451,7 @@ moved_snapshot_runs = (
                               (
                                 record { fixed = (1, refl); tables = tt },
                                 (
-                                  (1, All, record { live = refl; table = refl; plain = refl; unstamped = refl; room = omega arith; free = omega arith; newest = omega arith }),
+                                  (1, All, record { live = refl; table = refl; there = omega arith; plain = refl; unstamped = refl; room = omega arith; free = omega arith; newest = omega arith }),
                                   (
                                     record { mine = refl; plain = refl },
                                     (
@@ -455,8 +465,8 @@ moved_snapshot_runs = (
                                             (
                                               record { session = second; fresh = refl },
                                               (
-                                                (1, 1, record { shown = refl; loaded = refl }),
-                                                tt,
+                                                record { pass = omega arith; bucket = omega arith },
+                                                ((1, 1, record { shown = refl; loaded = refl }), tt),
                                               ),
                                             ),
                                           ),
@@ -482,7 +492,7 @@ moved_snapshot_runs = (
   ),
 )
 
-pub open_write_runs : Run (opened 2 1 1 2) open_write
+pub open_write_runs : Run (opened 2 1 1 1 2) open_write
 unfolding bucket_of
 open_write_runs = (
   record { session = first; rests = refl; room = omega arith },
@@ -501,7 +511,7 @@ open_write_runs = (
               (
                 record { fixed = (0, refl); tables = tt },
                 (
-                  (0, All, record { live = refl; table = refl; plain = refl; unstamped = refl; room = omega arith; free = tt; newest = tt }),
+                  (0, All, record { live = refl; table = refl; there = omega arith; plain = refl; unstamped = refl; room = omega arith; free = tt; newest = tt }),
                   tt,
                 ),
               ),
@@ -512,3 +522,16 @@ open_write_runs = (
     ),
   ),
 )
+
+pub late_whole : IsWhole 2 ((run (opened 2 1 1 1 2) late_snapshot).pass 0)
+late_whole j session = go j session.first session.last
+  where
+    go : (k : ℕ) → 0 < k → k ≤ 2 → IsSome (found k ((2, registers.Idle) ∷ (1, registers.Live 2 All false) ∷ []))
+    go zero a b = absurd (omega arith)
+    go (suc zero) a b = refl
+    go (suc (suc zero)) a b = refl
+    go (suc (suc (suc k))) a b = absurd (omega arith)
+
+pub late_snapshot_runs : Run (opened 2 1 1 1 2) late_snapshot
+unfolding bucket_of
+late_snapshot_runs = (record { session = second; rests = refl; room = omega arith }, (refl, (refl, (record { fixed = (0, refl); tables = tt }, ((0, All, record { live = refl; table = refl; there = omega arith; plain = refl; unstamped = refl; room = omega arith; free = tt; newest = tt }), (record { mine = refl; plain = refl }, (publishes _ _ _ _ refl, (record { live = refl; none = λ r. refl }, (record { session = second; rests = refl; room = omega arith }, (refl, (refl, (record { fixed = (1, refl); tables = tt }, ((1, All, record { live = refl; table = refl; there = omega arith; plain = refl; unstamped = refl; room = omega arith; free = omega arith; newest = omega arith }), (record { mine = refl; plain = refl }, (publishes _ _ _ _ refl, (record { live = refl; none = λ r. refl }, (record { session = first; rests = refl; room = omega arith }, (refl, (refl, (record { fixed = (2, refl); tables = tt }, ((λ j. omega arith), (record { session = first; fresh = refl }, (record { session = second; fresh = refl }, (record { pass = omega arith; bucket = omega arith }, tt))))))))))))))))))))))))

@@ -1,18 +1,18 @@
 -- An open write comes, goes, and gets the next number.
-use Rattle.std.proofs.Common.{◌≡◌, ℕ, suc, ◌≤◌, List, [], ◌∷◌, length, Option, None, Some, inr, refl, sym, ap, ◌∙◌, subst, arith}
-use Rattle.std.specs.Prelude.{if◌then◌else◌, IsSome, IfSome, IsTrue, ⊤}
+use Rattle.std.proofs.Common.{◌≡◌, ℕ, suc, ◌≤◌, List, [], ◌∷◌, length, Option, None, Some, inr, refl, sym, ap, ◌∙◌, subst, arith, ◌<◌}
+use Rattle.std.specs.Prelude.{if◌then◌else◌, IsSome, IfSome, IsTrue, ⊤, not, is_some}
 use Rattle.hg_base.specs.declared.rid.Rid.{Rid}
 use Rattle.hg_base.specs.declared.image.Image.{Image}
 use Rattle.hg_base.specs.declared.writer.Writer.{Writer}
 use Rattle.hg_base.specs.declared.scope.Snapshot.{Snapshot}
-use Rattle.hg_base.specs.History.{History, same_rid}
+use Rattle.hg_base.specs.History.{History, same_rid, image_in}
 use Rattle.hg_base.proofs.HistoryFacts.{same_rid_itself}
 use Rattle.hg_core.specs.declared.log.LogEntry.{LogEntry}
 use Rattle.hg_core.specs.declared.log.LogEntry.TheVariants.{Saw, Refused, Outside, Wrote, Undid}
-use Rattle.hg_core.specs.Logs.{current, begans, wrotes, published, has_number, begun_in, open_in, open_writes, AnswerUpTo, UpTo}
+use Rattle.hg_core.specs.Logs.{current, begans, wrotes, published, has_number, begun_in, open_in, open_writes, AnswerUpTo, UpTo, own_writes}
 use Rattle.hg_core.specs.Phases.{snapshot_in}
-use Rattle.hg_core.specs.Versions.{installed, undone, stamped}
-use Rattle.hg_core.specs.Contents.{versions}
+use Rattle.hg_core.specs.Versions.{installed, undone, stamped, IsOpenBy}
+use Rattle.hg_core.specs.Contents.{versions, bucket_of}
 use Rattle.hg_core.specs.OpenWrites.{writer_of}
 use Rattle.hg_core.specs.Covered.{Reads, Covers, MayCommit}
 use Rattle.hg_core.specs.Ordered.{IsOrdered, IsBacked}
@@ -28,10 +28,18 @@ use Rattle.hg_core.proofs.LogSteps.{log_step}
 use Rattle.hg_core.proofs.Recalls.{reach_step}
 use Rattle.hg_core.proofs.Records.{by_rid, at_record}
 use Rattle.hg_core.proofs.Covering.{covers_same, none_newer}
-use Rattle.hg_core.proofs.Begins.{none_open}
+use Rattle.hg_core.proofs.Begins.{none_open, session_at, no_snapshot}
 use Rattle.hg_core.proofs.Versions.{installed_newest, installed_ordered, IsOpened, opened_is}
 use Rattle.hg_core.proofs.Backing.{backed_installed, backed_undone, backed_stamped}
 use Rattle.hg_core.proofs.OpenWrites.{OnlyWrite, stand_alike, stand_installed, next_installed, stand_undone, next_undone, stand_stamped, next_stamped}
+use Rattle.hg_core.specs.Counters.{added}
+use Rattle.hg_core.proofs.Tallies.{added_is, counters_installed, counters_undone, counters_stamped}
+use Rattle.hg_core.proofs.Visits.{visits_later, stays_stored}
+use Rattle.hg_core.proofs.Clean.{stays_installed, stays_undone, stays_stamped}
+use Rattle.hg_core.proofs.Placing.{placed_stored, table_of_held}
+use Rattle.hg_core.proofs.NewGroup.{image_open}
+use Rattle.hg_core.specs.declared.version.Version.{Version}
+use Rattle.hg_core.specs.declared.phase.Phase.TheVariants.{Idle, Live}
 
 -- ---- one entry more in the log of a session that stays in its phase
 
@@ -125,6 +133,15 @@ current_open h r image log judged e = go (current log) refl
     go (Some snapshot) q = refl
     go None q = absurd (let z = none_open h r log judged q in cc)
 
+-- ---- a record that has a version
+
+pub is_there : (s : CoreState) (r : Rid) → IsSteady s → 0 < length (versions s.buckets s.bucket r) → r.table.0 < s.tables
+is_there s r h some = table_of_held s.tables r (s.bucket (bucket_of s.buckets r)) (h.contents_are_placed (bucket_of s.buckets r)).table some
+
+some_held : (w : Writer) (vs : List Version) → IsOpenBy w vs → 0 < length vs
+some_held w [] o = absurd o
+some_held w (v ∷ vs) o = omega arith
+
 -- ---- the events
 
 pub install_kept : (s : CoreState) (j : ℕ) (r : Rid) (image : Image) → IsSteady s → May s (Install j r image) → IsSteady (happens s (Install j r image))
@@ -146,12 +163,20 @@ install_kept s j r image h (at, scope, may) =
         ordered = at_record s.buckets s.bucket r (installed w image held) (λ q c. IsOrdered s.mark c) (installed_ordered s.mark w image held may.free (h.contents_are_ordered.ordered r)) (λ q other. h.contents_are_ordered.ordered q);
         backed = at_record s.buckets s.bucket r (installed w image held) (λ q c. IsBacked s.mark s.history q c) (backed_installed s.mark s.history r w image held (h.contents_are_ordered.backed r)) (λ q other. h.contents_are_ordered.backed q);
       };
+      contents_are_placed = placed_stored s.tables s.buckets s.bucket r (installed w image held) (λ some. may.there) h.contents_are_placed;
+      counters_balance = counters_installed s.sessions s.buckets s.passes s.log s.bucket s.counters s.visits j r w image (session_at s j h (λ e. let z : Live at scope ≡ Idle = sym may.live ∙ e in cc)) fresh h.counters_balance;
+      visits_stay = visits_later s.passes s.buckets s.mark s.mark (versions s.buckets s.bucket) _ s.visits (omega arith) (stays_stored s.mark s.buckets s.bucket r (installed w image held) (stays_installed s.mark w image held)) h.visits_stay;
       open_writes_stand = stand_alike s.mark (begun_in s.log) _ _ _ _ (λ k q. refl) (λ k q i e. begun_more s.log j (Wrote r image) refl k) (stand_installed s.mark s.buckets s.bucket (begun_in s.log) (open_writes s.log) _ j r image may.free f h.open_writes_stand);
       stamped_is_next = next_installed s.mark s.buckets s.bucket (begun_in s.log) (open_writes s.log) _ j r image s.stamped_list may.unstamped f h.stamped_is_next;
       replies_answer = replies_entry s.buckets s.history s.log j (Wrote r image) tt h.logs_answer.within (subst (λ o. IfSome o (λ snapshot. IsTrue (has snapshot.scope r.table))) (sym (h.logs_answer.reads j ∙ ap snapshot_in may.live)) may.table, may.plain) h.replies_answer;
       logs_answer = answer_more s j (Wrote r image) h tt (subst IsSome (sym (h.logs_answer.reads j ∙ ap snapshot_in may.live)) refl) (let k = may.room in omega arith);
     }
   where
+    fresh : added (versions s.buckets s.bucket r) ≡ (if not (is_some (image_in r (own_writes (s.log j)))) then 1 else 0)
+    fresh = added_is s.mark (writer_of (begun_in s.log) j) (versions s.buckets s.bucket r) (image_in r (own_writes (s.log j))) may.free
+        (λ i e. h.open_writes_stand.owns r j i (sym (image_open r (s.log j) may.plain) ∙ e))
+        (λ i e. image_open r (s.log j) may.plain ∙ (h.open_writes_stand.owned r (writer_of (begun_in s.log) j) i e).1)
+
     mine : MayCommit s.history r (s.phase j)
     mine = subst (MayCommit s.history r) (sym may.live) (may.table, none_newer s.mark s.phase s.history r (versions s.buckets s.bucket r) at (h.covered r) (inr (j, subst (λ p. Reads r.table p at) (sym may.live) (refl, may.table))) may.newest)
 
@@ -164,6 +189,7 @@ undo_kept s j r h may =
     let held = versions s.buckets s.bucket r in
     let was : IsOpened s.mark w held = opened_is s.mark w held may.mine (h.contents_are_ordered.ordered r) in
     let f = opened_less s.log j r in
+    let mine : IsSome (current (s.log j)) = current_open s.history r was.image (s.log j) (h.logs_answer.judged j) (h.open_writes_stand.owned r w was.image was.owned).1 in
     record {
       mark_is_length = h.mark_is_length;
       taken_at_most_mark = h.taken_at_most_mark;
@@ -178,10 +204,13 @@ undo_kept s j r h may =
         ordered = at_record s.buckets s.bucket r (undone held) (λ q c. IsOrdered s.mark c) was.ordered_undone (λ q other. h.contents_are_ordered.ordered q);
         backed = at_record s.buckets s.bucket r (undone held) (λ q c. IsBacked s.mark s.history q c) (backed_undone s.mark s.history r held (h.contents_are_ordered.backed r)) (λ q other. h.contents_are_ordered.backed q);
       };
+      contents_are_placed = placed_stored s.tables s.buckets s.bucket r (undone held) (λ some. is_there s r h (some_held w held may.mine)) h.contents_are_placed;
+      counters_balance = counters_undone s.sessions s.buckets s.passes s.log s.bucket s.counters s.visits j r w (session_at s j h (no_snapshot (s.phase j) (subst IsSome (h.logs_answer.reads j) mine))) may.mine h.counters_balance;
+      visits_stay = visits_later s.passes s.buckets s.mark s.mark (versions s.buckets s.bucket) _ s.visits (omega arith) (stays_stored s.mark s.buckets s.bucket r (undone held) (stays_undone s.mark w held may.mine)) h.visits_stay;
       open_writes_stand = stand_alike s.mark (begun_in s.log) _ _ _ _ (λ k q. refl) (λ k q i e. begun_more s.log j (Undid r) refl k) (stand_undone s.mark s.buckets s.bucket (begun_in s.log) (open_writes s.log) _ j r was f h.open_writes_stand);
       stamped_is_next = next_undone s.mark s.buckets s.bucket (begun_in s.log) (open_writes s.log) _ j r s.stamped_list may.unstamped was f h.stamped_is_next;
       replies_answer = replies_entry s.buckets s.history s.log j (Undid r) tt h.logs_answer.within tt h.replies_answer;
-      logs_answer = answer_more s j (Undid r) h tt (current_open s.history r was.image (s.log j) (h.logs_answer.judged j) (h.open_writes_stand.owned r w was.image was.owned).1) (h.logs_answer.written j);
+      logs_answer = answer_more s j (Undid r) h tt mine (h.logs_answer.written j);
     }
   where
     here : (q : Rid) (i : Image) → (if same_rid r q then None else open_in q (s.log j)) ≡ Some i → MayCommit s.history q (s.phase j)
@@ -206,6 +235,9 @@ stamp_kept s j r h may =
         ordered = at_record s.buckets s.bucket r (stamped (suc s.mark) w held) (λ q c. IsOrdered s.mark c) was.ordered_stamped (λ q other. h.contents_are_ordered.ordered q);
         backed = at_record s.buckets s.bucket r (stamped (suc s.mark) w held) (λ q c. IsBacked s.mark s.history q c) (backed_stamped s.mark s.history r w held (h.contents_are_ordered.backed r)) (λ q other. h.contents_are_ordered.backed q);
       };
+      contents_are_placed = placed_stored s.tables s.buckets s.bucket r (stamped (suc s.mark) w held) (λ some. is_there s r h (some_held w held may.mine)) h.contents_are_placed;
+      counters_balance = counters_stamped s.sessions s.buckets s.passes s.log s.bucket s.counters s.visits r (suc s.mark) w h.counters_balance;
+      visits_stay = visits_later s.passes s.buckets s.mark s.mark (versions s.buckets s.bucket) _ s.visits (omega arith) (stays_stored s.mark s.buckets s.bucket r (stamped (suc s.mark) w held) (stays_stamped s.mark w held may.mine)) h.visits_stay;
       open_writes_stand = stand_stamped s.mark s.buckets s.bucket (begun_in s.log) (open_writes s.log) j r was h.open_writes_stand;
       stamped_is_next = next_stamped s.mark s.buckets s.bucket (begun_in s.log) (open_writes s.log) j r s.stamped_list was h.open_writes_stand h.stamped_is_next;
       replies_answer = h.replies_answer;

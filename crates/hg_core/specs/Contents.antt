@@ -2,7 +2,7 @@
 use Rattle.std.specs.Prelude.{ℕ, ◌+◌, ◌*◌, ◌%◌, List, [], ◌∷◌, Bool, false, ◌==◌, ◌&&◌, ◌||◌, if◌then◌else◌}
 use Rattle.hg_base.specs.declared.rid.Rid.{Rid}
 use Rattle.hg_base.specs.History.{same_rid}
-use Rattle.hg_core.specs.Versions.{Version}
+use Rattle.hg_core.specs.declared.version.Version.{Version}
 
 -- a bucket's records, each with its versions
 abbrev pub Content : Type 0
@@ -17,9 +17,10 @@ abbrev pub look : Rid → Content → List Version
 look r [] = []
 look r (e ∷ content) = if same_rid r e.0 then e.1 else look r content
 
--- a content with these versions for a record
+-- a content with these versions for a record; one that isn't there comes in where it has any
 abbrev pub store : Rid → List Version → Content → Content
-store r vs [] = (r, vs) ∷ []
+store r [] [] = []
+store r (v ∷ vs) [] = (r, v ∷ vs) ∷ []
 store r vs (e ∷ content) = if same_rid r e.0 then (r, vs) ∷ content else e ∷ store r vs content
 
 -- the versions of each record, in its bucket

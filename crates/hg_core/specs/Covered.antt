@@ -9,7 +9,8 @@ use Rattle.hg_base.specs.History.{History, nothing, writes, visible}
 use Rattle.hg_base.specs.Transcript.{has}
 use Rattle.hg_core.specs.declared.phase.Phase.{Phase}
 use Rattle.hg_core.specs.declared.phase.Phase.TheVariants.{Idle, Probed, Entered, Fixed, Live}
-use Rattle.hg_core.specs.Versions.{Version, newest_at}
+use Rattle.hg_core.specs.declared.version.Version.{Version}
+use Rattle.hg_core.specs.Versions.{newest_at}
 
 -- the image of a pair, and nothing where there is none
 abbrev pub image_of : Option (ℕ × Image) → Image

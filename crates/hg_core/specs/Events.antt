@@ -1,5 +1,5 @@
 -- The events: each is one atomic action of one actor.
-use Rattle.std.specs.Prelude.{◌≡◌, ℕ, ℤ, suc, ◌<◌, ◌≤◌, List, [], ◌∷◌, ◌++◌, length, true, false, ◌==◌, if◌then◌else◌, Option, Some, None, IsSome, IsNone, IfSome, IsTrue, IsFalse, ⊤}
+use Rattle.std.specs.Prelude.{◌≡◌, ℕ, ℤ, suc, ◌<◌, ◌≤◌, List, [], ◌∷◌, ◌++◌, length, ◌+◌, ◌-◌, true, false, ◌==◌, if◌then◌else◌, Option, Some, None, IsSome, IsNone, IfSome, IsTrue, IsFalse}
 use Rattle.hg_base.specs.declared.scope.Scope.{Scope}
 use Rattle.hg_base.specs.declared.scope.Scope.TheVariants.{Declared}
 use Rattle.hg_base.specs.declared.rid.Rid.{Rid}
@@ -18,7 +18,7 @@ use Rattle.hg_core.specs.Logs.{current, number_in, begans, wrotes, is_plain, ope
 use Rattle.hg_core.specs.Phases.{IsSession, snapshot_in}
 use Rattle.hg_core.specs.Passes.{PassRecord, found, IsWhole}
 use Rattle.hg_core.specs.Versions.{newest_at, installed, undone, stamped, IsFreeFor, IsOpenBy}
-use Rattle.hg_core.specs.Contents.{versions, stored, is_stamped, has_stamped}
+use Rattle.hg_core.specs.Contents.{bucket_of, versions, stored, is_stamped, has_stamped}
 use Rattle.hg_base.specs.declared.line.Answer.{Answer}
 use Rattle.hg_base.specs.Replies.{AreRows}
 use Rattle.hg_core.specs.declared.ask.Ask.{Ask}
@@ -27,7 +27,11 @@ use Rattle.hg_core.specs.declared.ask.Ask.TheVariants as asks
 use Rattle.hg_core.specs.Replies.{read_by, in_bucket, refusal}
 use Rattle.hg_core.specs.Removal.{reclaimed}
 use Rattle.hg_core.specs.OpenWrites.{writer_of}
-use Rattle.hg_core.specs.State.{CoreState, opened}
+use Rattle.hg_core.specs.declared.version.Version.{Version}
+use Rattle.hg_core.specs.declared.visit.Counters.{Counters}
+use Rattle.hg_core.specs.Counters.{added, removed_more}
+use Rattle.hg_core.specs.Visits.{IsVisiting, removing}
+use Rattle.hg_core.specs.State.{CoreState}
 
 -- A session loads the mark (Probe), shows that it enters at it (Enter), loads the mark again (Fix), shows the second as
 -- its snapshot (GoLive), and goes to rest (End). A pass of a collector begins a record (Mark), loads a register (Sample)
@@ -86,6 +90,25 @@ looked s j (Read table low high) b rows = Saw table low high b rows ∷ s.log j
 looked s j (asks.Write r) b rows = with_refusal r (refusal s.mark (writer_of (begun_in s.log) j) (number_in (current (s.log j))) (versions s.buckets s.bucket r)) (s.log j)
 looked s j (asks.Outside table) b rows = Outside table ∷ s.log j
 
+-- a bucket's counters after so many versions more were made, one was taken back, or so many were removed by a kind
+abbrev pub with_made : (ℕ → Counters) → ℕ → ℕ → ℕ → Counters
+with_made counters b n = put counters b (record (counters b) { made = (counters b).made + n })
+
+abbrev pub with_undone : (ℕ → Counters) → ℕ → ℕ → Counters
+with_undone counters b = put counters b (record (counters b) { undone = suc (counters b).undone })
+
+abbrev pub with_removed : (ℕ → Counters) → ℕ → Kind → ℕ → ℕ → Counters
+with_removed counters b kind n = put counters b (record (counters b) { removed = removed_more kind n (counters b).removed })
+
+-- the state after a pass left these of the versions of a record
+abbrev pub shortened : CoreState → ℕ → Kind → Rid → List Version → CoreState
+shortened s p kind r vs =
+    record s {
+      bucket = stored s.buckets s.bucket r vs;
+      counters = with_removed s.counters (bucket_of s.buckets r) kind (length (versions s.buckets s.bucket r) - length vs);
+      visits = put s.visits p (removing kind (length (versions s.buckets s.bucket r) - length vs) (s.visits p));
+    }
+
 -- the state after an event
 abbrev pub happens : CoreState → Event → CoreState
 happens s (Probe j) = record s { phase = put s.phase j (Probed s.mark) }
@@ -96,11 +119,16 @@ happens s (End j) = record s { phase = put s.phase j Idle; register = put s.regi
 happens s (Mark p known) = record s { pass = put s.pass p (begun_record s.mark known) }
 happens s (Sample p j) = record s { pass = put s.pass p (sampled (s.pass p) j (s.register j)) }
 happens s (Move p j) = record s { register = put s.register j (moved (s.register j)); pass = put s.pass p (record (s.pass p) { loaded = moved_in j (s.pass p).loaded }) }
-happens s (Install j r image) = record s { bucket = stored s.buckets s.bucket r (installed (writer_of (begun_in s.log) j) image (versions s.buckets s.bucket r)); log = put s.log j (Wrote r image ∷ s.log j) }
-happens s (Undo j r) = record s { bucket = stored s.buckets s.bucket r (undone (versions s.buckets s.bucket r)); log = put s.log j (Undid r ∷ s.log j) }
+happens s (Install j r image) =
+    record s {
+      bucket = stored s.buckets s.bucket r (installed (writer_of (begun_in s.log) j) image (versions s.buckets s.bucket r));
+      counters = with_made s.counters (bucket_of s.buckets r) (added (versions s.buckets s.bucket r));
+      log = put s.log j (Wrote r image ∷ s.log j);
+    }
+happens s (Undo j r) = record s { bucket = stored s.buckets s.bucket r (undone (versions s.buckets s.bucket r)); counters = with_undone s.counters (bucket_of s.buckets r); log = put s.log j (Undid r ∷ s.log j) }
 happens s (Stamp j r) = record s { bucket = stored s.buckets s.bucket r (stamped (suc s.mark) (writer_of (begun_in s.log) j) (versions s.buckets s.bucket r)); stamped_list = (j, r) ∷ s.stamped_list }
 happens s (Publish sessions) = record s { mark = suc s.mark; history = s.history ++ new_group s.log sessions ∷ []; stamped_list = []; log = published_logs s.log sessions (suc s.mark) }
-happens s (Reclaim p kind r) = record s { bucket = stored s.buckets s.bucket r (reclaimed kind r.table (s.pass p) (versions s.buckets s.bucket r)) }
+happens s (Reclaim p kind r) = shortened s p kind r (reclaimed kind r.table (s.pass p) (versions s.buckets s.bucket r))
 happens s Take = record s { taken = suc s.taken }
 happens s (Look j ask b rows) = record s { log = put s.log j (looked s j ask b rows) }
 
@@ -135,6 +163,7 @@ pub record MayEnd (s : CoreState) (j : ℕ) : Type 0 where
 pub record MayInstall (s : CoreState) (j : ℕ) (r : Rid) (at : ℕ) (scope : Scope) : Type 0 where
   pub live : s.phase j ≡ Live at scope
   pub table : IsTrue (has scope r.table)
+  pub there : r.table.0 < s.tables
   pub plain : IsTrue (is_plain (s.log j))
   pub unstamped : IsFalse (has_stamped j s.stamped_list)
   pub room : wrotes (s.log j) < s.each
@@ -174,6 +203,11 @@ pub record MayLook (s : CoreState) (j : ℕ) (ask : Ask) (b : ℕ) (rows : List 
   pub unstamped : IsFalse (has_stamped j s.stamped_list)
   pub asks : Asks s j at scope ask b rows
 
+-- a pass with a whole record may take away versions in the bucket that it visits
+pub record MayReclaim (s : CoreState) (p : ℕ) (r : Rid) : Type 0 where
+  pub whole : IsWhole s.sessions (s.pass p)
+  pub here : IsVisiting (bucket_of s.buckets r) (s.visits p)
+
 -- when an event may happen
 abbrev pub May : CoreState → Event → Type 0
 May s (Probe j) = MayProbe s j
@@ -188,20 +222,6 @@ May s (Install j r image) = (at : ℕ) × (scope : Scope) × MayInstall s j r at
 May s (Undo j r) = MayUndo s j r
 May s (Stamp j r) = MayStamp s j r
 May s (Publish sessions) = MayPublish s.log s.stamped_list sessions
-May s (Reclaim p kind r) = IsWhole s.sessions (s.pass p)
+May s (Reclaim p kind r) = MayReclaim s p r
 May s Take = s.taken < s.mark
 May s (Look j ask b rows) = (at : ℕ) × (scope : Scope) × MayLook s j ask b rows at scope
-
--- each event may happen in its turn
-abbrev pub Run : CoreState → List Event → Type 0
-Run s [] = ⊤
-Run s (e ∷ events) = May s e × Run (happens s e) events
-
--- the state after a list of events
-abbrev pub run : CoreState → List Event → CoreState
-run s [] = s
-run s (e ∷ events) = run (happens s e) events
-
--- P holds after every list of events, from the state in which a board of any numbers opens
-abbrev pub Always : (CoreState → Type 0) → Type 0
-Always P = (sessions tables buckets each : ℕ) (events : List Event) → Run (opened sessions tables buckets each) events → P (run (opened sessions tables buckets each) events)

@@ -6,8 +6,13 @@ pub mod Passes
 pub mod Versions
 pub mod Contents
 pub mod Removal
+pub mod Clean
+pub mod Sums
+pub mod Counters
+pub mod Visits
 pub mod State
 pub mod Events
+pub mod Steps
 -- What holds between any two events, part by part, and in whole.
 pub mod Marks
 pub mod Registers
@@ -16,6 +21,7 @@ pub mod Reach
 pub mod Ordered
 pub mod OpenWrites
 pub mod Covered
+pub mod Placed
 pub mod Replies
 pub mod Judged
 pub mod Invariant

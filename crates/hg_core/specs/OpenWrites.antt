@@ -3,7 +3,8 @@ use Rattle.std.specs.Prelude.{◌≡◌, ℕ, List, Option, Some, IsSome, IsTrue
 use Rattle.hg_base.specs.declared.rid.Rid.{Rid}
 use Rattle.hg_base.specs.declared.writer.Writer.{Writer}
 use Rattle.hg_base.specs.declared.image.Image.{Image}
-use Rattle.hg_core.specs.Versions.{Version, unpublished, is_numbered}
+use Rattle.hg_core.specs.declared.version.Version.{Version}
+use Rattle.hg_core.specs.Versions.{unpublished, is_numbered}
 use Rattle.hg_core.specs.Contents.{is_stamped}
 
 -- the open transaction of session j, by how many each session has begun

@@ -7,7 +7,9 @@ use Rattle.hg_base.specs.declared.rid.TableId.{TableId}
 use Rattle.hg_base.specs.declared.report.Kind.{Kind}
 use Rattle.hg_base.specs.declared.report.Kind.TheVariants.{Group, Interval, Table}
 use Rattle.hg_core.specs.Passes.{PassRecord, horizon, recorded, group_bound, table_bound}
-use Rattle.hg_core.specs.Versions.{Version, Oldest, stamp_number, is_up_to}
+use Rattle.hg_core.specs.declared.version.Stamp.TheVariants.{Oldest}
+use Rattle.hg_core.specs.declared.version.Version.{Version}
+use Rattle.hg_core.specs.Versions.{stamp_number, is_up_to}
 
 -- whether a snapshot is at or over n and below u
 abbrev pub any_between : ℕ → ℕ → List ℕ → Bool

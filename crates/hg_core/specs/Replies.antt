@@ -13,7 +13,9 @@ use Rattle.hg_base.specs.Transcript.{has}
 use Rattle.hg_core.specs.declared.log.LogEntry.{LogEntry}
 use Rattle.hg_core.specs.declared.log.LogEntry.TheVariants.{Saw, Refused, Outside, Wrote, Published}
 use Rattle.hg_core.specs.Logs.{current, begans, is_plain, own_writes}
-use Rattle.hg_core.specs.Versions.{Version, Written, newest_at, unpublished}
+use Rattle.hg_core.specs.declared.version.Stamp.TheVariants.{Written}
+use Rattle.hg_core.specs.declared.version.Version.{Version}
+use Rattle.hg_core.specs.Versions.{newest_at, unpublished}
 use Rattle.hg_core.specs.Contents.{bucket_of}
 use Rattle.hg_core.specs.Covered.{image_of}
 

@@ -8,15 +8,20 @@ use Rattle.hg_core.specs.declared.phase.Phase.{Phase}
 use Rattle.hg_core.specs.declared.phase.Phase.TheVariants as phases
 use Rattle.hg_core.specs.declared.log.LogEntry.{LogEntry}
 use Rattle.hg_core.specs.Contents.{Content}
+use Rattle.hg_core.specs.declared.visit.Counters.{Counters}
+use Rattle.hg_core.specs.declared.visit.Visit.{Visit}
 use Rattle.hg_core.specs.Passes.{PassRecord, no_record}
+use Rattle.hg_core.specs.Counters.{no_counters}
 
--- Sessions are counted from 1, and so are commit numbers.
+-- Sessions are counted from 1, and so are commit numbers. Tables, buckets and passes are counted from 0.
 pub record CoreState : Type 0 where
   -- the numbers that a board is made with; the last is how often each session may begin, and write
   pub sessions : ℕ
   pub tables : ℕ
   pub buckets : ℕ
   pub each : ℕ
+  -- how many collector passes there are
+  pub passes : ℕ
   -- the words, which all may load: the mark, and the register of each session
   pub mark : ℕ
   pub register : ℕ → Register
@@ -28,18 +33,21 @@ pub record CoreState : Type 0 where
   -- a session's: its phase, and its log, newest entry first
   pub phase : ℕ → Phase
   pub log : ℕ → List LogEntry
-  -- a bucket's: its records with their versions
+  -- a bucket's: its records with their versions, and its counters
   pub bucket : ℕ → Content
-  -- a collector pass's: its record
+  pub counters : ℕ → Counters
+  -- a collector pass's: its record, and its visits of buckets, newest first
   pub pass : ℕ → PassRecord
+  pub visits : ℕ → List Visit
 
 -- the state in which a board opens
-abbrev pub opened : ℕ → ℕ → ℕ → ℕ → CoreState
-opened sessions tables buckets each = record {
+abbrev pub opened : ℕ → ℕ → ℕ → ℕ → ℕ → CoreState
+opened sessions tables buckets passes each = record {
   sessions = sessions;
   tables = tables;
   buckets = buckets;
   each = each;
+  passes = passes;
   mark = 0;
   register = λ j. registers.Idle;
   history = [];
@@ -48,5 +56,7 @@ opened sessions tables buckets each = record {
   phase = λ j. phases.Idle;
   log = λ j. [];
   bucket = λ b. [];
+  counters = λ b. no_counters;
   pass = λ p. no_record;
+  visits = λ p. [];
 }

@@ -2,16 +2,9 @@
 use Rattle.std.specs.Prelude.{◌≡◌, ℕ, ◌≤◌, List, [], ◌∷◌, Option, Some, None, Bool, true, false, nat_le, if◌then◌else◌, ⊤}
 use Rattle.hg_base.specs.declared.writer.Writer.{Writer}
 use Rattle.hg_base.specs.declared.image.Image.{Image}
-
--- A version is an open write, or it has a number, or it is the oldest image, of which nobody knows the writer any more.
-pub data Stamp : Type 0 where
-  Written : (by : Writer) → Stamp
-  Numbered : (number : ℕ) → (by : Writer) → Stamp
-  Oldest : (number : ℕ) → Stamp
-
-pub record Version : Type 0 where
-  pub stamp : Stamp
-  pub image : Image
+use Rattle.hg_core.specs.declared.version.Stamp.{Stamp}
+use Rattle.hg_core.specs.declared.version.Stamp.TheVariants.{Written, Numbered, Oldest}
+use Rattle.hg_core.specs.declared.version.Version.{Version}
 
 -- the number of a version, if it has one
 abbrev pub stamp_number : Stamp → Option ℕ

@@ -6,6 +6,7 @@ use Rattle.hg_base.specs.declared.scope.Scope.TheVariants.{All, Declared}
 use Rattle.hg_base.specs.declared.report.Kind.TheVariants.{Interval}
 use Rattle.hg_core.specs.declared.ask.Ask.TheVariants.{Outside}
 use Rattle.hg_core.specs.Events.{Event, Probe, Enter, Fix, GoLive, End, Mark, Sample, Move, Install, Undo, Stamp, Publish, Reclaim, Take, Look}
+use Rattle.hg_core.specs.Steps.{Step, Act, Arrive, Leave, Split, acts}
 
 -- two records of table 0, and a row
 abbrev pub one_rid : Rid
@@ -23,40 +24,45 @@ commits = Probe 2 ∷ Enter 2 0 ∷ Fix 2 0 ∷ GoLive 2 0 All ∷ Install 2 one
 
 -- Session 1 loads the mark 0 twice. Session 2 commits, so the mark is 1. A pass loads the mark, finds session 1 entering at
 -- 0 and session 2 idle. Then session 1 goes live at 0.
-abbrev pub slow_begin : List Event
-slow_begin = Probe 1 ∷ Enter 1 0 ∷ Fix 1 0 ∷ commits ++ Mark 0 (λ j. 0) ∷ Sample 0 1 ∷ Sample 0 2 ∷ GoLive 1 0 (Declared 1) ∷ []
+abbrev pub slow_begin : List Step
+slow_begin = acts (Probe 1 ∷ Enter 1 0 ∷ Fix 1 0 ∷ commits ++ Mark 0 (λ j. 0) ∷ Sample 0 1 ∷ Sample 0 2 ∷ GoLive 1 0 (Declared 1) ∷ [])
 
--- The group is taken. The pass takes away what session 1 doesn't need of the record. It begins a new record, finds session 1 live at 0, and moves
--- that snapshot to the table that it declared. Session 1 names another table, writes another record, takes that back, and is
--- over.
-abbrev pub long_snapshot : List Event
-long_snapshot = Take ∷ Reclaim 0 Interval one_rid ∷ Mark 0 (λ j. 0) ∷ Sample 0 1 ∷ Move 0 1 ∷ Look 1 (Outside (record { 0 = 1 })) 0 [] ∷ Install 1 two_rid row ∷ Undo 1 two_rid ∷ End 1 ∷ []
+-- The group is taken. The pass visits the bucket, and takes away what session 1 doesn't need of the record. It is split. It
+-- begins a new record, finds session 1 live at 0, and moves that snapshot to the table that it declared. Session 1 names
+-- another table, writes another record, takes that back, and is over.
+abbrev pub long_snapshot : List Step
+long_snapshot = Act Take ∷ Arrive 0 0 ∷ Act (Reclaim 0 Interval one_rid) ∷ Leave 0 ∷ Split 0 ∷ acts (Mark 0 (λ j. 0) ∷ Sample 0 1 ∷ Move 0 1 ∷ Look 1 (Outside (record { 0 = 1 })) 0 [] ∷ Install 1 two_rid row ∷ Undo 1 two_rid ∷ End 1 ∷ [])
 
 -- Session 1 loads the mark 0. Session 2 commits. A pass loads the mark 1 and finds session 1 idle, which then enters at 0.
-abbrev pub late_entry : List Event
-late_entry = Probe 1 ∷ commits ++ Mark 0 (λ j. 0) ∷ Sample 0 1 ∷ Enter 1 0 ∷ []
+abbrev pub late_entry : List Step
+late_entry = acts (Probe 1 ∷ commits ++ Mark 0 (λ j. 0) ∷ Sample 0 1 ∷ Enter 1 0 ∷ [])
 
 -- A pass loads the mark 0 and finds session 1 idle, which then goes live at 0. Session 2 commits.
-abbrev pub early_sample : List Event
-early_sample = Mark 0 (λ j. 0) ∷ Sample 0 1 ∷ Probe 1 ∷ Enter 1 0 ∷ Fix 1 0 ∷ GoLive 1 0 All ∷ commits
+abbrev pub early_sample : List Step
+early_sample = acts (Mark 0 (λ j. 0) ∷ Sample 0 1 ∷ Probe 1 ∷ Enter 1 0 ∷ Fix 1 0 ∷ GoLive 1 0 All ∷ commits)
 
 -- Session 1 loads the mark 0 twice. Session 2 commits, and a pass loads the mark 1.
-abbrev pub low_fix : List Event
-low_fix = Probe 1 ∷ Enter 1 0 ∷ Fix 1 0 ∷ commits ++ Mark 0 (λ j. 0) ∷ []
+abbrev pub low_fix : List Step
+low_fix = acts (Probe 1 ∷ Enter 1 0 ∷ Fix 1 0 ∷ commits ++ Mark 0 (λ j. 0) ∷ [])
 
 -- session 2 begins again, at 1, writes the record again, commits, and is over
 abbrev pub commits_again : Image → List Event
 commits_again image = Probe 2 ∷ Enter 2 1 ∷ Fix 2 1 ∷ GoLive 2 1 All ∷ Install 2 one_rid image ∷ Stamp 2 one_rid ∷ Publish (2 ∷ []) ∷ End 2 ∷ []
 
 -- Session 2 commits the record. Session 1 goes live at 1. Session 2 commits the record again, with this image. A pass loads
--- the mark 2, and both registers.
-abbrev pub two_versions : Image → List Event
-two_versions image = commits ++ Probe 1 ∷ Enter 1 1 ∷ Fix 1 1 ∷ GoLive 1 1 (Declared 1) ∷ commits_again image ++ Mark 0 (λ j. 0) ∷ Sample 0 1 ∷ Sample 0 2 ∷ []
+-- the mark 2, and both registers, and takes the bucket.
+abbrev pub two_versions : Image → List Step
+two_versions image = acts (commits ++ Probe 1 ∷ Enter 1 1 ∷ Fix 1 1 ∷ GoLive 1 1 (Declared 1) ∷ commits_again image ++ Mark 0 (λ j. 0) ∷ Sample 0 1 ∷ Sample 0 2 ∷ []) ++ Arrive 0 0 ∷ []
 
 -- and the pass moves the snapshot of session 1
-abbrev pub moved_snapshot : List Event
-moved_snapshot = two_versions row ++ Move 0 1 ∷ []
+abbrev pub moved_snapshot : List Step
+moved_snapshot = two_versions row ++ Act (Move 0 1) ∷ []
 
 -- session 2 has written the record, and nothing is stamped; session 1 is live too
-abbrev pub open_write : List Event
-open_write = Probe 1 ∷ Enter 1 0 ∷ Fix 1 0 ∷ GoLive 1 0 All ∷ Probe 2 ∷ Enter 2 0 ∷ Fix 2 0 ∷ GoLive 2 0 All ∷ Install 2 one_rid row ∷ []
+abbrev pub open_write : List Step
+open_write = acts (Probe 1 ∷ Enter 1 0 ∷ Fix 1 0 ∷ GoLive 1 0 All ∷ Probe 2 ∷ Enter 2 0 ∷ Fix 2 0 ∷ GoLive 2 0 All ∷ Install 2 one_rid row ∷ [])
+
+-- Session 2 commits the record twice. Session 1 goes live at 2, the number of the newest version. A pass loads the mark and
+-- both registers, and takes the bucket.
+abbrev pub late_snapshot : List Step
+late_snapshot = acts (commits ++ commits_again row ++ Probe 1 ∷ Enter 1 2 ∷ Fix 1 2 ∷ GoLive 1 2 All ∷ Mark 0 (λ j. 0) ∷ Sample 0 1 ∷ Sample 0 2 ∷ []) ++ Arrive 0 0 ∷ []

@@ -7,8 +7,10 @@ use Rattle.hg_base.specs.History.{NoNumberTwice}
 use Rattle.hg_base.specs.Transcript.{has}
 use Rattle.hg_core.specs.declared.log.LogEntry.{LogEntry}
 use Rattle.hg_core.specs.Logs.{current, is_plain}
-use Rattle.hg_core.specs.Versions.{Version, stamp_number, is_up_to, newest_at}
-use Rattle.hg_core.specs.Contents.{versions, stored, has_stamped}
+use Rattle.hg_core.specs.declared.version.Version.{Version}
+use Rattle.hg_core.specs.Versions.{stamp_number, is_up_to, newest_at}
+use Rattle.hg_base.specs.declared.report.Kind.TheVariants.{Table, Interval}
+use Rattle.hg_core.specs.Contents.{versions, has_stamped}
 use Rattle.hg_core.specs.Removal.{swept, cut}
 use Rattle.hg_base.specs.declared.scope.Scope.{Scope}
 use Rattle.hg_core.specs.declared.register.Register.{Register}
@@ -17,7 +19,7 @@ use Rattle.hg_core.specs.declared.phase.Phase.TheVariants.{Live}
 use Rattle.hg_core.specs.declared.log.LogEntry.TheVariants.{Began}
 use Rattle.hg_core.specs.Passes.{PassRecord, horizon, live_numbers, recorded, least}
 use Rattle.hg_core.specs.State.{CoreState}
-use Rattle.hg_core.specs.Events.{put, sampled}
+use Rattle.hg_core.specs.Events.{put, sampled, shortened}
 
 -- a session that entered goes live at the mark that it loaded before: it loads the mark once alone
 abbrev pub live_by_one_load : CoreState → ℕ → ℕ → Scope → CoreState
@@ -41,10 +43,6 @@ without_entering (registers.Live number scope moved) = registers.Live number sco
 abbrev pub sampled_without_entering : CoreState → ℕ → ℕ → CoreState
 sampled_without_entering s p j = record s { pass = put s.pass p (sampled (s.pass p) j (without_entering (s.register j))) }
 
--- a state with these versions for a record
-abbrev pub left_with : CoreState → Rid → List Version → CoreState
-left_with s r vs = record s { bucket = stored s.buckets s.bucket r vs }
-
 -- whether a version goes whose lifetime begins behind its own number
 abbrev pub goes_early : ℕ → List ℕ → Option ℕ → Option ℕ → Bool
 goes_early horizon snapshots None number = false
@@ -59,13 +57,27 @@ swept_early horizon snapshots successor (v ∷ vs) =
     then swept_early horizon snapshots (stamp_number v.stamp) vs
     else v ∷ swept_early horizon snapshots (stamp_number v.stamp) vs
 
+-- whether a version goes whose lifetime ends with its successor's number
+abbrev pub goes_late : ℕ → List ℕ → Option ℕ → Option ℕ → Bool
+goes_late horizon snapshots None number = false
+goes_late horizon snapshots (Some u) None = false
+goes_late horizon snapshots (Some u) (Some n) = nat_le u horizon && not (list_any (λ s. nat_le n s && nat_le s u) snapshots)
+
+-- what a sweep by that test leaves
+abbrev pub swept_late : ℕ → List ℕ → Option ℕ → List Version → List Version
+swept_late horizon snapshots successor [] = []
+swept_late horizon snapshots successor (v ∷ vs) =
+    if goes_late horizon snapshots successor (stamp_number v.stamp)
+    then swept_late horizon snapshots (stamp_number v.stamp) vs
+    else v ∷ swept_late horizon snapshots (stamp_number v.stamp) vs
+
 -- a sweep with lifetimes that don't have their own number
 abbrev pub lifetime_past : CoreState → ℕ → Rid → CoreState
-lifetime_past s p r = left_with s r (swept_early (horizon (s.pass p)) (recorded r.table (s.pass p)) None (versions s.buckets s.bucket r))
+lifetime_past s p r = shortened s p Interval r (swept_early (horizon (s.pass p)) (recorded r.table (s.pass p)) None (versions s.buckets s.bucket r))
 
 -- a cut at a bound that leaves out all moved snapshots
 abbrev pub cut_past_moved : CoreState → ℕ → Rid → CoreState
-cut_past_moved s p r = left_with s r (cut (least (horizon (s.pass p)) (live_numbers (λ scope moved. not moved) (s.pass p).loaded)) (versions s.buckets s.bucket r))
+cut_past_moved s p r = shortened s p Table r (cut (least (horizon (s.pass p)) (live_numbers (λ scope moved. not moved) (s.pass p).loaded)) (versions s.buckets s.bucket r))
 
 -- the versions without the newest, where that is a deletion at or below a horizon
 abbrev pub without_deletion : ℕ → List Version → List Version
@@ -74,7 +86,7 @@ without_deletion horizon (v ∷ vs) = if is_up_to horizon (stamp_number v.stamp)
 
 -- a sweep that takes a deletion though older versions stay
 abbrev pub newest_deletion_removed : CoreState → ℕ → Rid → CoreState
-newest_deletion_removed s p r = left_with s r (without_deletion (horizon (s.pass p)) (swept (horizon (s.pass p)) (recorded r.table (s.pass p)) None (versions s.buckets s.bucket r)))
+newest_deletion_removed s p r = shortened s p Interval r (without_deletion (horizon (s.pass p)) (swept (horizon (s.pass p)) (recorded r.table (s.pass p)) None (versions s.buckets s.bucket r)))
 
 -- some sessions may publish, as far as their logs tell, whatever is stamped
 pub record MayPublishEarly (log : ℕ → List LogEntry) (sessions : List ℕ) : Type 0 where
@@ -87,6 +99,7 @@ pub record MayPublishEarly (log : ℕ → List LogEntry) (sessions : List ℕ) :
 pub record MayInstallOver (s : CoreState) (j : ℕ) (r : Rid) (at : ℕ) (scope : Scope) : Type 0 where
   pub live : s.phase j ≡ Live at scope
   pub table : IsTrue (has scope r.table)
+  pub there : r.table.0 < s.tables
   pub plain : IsTrue (is_plain (s.log j))
   pub unstamped : IsFalse (has_stamped j s.stamped_list)
   pub newest : IfSome (newest_at s.mark (versions s.buckets s.bucket r)) (λ pair. pair.0 ≤ at)

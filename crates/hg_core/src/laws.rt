@@ -7,7 +7,8 @@ ghost use Rattle.hg_base.specs.declared.report.Kind.{Kind};
 ghost use Rattle.hg_base.specs.declared.scope.Scope.{Scope};
 ghost use Rattle.hg_core.specs.declared.ask.Ask.{Ask};
 ghost use Rattle.hg_core.specs.State.{CoreState};
-ghost use Rattle.hg_core.specs.Events.{Probe, Enter, Fix, GoLive, End, Mark, Sample, Move, Install, Undo, Stamp, Publish, Reclaim, Take, Look, happens, May, Always};
+ghost use Rattle.hg_core.specs.Events.{Probe, Enter, Fix, GoLive, End, Mark, Sample, Move, Install, Undo, Stamp, Publish, Reclaim, Take, Look, happens, May};
+ghost use Rattle.hg_core.specs.Steps.{Always, Arrive, Leave, Split, step, Can};
 ghost use Rattle.hg_core.specs.Invariant.{IsSteady};
 
 /// A session loads the mark, of which nobody knows.
@@ -85,7 +86,22 @@ pub fn take_keeps()
     ensures { (s : CoreState) → IsSteady s → May s Take → IsSteady (happens s Take) }
 {}
 
-/// The invariant holds after every list of events from the state in which a board opens.
+/// A pass takes a bucket, and its visit begins.
+pub fn arrive_keeps()
+    ensures { (s : CoreState) (p b : ℕ) → IsSteady s → Can s (Arrive p b) → IsSteady (step s (Arrive p b)) }
+{}
+
+/// It gives the bucket back. What was cut or clean then stays so.
+pub fn leave_keeps()
+    ensures { (s : CoreState) (p : ℕ) → IsSteady s → Can s (Leave p) → IsSteady (step s (Leave p)) }
+{}
+
+/// A pass is split in two. Both have the record.
+pub fn split_keeps()
+    ensures { (s : CoreState) (p : ℕ) → IsSteady s → Can s (Split p) → IsSteady (step s (Split p)) }
+{}
+
+/// The invariant holds after every list of steps from the state in which a board opens.
 pub fn always_steady()
     ensures { Always IsSteady }
 {}

@@ -48,26 +48,31 @@ mod phase;
 mod refuted;
 mod register;
 mod theorems;
+mod version;
+mod visit;
 
 pub use ask::Ask;
 pub use laws::{
-    always_steady, end_keeps, enter_keeps, fix_keeps, go_live_keeps, install_keeps, look_keeps,
-    mark_keeps, move_keeps, probe_keeps, publish_keeps, reclaim_keeps, sample_keeps, stamp_keeps,
-    take_keeps, undo_keeps,
+    always_steady, arrive_keeps, end_keeps, enter_keeps, fix_keeps, go_live_keeps, install_keeps,
+    leave_keeps, look_keeps, mark_keeps, move_keeps, probe_keeps, publish_keeps, reclaim_keeps,
+    sample_keeps, split_keeps, stamp_keeps, take_keeps, undo_keeps,
 };
 pub use log::LogEntry;
 pub use phase::Phase;
 pub use refuted::{
     bound_without_moved_is_refuted, horizon_without_entering_is_refuted,
-    lifetime_without_own_number_is_refuted, mark_loaded_last_is_refuted,
-    newest_deletion_removed_is_refuted, one_load_is_refuted, publish_before_stamp_is_refuted,
-    second_writer_is_refuted,
+    lifetime_with_successor_is_refuted, lifetime_without_own_number_is_refuted,
+    mark_loaded_last_is_refuted, newest_deletion_removed_is_refuted, one_load_is_refuted,
+    publish_before_stamp_is_refuted, second_writer_is_refuted,
 };
 pub use register::Register;
 pub use theorems::{
-    every_event_happens, history_is_sound, mark_is_bounded, no_gather_misses_a_snapshot,
-    no_removal_is_seen, replies_are_right, words_are_exact,
+    counters_balance, every_event_happens, history_is_sound, mark_is_bounded,
+    no_gather_misses_a_snapshot, no_removal_is_seen, records_are_placed, removal_is_exact,
+    replies_are_right, what_was_left_stays, words_are_exact,
 };
+pub use version::{Stamp, Version};
+pub use visit::{Counters, Removed, Visit};
 
 #[cfg(test)]
 mod tests;

@@ -1,15 +1,17 @@
 //! Steps that would be wrong. Each is refuted by a state that meets the invariant.
 
-ghost use Rattle.std.specs.Prelude.{◌≡◌, ℕ, List};
+ghost use Rattle.std.specs.Prelude.{◌≡◌, ℕ, List, None};
 ghost use Rattle.hg_base.specs.declared.rid.Rid.{Rid};
 ghost use Rattle.hg_base.specs.declared.image.Image.{Image};
 ghost use Rattle.hg_base.specs.declared.scope.Scope.{Scope};
-ghost use Rattle.hg_core.specs.Passes.{IsWhole};
+ghost use Rattle.hg_core.specs.Passes.{IsWhole, horizon, recorded};
+ghost use Rattle.hg_core.specs.Contents.{versions};
+ghost use Rattle.hg_core.specs.Clean.{IsClean};
 ghost use Rattle.hg_core.specs.State.{CoreState};
-ghost use Rattle.hg_core.specs.Events.{Sample, Install, Publish, May, happens};
+ghost use Rattle.hg_core.specs.Events.{Sample, Install, Publish, MayReclaim, May, happens};
 ghost use Rattle.hg_core.specs.Invariant.{IsSteady};
 ghost use Rattle.hg_core.specs.Missed.{MissesNone};
-ghost use Rattle.hg_core.specs.Wrong.{live_by_one_load, mark_loaded_last, mark_alone, sampled_without_entering, lifetime_past, cut_past_moved, newest_deletion_removed, MayPublishEarly, MayInstallOver};
+ghost use Rattle.hg_core.specs.Wrong.{live_by_one_load, mark_loaded_last, mark_alone, sampled_without_entering, lifetime_past, swept_late, cut_past_moved, newest_deletion_removed, MayPublishEarly, MayInstallOver};
 
 use crate::phase::Phase;
 
@@ -32,17 +34,23 @@ pub fn horizon_without_entering_is_refuted()
 
 /// A version is read at its own number, so a sweep must not count its lifetime from behind it.
 pub fn lifetime_without_own_number_is_refuted()
-    ensures { ((s : CoreState) (p : ℕ) (r : Rid) → IsSteady s → IsWhole s.sessions (s.pass p) → IsSteady (lifetime_past s p r)) → ⊥ }
+    ensures { ((s : CoreState) (p : ℕ) (r : Rid) → IsSteady s → MayReclaim s p r → IsSteady (lifetime_past s p r)) → ⊥ }
+{}
+
+/// A lifetime ends before its successor's number, so a sweep must not count a snapshot there: it would leave a version that
+/// nobody reads.
+pub fn lifetime_with_successor_is_refuted()
+    ensures { ((s : CoreState) (p : ℕ) (r : Rid) → IsSteady s → MayReclaim s p r → IsClean (horizon (s.pass p)) (recorded r.table (s.pass p)) (swept_late (horizon (s.pass p)) (recorded r.table (s.pass p)) None (versions s.buckets s.bucket r))) → ⊥ }
 {}
 
 /// A bound must count a moved snapshot for the tables that it declared.
 pub fn bound_without_moved_is_refuted()
-    ensures { ((s : CoreState) (p : ℕ) (r : Rid) → IsSteady s → IsWhole s.sessions (s.pass p) → IsSteady (cut_past_moved s p r)) → ⊥ }
+    ensures { ((s : CoreState) (p : ℕ) (r : Rid) → IsSteady s → MayReclaim s p r → IsSteady (cut_past_moved s p r)) → ⊥ }
 {}
 
 /// A sweep must leave the newest version, even where it is a deletion: an older row would be found again.
 pub fn newest_deletion_removed_is_refuted()
-    ensures { ((s : CoreState) (p : ℕ) (r : Rid) → IsSteady s → IsWhole s.sessions (s.pass p) → IsSteady (newest_deletion_removed s p r)) → ⊥ }
+    ensures { ((s : CoreState) (p : ℕ) (r : Rid) → IsSteady s → MayReclaim s p r → IsSteady (newest_deletion_removed s p r)) → ⊥ }
 {}
 
 /// All writes of a group must be stamped before the mark grows.

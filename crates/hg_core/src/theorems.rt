@@ -7,19 +7,27 @@ ghost use Rattle.hg_base.specs.declared.scope.Scope.{Scope};
 ghost use Rattle.hg_base.specs.History.{visible, IsHistory, NoLostUpdate};
 ghost use Rattle.hg_base.specs.Transcript.{has};
 ghost use Rattle.hg_core.specs.Words.{IsRegister, word_of, register_of};
-ghost use Rattle.hg_core.specs.Passes.{IsWhole, horizon, table_bound, group_bound};
+ghost use Rattle.hg_core.specs.Passes.{IsWhole, horizon, recorded, table_bound, group_bound};
 ghost use Rattle.hg_core.specs.State.{CoreState, opened};
-ghost use Rattle.hg_core.specs.Held.{held};
+ghost use Rattle.hg_core.specs.Held.{held, left_by};
+ghost use Rattle.hg_core.specs.Versions.{first_at};
+ghost use Rattle.hg_core.specs.Contents.{versions};
+ghost use Rattle.hg_core.specs.Clean.{IsClean, IsCutAt, past, as_oldest, not_gone};
+ghost use Rattle.hg_core.specs.Placed.{IsPlaced};
+ghost use Rattle.hg_core.specs.Counters.{CountersBalance};
+ghost use Rattle.hg_core.specs.Visits.{VisitsStay};
+ghost use Rattle.hg_core.specs.Events.{MayReclaim};
 ghost use Rattle.hg_core.specs.Replies.{AreReplied};
-ghost use Rattle.hg_core.specs.Events.{Always, Run, run};
+ghost use Rattle.hg_core.specs.Steps.{Always, Run, run};
 ghost use Rattle.hg_core.specs.Invariant.{IsSteady};
 ghost use Rattle.hg_core.specs.Missed.{MissesNone};
 ghost use Rattle.hg_core.specs.Worked.{slow_begin, long_snapshot};
 
 use crate::phase::Phase;
 use crate::register::Register;
+use hg_base::Kind;
 
-/// No gather misses a snapshot. After every list of events, whatever number a session is live at, it is at or over the
+/// No gather misses a snapshot. After every list of steps, whatever number a session is live at, it is at or over the
 /// horizon of every whole record, or it stands in that record for each table of its scope. So no bound is over it that a
 /// collector takes from the record. A number that a session is about to go live at is at or over every horizon.
 pub fn no_gather_misses_a_snapshot()
@@ -29,7 +37,7 @@ pub fn no_gather_misses_a_snapshot()
     ensures group { Always (λ s. (p j at : ℕ) (scope : Scope) → IsWhole s.sessions (s.pass p) → s.phase j ≡ Phase.Live at scope → group_bound (s.pass p) ≤ at) }
 {}
 
-/// No removal is seen. After every list of events, each live session finds of each record of its tables what a table that
+/// No removal is seen. After every list of steps, each live session finds of each record of its tables what a table that
 /// never reclaims would show it at its snapshot. And so does one that is yet to go live at a number that it fixed, whatever
 /// tables it will have, and one that will fix the mark.
 pub fn no_removal_is_seen()
@@ -38,14 +46,43 @@ pub fn no_removal_is_seen()
     ensures mark { Always (λ s. (r : Rid) → held s r s.mark ≡ visible s.history r s.mark) }
 {}
 
-/// Every reply is right. After every list of events, each entry of each session's log says what `hg_base` defines over the
+/// A removal is exact. After every list of steps, where a pass may take away versions of a record, a cut leaves all that are
+/// past its bound, and of the others the newest as the oldest image: so the record is cut there. A sweep leaves all that have
+/// no successor at or below the horizon, or a recorded number in their lifetime, and nothing else: so the record is clean.
+pub fn removal_is_exact()
+    ensures group { Always (λ s. (p : ℕ) (r : Rid) → MayReclaim s p r → IsCutAt (group_bound (s.pass p)) (left_by s p Kind.Group r)) }
+    ensures table { Always (λ s. (p : ℕ) (r : Rid) → MayReclaim s p r → IsCutAt (table_bound r.table (s.pass p)) (left_by s p Kind.Table r)) }
+    ensures interval { Always (λ s. (p : ℕ) (r : Rid) → MayReclaim s p r → IsClean (horizon (s.pass p)) (recorded r.table (s.pass p)) (left_by s p Kind.Interval r)) }
+    ensures by_group { Always (λ s. (p : ℕ) (r : Rid) → let vs = versions s.buckets s.bucket r in left_by s p Kind.Group r ≡ past (group_bound (s.pass p)) vs ++ as_oldest (first_at (group_bound (s.pass p)) vs)) }
+    ensures by_table { Always (λ s. (p : ℕ) (r : Rid) → let vs = versions s.buckets s.bucket r in left_by s p Kind.Table r ≡ past (table_bound r.table (s.pass p)) vs ++ as_oldest (first_at (table_bound r.table (s.pass p)) vs)) }
+    ensures by_interval { Always (λ s. (p : ℕ) (r : Rid) → left_by s p Kind.Interval r ≡ not_gone (horizon (s.pass p)) (recorded r.table (s.pass p)) (versions s.buckets s.bucket r)) }
+{}
+
+/// What a visit left stays. After every list of steps, each record of a bucket that was given back clean, or cut at a bound at
+/// or below the mark that the visit keeps, is so still.
+pub fn what_was_left_stays()
+    ensures { Always (λ s. VisitsStay s.passes s.buckets s.mark (versions s.buckets s.bucket) s.visits) }
+{}
+
+/// Counters balance. After every list of steps, of each bucket, what was made is what was undone, what each kind of collector
+/// removed, and what is held; and the logs and the visits tell all but the last.
+pub fn counters_balance()
+    ensures { Always (λ s. CountersBalance s.sessions s.buckets s.passes s.log s.bucket s.counters s.visits) }
+{}
+
+/// Each record stands in its own bucket, once, and its table is there.
+pub fn records_are_placed()
+    ensures { Always (λ s. (b : ℕ) → IsPlaced s.tables s.buckets b (s.bucket b)) }
+{}
+
+/// Every reply is right. After every list of steps, each entry of each session's log says what `hg_base` defines over the
 /// history: what a read finds is what a table shows that never reclaims, with the transaction's own writes, and a refused
 /// write shows its cause.
 pub fn replies_are_right()
     ensures { Always (λ s. (j : ℕ) → AreReplied s.buckets s.history s.log j (s.log j)) }
 {}
 
-/// No update is lost. After every list of events, what a commit overwrites its transaction saw, or wrote itself. And each group
+/// No update is lost. After every list of steps, what a commit overwrites its transaction saw, or wrote itself. And each group
 /// of the history is one: it has a commit, each commit writes something and read below the group's number, and no session and
 /// no record occurs twice in it.
 pub fn history_is_sound()
@@ -60,11 +97,11 @@ pub fn mark_is_bounded()
 
 /// Each kind of event can happen. In this run a session goes live below the mark of a whole record, at its horizon.
 pub fn every_event_happens()
-    ensures run { Run (opened 2 1 1 1) (slow_begin ++ long_snapshot) }
-    ensures whole { IsWhole 2 ((run (opened 2 1 1 1) slow_begin).pass 0) }
-    ensures mark { ((run (opened 2 1 1 1) slow_begin).pass 0).mark ≡ 1 }
-    ensures horizon { horizon ((run (opened 2 1 1 1) slow_begin).pass 0) ≡ 0 }
-    ensures live { (run (opened 2 1 1 1) slow_begin).phase 1 ≡ Phase.Live 0 (Scope.Declared 1) }
+    ensures run { Run (opened 2 1 1 1 1) (slow_begin ++ long_snapshot) }
+    ensures whole { IsWhole 2 ((run (opened 2 1 1 1 1) slow_begin).pass 0) }
+    ensures mark { ((run (opened 2 1 1 1 1) slow_begin).pass 0).mark ≡ 1 }
+    ensures horizon { horizon ((run (opened 2 1 1 1 1) slow_begin).pass 0) ≡ 0 }
+    ensures live { (run (opened 2 1 1 1 1) slow_begin).phase 1 ≡ Phase.Live 0 (Scope.Declared 1) }
 {}
 
 /// A word shows one register, and each register of a board has a word.

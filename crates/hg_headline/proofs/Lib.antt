@@ -11,3 +11,8 @@ pub mod Orderly
 pub mod Numbers
 pub mod OpenSnapshots
 pub mod Replaying
+pub mod Growing
+pub mod Loops
+pub mod Parts
+pub mod Answering
+pub mod Stepping

@@ -4,3 +4,4 @@ pub mod Timely
 pub mod Met
 pub mod Replayed
 pub mod Gathered
+pub mod Answered
