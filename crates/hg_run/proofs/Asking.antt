@@ -1,12 +1,13 @@
 -- What a statement in an open transaction is answered, and the entries that it leaves.
 use Rattle.std.proofs.Common.{◌≡◌, ℕ, zero, suc, ◌+◌, ◌<◌, ◌≤◌, ◌⊎◌, inl, inr, ℤ, List, [], ◌∷◌, ◌++◌, length, Bool, true, false, Option, Some, None, refl, sym, ap, ◌∙◌, subst, arith}
-use Rattle.std.specs.Prelude.{cond, map, filter, is_some, unwrap_or, IsTrue, IsFalse, IsSome, IfSome, Contains, ◌==◌, ◌||◌, ⊤}
+use Rattle.std.specs.Prelude.{not, cond, map, filter, is_some, option_and_then, unwrap_or, IsTrue, IsFalse, IsSome, IfSome, Contains, ◌==◌, ◌||◌, ⊤}
 use Rattle.std.specs.List.{list_any}
 use Rattle.std.proofs.lemmas.Bool.Decides.{Decides-eqb}
 use Rattle.hg_base.specs.declared.rid.Rid.{Rid}
 use Rattle.hg_base.specs.declared.rid.TableId.{TableId}
 use Rattle.hg_base.specs.declared.image.Image.{Image}
 use Rattle.hg_base.specs.declared.writer.Writer.{Writer}
+use Rattle.hg_base.specs.declared.scope.Scope.{Scope}
 use Rattle.hg_base.specs.declared.scope.Snapshot.{Snapshot}
 use Rattle.hg_base.specs.declared.statement.Statement.{Statement}
 use Rattle.hg_base.specs.declared.statement.Statement.TheVariants.{Begin, Get, Put, Del, Scan, Commit, Rollback, Gc}
@@ -25,16 +26,18 @@ use Rattle.hg_core.specs.Contents.{bucket_of}
 use Rattle.hg_core.specs.Events.{put}
 use Rattle.hg_core.specs.Reading.{Unprinted, saw, saws}
 use Rattle.hg_headline.specs.Met.{IsOpenWrite}
-use Rattle.hg_bucket.specs.Held.{Held, Kept, begins_open, installed, record_at}
+use Rattle.hg_bucket.specs.Held.{Held, Kept, begins_open, installed, read_at, record_at}
 use Rattle.hg_bucket.specs.Conflicts.{holder, newer}
-use Rattle.hg_run.specs.Buckets.{Becomes, versions_in}
+use Rattle.hg_bucket.specs.declared.refusal.WriteRefusal.{WriteRefusal}
+use Rattle.hg_bucket.specs.declared.refusal.WriteRefusal.TheVariants as refusal
+use Rattle.hg_run.specs.Buckets.{Becomes, Refuses, Stores, versions_in}
 use Rattle.hg_run.specs.Driving.{Sitting, Driven, Past, Owner, open_part, versions_from, Sets, IsKept, IsSitting, sitting, writer_of, with_entries}
-use Rattle.hg_run.specs.Answering.{IsAsked, IsWritten, answer_row}
+use Rattle.hg_run.specs.Answering.{IsAsked, IsWritten, answer_row, conflict_of}
 use Rattle.hg_run.proofs.Versions.{newest_over}
-use Rattle.hg_run.proofs.Showing.{IsFree, by_of, begins, held_by, same_number}
-use Rattle.hg_run.proofs.Keeping.{IsTelling, IsSame, telling_same, kept_telling, is_now, none_of, by_session, put_here, put_other, put_same, put_more}
+use Rattle.hg_run.proofs.Showing.{IsFree, by_of, begins, held_by, reads, same_number}
+use Rattle.hg_run.proofs.Keeping.{IsTelling, IsSame, telling_same, kept_telling, kept_wrote, with_written, is_now, none_of, by_session, put_here, put_other, put_same, put_more}
 use Rattle.hg_run.proofs.Parts.{part_of, part_rows, parts_join}
-use Rattle.hg_run.proofs.LogFacts.{open_writes, open_unnumbered}
+use Rattle.hg_run.proofs.LogFacts.{open_writes, open_unnumbered, snapshot_within}
 
 -- what an answer leaves untold, where it leaves nothing
 abbrev pub untold : Unprinted
@@ -164,17 +167,17 @@ open_still p j e r w telling s =
 abbrev pub found_row : List ℤ → Unprinted
 found_row row = record { found = row; part = λ b. []; undone = [] }
 
-pub asked_del : (l : Driven) (p : Past) (n j : ℕ) (r : Rid) (row : List ℤ) (refusal : Option Answer) → length l.buckets ≡ n → IsWritten l (with_entries p j (saw n r ((r.key, row) ∷ []) ∷ [])) j r nothing refusal → IsAsked l p n j (Del r) (unwrap_or refusal Gone)
-asked_del l p n j r row refusal many s = go refusal s
+pub asked_del : (l : Driven) (p : Past) (m n j : ℕ) (r : Rid) (row : List ℤ) (refusal : Option Answer) → length l.buckets ≡ m → IsWritten l (with_entries p j (saw m r ((r.key, row) ∷ []) ∷ [])) j r nothing refusal → IsAsked l p n j (Del r) (unwrap_or refusal Gone)
+asked_del l p m n j r row refusal many s = go refusal s
   where
     e : LogEntry
-    e = saw n r ((r.key, row) ∷ [])
+    e = saw m r ((r.key, row) ∷ [])
 
     q : Past
     q = with_entries p j (e ∷ [])
 
     kept : (x : LogEntry) → IsKept l (with_entries q j (x ∷ [])) → IsKept l (with_entries p j (x ∷ saw (length l.buckets) r ((r.key, row) ∷ []) ∷ []))
-    kept x k = subst (λ m. IsKept l (with_entries p j (x ∷ saw m r ((r.key, row) ∷ []) ∷ []))) (sym many) (subst (IsKept l) (entries_more p j x (e ∷ [])) k)
+    kept x k = subst (λ o. IsKept l (with_entries p j (x ∷ saw o r ((r.key, row) ∷ []) ∷ []))) (sym many) (subst (IsKept l) (entries_more p j x (e ∷ [])) k)
 
     go : (refusal : Option Answer) → IsWritten l q j r nothing refusal → IsAsked l p n j (Del r) (unwrap_or refusal Gone)
     go None s = record { u = found_row row; fits = tt; met = tt; told = tt; newer = tt; wrote = λ log. refl; kept = kept (Wrote r nothing) s }
@@ -248,3 +251,63 @@ asked_scan k p n j table low high snapshot rows opened within are s =
       wrote = λ log. (saws_same table low high (part_of (length k.buckets) table rows) (length k.buckets) log).own;
       kept = kept_saws k p j snapshot table low high (part_of (length k.buckets) table rows) opened within (λ b. part_rows (length k.buckets) table f low high rows b are) s (length k.buckets);
     }
+
+-- ---- what is read
+
+pub reads_kept : (k : Driven) (p : Past) (j at : ℕ) (r : Rid) (w : Writer) → IsKept k p → w ≡ writer_of k j → unwrap_or (read_at w at (versions_in k.buckets r)) nothing ≡ seen p.history (own_writes (p.logs j)) at r
+reads_kept k p j at r w s e =
+    let by : writer_of k j ≡ by_of p.logs j = (λ i. record { session = j; transaction = (s.sessions j).count i }) in
+    ap (λ x. unwrap_or (read_at x at (versions_in k.buckets r)) nothing) (e ∙ by) ∙ reads p r (versions_in k.buckets r) j at (s.records r)
+
+pub row_of : (o : Option Image) → option_and_then (λ (i : Image). i.row) o ≡ (unwrap_or o nothing).row
+row_of None = refl
+row_of (Some image) = refl
+
+pub rows_kept : (k : Driven) (p : Past) (j at : ℕ) (table : TableId) (low high : ℕ) (rows : List (ℕ × List ℤ)) (w : Writer) → IsKept k p → w ≡ writer_of k j → AreRows (λ key. unwrap_or (read_at w at (versions_in k.buckets (record_at table key))) nothing) low high rows → AreRows (λ key. seen p.history (own_writes (p.logs j)) at (record_at table key)) low high rows
+rows_kept k p j at table low high rows w s e are = subst (λ (f : ℕ → Image). AreRows f low high rows) (λ i key. reads_kept k p j at (record_at table key) w s e i) are
+
+-- an open transaction reads no later than the mark
+pub at_mark : (k : Driven) (p : Past) (j : ℕ) (snapshot : Snapshot) → IsKept k p → (sitting k.sessions j).opened ≡ Some snapshot → snapshot.at ≤ k.mark
+at_mark k p j snapshot s opened =
+    let within = snapshot_within (length p.history) (p.logs j) snapshot (s.logged.within j) (reads_at k p j snapshot s opened) in
+    let mark = s.mark in
+    omega (arith, within, mark)
+
+-- a stored write, with the list of records that the transaction wrote
+pub kept_stored : (k l : Driven) (p : Past) (j : ℕ) (r : Rid) (image : Image) (snapshot : Snapshot) (w : Writer) (added : Bool) → w ≡ writer_of k j → l.mark ≡ k.mark → (sitting k.sessions j).opened ≡ Some snapshot → IsTrue (has snapshot.scope r.table) → Stores k.buckets l.buckets r w image snapshot.at k.mark added
+    → (added ≡ true → let s = sitting k.sessions j in Sets k.sessions l.sessions j (record s { written = s.written ++ r ∷ [] })) → (added ≡ false → l.sessions ≡ k.sessions)
+    → IsKept k p → IsKept l (with_entries p j (Wrote r image ∷ []))
+kept_stored k l p j r image snapshot w added by mark opened within stores more same s =
+    let t : Stores k.buckets l.buckets r (writer_of k j) image snapshot.at k.mark added = subst (λ w. Stores k.buckets l.buckets r w image snapshot.at k.mark added) by stores in
+    kept_wrote k l p j r image snapshot mark opened within (is_free k p j r snapshot s opened t.free t.newest) t.becomes (go (begins_open (writer_of k j) (versions_in k.buckets r)) added t.added_is more same) s
+  where
+    sit : Sitting
+    sit = sitting k.sessions j
+
+    go : (b added : Bool) → added ≡ not b → (added ≡ true → Sets k.sessions l.sessions j (record sit { written = sit.written ++ r ∷ [] })) → (added ≡ false → l.sessions ≡ k.sessions) → Sets k.sessions l.sessions j (record { count = sit.count; opened = sit.opened; written = with_written b sit.written r })
+    go true added e more same = let is = same e in record { here = ap (λ (ss : List Sitting). sitting ss j) is; others = λ i f. ap (λ (ss : List Sitting). sitting ss i) is; many = ap (λ (ss : List Sitting). length ss) is }
+    go false added e more same = more e
+
+-- a refused write
+pub kept_refused : (k : Driven) (p : Past) (j : ℕ) (r : Rid) (image : Image) (snapshot : Snapshot) (w : Writer) (e : WriteRefusal) (a : Answer) → IsKept k p → w ≡ writer_of k j → (sitting k.sessions j).opened ≡ Some snapshot → IsTrue (has snapshot.scope r.table) → Refuses (versions_in k.buckets r) w snapshot.at k.mark e → conflict_of e ≡ Some a → IsWritten k p j r image (Some a)
+kept_refused k p j r image snapshot w e a s by opened within refused is = go e (subst (λ x. Refuses (versions_in k.buckets r) x snapshot.at k.mark e) by refused) is
+  where
+    same : (b : Answer) → Some b ≡ Some a → b ≡ a
+    same b e = ap (λ o. unwrap_or o b) e
+
+    go : (e : WriteRefusal) → Refuses (versions_in k.buckets r) (writer_of k j) snapshot.at k.mark e → conflict_of e ≡ Some a → IsWritten k p j r image (Some a)
+    go (refusal.Open x) h is = subst (λ b. IsWritten k p j r image (Some b)) (same (OpenBy x) is) (refused_open k p j r snapshot x s opened within h)
+    go (refusal.Newer c) h is = subst (λ b. IsWritten k p j r image (Some b)) (same (NewerThan c) is) (refused_newer k p j r snapshot c s opened within h.0 h.1 h.2)
+    go refusal.NoMemory h is = absurd (none_some None a refl is)
+
+-- a deletion of a row that is seen
+pub asked_gone : (k l : Driven) (p : Past) (n j : ℕ) (r : Rid) (snapshot : Snapshot) (refusal : Option Answer) → IsKept k p → (sitting k.sessions j).opened ≡ Some snapshot → IsTrue (has snapshot.scope r.table) → IsSome (seen p.history (own_writes (p.logs j)) snapshot.at r).row → length l.buckets ≡ length k.buckets → ((q : Past) → IsKept k q → IsWritten l q j r nothing refusal) → IsAsked l p n j (Del r) (unwrap_or refusal Gone)
+asked_gone k l p n j r snapshot refusal s opened within there many written = go (seen p.history (own_writes (p.logs j)) snapshot.at r).row refl there
+  where
+    go : (o : Option (List ℤ)) → (seen p.history (own_writes (p.logs j)) snapshot.at r).row ≡ o → IsSome o → IsAsked l p n j (Del r) (unwrap_or refusal Gone)
+    go None e h = absurd (false_true h)
+    go (Some row) e h = asked_del l p (length k.buckets) n j r row refusal many (written (with_entries p j (saw (length k.buckets) r ((r.key, row) ∷ []) ∷ [])) (saw_row k p j r snapshot row opened within e s))
+
+-- the table that a statement names is the one that it is asked of
+pub named_in : (scope : Scope) (t table : TableId) → Some t ≡ Some table → IsTrue (has scope table) → IsTrue (has scope t)
+named_in scope t table e h = subst (λ x. IsTrue (has scope x)) (ap (λ o. unwrap_or o t) (sym e)) h

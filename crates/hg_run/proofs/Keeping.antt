@@ -12,6 +12,7 @@ use Rattle.hg_base.specs.declared.scope.Snapshot.{Snapshot}
 use Rattle.hg_base.specs.declared.line.Answer.{Answer}
 use Rattle.hg_base.specs.Lists.{Each}
 use Rattle.hg_base.specs.History.{Write, Commit, History, LosesNothing, writes, image_in, is_among, same_rid, NoneTwice}
+use Rattle.hg_base.specs.Replies.{is_written}
 use Rattle.hg_base.specs.Transcript.{has, last_images}
 use Rattle.hg_base.proofs.ListFacts.{cases, false_true, none_some}
 use Rattle.hg_base.proofs.HistoryFacts.{same_rid_equal}
@@ -26,8 +27,9 @@ use Rattle.hg_bucket.specs.Held.{Held, Kept, installed, stamped, begins_open}
 use Rattle.hg_headline.specs.Logged.{Logged}
 use Rattle.hg_run.specs.Buckets.{Becomes, versions_in}
 use Rattle.hg_run.specs.Driving.{Sitting, Driven, Past, Sets, IsKept, IsSitting, ShowsRecord, sitting, rested, begun, writer_of, with_entries}
+use Rattle.hg_run.proofs.LogFacts.{snapshot_within}
 use Rattle.hg_run.proofs.Showing.{IsAlike, Differs, IsFree, alike_itself, by_of, stays, stores, same_number, begins, opens, undoes, publishes, no_version, no_write}
-use Rattle.hg_run.proofs.Assumed.{IsQuiet, entry_more, group_more}
+use Rattle.hg_headline.proofs.Growing.{IsPlainEntry, logged_entry, logged_commit}
 
 -- ---- one log more
 
@@ -96,7 +98,7 @@ same_sitting s k l same h = record {
 pub same_alike : (r : Rid) (k l : List LogEntry) → IsSame k l → IsAlike r k l
 same_alike r k l same = record { own = ap (image_in r) same.own; number = λ s. same.number; at = λ s. ap (λ o. number_in o) same.current_is }
 
-pub kept_telling : (k : Driven) (p : Past) (j : ℕ) (e : LogEntry) → IsTelling e → IsQuiet (length p.history) e → Judge p.history e (p.logs j) → IsReplied (length k.buckets) p.history p.logs j e (p.logs j) → IsKept k p → IsKept k (with_entries p j (e ∷ []))
+pub kept_telling : (k : Driven) (p : Past) (j : ℕ) (e : LogEntry) → IsTelling e → IsPlainEntry (length p.history) e → Judge p.history e (p.logs j) → IsReplied (length k.buckets) p.history p.logs j e (p.logs j) → IsKept k p → IsKept k (with_entries p j (e ∷ []))
 kept_telling k p j e telling quiet judge replied s =
     let same = telling_same e (p.logs j) telling in
     record {
@@ -105,7 +107,7 @@ kept_telling k p j e telling quiet judge replied s =
           (subst (IsSitting (sitting k.sessions j)) (sym (put_here p.logs j (e ∷ p.logs j))) (same_sitting (sitting k.sessions j) (p.logs j) (e ∷ p.logs j) same (s.sessions j)))
           (λ i f. subst (IsSitting (sitting k.sessions i)) (sym (put_other p.logs j (e ∷ p.logs j) i f)) (s.sessions i));
       records = λ r. stays p (with_entries p j (e ∷ [])) r (versions_in k.buckets r) refl refl (alike_but p j (e ∷ p.logs j) r (same_alike r (p.logs j) (e ∷ p.logs j) same)) (s.records r);
-      logged = entry_more (length k.buckets) p.history p.logs j e s.logged quiet judge replied;
+      logged = logged_entry (length k.buckets) p.history p.logs j e s.logged quiet judge replied;
     }
 
 -- ---- a begin
@@ -134,7 +136,7 @@ kept_began k l p j scope buckets mark idle set s =
             at = λ t. absurd (false_true (ap (λ own. is_some (image_in r own)) (sym none) ∙ t));
           })) (s.records r));
       logged = subst (λ (bs : List Held). Logged (length bs) p.history q.logs) (sym buckets)
-          (entry_more (length k.buckets) p.history p.logs j (Began k.mark scope) s.logged within (record {
+          (logged_entry (length k.buckets) p.history p.logs j (Began k.mark scope) s.logged within (record {
             within = within;
             over = subst (λ n. UpTo n (p.logs j)) (sym s.mark) (s.logged.within j);
             alone = sym sit.opened ∙ idle;
@@ -213,7 +215,7 @@ kept_wrote k l p j r image snapshot mark opened within free becomes set s =
           (λ e. subst (ShowsRecord q x) (sym (becomes.others x e))
           (stays p q x (versions_in k.buckets x) refl refl (alike_but p j log x (record { own = ap (λ b. cond b (Some image) (image_in x (own_writes (p.logs j)))) e; number = λ t. refl; at = λ t. refl })) (s.records x)));
       logged = subst (λ n. Logged n p.history q.logs) (sym becomes.many)
-          (entry_more (length k.buckets) p.history p.logs j (Wrote r image) s.logged tt (ap is_some now) (is_now (current (p.logs j)) snapshot (λ snapshot. IsTrue (has snapshot.scope r.table)) now within, sit.plain));
+          (logged_entry (length k.buckets) p.history p.logs j (Wrote r image) s.logged tt (ap is_some now) (is_now (current (p.logs j)) snapshot (λ snapshot. IsTrue (has snapshot.scope r.table)) now within, sit.plain));
     }
 
 -- ---- the end of a transaction
@@ -271,7 +273,7 @@ kept_ended k l p j buckets mark opened none set s =
             at = λ t. absurd (false_true (ap is_some (sym (unwritten r)) ∙ t));
           })) (s.records r));
       logged = subst (λ (bs : List Held). Logged (length bs) p.history q.logs) (sym buckets)
-          (entry_more (length k.buckets) p.history p.logs j Over s.logged tt (record {
+          (logged_entry (length k.buckets) p.history p.logs j Over s.logged tt (record {
             opened = ap is_some (sym sit.opened) ∙ opened;
             none = λ r. open_is_own r (p.logs j) sit.plain ∙ unwritten r;
           }) tt);
@@ -307,7 +309,7 @@ undid_logged buckets h logs j (r ∷ rids) s opened =
     let before = undid_logged buckets h logs j rids s opened in
     let log : List LogEntry = map Undid rids ++ logs j in
     let still : IsSome (current (put logs j log j)) = ap (λ l. is_some (current l)) (put_here logs j log) ∙ ap is_some (undid_current rids (logs j)) ∙ opened in
-    subst (Logged buckets h) (put_more logs j (Undid r) log) (entry_more buckets h (put logs j log) j (Undid r) before tt still tt)
+    subst (Logged buckets h) (put_more logs j (Undid r) log) (logged_entry buckets h (put logs j log) j (Undid r) before tt still tt)
 
 -- the log of a rollback
 abbrev pub undone_log : List Rid → List LogEntry → List LogEntry
@@ -318,7 +320,7 @@ undone_logged buckets h logs j rids s opened plain covers =
     let log : List LogEntry = map Undid rids ++ logs j in
     let none : (r : Rid) → open_in r log ≡ None = (λ r. undid_open rids (logs j) r ∙ closed (is_among r rids) r refl) in
     let end : Judge h Over (put logs j log j) = subst (Judge h Over) (sym (put_here logs j log)) (record { opened = ap is_some (undid_current rids (logs j)) ∙ opened; none = none }) in
-    subst (Logged buckets h) (put_more logs j Over log) (entry_more buckets h (put logs j log) j Over (undid_logged buckets h logs j rids s opened) tt end tt)
+    subst (Logged buckets h) (put_more logs j Over log) (logged_entry buckets h (put logs j log) j Over (undid_logged buckets h logs j rids s opened) tt end tt)
   where
     closed : (b : Bool) (r : Rid) → is_among r rids ≡ b → cond b None (open_in r (logs j)) ≡ None
     closed true r e = refl
@@ -391,12 +393,21 @@ wrote_some r (w ∷ ws) t = omega arith
 abbrev pub with_commit : Past → ℕ → Past
 with_commit p j = record { history = p.history ++ (commit_in j (p.logs j) ∷ []) ∷ []; logs = put p.logs j (Over ∷ Published (suc (length p.history)) ∷ p.logs j) }
 
+pub is_some_written : (ws : List Write) → 0 < length ws → is_written ws ≡ true
+is_some_written [] h = absurd (omega (arith, h))
+is_some_written (w ∷ ws) h = refl
+
+-- the snapshot of an open transaction is no later than the history
+pub at_within : (n : ℕ) (log : List LogEntry) (o : Option Snapshot) → current log ≡ o → UpTo n log → number_in o ≤ n
+at_within n log None e u = omega arith
+at_within n log (Some s) e u = snapshot_within n log s u e
+
 pub committed_logged : (buckets : ℕ) (p : Past) (j : ℕ) → Logged buckets p.history p.logs → IsSome (current (p.logs j)) → IsTrue (is_plain (p.logs j)) → 0 < length (own_writes (p.logs j)) → LosesNothing p.history (commit_in j (p.logs j)) → Logged buckets (with_commit p j).history (with_commit p j).logs
 committed_logged buckets p j s opened plain some loses =
     let h : History = p.history ++ (commit_in j (p.logs j) ∷ []) ∷ [] in
     let log : List LogEntry = Published (suc (length p.history)) ∷ p.logs j in
     let end : Judge h Over (put p.logs j log j) = subst (Judge h Over) (sym (put_here p.logs j log)) (record { opened = opened; none = λ r. refl }) in
-    subst (Logged buckets h) (put_more p.logs j Over log) (entry_more buckets h (put p.logs j log) j Over (group_more buckets p.history p.logs j s opened plain some loses) tt end tt)
+    subst (Logged buckets h) (put_more p.logs j Over log) (logged_entry buckets h (put p.logs j log) j Over (logged_commit buckets p.history p.logs j s (record { opened = opened; plain = plain }) (is_some_written (own_writes (p.logs j)) some) (at_within (length p.history) (p.logs j) (current (p.logs j)) refl (s.within j)) loses) tt end tt)
 
 pub kept_committed : (k l : Driven) (p : Past) (j : ℕ) (r : Rid) → l.mark ≡ k.mark + 1 → length l.buckets ≡ length k.buckets → IsSome (sitting k.sessions j).opened → IsTrue (is_among r (sitting k.sessions j).written)
     → ((r : Rid) → versions_in l.buckets r ≡ cond (is_among r (sitting k.sessions j).written) (stamped (writer_of k j) (k.mark + 1) (versions_in k.buckets r)) (versions_in k.buckets r))

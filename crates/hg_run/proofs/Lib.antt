@@ -1,8 +1,8 @@
 mod Versions
 mod Showing
-mod Assumed
-mod Keeping
 mod LogFacts
+mod Keeping
 mod Parts
 mod Asking
 mod Statements
+mod Ending

@@ -26,8 +26,10 @@ use Rattle.hg_core.specs.Events.{put}
 use Rattle.hg_core.specs.Reading.{Unprinted, FitsAnswer, own_entries, log_after, log_with, is_access, is_alone, close}
 use Rattle.hg_headline.specs.Timely.{IsTimely, snapshot_in, newer_in, mark_in, commit_in, reads_in}
 use Rattle.hg_headline.specs.Met.{IsMetAnswer, IsMetWrite, IsOpenWrite}
-use Rattle.hg_run.specs.Driving.{Driven, Past, IsKept, IsSitting, sitting, with_entries}
-use Rattle.hg_run.specs.Answering.{IsAsked, IsAnswered, IsFinished, IsTold, inside, newer_number, with_commit}
+use Rattle.hg_bucket.specs.Held.{Held}
+use Rattle.hg_run.specs.Buckets.{made_in}
+use Rattle.hg_run.specs.Driving.{Sitting, Driven, Past, Sets, IsKept, IsSitting, begun, sitting, with_entries}
+use Rattle.hg_run.specs.Answering.{Ends, Goes, Stays, IsAsked, IsAnswered, IsFinished, IsTold, inside, newer_number, with_commit}
 use Rattle.hg_run.proofs.Keeping.{put_here, put_other, put_twice, length_snoc, none_of}
 use Rattle.hg_run.proofs.Asking.{untold}
 
@@ -417,3 +419,35 @@ answered_outside l m p n j at table s a number mark idle access names many h f =
       kept = f.2;
       logs = (λ i. put p2.logs j (close (Some (sym f.1 i)) ++ p2.logs j)) ∙ ended (Some c);
     }
+
+-- what was asked stands in what is kept then
+abbrev pub asked_past : (k : Driven) (p : Past) (n j : ℕ) (s : Statement) (a : Answer) → IsAsked k p n j s a → Past
+asked_past k p n j s a h = with_entries p j (own_entries (length k.buckets) h.u s a)
+
+-- ---- how far it goes
+
+pub goes_outside : (k b a f : Driven) (j : ℕ) (snapshot : Snapshot) → Sets k.sessions b.sessions j (begun (sitting k.sessions j) snapshot) → b.mark ≡ k.mark → b.buckets ≡ k.buckets → Stays b a j → Ends a f → Goes k f j
+goes_outside k b a f j snapshot set mark buckets stays ends =
+    let here : (sitting b.sessions j).count ≡ (sitting k.sessions j).count + 1 = ap (λ (s : Sitting). s.count) set.here in
+    let count : (sitting f.sessions j).count ≡ (sitting k.sessions j).count + 1 = ends.counts j ∙ stays.counts j ∙ here in
+    let marks : a.mark ≡ k.mark = stays.mark ∙ mark in
+    let made : made_in b.buckets ≡ made_in k.buckets = ap made_in buckets in
+    let up = ends.mark in
+    let more = stays.made in
+    let same = ends.made in
+    record {
+      count = omega (arith, count);
+      others = λ i e. ends.counts i ∙ stays.counts i ∙ ap (λ (s : Sitting). s.count) (set.others i e);
+      mark = omega (arith, marks, up);
+      made = omega (arith, made, more, same);
+      buckets = ends.buckets ∙ stays.buckets ∙ ap (λ (bs : List Held). length bs) buckets;
+      sessions = ends.sessions ∙ stays.sessions ∙ set.many;
+    }
+
+-- a statement that names a table reads or writes
+pub names_access : (s : Statement) (table : TableId) → table_of s ≡ Some table → is_access s ≡ true
+names_access (Get r) table e = refl
+names_access (Put r row) table e = refl
+names_access (Del r) table e = refl
+names_access (Scan t low high) table e = refl
+names_access _ table e = absurd (none_some None table refl e)

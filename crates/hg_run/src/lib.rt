@@ -1,8 +1,8 @@
 //! Scratch.
 #![tactic(auto)]
 
-//mod buckets;
-//mod driver;
+mod buckets;
+mod driver;
 mod session;
 
 pub fn nothing() {}
