@@ -15,7 +15,7 @@ use Rattle.hg_script.specs.declared.values.Values.{Values}
 use Rattle.hg_script.specs.declared.values.Values.TheVariants.{Are}
 use Rattle.hg_script.specs.declared.word.Word.{Word}
 use Rattle.hg_script.specs.declared.draft.Ask.{Ask}
-use Rattle.hg_script.specs.declared.draft.Ask.TheVariants.{Begin, Get, Put, Commit}
+use Rattle.hg_script.specs.declared.draft.Ask.TheVariants.{Begin, Get, Put, Del, Scan, Commit, Rollback}
 use Rattle.hg_script.specs.declared.draft.Draft.{Draft}
 use Rattle.hg_script.specs.declared.draft.Draft.TheVariants.{Table, Session}
 use Rattle.hg_script.specs.Number.{value_of}
@@ -57,10 +57,13 @@ rid_of table key = record { table = unwrap_or table first_table; key = value_of 
 
 -- the statement that is asked
 abbrev pub statement_of : Ask → Statement
-statement_of Begin = say.Begin All
+statement_of (Begin scope) = say.Begin (unwrap_or scope All)
 statement_of (Get table key) = say.Get (rid_of table key)
 statement_of (Put table key values) = say.Put (rid_of table key) (row_of values)
+statement_of (Del table key) = say.Del (rid_of table key)
+statement_of (Scan table low high) = say.Scan (unwrap_or table first_table) (value_of low) (value_of high)
 statement_of Commit = say.Commit
+statement_of Rollback = say.Rollback
 
 -- The script with one more record that has its fields. A table's name stands in its second field.
 abbrev pub with_draft : ℕ → Script → Fields → Draft → Script

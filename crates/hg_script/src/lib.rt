@@ -40,6 +40,7 @@ mod number;
 mod reader;
 mod refusal;
 mod rules;
+mod scope;
 mod script;
 mod sessions;
 mod table;
