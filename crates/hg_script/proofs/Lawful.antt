@@ -1,7 +1,8 @@
 -- A record that breaks no rule keeps the script lawful.
-use Rattle.std.proofs.Common.{◌≡◌, ◌<◌, ◌≤◌, ◌+◌, ℕ, Bool, true, false, not, ◌||◌, ◌==◌, nat_lt, nat_le, List, [], ◌∷◌, ◌++◌, length, map, drop, Option, Some, None, if◌then◌else◌, refl, sym, subst, arith, length-append, append_assoc}
+use Rattle.std.proofs.Common.{◌≡◌, ◌<◌, ◌≤◌, ◌+◌, ℕ, Bool, true, false, not, ◌||◌, ◌==◌, nat_lt, nat_le, List, [], ◌∷◌, ◌++◌, length, map, drop, Option, Some, None, if◌then◌else◌, refl, sym, subst, arith, length-append, append_assoc, option_map}
 use Rattle.std.proofs.lemmas.Bool.{and_parts as and-parts}
 use Rattle.std.proofs.lemmas.Bool.Decides.{nat_tests}
+use Rattle.std.specs.Option.{option_map_or}
 use Rattle.hg_base.specs.declared.limits.TheConstants.{MOST_SESSIONS}
 use Rattle.hg_base.specs.declared.statement.Record.{Record}
 use Rattle.hg_base.specs.declared.statement.Statement.{Statement}
@@ -25,7 +26,7 @@ use Rattle.hg_script.specs.Number.{is_between, natural_of, value_of}
 use Rattle.hg_script.specs.Fields.{Field, Fields, nth, word_of}
 use Rattle.hg_script.specs.Draft.{draft_of, is_fresh, scope_named, table_named, values_of}
 use Rattle.hg_script.specs.Rules.{count_of, count_breaks, number_breaks, range_breaks, name_breaks, columns_breaks, ask_order_breaks, is_open, order_breaks}
-use Rattle.hg_script.specs.Meaning.{draft_code, first_code, nothing, or_next, refusal_from, refusal_of, row_of, script_from, script_of, statement_of, with_draft, with_row, with_word, word_code}
+use Rattle.hg_script.specs.Meaning.{draft_code, first_code, nothing, or_next, refusal_from, refusal_of, row_of, script_from, script_of, statement_of, with_draft, with_row, code_table, first_broken}
 use Rattle.hg_script.specs.Lawful.{AreInOrder, FitsTables, IsLawful, IsStatement, IsTable, MayStand}
 
 -- ---- lists
@@ -195,7 +196,9 @@ by-word place s r word.Commit g count k = asked-more place s (natural_of (nth r 
 by-word place s r word.Rollback g count k = asked-more place s (natural_of (nth r 0)) Rollback g k.range k.order tt
 
 by-words : (place : ℕ) (s : Script) (r : Fields) (w : Option Word) → Grown place s → count_breaks place s.tables w ≡ false
-    → word_code s r w ≡ None → Grown (place + 1) (with_word place s r w)
+    → first_broken (drop 1 (code_table place s r w (option_map (λ word. draft_of s.tables word r) w))) ≡ None
+    → Grown (place + 1) (option_map_or (with_draft place s r) (option_map (λ word. draft_of s.tables word r) w) s)
+unfolding draft_code
 by-words place s r None g count e = absurd (let bad : ⊥ = cc e in bad)
 by-words place s r (Some w) g count e = by-word place s r w g count (keeps s (draft_of s.tables w r) (no-code _ _ _ e).1)
 
