@@ -5,5 +5,6 @@ pub mod Whole
 pub mod Rows
 pub mod Names
 pub mod Scopes
+pub mod Sets
 pub mod Taken
 pub mod Lawful

@@ -1,6 +1,7 @@
 -- A record with its numbers read and its table looked up, before its rules are tested.
-use Rattle.std.specs.Prelude.{ℕ, List, [], ◌∷◌, ◌^◌, length, drop, fold, position, bytes_eq, Bool, not, ◌&&◌, ◌||◌, ◌==◌, nat_le, Option, Some, None, is_some, option_map}
-use Rattle.std.specs.List.{list_all}
+use Rattle.std.specs.Prelude.{ℕ, List, [], ◌∷◌, ◌^◌, length, drop, fold, position, bytes_eq, Bool, false, not, ◌&&◌, ◌||◌, ◌==◌, nat_le, Option, Some, None, is_some, option_map}
+use Rattle.std.specs.List.{list_all, list_any}
+use Rattle.std.specs.Option.{option_map_or}
 use Rattle.std.specs.Int.Bits.{bit_or}
 use Rattle.hg_base.specs.declared.rid.TableId.{TableId}
 use Rattle.hg_base.specs.declared.scope.Scope.{Scope}
@@ -51,6 +52,10 @@ with_named tables set name = with_table set (table_named tables name)
 -- the set of the tables of these names, of which one may stand twice
 abbrev pub set_named : List Declaration → List Field → Option ℕ
 set_named tables names = fold (with_named tables) (Some 0) names
+
+-- whether one of these names is the table's
+abbrev pub is_named : List Declaration → List Field → TableId → Bool
+is_named tables names table = list_any (λ name. option_map_or (λ found. found.0 == table.0) (table_named tables name) false) names
 
 -- every table where no name is given, and else the tables of these names
 abbrev pub scope_named : List Declaration → List Field → Option Scope

@@ -55,7 +55,7 @@ mod values;
 mod word;
 
 pub use code::Code;
-pub use law::numbers_are_decimal;
+pub use law::{numbers_are_decimal, scopes_have_what_is_named};
 pub use reader::read_script;
 pub use refusal::ScriptRefusal;
 pub use script::Script;
