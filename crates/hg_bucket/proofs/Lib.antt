@@ -1,4 +1,12 @@
 pub mod Reading
+pub mod Chaining
 pub mod Changing
-pub mod Sums
+pub mod Entries
+pub mod Turning
 pub mod Dropping
+pub mod Bare
+pub mod Seating
+pub mod Naming
+pub mod Installing
+pub mod Stamping
+pub mod Refusing

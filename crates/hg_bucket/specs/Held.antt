@@ -1,5 +1,5 @@
 -- What a bucket holds: each record's versions, and what became of all others.
-use Rattle.std.specs.Prelude.{◌≡◌, ℕ, ◌+◌, ◌<◌, ◌≤◌, not, filter, is_some, IsFalse, List, [], ◌∷◌, ◌++◌, length, sum_by, find, drop, Bool, false, ◌&&◌, ◌==◌, nat_le, if◌then◌else◌, Option, Some, None, IsSome, option_map, unwrap_or}
+use Rattle.std.specs.Prelude.{◌≡◌, ℕ, ◌+◌, ◌<◌, ◌≤◌, ◌^◌, not, filter, is_some, IsFalse, List, [], ◌∷◌, ◌++◌, length, sum_by, find, drop, Bool, false, ◌&&◌, ◌==◌, nat_le, if◌then◌else◌, Option, Some, None, IsSome, option_map, unwrap_or}
 use Rattle.std.specs.Option.{option_or, MatchOption}
 use Rattle.std.specs.Map.{lookup}
 use Rattle.hg_base.specs.declared.rid.Rid.{Rid}
@@ -36,6 +36,11 @@ left records = sum_by (λ e. length e.1) records
 -- each version that was made is undone, removed or held
 abbrev pub IsBalanced : Held → Type 0
 IsBalanced h = h.made ≡ h.undone + h.group + h.table + h.interval + left h.records
+
+-- what is always so
+pub record IsSound (h : Held) : Type 0 where
+  pub balance : IsBalanced h
+  pub small : h.made ≤ 2 ^ 40
 
 abbrev pub counts_of : Held → Totals
 counts_of h = record { made = h.made; undone = h.undone; group = h.group; table = h.table; interval = h.interval; left = left h.records }

@@ -1,29 +1,22 @@
-//! Records with their versions.
+//! Records with their versions, and counters of them.
 
-ghost use Rattle.std.specs.Prelude.{◌≡◌, [], Some, None, IsTrue, drop};
+ghost use Rattle.std.specs.Prelude.{◌≡◌, ◌+◌, ◌<◌, ◌^◌, [], None, IsTrue, IsOk, IfSome, IfErr, OnOk, OnErr, drop, if◌then◌else◌};
+ghost use Rattle.std.specs.Option.{option_copied};
 ghost use Rattle.hg_base.specs.Lists.{Each};
-ghost use Rattle.hg_chain.specs.Versions as chain;
-ghost use Rattle.std.specs.Option.{option_copied, option_or};
-ghost use Rattle.hg_chain.specs.Versions.{image_by, image_at};
-ghost use Rattle.hg_space.specs.Places as seat;
-ghost use Rattle.hg_space.specs.Places.{IsTaken};
-ghost use Rattle.hg_bucket.specs.Parts.{chain_of, oldest_by, ChainIs};
-ghost use Rattle.hg_bucket.specs.Held.{versions_of, begins_open, stamped, OthersStay, IsBelow, read_at, counts_of, IsNextKey};
+ghost use Rattle.hg_bucket.specs.declared.refusal.WriteRefusal.TheVariants.{Open, Newer};
+ghost use Rattle.hg_bucket.specs.Conflicts.{holder, newer, IsCause};
+ghost use Rattle.hg_bucket.specs.Held.{versions_of, begins_open, installed, stamped, OthersStay, IsBelow, read_at, counts_of, IsNextKey};
 
+use crate::records::Records;
+use crate::refusal::WriteRefusal;
 use hg_base::{Image, Rid, TableId, Totals, Writer};
-use hg_chain::Chain;
-use hg_space::{RidIndex, TableSpace};
 use std::alloc::Global;
-use std::collections::BTreeMap;
 use std::marker::Model;
 
 /// The records of a bucket, with counters of their versions.
 #[derive(Debug, Drop)]
 pub struct Bucket {
-    index: RidIndex,
-    space: TableSpace,
-    chains: BTreeMap<Rid, Chain>,
-    alloc: Global,
+    records: Records,
     made: u64,
     undone: u64,
     group: u64,
@@ -32,15 +25,13 @@ pub struct Bucket {
 }
 
 impl Model for Bucket {
-    ghost use Rattle.hg_bucket.specs.Held.{Held};
+    ghost use Rattle.hg_bucket.specs.Held.{Held, IsSound};
 
     ghost Value = { Held };
 
-    ghost use Rattle.hg_bucket.specs.Parts.{records_of, IsSound};
+    ghost view = { λ b. record { records = b.records; made = b.made; undone = b.undone; group = b.group; table = b.table; interval = b.interval } };
 
-    ghost view = { λ b. record { records = records_of b.index b.chains.entries b.space.places; made = b.made; undone = b.undone; group = b.group; table = b.table; interval = b.interval } };
-
-    ghost invariant = { λ b. IsSound b.index b.chains.entries b.space.places record { records = records_of b.index b.chains.entries b.space.places; made = b.made; undone = b.undone; group = b.group; table = b.table; interval = b.interval } };
+    ghost invariant = { λ b. IsSound record { records = b.records; made = b.made; undone = b.undone; group = b.group; table = b.table; interval = b.interval } };
 }
 
 impl Bucket {
@@ -49,10 +40,7 @@ impl Bucket {
         ensures { result ≡ record { records = []; made = 0; undone = 0; group = 0; table = 0; interval = 0 } }
     {
         Bucket {
-            index: RidIndex::new(alloc),
-            space: TableSpace::new(alloc),
-            chains: BTreeMap::new(alloc),
-            alloc,
+            records: Records::new(alloc),
             made: 0,
             undone: 0,
             group: 0,
@@ -65,8 +53,43 @@ impl Bucket {
     pub fn read(&self, rid: Rid, snapshot: u64, own: Writer) -> Option<&Image>
         ensures { option_copied result ≡ read_at own snapshot (versions_of self.now.records rid) }
     {
-        let place = self.index.place(rid)?;
-        in_chain(&self.chains, rid, snapshot, own).or(in_space(&self.space, place, snapshot))
+        self.records.read(rid, snapshot, own)
+    }
+
+    /// Writes an image. A transaction's second write of a record replaces its first one. That takes no memory, and it isn't
+    /// counted.
+    pub fn write(
+        &mut self,
+        rid: Rid,
+        by: Writer,
+        image: Image,
+        snapshot: u64,
+        mark: u64,
+    ) -> Result<(), WriteRefusal>
+        requires { self.old.made < 2 ^ 40 }
+        ensures open { IfSome (holder by mark (versions_of self.old.records rid)) (λ w. result ≡ Err (Open w)) }
+        ensures newer { holder by mark (versions_of self.old.records rid) ≡ None → IfSome (newer snapshot (versions_of self.old.records rid)) (λ n. result ≡ Err (Newer n)) }
+        ensures cause { IfErr result (IsCause by snapshot mark (versions_of self.old.records rid)) }
+        ensures replaced { IsTrue (begins_open by (versions_of self.old.records rid)) → IsOk result }
+        ensures stored { OnOk result (versions_of self.new.records rid ≡ installed by image (versions_of self.old.records rid)) }
+        ensures others { OthersStay self.old.records self.new.records rid }
+        ensures made { OnOk result (self.new ≡ record self.old { records = self.new.records; made = self.old.made + (if begins_open by (versions_of self.old.records rid) then 0 else 1) }) }
+        ensures refused { OnErr result (self.new ≡ self.old) }
+    {
+        let added = self.records.write(rid, by, image, snapshot, mark)?;
+        self.made += if added { 1 } else { 0 };
+        Ok(())
+    }
+
+    /// Removes the transaction's open write of a record. A record that has no other version is dropped.
+    pub fn undo(&mut self, rid: Rid, by: Writer)
+        requires { IsTrue (begins_open by (versions_of self.old.records rid)) }
+        ensures here { versions_of self.new.records rid ≡ drop 1 (versions_of self.old.records rid) }
+        ensures others { OthersStay self.old.records self.new.records rid }
+        ensures undone { self.new ≡ record self.old { records = self.new.records; undone = self.old.undone + 1 } }
+    {
+        self.records.undo(rid, by);
+        self.undone += 1;
     }
 
     /// Gives the transaction's open write of a record its number.
@@ -77,14 +100,14 @@ impl Bucket {
         ensures others { OthersStay self.old.records self.new.records rid }
         ensures counters { self.new ≡ record self.old { records = self.new.records } }
     {
-        stamp_chain(&mut self.chains, rid, by, number);
+        self.records.stamp(rid, by, number);
     }
 
     /// The least key of a table at or over a number, of those that have a version.
     pub fn next_key(&self, table: TableId, from: u64) -> Option<u64>
         ensures { IsNextKey self.now.records table from result }
     {
-        self.index.next_key(table, from)
+        self.records.next_key(table, from)
     }
 
     /// How many versions were made, undone, removed by each collector, and are held.
@@ -99,35 +122,5 @@ impl Bucket {
             interval: self.interval,
             left: self.made - self.undone - self.group - self.table - self.interval,
         }
-    }
-}
-
-// What a transaction reads of a record's chain.
-fn in_chain(chains: &BTreeMap<Rid, Chain>, rid: Rid, snapshot: u64, own: Writer) -> Option<&Image>
-    ensures { let vs = chain_of chains.now.entries rid in option_copied result ≡ option_or (image_by own vs) (image_at snapshot vs) }
-{
-    let chain = chains.get(&rid)?;
-    chain.own(own).or(chain.visible(snapshot))
-}
-
-// What a reader sees of a record's oldest image.
-fn in_space(space: &TableSpace, place: u64, snapshot: u64) -> Option<&Image>
-    requires { IsTaken space.now.places place }
-    ensures { option_copied result ≡ oldest_by snapshot (seat.image_at space.now.places place) }
-{
-    let (number, image) = space.image(place)?;
-    if number > snapshot {
-        return None;
-    }
-    Some(image)
-}
-
-fn stamp_chain(chains: &mut BTreeMap<Rid, Chain>, rid: Rid, by: Writer, number: u64)
-    requires open_write { IsTrue (chain.is_open_by by (chain_of chains.old.entries rid)) }
-    requires over { Each (chain.IsBelow number) (drop 1 (chain_of chains.old.entries rid)) }
-    ensures { ChainIs chains.old.entries chains.new.entries rid (chain.stamped by number (chain_of chains.old.entries rid)) }
-{
-    if let Some(chain) = chains.get_mut(&rid) {
-        chain.stamp(by, number);
     }
 }

@@ -1,6 +1,12 @@
 //! Why a write is refused.
 
+ghost use Rattle.std.specs.Prelude.{◌≡◌, [], ◌∷◌};
+ghost use Rattle.hg_base.specs.declared.image.Image.{Image};
+ghost use Rattle.hg_bucket.specs.Conflicts.{conflict};
+ghost use Rattle.hg_bucket.specs.Parts.{kept_as};
+
 use hg_base::{NoMemory, Writer};
+use hg_chain::Stamp;
 use thiserror::Error;
 
 /// The first of these that is so.
@@ -24,5 +30,18 @@ impl From<NoMemory> for WriteRefusal {
 
     fn from(_: NoMemory) -> WriteRefusal {
         WriteRefusal::NoMemory
+    }
+}
+
+/// Why a write over a newest version of that stamp is refused, memory aside.
+pub(crate) fn refusal(stamp: Stamp, by: Writer, snapshot: u64, mark: u64) -> Option<WriteRefusal>
+    ensures { (image : Image) → result ≡ conflict by snapshot mark (kept_as stamp image ∷ []) }
+{
+    match stamp {
+        Stamp::Written(writer) if writer == by => None,
+        Stamp::Written(writer) => Some(WriteRefusal::Open(writer)),
+        Stamp::Numbered { number, by: writer } if number > mark => Some(WriteRefusal::Open(writer)),
+        Stamp::Numbered { number, by: _ } if number > snapshot => Some(WriteRefusal::Newer(number)),
+        Stamp::Numbered { .. } => None,
     }
 }

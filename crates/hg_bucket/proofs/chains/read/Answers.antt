@@ -3,7 +3,7 @@ use Rattle.std.specs.Prelude.{unwrap_or}
 use Rattle.std.specs.Option.{option_copied, option_or}
 use Rattle.hg_bucket.specs.Parts.{chain_of}
 use Rattle.hg_bucket.proofs.Reading.{looked_up, copied_either}
-use Rattle.hg_bucket.proofs.bucket.in_chain.Goals as goal
+use Rattle.hg_bucket.proofs.chains.read.Goals as goal
 
 pub returns : goal.returns
 returns c =

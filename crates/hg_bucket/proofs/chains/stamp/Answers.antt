@@ -6,7 +6,7 @@ use Rattle.hg_chain.specs.Versions as chain
 use Rattle.hg_bucket.specs.Parts.{chain_of, ChainIs}
 use Rattle.hg_bucket.proofs.Reading.{looked_up}
 use Rattle.hg_bucket.proofs.Changing.{written, stamped_some}
-use Rattle.hg_bucket.proofs.bucket.stamp_chain.Goals as goal
+use Rattle.hg_bucket.proofs.chains.stamp.Goals as goal
 
 pub stamp-requires-clause-open_write : goal.stamp-requires-clause-open_write
 stamp-requires-clause-open_write c =

@@ -1,0 +1,84 @@
+//! The places of records.
+
+ghost use Rattle.std.specs.Prelude.{◌≡◌, ℕ, length, IsSome, IsOk, OnOk, OnErr, None, Some, nat_lt, if◌then◌else◌, option_and_then};
+ghost use Rattle.std.specs.Option.{option_copied};
+ghost use Rattle.hg_space.specs.Places as seat;
+ghost use Rattle.hg_space.specs.Places.{IsTaken};
+ghost use Rattle.hg_space.specs.Index.{AreTaken, place_of, IsIndex};
+ghost use Rattle.hg_bucket.specs.declared.refusal.WriteRefusal.TheVariants.{Newer};
+ghost use Rattle.hg_bucket.specs.Held.{versions_of, OthersStay, left};
+ghost use Rattle.hg_bucket.specs.Parts.{oldest_by, records_of, AreWhole, SeatsStay, Names, MayBeBare};
+
+use crate::chains::Chains;
+use crate::refusal::WriteRefusal;
+use hg_base::{Image, NoMemory, Rid};
+use hg_space::{RidIndex, TableSpace};
+
+/// What a reader sees of a record's oldest image.
+pub(crate) fn read(space: &TableSpace, place: u64, snapshot: u64) -> Option<&Image>
+    requires { IsTaken space.now.places place }
+    ensures { option_copied result ≡ oldest_by snapshot (seat.image_at space.now.places place) }
+{
+    let (number, image) = space.image(place)?;
+    if number > snapshot {
+        return None;
+    }
+    Some(image)
+}
+
+/// Whether a record's oldest image is over the snapshot.
+pub(crate) fn newer(space: &TableSpace, place: u64, snapshot: u64) -> Option<WriteRefusal>
+    requires { IsTaken space.now.places place }
+    ensures { result ≡ option_and_then (λ oldest. if nat_lt snapshot oldest.0 then Some (Newer oldest.0) else None) (seat.image_at space.now.places place) }
+{
+    let (number, _) = space.image(place)?;
+    if snapshot < number {
+        return Some(WriteRefusal::Newer(number));
+    }
+    None
+}
+
+/// Gives a record a place, where it has none.
+pub(crate) fn name(index: &mut RidIndex, space: &mut TableSpace, rid: Rid) -> Result<(), NoMemory>
+    requires { AreTaken index.old space.old.places }
+    ensures had { IsSome (place_of index.old rid) → IsOk result }
+    ensures index { IsSome (place_of index.old rid) → index.new ≡ index.old }
+    ensures places { IsSome (place_of index.old rid) → space.new.places ≡ space.old.places }
+    ensures named { place_of index.old rid ≡ None → OnOk result ((p : ℕ) × Names index.old index.new space.old.places space.new.places rid p) }
+    ensures refused { OnErr result (index.new ≡ index.old) }
+    ensures seats { OnErr result (SeatsStay index.old space.old.places space.new.places) }
+    ensures distinct { IsIndex index.old }
+{
+    if index.place(rid).is_some() {
+        return Ok(());
+    }
+    space.reserve()?;
+    let place = space.take_place();
+    if let Err(refused) = index.insert(rid, place) {
+        space.give_place(place);
+        return Err(refused);
+    }
+    Ok(())
+}
+
+/// Drops a record that has no version left.
+pub(crate) fn drop_bare(index: &mut RidIndex, space: &mut TableSpace, chains: &Chains, rid: Rid)
+    requires { MayBeBare rid index.old chains.now.entries space.old.places }
+    ensures whole { AreWhole index.new chains.now.entries space.new.places }
+    ensures here { versions_of (records_of index.new chains.now.entries space.new.places) rid ≡ versions_of (records_of index.old chains.now.entries space.old.places) rid }
+    ensures others { OthersStay (records_of index.old chains.now.entries space.old.places) (records_of index.new chains.now.entries space.new.places) rid }
+    ensures left { left (records_of index.new chains.now.entries space.new.places) ≡ left (records_of index.old chains.now.entries space.old.places) }
+    ensures distinct { IsIndex index.old }
+{
+    let Some(place) = index.place(rid) else {
+        return;
+    };
+    if chains.contains_key(&rid) {
+        return;
+    }
+    if space.image(place).is_some() {
+        return;
+    }
+    let _ = index.remove(rid);
+    space.give_place(place);
+}

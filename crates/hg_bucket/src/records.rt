@@ -1,0 +1,151 @@
+//! Records with their versions.
+
+ghost use Rattle.std.specs.Prelude.{◌≡◌, ◌+◌, [], not, drop, IsTrue, IsOk, IfOk, IfErr, OnOk, OnErr, IfSome, if◌then◌else◌, None};
+ghost use Rattle.hg_base.specs.Lists.{Each};
+ghost use Rattle.std.specs.Option.{option_copied};
+ghost use Rattle.hg_space.specs.Places as seat;
+ghost use Rattle.hg_space.specs.Places.{IsTaken};
+ghost use Rattle.hg_space.specs.Index.{AreTaken, place_of, IsIndex};
+ghost use Rattle.hg_bucket.specs.Parts.{oldest_by, records_of, AreWhole};
+ghost use Rattle.hg_bucket.specs.Conflicts.{conflict, NoOther, holder, newer, IsCause};
+ghost use Rattle.hg_bucket.specs.Held.{versions_of, begins_open, installed, stamped, OthersStay, IsBelow, read_at, IsNextKey, left};
+
+use crate::chains::{self, Chains};
+use crate::places::{self, drop_bare};
+use crate::refusal::{WriteRefusal, refusal};
+use hg_base::{Image, NoMemory, Rid, TableId, Writer};
+use hg_chain::Stamp;
+use hg_space::{RidIndex, TableSpace};
+use std::alloc::Global;
+use std::collections::BTreeMap;
+use std::marker::Model;
+
+/// Records, each with its versions.
+#[derive(Debug, Drop)]
+pub(crate) struct Records {
+    index: RidIndex,
+    space: TableSpace,
+    chains: Chains,
+    alloc: Global,
+}
+
+impl Model for Records {
+    ghost use Rattle.std.specs.Prelude.{List};
+    ghost use Rattle.hg_base.specs.declared.rid.Rid.{Rid};
+    ghost use Rattle.hg_bucket.specs.Held.{Kept};
+
+    ghost Value = { List (Rid × List Kept) };
+
+    ghost use Rattle.hg_bucket.specs.Parts.{records_of, AreWhole};
+
+    ghost view = { λ s. records_of s.index s.chains.entries s.space.places };
+
+    ghost invariant = { λ s. AreWhole s.index s.chains.entries s.space.places };
+}
+
+impl Records {
+    pub fn new(alloc: Global) -> Records
+        ensures { result ≡ [] }
+    {
+        Records {
+            index: RidIndex::new(alloc),
+            space: TableSpace::new(alloc),
+            chains: BTreeMap::new(alloc),
+            alloc,
+        }
+    }
+
+    /// What a transaction reads of a record.
+    pub fn read(&self, rid: Rid, snapshot: u64, own: Writer) -> Option<&Image>
+        ensures { option_copied result ≡ read_at own snapshot (versions_of self.now rid) }
+    {
+        let place = self.index.place(rid)?;
+        chains::read(&self.chains, rid, snapshot, own).or(places::read(
+            &self.space,
+            place,
+            snapshot,
+        ))
+    }
+
+    /// The least key of a table at or over a number, of those that have a version.
+    pub fn next_key(&self, table: TableId, from: u64) -> Option<u64>
+        ensures { IsNextKey self.now table from result }
+    {
+        self.index.next_key(table, from)
+    }
+
+    // Why a write is refused, memory aside.
+    fn conflict(&self, rid: Rid, by: Writer, snapshot: u64, mark: u64) -> Option<WriteRefusal>
+        ensures refusal { result ≡ conflict by snapshot mark (versions_of self.now rid) }
+        ensures free { result ≡ None → NoOther by (versions_of self.now rid) }
+    {
+        let place = self.index.place(rid)?;
+        match chains::newest(&self.chains, rid) {
+            Some(stamp) => refusal(stamp, by, snapshot, mark),
+            None => places::newer(&self.space, place, snapshot),
+        }
+    }
+
+    /// Writes an image. The answer says whether a version was added.
+    pub fn write(
+        &mut self,
+        rid: Rid,
+        by: Writer,
+        image: Image,
+        snapshot: u64,
+        mark: u64,
+    ) -> Result<bool, WriteRefusal>
+        ensures refusal { IfSome (conflict by snapshot mark (versions_of self.old rid)) (λ e. result ≡ Err e) }
+        ensures cause { IfErr result (IsCause by snapshot mark (versions_of self.old rid)) }
+        ensures stored { OnOk result (versions_of self.new rid ≡ installed by image (versions_of self.old rid)) }
+        ensures others { OthersStay self.old self.new rid }
+        ensures added { IfOk result (λ added. added ≡ not (begins_open by (versions_of self.old rid))) }
+        ensures left { IfOk result (λ added. left self.new ≡ left self.old + (if added then 1 else 0)) }
+        ensures refused { OnErr result (self.new ≡ self.old) }
+    {
+        if let Some(refusal) = self.conflict(rid, by, snapshot, mark) {
+            return Err(refusal);
+        }
+        Ok(self.install(rid, by, image)?)
+    }
+
+    // Writes an image, where no version is an open write of another.
+    fn install(&mut self, rid: Rid, by: Writer, image: Image) -> Result<bool, NoMemory>
+        requires { NoOther by (versions_of self.old rid) }
+        ensures stored { OnOk result (versions_of self.new rid ≡ installed by image (versions_of self.old rid)) }
+        ensures others { OthersStay self.old self.new rid }
+        ensures added { IfOk result (λ added. added ≡ not (begins_open by (versions_of self.old rid))) }
+        ensures left { IfOk result (λ added. left self.new ≡ left self.old + (if added then 1 else 0)) }
+        ensures replaced { IsTrue (begins_open by (versions_of self.old rid)) → IsOk result }
+        ensures refused { OnErr result (self.new ≡ self.old) }
+    {
+        let added = chains::install(&mut self.chains, self.alloc, rid, by, image)?;
+        if let Err(refused) = places::name(&mut self.index, &mut self.space, rid) {
+            chains::end(&mut self.chains, rid);
+            return Err(refused);
+        }
+        Ok(added)
+    }
+
+    /// Removes the transaction's open write of a record. A record that has no other version is dropped.
+    pub fn undo(&mut self, rid: Rid, by: Writer)
+        requires { IsTrue (begins_open by (versions_of self.old rid)) }
+        ensures here { versions_of self.new rid ≡ drop 1 (versions_of self.old rid) }
+        ensures others { OthersStay self.old self.new rid }
+        ensures left { left self.new + 1 ≡ left self.old }
+    {
+        chains::undo(&mut self.chains, rid, by);
+        drop_bare(&mut self.index, &mut self.space, &self.chains, rid);
+    }
+
+    /// Gives the transaction's open write of a record its number.
+    pub fn stamp(&mut self, rid: Rid, by: Writer, number: u64)
+        requires open_write { IsTrue (begins_open by (versions_of self.old rid)) }
+        requires over { Each (IsBelow number) (drop 1 (versions_of self.old rid)) }
+        ensures here { versions_of self.new rid ≡ stamped by number (versions_of self.old rid) }
+        ensures others { OthersStay self.old self.new rid }
+        ensures left { left self.new ≡ left self.old }
+    {
+        chains::stamp(&mut self.chains, rid, by, number);
+    }
+}
