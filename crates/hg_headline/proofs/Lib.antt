@@ -16,3 +16,8 @@ pub mod Loops
 pub mod Parts
 pub mod Answering
 pub mod Stepping
+pub mod Firsts
+pub mod Undone
+pub mod Tidy
+pub mod Lives
+pub mod Counting

@@ -1,0 +1,33 @@
+-- What a replay counts.
+use Rattle.std.specs.Prelude.{◌≡◌, ◌⊎◌, ℕ, ◌+◌, ◌≤◌, List, ◌∷◌, ◌++◌, length, map, sum_by, Bool, true, None, IsSome}
+use Rattle.hg_base.specs.declared.rid.Rid.{Rid}
+use Rattle.hg_base.specs.declared.report.Kind.TheVariants as kinds
+use Rattle.hg_base.specs.declared.line.Totals.{Totals}
+use Rattle.hg_base.specs.History.{History}
+use Rattle.hg_base.specs.Transcript.{Said}
+use Rattle.hg_base.specs.Counts.{live, removed_by}
+use Rattle.hg_core.specs.declared.log.LogEntry.{LogEntry}
+use Rattle.hg_core.specs.declared.log.LogEntry.TheVariants.{Undid, Over}
+use Rattle.hg_core.specs.Logs.{current, own_writes}
+use Rattle.hg_core.specs.Sums.{sum_to}
+use Rattle.hg_core.specs.Counters.{first_writes, undos}
+use Rattle.hg_core.specs.Reading.{UndoesAll}
+
+-- every record
+abbrev pub every : Rid → Bool
+every r = true
+
+-- a transaction that is open is rolled back, without a line
+abbrev pub Closes : List LogEntry → List LogEntry → Type 0
+Closes log closed = ((current log ≡ None) × (closed ≡ log)) ⊎ (IsSome (current log) × ((undone : List Rid) × UndoesAll (own_writes log) undone × (closed ≡ Over ∷ (map Undid undone ++ log))))
+
+-- The totals over the logs of all sessions as they are closed: one version made for each record that a transaction wrote, one
+-- undone for each write that was taken back, what the reports tell of the collectors, and one left for each live record.
+pub record IsCounted (sessions : ℕ) (h : History) (logs : ℕ → List LogEntry) (all : List Said) (totals : Totals) : Type 0 where
+  pub made : totals.made ≡ sum_to sessions (λ j. first_writes every (logs j))
+  pub undone : totals.undone ≡ sum_to sessions (λ j. undos every (logs j))
+  pub group : totals.group ≡ sum_by (removed_by kinds.Group) all
+  pub table : sum_by (removed_by kinds.Table) all ≤ totals.table
+  pub interval : totals.interval ≡ sum_by (removed_by kinds.Interval) all
+  pub left : totals.left ≡ length (live h)
+  pub balance : totals.made ≡ totals.undone + totals.group + totals.table + totals.interval + totals.left
