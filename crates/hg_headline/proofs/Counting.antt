@@ -29,7 +29,7 @@ use Rattle.hg_headline.proofs.Ties.{Ties, ties_nothing}
 use Rattle.hg_headline.proofs.Commits.{Matches, same_printed, printed_onto}
 use Rattle.hg_headline.proofs.Whole.{lines_told, matches_all, places_of}
 use Rattle.hg_headline.proofs.Replaying.{met_collected, replay_sound}
-use Rattle.hg_headline.proofs.Firsts.{one_if, first_by, first_undone, passes, lines_counted}
+use Rattle.hg_headline.proofs.Firsts.{first_by, first_writes_is, first_undone, passes, lines_counted}
 use Rattle.hg_headline.proofs.Undone.{publishes, undone_in_log}
 use Rattle.hg_headline.proofs.Tidy.{IsTidyBetween, follows_tidy, closed_tidy}
 use Rattle.hg_headline.proofs.Lives.{lives_same}
@@ -99,21 +99,6 @@ closed_firsts test l m (inr k) = ap (first_by test) k.1.2 ∙ first_undone test 
 closed_publishes : (x : ℕ) (l m : List LogEntry) → Closes l m → publishes x m ≡ publishes x l
 closed_publishes x l m (inl k) = ap (publishes x) k.1
 closed_publishes x l m (inr k) = ap (publishes x) k.1.2 ∙ publishes_undone x k.1.0 l
-
-first_of : (o : Option Image) → one_if (true && is_none o) ≡ (if true && not (is_some o) then 1 else 0)
-first_of None = refl
-first_of (Some i) = refl
-
-first_writes_is : (l : List LogEntry) → first_writes every l ≡ first_by (λ x. true) l
-first_writes_is [] = refl
-first_writes_is (Wrote r image ∷ l) = λ i. sym (first_of (image_in r (own_writes l))) i + first_writes_is l i
-first_writes_is (Began at scope ∷ l) = first_writes_is l
-first_writes_is (Published n ∷ l) = first_writes_is l
-first_writes_is (Saw t low high b rows ∷ l) = first_writes_is l
-first_writes_is (Refused r a ∷ l) = first_writes_is l
-first_writes_is (Outside t ∷ l) = first_writes_is l
-first_writes_is (Undid r ∷ l) = first_writes_is l
-first_writes_is (Over ∷ l) = first_writes_is l
 
 all_pass : {X : Type 0} (xs : List X) → filter (λ x. true) xs ≡ xs
 all_pass [] = refl

@@ -1,9 +1,10 @@
 -- The first writes of records in transactions: those that lines print are those that logs have.
-use Rattle.std.proofs.Common.{◌≡◌, ℕ, zero, suc, ◌+◌, ◌<◌, ◌≤◌, ℤ, List, [], ◌∷◌, ◌++◌, length, map, Bool, true, false, Option, Some, None, refl, sym, ap, ◌∙◌, subst, arith}
-use Rattle.std.specs.Prelude.{◌&&◌, cond, filter, if◌then◌else◌, IsTrue, is_none, unwrap_or}
+use Rattle.std.proofs.Common.{◌≡◌, not, ℕ, zero, suc, ◌+◌, ◌<◌, ◌≤◌, ℤ, List, [], ◌∷◌, ◌++◌, length, map, Bool, true, false, Option, Some, None, refl, sym, ap, ◌∙◌, subst, arith}
+use Rattle.std.specs.Prelude.{is_some, ◌&&◌, cond, filter, if◌then◌else◌, IsTrue, is_none, unwrap_or}
 use Rattle.std.specs.List.{cons_option}
 use Rattle.std.specs.Option.{option_map_or}
 use Rattle.hg_base.specs.declared.rid.Rid.{Rid}
+use Rattle.hg_base.specs.declared.image.Image.{Image}
 use Rattle.hg_base.specs.declared.rid.TableId.{TableId}
 use Rattle.hg_base.specs.declared.scope.Snapshot.{Snapshot}
 use Rattle.hg_base.specs.declared.statement.Record.{Record}
@@ -20,13 +21,15 @@ use Rattle.hg_base.specs.Transcript.{Said, last_of, open_of, next_after, standin
 use Rattle.hg_base.specs.Transcript.{own_writes as own_before}
 use Rattle.hg_base.specs.Counts.{first_writes_from}
 use Rattle.hg_core.specs.declared.log.LogEntry.{LogEntry}
-use Rattle.hg_core.specs.declared.log.LogEntry.TheVariants.{Began, Wrote, Undid}
+use Rattle.hg_core.specs.declared.log.LogEntry.TheVariants.{Began, Saw, Refused, Outside, Wrote, Undid, Published, Over}
 use Rattle.hg_core.specs.Logs.{current, begans, own_writes}
 use Rattle.hg_core.specs.Contents.{bucket_of}
 use Rattle.hg_core.specs.Judged.{Judged}
 use Rattle.hg_core.specs.Replies.{AreReplied}
 use Rattle.hg_core.specs.Events.{put}
 use Rattle.hg_core.specs.Sums.{sum_to}
+use Rattle.hg_core.specs.Counters.{first_writes}
+use Rattle.hg_headline.specs.Counted.{every}
 use Rattle.hg_core.specs.Reading.{Unprinted, saws, own_entries, is_access, is_alone, close, log_with, log_after, FitsAnswer, Fits, Follows}
 use Rattle.hg_core.proofs.Indices.{by_number, put_here, put_else}
 use Rattle.hg_core.proofs.Sums.{sum_same, sum_grown}
@@ -55,6 +58,22 @@ first_by test (_ ∷ log) = first_by test log
 abbrev pub first_with : (ℕ → Bool) → ℕ → List Write → Option Write → ℕ → ℕ
 first_with test x own None rest = rest
 first_with test x own (Some w) rest = one_if (test x && is_none (image_in w.rid own)) + rest
+
+-- those of all transactions
+first_of : (o : Option Image) → one_if (true && is_none o) ≡ (if true && not (is_some o) then 1 else 0)
+first_of None = refl
+first_of (Some i) = refl
+
+pub first_writes_is : (l : List LogEntry) → first_writes every l ≡ first_by (λ x. true) l
+first_writes_is [] = refl
+first_writes_is (Wrote r image ∷ l) = λ i. sym (first_of (image_in r (own_writes l))) i + first_writes_is l i
+first_writes_is (Began at scope ∷ l) = first_writes_is l
+first_writes_is (Published n ∷ l) = first_writes_is l
+first_writes_is (Saw t low high b rows ∷ l) = first_writes_is l
+first_writes_is (Refused r a ∷ l) = first_writes_is l
+first_writes_is (Outside t ∷ l) = first_writes_is l
+first_writes_is (Undid r ∷ l) = first_writes_is l
+first_writes_is (Over ∷ l) = first_writes_is l
 
 -- ---- the entries of a statement
 

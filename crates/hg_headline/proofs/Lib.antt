@@ -21,3 +21,5 @@ pub mod Undone
 pub mod Tidy
 pub mod Lives
 pub mod Counting
+pub mod Tallying
+pub mod Ending

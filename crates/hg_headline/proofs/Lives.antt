@@ -137,3 +137,25 @@ lives_same h k s i =
     among_filtered (row h) r (once (flat_map group_rids h))
     ∙ (λ z. if (is_some (last_image (filter (λ (w : ℕ × Image). nat_le w.0 (length_same h k s z)) (same z))).row) then ((once_among r (flat_map group_rids h) ∙ sym (history_among 1 h r) ∙ ap is_any same ∙ history_among 1 k r ∙ sym (once_among r (flat_map group_rids k))) z) else false)
     ∙ sym (among_filtered (row k) r (once (flat_map group_rids k))))
+
+-- ---- the live records of a history
+
+-- a record that is seen as a row is written
+row_written : (h : History) (r : Rid) (s : ℕ) → is_some (visible h r s).row ≡ true → is_among r (flat_map group_rids h) ≡ true
+row_written h r s e = sym (history_among 1 h r) ∙ go (writes h r) refl
+  where
+    go : (ws : List (ℕ × Image)) → writes h r ≡ ws → is_any (writes h r) ≡ true
+    go [] q = absurd (true_false (sym e ∙ ap (λ (xs : List (ℕ × Image)). is_some (last_image (filter (λ (w : ℕ × Image). nat_le w.0 s) xs)).row) q))
+    go (w ∷ ws) q = ap is_any q
+
+pub live_among : (h : History) (r : Rid) → is_among r (live h) ≡ is_some (visible h r (length h)).row
+live_among h r = among_filtered (λ r. is_some (visible h r (length h)).row) r (once (flat_map group_rids h)) ∙ ap (λ b. if is_some (visible h r (length h)).row then b else false) (once_among r (flat_map group_rids h))
+    ∙ go (is_some (visible h r (length h)).row) refl
+  where
+    go : (b : Bool) → is_some (visible h r (length h)).row ≡ b → (if b then is_among r (flat_map group_rids h) else false) ≡ b
+    go true e = row_written h r (length h) e
+    go false e = refl
+
+-- records, none twice, that are just those seen as rows at the mark are as many as the live ones
+pub lives_are : (h : History) (rids : List Rid) → NoneTwice rids → ((r : Rid) → is_among r rids ≡ is_some (visible h r (length h)).row) → length rids ≡ length (live h)
+lives_are h rids n f = as_many_records rids (live h) n (filtered_once (λ r. is_some (visible h r (length h)).row) (once (flat_map group_rids h)) (once_once (flat_map group_rids h))) (λ r. f r ∙ sym (live_among h r))
