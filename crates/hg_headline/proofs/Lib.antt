@@ -16,3 +16,10 @@ pub mod Loops
 pub mod Parts
 pub mod Answering
 pub mod Stepping
+pub mod Firsts
+pub mod Undone
+pub mod Tidy
+pub mod Lives
+pub mod Counting
+pub mod Tallying
+pub mod Ending

@@ -1,5 +1,5 @@
 -- A replay on one thread, statement by statement: what is known before a record is known after it.
-use Rattle.std.proofs.Common.{◌≡◌, ℕ, suc, ◌<◌, ◌≤◌, List, [], ◌∷◌, ◌++◌, length, map, Bool, true, false, Option, Some, None, refl, sym, ap, ◌∙◌, subst, arith}
+use Rattle.std.proofs.Common.{◌≡◌, ◌+◌, ℕ, suc, ◌<◌, ◌≤◌, List, [], ◌∷◌, ◌++◌, length, map, Bool, true, false, Option, Some, None, refl, sym, ap, ◌∙◌, subst, arith}
 use Rattle.std.specs.Prelude.{◌||◌, ◌&&◌, if◌then◌else◌, IsTrue, IfSome, is_some, ⊤}
 use Rattle.std.specs.List.{cons_option}
 use Rattle.std.specs.Option.{option_or}
@@ -34,6 +34,9 @@ use Rattle.hg_headline.specs.Timely.{reads_in, snapshot_in, mark_in, newer_in, I
 use Rattle.hg_headline.specs.Met.{IsMetAnswer}
 use Rattle.hg_headline.specs.Replayed.{HasReplayed}
 use Rattle.hg_headline.specs.Answered.{IsAnswered, HasGone}
+use Rattle.hg_core.specs.Counters.{first_writes, undos}
+use Rattle.hg_headline.specs.Counted.{every, made_in, undone_in, adding}
+use Rattle.hg_headline.proofs.Tallying.{made_put, undone_put, no_more, made_access, undos_access, made_undone, undos_undone}
 use Rattle.hg_headline.proofs.Words.{true_false, none_of_no, same_rid_sym}
 use Rattle.hg_headline.proofs.Adds.{Adds, adds_access, access_commits}
 use Rattle.hg_headline.proofs.Entries.{adds_undone}
@@ -56,11 +59,13 @@ inside answer = record { at = None; answer = answer; number = None }
 abbrev pub alone : ℕ → Answer → Option ℕ → Reply
 alone at answer number = record { at = Some at; answer = answer; number = number }
 
--- what is known after a record: of the lines, and of the log of its session
-pub record Next (buckets sessions : ℕ) (h : History) (logs : ℕ → List LogEntry) (records : List Record) (lines : List Line) (j : ℕ) (open_one : Option Snapshot) (count : ℕ) (own : List Write) : Type 0 where
+-- what is known after a record: of the lines, of the log of its session, and how many versions more were made and taken back
+pub record Next (buckets sessions : ℕ) (h : History) (logs : ℕ → List LogEntry) (records : List Record) (lines : List Line) (j : ℕ) (open_one : Option Snapshot) (count : ℕ) (own : List Write) (adds : ℕ) (takes : ℕ) : Type 0 where
   pub more : ℕ → List LogEntry
   pub replayed : HasReplayed buckets sessions h more (length h) records lines
   pub gone : HasGone logs more j open_one count own
+  pub made : made_in sessions more ≡ made_in sessions logs + adds
+  pub undone : undone_in sessions more ≡ undone_in sessions logs + takes
 
 -- a record of a session that there is
 pub record IsAsked (sessions : ℕ) (r : Record) : Type 0 where
@@ -134,7 +139,7 @@ timely_inside top s a e k = record { grows = omega arith; reads = tt; snapshot =
 
 pub replayed_inside : (buckets sessions : ℕ) (h : History) (logs : ℕ → List LogEntry) (rs : List Record) (lines : List Line) (r : Record) (a : Answer) (c : Snapshot) → HasReplayed buckets sessions h logs (length h) rs lines → IsAsked sessions r →
     current (logs r.session) ≡ Some c → is_plain (logs r.session) ≡ true → IsAnswered h logs r.session c (own_writes (logs r.session)) r.statement a →
-    Next buckets sessions h logs (rs ++ r ∷ []) (lines ++ line_for r (inside a) ∷ []) r.session (Some c) (begans (logs r.session)) (cons_option (stored_by r.statement a) (own_writes (logs r.session)))
+    Next buckets sessions h logs (rs ++ r ∷ []) (lines ++ line_for r (inside a) ∷ []) r.session (Some c) (begans (logs r.session)) (cons_option (stored_by r.statement a) (own_writes (logs r.session))) (adding (own_writes (logs r.session)) (stored_by r.statement a)) 0
 replayed_inside buckets sessions h logs rs lines r a c g asked opened plain m =
     let l : List LogEntry = logs r.session in
     let before : GoesOn buckets h logs r.session c l = record { logged = subst (Logged buckets h) (sym (put_same logs r.session)) g.logged; opened = opened } in
@@ -151,6 +156,8 @@ replayed_inside buckets sessions h logs rs lines r a c g asked opened plain m =
           (timely_inside (length h) r.statement a (access_commits r.statement a access) (fits_small buckets left.unprinted (own_writes l) h logs r.session c (own_writes l) r.statement a left.fits m))
           (omega arith) (subst (λ x. Logged buckets h (put logs r.session x)) after left.goes.logged);
       gone = gone_put logs r.session log (Some c) (begans l) (cons_option (stored_by r.statement a) (own_writes l)) (ap current (sym after) ∙ left.goes.opened) (ap begans (sym after) ∙ adds.count) (ap own_writes (sym after) ∙ adds.own) (ap is_plain (sym after) ∙ left.plain);
+      made = made_put sessions logs r.session log (adding (own_writes l) (stored_by r.statement a)) asked.some asked.most (ap (first_writes every) (sym after) ∙ made_access buckets left.unprinted (own_writes l) r.statement a l access left.fits);
+      undone = undone_put sessions logs r.session log 0 asked.some asked.most (no_more _ _ (ap (undos every) (sym after) ∙ undos_access buckets left.unprinted (own_writes l) r.statement a l access left.fits));
     }
 
 -- ---- a statement that is a transaction of its own
@@ -223,7 +230,7 @@ alone_after buckets u s a number h l none access = sym (ap (λ b. log_with b buc
 -- one that stores nothing
 pub replayed_alone : (buckets sessions : ℕ) (h : History) (logs : ℕ → List LogEntry) (rs : List Record) (lines : List Line) (r : Record) (a : Answer) → HasReplayed buckets sessions h logs (length h) rs lines → IsAsked sessions r →
     current (logs r.session) ≡ None → stored_by r.statement a ≡ None → IsAnswered h logs r.session (own_snapshot h r.statement) [] r.statement a →
-    Next buckets sessions h logs (rs ++ r ∷ []) (lines ++ line_for r (alone (length h) a None) ∷ []) r.session None (suc (begans (logs r.session))) []
+    Next buckets sessions h logs (rs ++ r ∷ []) (lines ++ line_for r (alone (length h) a None) ∷ []) r.session None (suc (begans (logs r.session))) [] 0 0
 replayed_alone buckets sessions h logs rs lines r a g asked none stored m =
     let j : ℕ = r.session in
     let s : Statement = r.statement in
@@ -242,6 +249,8 @@ replayed_alone buckets sessions h logs rs lines r a g asked none stored m =
           (timely_alone (length h) (length h) s a None (access_commits s a it.access) (fits_small buckets u (own_writes l) h logs j (own_snapshot h s) [] s a it.left.fits m) (omega arith) tt)
           (omega arith) (subst (λ x. Logged buckets h (put logs j x)) after ended);
       gone = gone_put logs j (log_after buckets u s (alone (length h) a None) l) None (suc (begans l)) [] (ap current (sym after)) (ap begans (sym after) ∙ it.adds.count) (ap own_writes (sym after)) (ap is_plain (sym after));
+      made = made_put sessions logs j (log_after buckets u s (alone (length h) a None) l) 0 asked.some asked.most (ap (first_writes every) (sym after) ∙ made_access buckets u (own_writes l) s a (Began (length h) (only (table_of s)) ∷ l) it.access it.left.fits ∙ ap (λ o. first_writes every l + adding [] o) stored);
+      undone = undone_put sessions logs j (log_after buckets u s (alone (length h) a None) l) 0 asked.some asked.most (no_more _ _ (ap (undos every) (sym after) ∙ undos_access buckets u (own_writes l) s a (Began (length h) (only (table_of s)) ∷ l) it.access it.left.fits));
     }
 
 -- the commit of a statement that stores one write
@@ -259,7 +268,7 @@ loses_nothing h c e = all c.images
 pub replayed_commits : (buckets sessions : ℕ) (h : History) (logs : ℕ → List LogEntry) (rs : List Record) (lines : List Line) (r : Record) (a : Answer) (w : Write) → HasReplayed buckets sessions h logs (length h) rs lines → IsAsked sessions r →
     current (logs r.session) ≡ None → stored_by r.statement a ≡ Some w → IsAnswered h logs r.session (own_snapshot h r.statement) [] r.statement a →
     let more : History = h ++ (own_commit r.session (begans (logs r.session)) (length h) w ∷ []) ∷ [] in
-    Next buckets sessions more logs (rs ++ r ∷ []) (lines ++ line_for r (alone (length h) a (Some (suc (length h)))) ∷ []) r.session None (suc (begans (logs r.session))) []
+    Next buckets sessions more logs (rs ++ r ∷ []) (lines ++ line_for r (alone (length h) a (Some (suc (length h)))) ∷ []) r.session None (suc (begans (logs r.session))) [] 1 0
 replayed_commits buckets sessions h logs rs lines r a w g asked none stored m =
     let j : ℕ = r.session in
     let s : Statement = r.statement in
@@ -291,13 +300,15 @@ replayed_commits buckets sessions h logs rs lines r a w g asked none stored m =
           (timely_alone (length h) (length more) s a (Some n) (access_commits s a it.access) (fits_small buckets u (own_writes l) h logs j (own_snapshot h s) [] s a it.left.fits m) (omega (arith, grown)) (omega arith, omega (arith, grown)))
           (omega arith) (subst (λ x. Logged buckets more (put logs j x)) after ended);
       gone = gone_put logs j (log_after buckets u s (alone (length h) a (Some n)) l) None (suc (begans l)) [] (ap current (sym after)) (ap begans (sym after) ∙ it.adds.count) (ap own_writes (sym after)) (ap is_plain (sym after));
+      made = made_put sessions logs j (log_after buckets u s (alone (length h) a (Some n)) l) 1 asked.some asked.most (ap (first_writes every) (sym after) ∙ made_access buckets u (own_writes l) s a (Began (length h) (only (table_of s)) ∷ l) it.access it.left.fits ∙ ap (λ o. first_writes every l + adding [] o) stored);
+      undone = undone_put sessions logs j (log_after buckets u s (alone (length h) a (Some n)) l) 0 asked.some asked.most (no_more _ _ (ap (undos every) (sym after) ∙ undos_access buckets u (own_writes l) s a (Began (length h) (only (table_of s)) ∷ l) it.access it.left.fits));
     }
 
 -- ---- begin
 
 pub replayed_begin : (buckets sessions : ℕ) (h : History) (logs : ℕ → List LogEntry) (rs : List Record) (lines : List Line) (place j : ℕ) (scope : Scope) → HasReplayed buckets sessions h logs (length h) rs lines → 1 ≤ j → j ≤ sessions → current (logs j) ≡ None →
     let r : Record = record { place = place; session = j; statement = Begin scope } in
-    Next buckets sessions h logs (rs ++ r ∷ []) (lines ++ line_for r (inside (Begun (length h))) ∷ []) j (Some (record { at = length h; scope = scope })) (suc (begans (logs j))) []
+    Next buckets sessions h logs (rs ++ r ∷ []) (lines ++ line_for r (inside (Begun (length h))) ∷ []) j (Some (record { at = length h; scope = scope })) (suc (begans (logs j))) [] 0 0
 replayed_begin buckets sessions h logs rs lines place j scope g some most none =
     let r : Record = record { place = place; session = j; statement = Begin scope } in
     let l : List LogEntry = logs j in
@@ -312,6 +323,8 @@ replayed_begin buckets sessions h logs rs lines place j scope g some most none =
           (record { grows = omega arith; reads = (omega arith, tt); snapshot = omega arith; mark = tt; newer = tt; commit = tt })
           (omega arith) (subst (λ x. Logged buckets h (put logs j x)) after began);
       gone = gone_put logs j (log_after buckets nothing_more (Begin scope) reply l) (Some (record { at = length h; scope = scope })) (suc (begans l)) [] (ap current (sym after)) (ap begans (sym after)) (ap own_writes (sym after)) (ap is_plain (sym after));
+      made = made_put sessions logs j (log_after buckets nothing_more (Begin scope) reply l) 0 some most (no_more _ _ (ap (first_writes every) (sym after)));
+      undone = undone_put sessions logs j (log_after buckets nothing_more (Begin scope) reply l) 0 some most (no_more _ _ (ap (undos every) (sym after)));
     }
 
 -- ---- commit
@@ -322,7 +335,7 @@ in_transaction o c s e = ap (λ x. is_alone x s) e
 pub replayed_ended : (buckets sessions : ℕ) (h : History) (logs : ℕ → List LogEntry) (rs : List Record) (lines : List Line) (place j : ℕ) (c : Snapshot) → HasReplayed buckets sessions h logs (length h) rs lines → 1 ≤ j → j ≤ sessions →
     current (logs j) ≡ Some c → is_plain (logs j) ≡ true → own_writes (logs j) ≡ [] →
     let r : Record = record { place = place; session = j; statement = CommitIt } in
-    Next buckets sessions h logs (rs ++ r ∷ []) (lines ++ line_for r (inside Ended) ∷ []) j None (begans (logs j)) []
+    Next buckets sessions h logs (rs ++ r ∷ []) (lines ++ line_for r (inside Ended) ∷ []) j None (begans (logs j)) [] 0 0
 replayed_ended buckets sessions h logs rs lines place j c g some most opened plain own =
     let r : Record = record { place = place; session = j; statement = CommitIt } in
     let l : List LogEntry = logs j in
@@ -336,6 +349,8 @@ replayed_ended buckets sessions h logs rs lines place j c g some most opened pla
           (record { grows = omega arith; reads = tt; snapshot = tt; mark = tt; newer = tt; commit = tt })
           (omega arith) (subst (λ x. Logged buckets h (put logs j x)) after ended);
       gone = gone_put logs j (log_after buckets nothing_more CommitIt (inside Ended) l) None (begans l) [] (ap current (sym after)) (ap begans (sym after)) (ap own_writes (sym after)) (ap is_plain (sym after));
+      made = made_put sessions logs j (log_after buckets nothing_more CommitIt (inside Ended) l) 0 some most (no_more _ _ (ap (first_writes every) (sym after)));
+      undone = undone_put sessions logs j (log_after buckets nothing_more CommitIt (inside Ended) l) 0 some most (no_more _ _ (ap (undos every) (sym after)));
     }
 
 -- a transaction as a commit
@@ -346,7 +361,7 @@ pub replayed_committed : (buckets sessions : ℕ) (h : History) (logs : ℕ → 
     current (logs j) ≡ Some c → is_plain (logs j) ≡ true → is_written (own_writes (logs j)) ≡ true → Each (λ w. Each (λ other. other.0 ≤ c.at) (writes h w.rid)) (own_writes (logs j)) →
     let r : Record = record { place = place; session = j; statement = CommitIt } in
     let more : History = h ++ (made_commit j (begans (logs j)) c.at (own_writes (logs j)) ∷ []) ∷ [] in
-    Next buckets sessions more logs (rs ++ r ∷ []) (lines ++ line_for r (inside (Committed (suc (length h)))) ∷ []) j None (begans (logs j)) []
+    Next buckets sessions more logs (rs ++ r ∷ []) (lines ++ line_for r (inside (Committed (suc (length h)))) ∷ []) j None (begans (logs j)) [] 0 0
 replayed_committed buckets sessions h logs rs lines place j c g some most opened plain wrote sees =
     let r : Record = record { place = place; session = j; statement = CommitIt } in
     let l : List LogEntry = logs j in
@@ -370,6 +385,8 @@ replayed_committed buckets sessions h logs rs lines place j c g some most opened
           (record { grows = omega (arith, grown); reads = tt; snapshot = tt; mark = tt; newer = tt; commit = (omega arith, omega (arith, grown), tt) })
           (omega arith) (subst (λ x. Logged buckets more (put logs j x)) after ended);
       gone = gone_put logs j (log_after buckets nothing_more CommitIt reply l) None (begans l) [] (ap current (sym after)) (ap begans (sym after)) (ap own_writes (sym after)) (ap is_plain (sym after));
+      made = made_put sessions logs j (log_after buckets nothing_more CommitIt reply l) 0 some most (no_more _ _ (ap (first_writes every) (sym after)));
+      undone = undone_put sessions logs j (log_after buckets nothing_more CommitIt reply l) 0 some most (no_more _ _ (ap (undos every) (sym after)));
     }
 
 -- ---- rollback
@@ -404,7 +421,7 @@ none_undone l undone p all r = undone_open r undone l ∙ go (is_among r undone)
 pub replayed_undone : (buckets sessions : ℕ) (h : History) (logs : ℕ → List LogEntry) (rs : List Record) (lines : List Line) (place j : ℕ) (c : Snapshot) (undone : List Rid) → HasReplayed buckets sessions h logs (length h) rs lines → 1 ≤ j → j ≤ sessions →
     current (logs j) ≡ Some c → is_plain (logs j) ≡ true → UndoesAll (own_writes (logs j)) undone →
     let r : Record = record { place = place; session = j; statement = Rollback } in
-    Next buckets sessions h logs (rs ++ r ∷ []) (lines ++ line_for r (inside Undone) ∷ []) j None (begans (logs j)) []
+    Next buckets sessions h logs (rs ++ r ∷ []) (lines ++ line_for r (inside Undone) ∷ []) j None (begans (logs j)) [] 0 (length undone)
 replayed_undone buckets sessions h logs rs lines place j c undone g some most opened plain all =
     let r : Record = record { place = place; session = j; statement = Rollback } in
     let l : List LogEntry = logs j in
@@ -421,4 +438,6 @@ replayed_undone buckets sessions h logs rs lines place j c undone g some most op
           (record { grows = omega arith; reads = tt; snapshot = tt; mark = tt; newer = tt; commit = tt })
           (omega arith) (subst (λ x. Logged buckets h (put logs j x)) after ended);
       gone = gone_put logs j (log_after buckets u Rollback (inside Undone) l) None (begans l) [] (ap current (sym after)) (ap begans (sym after) ∙ (adds_undone undone l).count) (ap own_writes (sym after)) (ap is_plain (sym after));
+      made = made_put sessions logs j (log_after buckets u Rollback (inside Undone) l) 0 some most (no_more _ _ (ap (first_writes every) (sym after) ∙ made_undone undone l));
+      undone = undone_put sessions logs j (log_after buckets u Rollback (inside Undone) l) (length undone) some most (ap (undos every) (sym after) ∙ undos_undone undone l);
     }

@@ -5,3 +5,4 @@ pub mod Met
 pub mod Replayed
 pub mod Gathered
 pub mod Answered
+pub mod Counted
