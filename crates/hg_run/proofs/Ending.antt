@@ -10,8 +10,9 @@ use Rattle.hg_base.proofs.ListFacts.{false_true}
 use Rattle.hg_base.proofs.RidOrder.{is_same}
 use Rattle.hg_core.specs.Logs.{own_writes}
 use Rattle.hg_bucket.specs.Held.{Kept, begins_open, stamped, IsBelow}
+use Rattle.hg_run.specs.Buckets as held
 use Rattle.hg_run.specs.Buckets.{ChangesEach, versions_in}
-use Rattle.hg_run.specs.Driving.{Driven, Past, Sets, IsKept, sitting, rested, versions_from, writer_of}
+use Rattle.hg_run.specs.Driving.{Driven, Past, Sets, IsKept, IsSession, sitting, rested, versions_from, writer_of}
 use Rattle.hg_run.specs.Answering.{IsFinished, IsUndone}
 use Rattle.hg_run.proofs.Showing.{begins, below_next, by_of, opens}
 use Rattle.hg_run.proofs.Keeping.{kept_ended, kept_committed, kept_undone, none_of, wrote_some}
@@ -36,30 +37,30 @@ pub none_written_at_all : (ws : List Write) → ((r : Rid) → image_in r ws ≡
 none_written_at_all [] h = refl
 none_written_at_all (w ∷ ws) h = absurd (false_true (ap is_some (sym (h w.rid)) ∙ ap (λ b. is_some (cond b (Some w.image) (image_in w.rid ws))) (is_same w.rid)))
 
-pub finished_none : (k l : Driven) (p : Past) (j : ℕ) → l.buckets ≡ k.buckets → l.mark ≡ k.mark → IsSome (sitting k.sessions j).opened → (sitting k.sessions j).written ≡ [] → Sets k.sessions l.sessions j (rested (sitting k.sessions j)) → IsKept k p → IsFinished l p j None
-finished_none k l p j buckets mark opened none set s = (
+pub finished_none : (k l : Driven) (p : Past) (j : ℕ) → IsSession k j → l.buckets ≡ k.buckets → l.mark ≡ k.mark → IsSome (sitting k.sessions j).opened → (sitting k.sessions j).written ≡ [] → Sets k.sessions l.sessions j (rested (sitting k.sessions j)) → IsKept k p → IsFinished l p j None
+finished_none k l p j session buckets mark opened none set s = (
   none_written_at_all (own_writes (p.logs j)) (λ r. none_of (image_in r (own_writes (p.logs j))) (sym ((s.sessions j).covers r) ∙ ap (is_among r) none)),
-  kept_ended k l p j buckets mark opened none set s,
+  kept_ended k l p j session buckets mark opened none set s,
 )
 
 pub some_among : (rids : List Rid) → 0 < length rids → (r : Rid) × IsTrue (is_among r rids)
 some_among [] h = absurd (omega (arith, h))
 some_among (r ∷ rids) h = (r, ap (λ b. b || is_among r rids) (is_same r))
 
-pub finished_some : (k l : Driven) (p : Past) (j : ℕ) (w : Writer) (rids : List Rid) (number : ℕ) → w ≡ writer_of k j → rids ≡ (sitting k.sessions j).written → number ≡ k.mark + 1 → l.mark ≡ number → IsSome (sitting k.sessions j).opened → 0 < length rids → ChangesEach k.buckets l.buckets rids (stamped w number) → Sets k.sessions l.sessions j (rested (sitting k.sessions j)) → IsKept k p → IsFinished l p j (Some number)
-finished_some k l p j w rids number by is next mark opened some changes set s =
+pub finished_some : (k l : Driven) (p : Past) (j : ℕ) (w : Writer) (rids : List Rid) (number : ℕ) → IsSession k j → w ≡ writer_of k j → rids ≡ (sitting k.sessions j).written → number ≡ k.mark + 1 → l.mark ≡ number → IsSome (sitting k.sessions j).opened → 0 < length rids → ChangesEach k.buckets l.buckets rids (stamped w number) → Sets k.sessions l.sessions j (rested (sitting k.sessions j)) → held.undone_in l.buckets ≡ held.undone_in k.buckets → IsKept k p → IsFinished l p j (Some number)
+finished_some k l p j w rids number session by is next mark opened some changes set undone s =
     let first = some_among rids some in
     let among : IsTrue (is_among first.0 (sitting k.sessions j).written) = ap (is_among first.0) (sym is) ∙ first.1 in
     let here : number ≡ suc (length p.history) = (let m = s.mark in omega (arith, m, next)) in
     (
       wrote_some first.0 (own_writes (p.logs j)) (sym ((s.sessions j).covers first.0) ∙ among),
       here,
-      kept_committed k l p j first.0 (mark ∙ next) changes.many opened among (λ r. changes.each r ∙ (λ i. cond (is_among r (is i)) (stamped (by i) (next i) (versions_in k.buckets r)) (versions_in k.buckets r))) set s,
+      kept_committed k l p j first.0 session (mark ∙ next) changes.many opened among (λ r. changes.each r ∙ (λ i. cond (is_among r (is i)) (stamped (by i) (next i) (versions_in k.buckets r)) (versions_in k.buckets r))) set changes.made undone s,
     )
 
-pub undone_all : (k l : Driven) (p : Past) (j : ℕ) (w : Writer) (rids : List Rid) → w ≡ writer_of k j → rids ≡ (sitting k.sessions j).written → l.mark ≡ k.mark → IsSome (sitting k.sessions j).opened → ChangesEach k.buckets l.buckets rids (drop 1) → Sets k.sessions l.sessions j (rested (sitting k.sessions j)) → IsKept k p → IsUndone l p j
-undone_all k l p j w rids by is mark opened changes set s = record {
+pub undone_all : (k l : Driven) (p : Past) (j : ℕ) (w : Writer) (rids : List Rid) → IsSession k j → w ≡ writer_of k j → rids ≡ (sitting k.sessions j).written → l.mark ≡ k.mark → IsSome (sitting k.sessions j).opened → ChangesEach k.buckets l.buckets rids (drop 1) → Sets k.sessions l.sessions j (rested (sitting k.sessions j)) → held.undone_in l.buckets ≡ held.undone_in k.buckets + length rids → IsKept k p → IsUndone l p j
+undone_all k l p j w rids session by is mark opened changes set undone s = record {
   rids = (sitting k.sessions j).written;
   all = ((s.sessions j).distinct, (s.sessions j).covers);
-  kept = kept_undone k l p j mark changes.many opened (λ r. changes.each r ∙ (λ i. cond (is_among r (is i)) (drop 1 (versions_in k.buckets r)) (versions_in k.buckets r))) set s;
+  kept = kept_undone k l p j session mark changes.many opened (λ r. changes.each r ∙ (λ i. cond (is_among r (is i)) (drop 1 (versions_in k.buckets r)) (versions_in k.buckets r))) set changes.made (undone ∙ ap (λ x. held.undone_in k.buckets + length x) is) s;
 }

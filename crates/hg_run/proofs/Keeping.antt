@@ -25,8 +25,12 @@ use Rattle.hg_core.specs.Replies.{IsReplied}
 use Rattle.hg_core.specs.Events.{put}
 use Rattle.hg_bucket.specs.Held.{Held, Kept, installed, stamped, begins_open}
 use Rattle.hg_headline.specs.Logged.{Logged}
+use Rattle.hg_core.specs.Counters.{first_writes, undos}
+use Rattle.hg_headline.specs.Counted.{every, made_in, undone_in}
+use Rattle.hg_headline.proofs.Tallying.{made_put, undone_put, made_undone, undos_undone}
+use Rattle.hg_run.specs.Buckets as held
 use Rattle.hg_run.specs.Buckets.{Becomes, versions_in}
-use Rattle.hg_run.specs.Driving.{Sitting, Driven, Past, Sets, IsKept, IsSitting, ShowsRecord, sitting, rested, begun, writer_of, with_entries}
+use Rattle.hg_run.specs.Driving.{Sitting, Driven, Past, Sets, IsKept, IsSession, IsSitting, ShowsRecord, sitting, rested, begun, writer_of, with_entries}
 use Rattle.hg_run.proofs.LogFacts.{snapshot_within}
 use Rattle.hg_run.proofs.Showing.{IsAlike, Differs, IsFree, alike_itself, by_of, stays, stores, same_number, begins, opens, undoes, publishes, no_version, no_write}
 use Rattle.hg_headline.proofs.Growing.{IsPlainEntry, logged_entry, logged_commit}
@@ -60,6 +64,26 @@ alike_but p j log r here = by_session (λ i. IsAlike r (p.logs i) (put p.logs j 
     (subst (IsAlike r (p.logs j)) (sym (put_here p.logs j log)) here)
     (λ i e. alike_itself r (p.logs i) (put p.logs j log i) (put_other p.logs j log i e))
 
+-- ---- what is counted
+
+-- where the buckets and the session's log made as many more
+pub made_more : (k l : Driven) (p : Past) (j d : ℕ) (log : List LogEntry) → IsSession k j → length l.sessions ≡ length k.sessions → held.made_in l.buckets ≡ held.made_in k.buckets + d → first_writes every log ≡ first_writes every (p.logs j) + d → ((n : ℕ) → length k.sessions ≡ suc n → held.made_in k.buckets ≡ made_in n p.logs) → (n : ℕ) → length l.sessions ≡ suc n → held.made_in l.buckets ≡ made_in n (put p.logs j log)
+made_more k l p j d log session many more firsts before n e =
+    let first = session.0 in
+    let last = session.1 in
+    let within : j ≤ n = omega (arith, last, many, e) in
+    more ∙ ap (λ m. m + d) (before n (sym many ∙ e)) ∙ sym (made_put n p.logs j log d first within firsts)
+
+pub undone_more : (k l : Driven) (p : Past) (j d : ℕ) (log : List LogEntry) → IsSession k j → length l.sessions ≡ length k.sessions → held.undone_in l.buckets ≡ held.undone_in k.buckets + d → undos every log ≡ undos every (p.logs j) + d → ((n : ℕ) → length k.sessions ≡ suc n → held.undone_in k.buckets ≡ undone_in n p.logs) → (n : ℕ) → length l.sessions ≡ suc n → held.undone_in l.buckets ≡ undone_in n (put p.logs j log)
+undone_more k l p j d log session many more undid before n e =
+    let first = session.0 in
+    let last = session.1 in
+    let within : j ≤ n = omega (arith, last, many, e) in
+    more ∙ ap (λ m. m + d) (before n (sym many ∙ e)) ∙ sym (undone_put n p.logs j log d first within undid)
+
+pub plus_none : (m n : ℕ) → m ≡ n → m ≡ n + 0
+plus_none m n e = omega (arith, e)
+
 -- ---- an entry that tells what was seen or refused
 
 -- it changes nothing of the transaction
@@ -74,11 +98,13 @@ pub record IsSame (k l : List LogEntry) : Type 0 where
   pub number : begans l ≡ begans k
   pub current_is : current l ≡ current k
   pub plain : is_plain l ≡ is_plain k
+  pub made : first_writes every l ≡ first_writes every k
+  pub undone : undos every l ≡ undos every k
 
 pub telling_same : (e : LogEntry) (log : List LogEntry) → IsTelling e → IsSame log (e ∷ log)
-telling_same (Saw table low high b rows) log h = record { own = refl; number = refl; current_is = refl; plain = refl }
-telling_same (Refused r answer) log h = record { own = refl; number = refl; current_is = refl; plain = refl }
-telling_same (Outside table) log h = record { own = refl; number = refl; current_is = refl; plain = refl }
+telling_same (Saw table low high b rows) log h = record { own = refl; number = refl; current_is = refl; plain = refl; made = refl; undone = refl }
+telling_same (Refused r answer) log h = record { own = refl; number = refl; current_is = refl; plain = refl; made = refl; undone = refl }
+telling_same (Outside table) log h = record { own = refl; number = refl; current_is = refl; plain = refl; made = refl; undone = refl }
 telling_same (Began at scope) log h = absurd h
 telling_same (Wrote r image) log h = absurd h
 telling_same (Undid r) log h = absurd h
@@ -98,8 +124,8 @@ same_sitting s k l same h = record {
 pub same_alike : (r : Rid) (k l : List LogEntry) → IsSame k l → IsAlike r k l
 same_alike r k l same = record { own = ap (image_in r) same.own; number = λ s. same.number; at = λ s. ap (λ o. number_in o) same.current_is }
 
-pub kept_telling : (k : Driven) (p : Past) (j : ℕ) (e : LogEntry) → IsTelling e → IsPlainEntry (length p.history) e → Judge p.history e (p.logs j) → IsReplied (length k.buckets) p.history p.logs j e (p.logs j) → IsKept k p → IsKept k (with_entries p j (e ∷ []))
-kept_telling k p j e telling quiet judge replied s =
+pub kept_telling : (k : Driven) (p : Past) (j : ℕ) (e : LogEntry) → IsSession k j → IsTelling e → IsPlainEntry (length p.history) e → Judge p.history e (p.logs j) → IsReplied (length k.buckets) p.history p.logs j e (p.logs j) → IsKept k p → IsKept k (with_entries p j (e ∷ []))
+kept_telling k p j e session telling quiet judge replied s =
     let same = telling_same e (p.logs j) telling in
     record {
       mark = s.mark;
@@ -108,12 +134,14 @@ kept_telling k p j e telling quiet judge replied s =
           (λ i f. subst (IsSitting (sitting k.sessions i)) (sym (put_other p.logs j (e ∷ p.logs j) i f)) (s.sessions i));
       records = λ r. stays p (with_entries p j (e ∷ [])) r (versions_in k.buckets r) refl refl (alike_but p j (e ∷ p.logs j) r (same_alike r (p.logs j) (e ∷ p.logs j) same)) (s.records r);
       logged = logged_entry (length k.buckets) p.history p.logs j e s.logged quiet judge replied;
+      made = made_more k k p j 0 (e ∷ p.logs j) session refl (plus_none (held.made_in k.buckets) (held.made_in k.buckets) refl) (plus_none (first_writes every (e ∷ p.logs j)) (first_writes every (p.logs j)) same.made) s.made;
+      undone = undone_more k k p j 0 (e ∷ p.logs j) session refl (plus_none (held.undone_in k.buckets) (held.undone_in k.buckets) refl) (plus_none (undos every (e ∷ p.logs j)) (undos every (p.logs j)) same.undone) s.undone;
     }
 
 -- ---- a begin
 
-pub kept_began : (k l : Driven) (p : Past) (j : ℕ) (scope : Scope) → l.buckets ≡ k.buckets → l.mark ≡ k.mark → (sitting k.sessions j).opened ≡ None → Sets k.sessions l.sessions j (begun (sitting k.sessions j) (record { at = k.mark; scope = scope })) → IsKept k p → IsKept l (with_entries p j (Began k.mark scope ∷ []))
-kept_began k l p j scope buckets mark idle set s =
+pub kept_began : (k l : Driven) (p : Past) (j : ℕ) (scope : Scope) → IsSession k j → l.buckets ≡ k.buckets → l.mark ≡ k.mark → (sitting k.sessions j).opened ≡ None → Sets k.sessions l.sessions j (begun (sitting k.sessions j) (record { at = k.mark; scope = scope })) → IsKept k p → IsKept l (with_entries p j (Began k.mark scope ∷ []))
+kept_began k l p j scope session buckets mark idle set s =
     let sit = s.sessions j in
     let none : own_writes (p.logs j) ≡ [] = sit.idle idle in
     let q : Past = with_entries p j (Began k.mark scope ∷ []) in
@@ -141,6 +169,8 @@ kept_began k l p j scope buckets mark idle set s =
             over = subst (λ n. UpTo n (p.logs j)) (sym s.mark) (s.logged.within j);
             alone = sym sit.opened ∙ idle;
           }) tt);
+      made = made_more k l p j 0 (Began k.mark scope ∷ p.logs j) session set.many (plus_none (held.made_in l.buckets) (held.made_in k.buckets) (ap held.made_in buckets)) (plus_none (first_writes every (Began k.mark scope ∷ p.logs j)) (first_writes every (p.logs j)) refl) s.made;
+      undone = undone_more k l p j 0 (Began k.mark scope ∷ p.logs j) session set.many (plus_none (held.undone_in l.buckets) (held.undone_in k.buckets) (ap held.undone_in buckets)) (plus_none (undos every (Began k.mark scope ∷ p.logs j)) (undos every (p.logs j)) refl) s.undone;
     }
 
 -- ---- a write
@@ -187,11 +217,18 @@ still_covers b rids r image own e covers q = cases (same_rid r q) (same b e) (ot
 pub is_now : {X : Type 0} (o : Option X) (x : X) (P : X → Type 0) → o ≡ Some x → P x → IfSome o P
 is_now o x P e h = subst (λ o. IfSome o P) (sym e) h
 
-pub kept_wrote : (k l : Driven) (p : Past) (j : ℕ) (r : Rid) (image : Image) (snapshot : Snapshot) → l.mark ≡ k.mark → (sitting k.sessions j).opened ≡ Some snapshot → IsTrue (has snapshot.scope r.table) → IsFree p r (versions_in k.buckets r) j
+-- a first write of a record adds one
+pub first_adds : (b c : Bool) (n : ℕ) → b ≡ c → cond (not c) 1 0 + n ≡ n + cond b 0 1
+first_adds true true n e = omega arith
+first_adds false false n e = omega arith
+first_adds true false n e = absurd (false_true (sym e))
+first_adds false true n e = absurd (false_true e)
+
+pub kept_wrote : (k l : Driven) (p : Past) (j : ℕ) (r : Rid) (image : Image) (snapshot : Snapshot) → IsSession k j → l.mark ≡ k.mark → (sitting k.sessions j).opened ≡ Some snapshot → IsTrue (has snapshot.scope r.table) → IsFree p r (versions_in k.buckets r) j
     → Becomes k.buckets l.buckets r (installed (writer_of k j) image (versions_in k.buckets r))
     → Sets k.sessions l.sessions j (record { count = (sitting k.sessions j).count; opened = (sitting k.sessions j).opened; written = with_written (begins_open (writer_of k j) (versions_in k.buckets r)) (sitting k.sessions j).written r })
-    → IsKept k p → IsKept l (with_entries p j (Wrote r image ∷ []))
-kept_wrote k l p j r image snapshot mark opened within free becomes set s =
+    → held.made_in l.buckets ≡ held.made_in k.buckets + cond (begins_open (writer_of k j) (versions_in k.buckets r)) 0 1 → held.undone_in l.buckets ≡ held.undone_in k.buckets → IsKept k p → IsKept l (with_entries p j (Wrote r image ∷ []))
+kept_wrote k l p j r image snapshot session mark opened within free becomes set made undone s =
     let sit = s.sessions j in
     let q : Past = with_entries p j (Wrote r image ∷ []) in
     let log : List LogEntry = Wrote r image ∷ p.logs j in
@@ -216,6 +253,8 @@ kept_wrote k l p j r image snapshot mark opened within free becomes set s =
           (stays p q x (versions_in k.buckets x) refl refl (alike_but p j log x (record { own = ap (λ b. cond b (Some image) (image_in x (own_writes (p.logs j)))) e; number = λ t. refl; at = λ t. refl })) (s.records x)));
       logged = subst (λ n. Logged n p.history q.logs) (sym becomes.many)
           (logged_entry (length k.buckets) p.history p.logs j (Wrote r image) s.logged tt (ap is_some now) (is_now (current (p.logs j)) snapshot (λ snapshot. IsTrue (has snapshot.scope r.table)) now within, sit.plain));
+      made = made_more k l p j (cond (begins_open (writer_of k j) (versions_in k.buckets r)) 0 1) log session set.many made (first_adds (begins_open (writer_of k j) (versions_in k.buckets r)) (is_some (image_in r (own_writes (p.logs j)))) (first_writes every (p.logs j)) (sym began ∙ sit.covers r)) s.made;
+      undone = undone_more k l p j 0 log session set.many (plus_none (held.undone_in l.buckets) (held.undone_in k.buckets) undone) (plus_none (undos every log) (undos every (p.logs j)) refl) s.undone;
     }
 
 -- ---- the end of a transaction
@@ -258,8 +297,8 @@ rested_sits s log count = record {
 }
 
 -- nothing was written
-pub kept_ended : (k l : Driven) (p : Past) (j : ℕ) → l.buckets ≡ k.buckets → l.mark ≡ k.mark → IsSome (sitting k.sessions j).opened → (sitting k.sessions j).written ≡ [] → Sets k.sessions l.sessions j (rested (sitting k.sessions j)) → IsKept k p → IsKept l (with_entries p j (Over ∷ []))
-kept_ended k l p j buckets mark opened none set s =
+pub kept_ended : (k l : Driven) (p : Past) (j : ℕ) → IsSession k j → l.buckets ≡ k.buckets → l.mark ≡ k.mark → IsSome (sitting k.sessions j).opened → (sitting k.sessions j).written ≡ [] → Sets k.sessions l.sessions j (rested (sitting k.sessions j)) → IsKept k p → IsKept l (with_entries p j (Over ∷ []))
+kept_ended k l p j session buckets mark opened none set s =
     let sit = s.sessions j in
     let q : Past = with_entries p j (Over ∷ []) in
     let unwritten : (r : Rid) → image_in r (own_writes (p.logs j)) ≡ None = (λ r. none_of (image_in r (own_writes (p.logs j))) (sym (sit.covers r) ∙ ap (is_among r) none)) in
@@ -277,6 +316,8 @@ kept_ended k l p j buckets mark opened none set s =
             opened = ap is_some (sym sit.opened) ∙ opened;
             none = λ r. open_is_own r (p.logs j) sit.plain ∙ unwritten r;
           }) tt);
+      made = made_more k l p j 0 (Over ∷ p.logs j) session set.many (plus_none (held.made_in l.buckets) (held.made_in k.buckets) (ap held.made_in buckets)) (plus_none (first_writes every (Over ∷ p.logs j)) (first_writes every (p.logs j)) refl) s.made;
+      undone = undone_more k l p j 0 (Over ∷ p.logs j) session set.many (plus_none (held.undone_in l.buckets) (held.undone_in k.buckets) (ap held.undone_in buckets)) (plus_none (undos every (Over ∷ p.logs j)) (undos every (p.logs j)) refl) s.undone;
     }
 
 -- ---- a rollback
@@ -334,10 +375,10 @@ unwritten_alike log rest r none e = record {
   at = λ t. absurd (false_true (ap is_some (sym e) ∙ t));
 }
 
-pub kept_undone : (k l : Driven) (p : Past) (j : ℕ) → l.mark ≡ k.mark → length l.buckets ≡ length k.buckets → IsSome (sitting k.sessions j).opened
+pub kept_undone : (k l : Driven) (p : Past) (j : ℕ) → IsSession k j → l.mark ≡ k.mark → length l.buckets ≡ length k.buckets → IsSome (sitting k.sessions j).opened
     → ((r : Rid) → versions_in l.buckets r ≡ cond (is_among r (sitting k.sessions j).written) (drop 1 (versions_in k.buckets r)) (versions_in k.buckets r))
-    → Sets k.sessions l.sessions j (rested (sitting k.sessions j)) → IsKept k p → IsKept l (with_entries p j (Over ∷ map Undid (sitting k.sessions j).written))
-kept_undone k l p j mark many opened each set s =
+    → Sets k.sessions l.sessions j (rested (sitting k.sessions j)) → held.made_in l.buckets ≡ held.made_in k.buckets → held.undone_in l.buckets ≡ held.undone_in k.buckets + length (sitting k.sessions j).written → IsKept k p → IsKept l (with_entries p j (Over ∷ map Undid (sitting k.sessions j).written))
+kept_undone k l p j session mark many opened each set made undone s =
     let sit = s.sessions j in
     let rids = (sitting k.sessions j).written in
     let q : Past = with_entries p j (Over ∷ map Undid rids) in
@@ -352,6 +393,8 @@ kept_undone k l p j mark many opened each set s =
           (λ e. subst (ShowsRecord q r) (sym (each r ∙ ap (λ b. cond b (drop 1 (versions_in k.buckets r)) (versions_in k.buckets r)) e))
           (stays p q r (versions_in k.buckets r) refl refl (alike_but p j log r (unwritten_alike (p.logs j) log r refl (none_of (image_in r (own_writes (p.logs j))) (sym (sit.covers r) ∙ e)))) (s.records r)));
       logged = subst (λ n. Logged n p.history q.logs) (sym many) (undone_logged (length k.buckets) p.history p.logs j rids s.logged now sit.plain sit.covers);
+      made = made_more k l p j 0 log session set.many (plus_none (held.made_in l.buckets) (held.made_in k.buckets) made) (plus_none (first_writes every log) (first_writes every (p.logs j)) (made_undone rids (p.logs j))) s.made;
+      undone = undone_more k l p j (length rids) log session set.many undone (undos_undone rids (p.logs j)) s.undone;
     }
 
 -- ---- a commit
@@ -409,10 +452,10 @@ committed_logged buckets p j s opened plain some loses =
     let end : Judge h Over (put p.logs j log j) = subst (Judge h Over) (sym (put_here p.logs j log)) (record { opened = opened; none = λ r. refl }) in
     subst (Logged buckets h) (put_more p.logs j Over log) (logged_entry buckets h (put p.logs j log) j Over (logged_commit buckets p.history p.logs j s (record { opened = opened; plain = plain }) (is_some_written (own_writes (p.logs j)) some) (at_within (length p.history) (p.logs j) (current (p.logs j)) refl (s.within j)) loses) tt end tt)
 
-pub kept_committed : (k l : Driven) (p : Past) (j : ℕ) (r : Rid) → l.mark ≡ k.mark + 1 → length l.buckets ≡ length k.buckets → IsSome (sitting k.sessions j).opened → IsTrue (is_among r (sitting k.sessions j).written)
+pub kept_committed : (k l : Driven) (p : Past) (j : ℕ) (r : Rid) → IsSession k j → l.mark ≡ k.mark + 1 → length l.buckets ≡ length k.buckets → IsSome (sitting k.sessions j).opened → IsTrue (is_among r (sitting k.sessions j).written)
     → ((r : Rid) → versions_in l.buckets r ≡ cond (is_among r (sitting k.sessions j).written) (stamped (writer_of k j) (k.mark + 1) (versions_in k.buckets r)) (versions_in k.buckets r))
-    → Sets k.sessions l.sessions j (rested (sitting k.sessions j)) → IsKept k p → IsKept l (with_commit p j)
-kept_committed k l p j first mark many opened wrote each set s =
+    → Sets k.sessions l.sessions j (rested (sitting k.sessions j)) → held.made_in l.buckets ≡ held.made_in k.buckets → held.undone_in l.buckets ≡ held.undone_in k.buckets → IsKept k p → IsKept l (with_commit p j)
+kept_committed k l p j first session mark many opened wrote each set made undone s =
     let sit = s.sessions j in
     let rids = (sitting k.sessions j).written in
     let q : Past = with_commit p j in
@@ -433,4 +476,6 @@ kept_committed k l p j first mark many opened wrote each set s =
           subst (ShowsRecord q x) (sym (each x ∙ ap (λ b. cond b (stamped (writer_of k j) (k.mark + 1) (versions_in k.buckets x)) (versions_in k.buckets x)) e))
           (stays p q x (versions_in k.buckets x) (no_version p.history c x unwritten) (no_write p.history c x unwritten) (alike_but p j log x (unwritten_alike (p.logs j) log x refl none)) (s.records x)));
       logged = subst (λ n. Logged n q.history q.logs) (sym many) (committed_logged (length k.buckets) p j s.logged now sit.plain (wrote_some first (own_writes (p.logs j)) (sym (sit.covers first) ∙ wrote)) loses);
+      made = made_more k l p j 0 log session set.many (plus_none (held.made_in l.buckets) (held.made_in k.buckets) made) (plus_none (first_writes every log) (first_writes every (p.logs j)) refl) s.made;
+      undone = undone_more k l p j 0 log session set.many (plus_none (held.undone_in l.buckets) (held.undone_in k.buckets) undone) (plus_none (undos every log) (undos every (p.logs j)) refl) s.undone;
     }

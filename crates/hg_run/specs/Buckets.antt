@@ -1,14 +1,17 @@
 -- The versions of all records, as a list of buckets keeps them.
-use Rattle.std.specs.Prelude.{◌≡◌, ℕ, zero, suc, ◌+◌, ◌<◌, List, [], ◌∷◌, length, sum_by, Bool, not, ◌==◌, if◌then◌else◌, Option, Some, None, IsFalse, ⊤}
+use Rattle.std.specs.Prelude.{◌≡◌, ℕ, zero, suc, ◌+◌, ◌<◌, ◌≤◌, List, [], ◌∷◌, length, sum_by, Bool, true, false, not, ◌==◌, if◌then◌else◌, Option, Some, None, IsFalse, ⊤}
 use Rattle.hg_base.specs.declared.rid.Rid.{Rid}
 use Rattle.hg_base.specs.declared.image.Image.{Image}
 use Rattle.hg_base.specs.declared.writer.Writer.{Writer}
-use Rattle.hg_base.specs.History.{same_rid, is_among}
+use Rattle.hg_base.specs.declared.limits.TheConstants.{MOST_TABLES}
+use Rattle.hg_base.specs.declared.line.Totals.{Totals}
+use Rattle.hg_base.specs.Lists.{Each}
+use Rattle.hg_base.specs.History.{same_rid, is_among, NoneTwice}
 use Rattle.hg_core.specs.Contents.{bucket_of}
 use Rattle.hg_bucket.specs.declared.refusal.WriteRefusal.{WriteRefusal}
 use Rattle.hg_bucket.specs.declared.refusal.WriteRefusal.TheVariants.{Open, Newer, NoMemory}
 use Rattle.hg_bucket.specs.Conflicts.{holder, newer}
-use Rattle.hg_bucket.specs.Held.{Held, Kept, versions_of, begins_open, installed}
+use Rattle.hg_bucket.specs.Held.{Held, Kept, versions_of, begins_open, installed, cut_at}
 
 -- the records of bucket b, and none where there is no such bucket
 abbrev pub records_at : List Held → ℕ → List (Rid × List Kept)
@@ -31,10 +34,13 @@ undone_in buckets = sum_by (λ h. h.undone) buckets
 abbrev pub AreOwn : List Held → Type 0
 AreOwn buckets = (b : ℕ) (r : Rid) → IsFalse (b == bucket_of (length buckets) r) → versions_of (records_at buckets b) r ≡ []
 
--- there is a bucket, and each record stands in its own
+-- there is a bucket, each record stands in its own, and of a table that there may not be none does; nothing was removed by a
+-- group or an interval collector
 pub record ArePlaced (buckets : List Held) : Type 0 where
   pub some : 0 < length buckets
   pub own : AreOwn buckets
+  pub tables : (r : Rid) → MOST_TABLES ≤ r.table.0 → versions_in buckets r ≡ []
+  pub kept : Each (λ h. (h.group ≡ 0) × (h.interval ≡ 0)) buckets
 
 -- a record's versions are now these, and each other record's as before, in as many buckets
 pub record Becomes (old new : List Held) (r : Rid) (vs : List Kept) : Type 0 where
@@ -73,3 +79,33 @@ pub record AreEmpty (buckets : List Held) : Type 0 where
   pub none : (r : Rid) → versions_in buckets r ≡ []
   pub made : made_in buckets ≡ 0
   pub undone : undone_in buckets ≡ 0
+
+-- ---- the end
+
+-- each record is cut at the bound
+pub record Settles (old new : List Held) (bound : ℕ) : Type 0 where
+  pub each : (r : Rid) → versions_in new r ≡ cut_at bound (versions_in old r)
+  pub many : length new ≡ length old
+  pub made : made_in new ≡ made_in old
+  pub undone : undone_in new ≡ undone_in old
+
+-- whether there is a version
+abbrev pub is_any : List Kept → Bool
+is_any [] = false
+is_any (v ∷ vs) = true
+
+-- the records that have a version, each once
+pub record AreHeld (buckets : List Held) (rids : List Rid) : Type 0 where
+  pub once : NoneTwice rids
+  pub each : (r : Rid) → is_among r rids ≡ is_any (versions_in buckets r)
+
+-- The counts of all buckets. Where no record has more than one version, as many are left as there are records that have one.
+pub record AreCounts (buckets : List Held) (totals : Totals) : Type 0 where
+  pub made : totals.made ≡ made_in buckets
+  pub undone : totals.undone ≡ undone_in buckets
+  pub group : totals.group ≡ 0
+  pub interval : totals.interval ≡ 0
+  pub balance : totals.made ≡ totals.undone + totals.group + totals.table + totals.interval + totals.left
+  pub rids : List Rid
+  pub held : AreHeld buckets rids
+  pub left : ((r : Rid) → length (versions_in buckets r) ≤ 1) → totals.left ≡ length rids

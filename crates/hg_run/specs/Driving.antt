@@ -12,6 +12,8 @@ use Rattle.hg_core.specs.Logs.{current, begans, is_plain, own_writes, number_in}
 use Rattle.hg_core.specs.Events.{put}
 use Rattle.hg_headline.specs.Logged.{Logged}
 use Rattle.hg_bucket.specs.Held.{Held, Kept, open_write}
+use Rattle.hg_headline.specs.Counted.{made_in, undone_in}
+use Rattle.hg_run.specs.Buckets as held
 use Rattle.hg_run.specs.Buckets.{versions_in}
 
 -- ---- what it keeps
@@ -109,6 +111,12 @@ pub record IsKept (k : Driven) (p : Past) : Type 0 where
   pub sessions : (j : ℕ) → IsSitting (sitting k.sessions j) (p.logs j)
   pub records : (r : Rid) → ShowsRecord p r (versions_in k.buckets r)
   pub logged : Logged (length k.buckets) p.history p.logs
+  pub made : (n : ℕ) → length k.sessions ≡ suc n → held.made_in k.buckets ≡ made_in n p.logs
+  pub undone : (n : ℕ) → length k.sessions ≡ suc n → held.undone_in k.buckets ≡ undone_in n p.logs
+
+-- a session that there is
+abbrev pub IsSession : Driven → ℕ → Type 0
+IsSession k j = (1 ≤ j) × (j < length k.sessions)
 
 -- session j is kept so now, and each other session as before
 pub record Sets (old new : List Sitting) (j : ℕ) (s : Sitting) : Type 0 where

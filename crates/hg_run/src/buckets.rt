@@ -8,7 +8,8 @@ ghost use Rattle.hg_base.specs.History.{NoneTwice, is_among, nothing};
 ghost use Rattle.hg_base.specs.Replies.{AreRows};
 ghost use Rattle.hg_core.specs.Contents.{bucket_of};
 ghost use Rattle.hg_bucket.specs.Held.{begins_open, stamped, read_at, IsBelow, record_at};
-ghost use Rattle.hg_run.specs.Buckets.{AreEmpty, ChangesEach, Refuses, Stores, made_in, undone_in, versions_in};
+ghost use Rattle.hg_base.specs.declared.limits.TheConstants.{MOST_TABLES};
+ghost use Rattle.hg_run.specs.Buckets.{AreCounts, AreEmpty, ChangesEach, Settles, Refuses, Stores, made_in, undone_in, versions_in};
 
 use hg_base::{Image, NoMemory, Rid, Row, TableId, Totals, Writer};
 use hg_bucket::{Bucket, WriteRefusal};
@@ -73,7 +74,7 @@ impl Buckets {
         at: u64,
         mark: u64,
     ) -> Result<bool, WriteRefusal>
-        requires at { at ≤ mark }
+        requires table { rid.table.0 < MOST_TABLES }
         requires made { made_in self.old < 2 ^ 40 }
         ensures stored { IfOk result (λ added. Stores self.old self.new rid by image at mark added) }
         ensures refused { IfErr result (Refuses (versions_in self.old rid) by at mark) }
@@ -99,6 +100,21 @@ impl Buckets {
         requires open_writes { (r : Rid) → IsTrue (is_among r rids.now) → IsTrue (begins_open by (versions_in self.old r)) }
         ensures dropped { ChangesEach self.old self.new rids.now (drop 1) }
         ensures undone { undone_in self.new ≡ undone_in self.old + length rids.now }
+    {
+        unreachable!()
+    }
+
+    /// Cuts every table of every bucket at a bound.
+    pub(crate) fn settle(&mut self, bound: u64)
+        ensures { Settles self.old self.new bound }
+    {
+        unreachable!()
+    }
+
+    /// The counts of all buckets together.
+    pub(crate) fn totals(&self) -> Totals
+        requires { made_in self.now < 2 ^ 63 }
+        ensures { AreCounts self.now result }
     {
         unreachable!()
     }

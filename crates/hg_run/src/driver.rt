@@ -3,6 +3,7 @@
 ghost use Rattle.std.specs.Prelude.{◌≡◌, ℕ, ◌+◌, ◌<◌, ◌≤◌, ◌^◌, [], ◌∷◌, suc, length, is_some, unwrap_or, option_and_then, IsTrue, IsFalse, IfOk, IfSome, OnOk, Some, None, IsSome};
 ghost use Rattle.std.specs.Option.{option_copied};
 ghost use Rattle.hg_base.specs.declared.statement.Statement.TheVariants as say;
+ghost use Rattle.hg_base.specs.declared.limits.TheConstants.{MOST_TABLES};
 ghost use Rattle.hg_base.specs.History.{seen};
 ghost use Rattle.hg_base.specs.Replies.{AreRows};
 ghost use Rattle.hg_base.specs.Transcript as base;
@@ -65,7 +66,7 @@ fn conflict(refusal: WriteRefusal) -> Result<Answer, NoMemory>
 
 // Whether a transaction may name the table.
 fn has(scope: Scope, table: TableId) -> bool
-    requires { table.0 < 16 }
+    requires { table.0 < MOST_TABLES }
     ensures { result ≡ base.has scope table }
 {
     match scope {
@@ -76,7 +77,7 @@ fn has(scope: Scope, table: TableId) -> bool
 
 // What a transaction that is one statement declares.
 fn only(table: TableId) -> Scope
-    requires { table.0 < 16 }
+    requires { table.0 < MOST_TABLES }
     ensures { result ≡ base.only (Some table) }
 {
     Scope::Declared(1 << table.0)
@@ -103,6 +104,7 @@ impl Driver {
 
     // Begins a transaction, and gives its snapshot.
     fn begin(&mut self, session: u32, scope: Scope) -> Snapshot
+        requires first { 1 ≤ session }
         requires session { session < length self.old.sessions }
         requires idle { (sitting self.old.sessions session).opened ≡ None }
         requires count { (sitting self.old.sessions session).count < 2 ^ 63 }
@@ -160,10 +162,12 @@ impl Driver {
         rid: Rid,
         image: Image,
     ) -> Result<Option<Answer>, NoMemory>
+        requires first { 1 ≤ session }
         requires session { session < length self.old.sessions }
         requires kept { (p : Past) × IsKept self.old p }
         requires opened { (sitting self.old.sessions session).opened ≡ Some snapshot }
         requires table { IsTrue (base.has snapshot.scope rid.table) }
+        requires small { rid.table.0 < MOST_TABLES }
         requires made { made_in self.old.buckets < 2 ^ 40 }
         ensures written { (p : Past) → IsKept self.old p → IfOk result (λ refusal. IsWritten self.new p session rid image refusal) }
         ensures rest { OnOk result (Stays self.old self.new session) }
@@ -190,10 +194,12 @@ impl Driver {
         rid: Rid,
         row: &Row,
     ) -> Result<Answer, NoMemory>
+        requires first { 1 ≤ session }
         requires session { session < length self.old.sessions }
         requires kept { (p : Past) × IsKept self.old p }
         requires opened { (sitting self.old.sessions session).opened ≡ Some snapshot }
         requires table { IsTrue (base.has snapshot.scope rid.table) }
+        requires small { rid.table.0 < MOST_TABLES }
         requires made { made_in self.old.buckets < 2 ^ 40 }
         ensures asked { (p : Past) (n : ℕ) → IsKept self.old p → IfOk result (λ answer. IsAsked self.new p n session (say.Put rid row.now) answer) }
         ensures rest { OnOk result (Stays self.old self.new session) }
@@ -207,10 +213,12 @@ impl Driver {
 
     // A deletion of what isn't seen writes nothing.
     fn del(&mut self, session: u32, snapshot: Snapshot, rid: Rid) -> Result<Answer, NoMemory>
+        requires first { 1 ≤ session }
         requires session { session < length self.old.sessions }
         requires kept { (p : Past) × IsKept self.old p }
         requires opened { (sitting self.old.sessions session).opened ≡ Some snapshot }
         requires table { IsTrue (base.has snapshot.scope rid.table) }
+        requires small { rid.table.0 < MOST_TABLES }
         requires made { made_in self.old.buckets < 2 ^ 40 }
         ensures asked { (p : Past) (n : ℕ) → IsKept self.old p → IfOk result (λ answer. IsAsked self.new p n session (say.Del rid) answer) }
         ensures rest { OnOk result (Stays self.old self.new session) }
@@ -241,11 +249,12 @@ impl Driver {
         table: TableId,
         statement: &Statement,
     ) -> Result<Answer, NoMemory>
+        requires first { 1 ≤ session }
         requires session { session < length self.old.sessions }
         requires kept { (p : Past) × IsKept self.old p }
         requires opened { (sitting self.old.sessions session).opened ≡ Some snapshot }
         requires table { base.table_of statement.now ≡ Some table }
-        requires small { table.0 < 16 }
+        requires small { table.0 < MOST_TABLES }
         requires made { made_in self.old.buckets < 2 ^ 40 }
         ensures asked { (p : Past) (n : ℕ) → IsKept self.old p → IfOk result (λ answer. IsAsked self.new p n session statement.now answer) }
         ensures rest { OnOk result (Stays self.old self.new session) }
@@ -269,6 +278,7 @@ impl Driver {
 
     // Ends the open transaction. Its writes get the next number, if there are any.
     fn finish(&mut self, session: u32) -> Option<u64>
+        requires first { 1 ≤ session }
         requires session { session < length self.old.sessions }
         requires kept { (p : Past) × IsKept self.old p }
         requires opened { IsSome (sitting self.old.sessions session).opened }
@@ -290,6 +300,7 @@ impl Driver {
 
     // Undoes the open transaction.
     fn rollback(&mut self, session: u32)
+        requires first { 1 ≤ session }
         requires session { session < length self.old.sessions }
         requires kept { (p : Past) × IsKept self.old p }
         requires opened { IsSome (sitting self.old.sessions session).opened }
@@ -308,10 +319,11 @@ impl Driver {
         table: TableId,
         statement: &Statement,
     ) -> Result<Reply, NoMemory>
+        requires first { 1 ≤ session }
         requires session { session < length self.old.sessions }
         requires kept { (p : Past) × IsKept self.old p }
         requires table { base.table_of statement.now ≡ Some table }
-        requires small { table.0 < 16 }
+        requires small { table.0 < MOST_TABLES }
         requires within { Within (2 ^ 40) self.old session }
         ensures answered { (p : Past) (n : ℕ) → IsKept self.old p → IfOk result (λ reply. IsAnswered self.new p n session statement.now reply) }
         ensures rest { OnOk result (Goes self.old self.new session) }
@@ -332,6 +344,7 @@ impl Driver {
 
     // Commits the open transaction.
     fn commit(&mut self, session: u32) -> Reply
+        requires first { 1 ≤ session }
         requires session { session < length self.old.sessions }
         requires kept { (p : Past) × IsKept self.old p }
         requires opened { IsSome (sitting self.old.sessions session).opened }
@@ -351,10 +364,11 @@ impl Driver {
         session: u32,
         statement: &Statement,
     ) -> Result<Reply, NoMemory>
+        requires first { 1 ≤ session }
         requires session { session < length self.old.sessions }
         requires kept { (p : Past) × IsKept self.old p }
         requires may { MayStand (is_some (sitting self.old.sessions session).opened) statement.now }
-        requires tables { IfSome (base.table_of statement.now) (λ table. table.0 < 16) }
+        requires tables { IfSome (base.table_of statement.now) (λ table. table.0 < MOST_TABLES) }
         requires within { Within (2 ^ 40) self.old session }
         ensures answered { (p : Past) (n : ℕ) → IsKept self.old p → IfOk result (λ reply. IsAnswered self.new p n session statement.now reply) }
         ensures rest { OnOk result (Goes self.old self.new session) }
