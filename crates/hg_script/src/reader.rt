@@ -1,6 +1,6 @@
 //! The loop over the records of a text.
 
-ghost use Rattle.std.specs.Prelude.{◌≡◌, ◌≤◌, Some, None, OnOk, IfOk, IfErr, false};
+ghost use Rattle.std.specs.Prelude.{◌≡◌, ◌≤◌, ◌<◌, ◌+◌, length, Some, None, OnOk, IfOk, IfErr, false};
 ghost use Rattle.csv.specs.Reading.{NotLengths, error_kind};
 ghost use Rattle.csv.specs.Records.{fields_of};
 ghost use Rattle.hg_script.specs.declared.refusal.ScriptRefusal.TheVariants as refusal;
@@ -34,11 +34,13 @@ fn add(
     row: &ByteRecord,
 ) -> Result<(), NoMemory>
     requires known { KnowsOpen sessions.old.flags script.old.records }
+    requires room { length script.old.records < MOST_RECORDS }
     requires count { count_breaks place script.old.tables (Some word) ≡ false }
     requires draft { draft ≡ draft_of script.old.tables word (fields_of row.now) }
     requires number { number_breaks draft ≡ false }
     requires range { range_breaks draft ≡ false }
     ensures script { OnOk result (script.new ≡ with_draft place script.old (fields_of row.now) draft) }
+    ensures more { OnOk result (length script.new.records ≤ length script.old.records + 1) }
     ensures known { OnOk result (KnowsOpen sessions.new.flags script.new.records) }
 {
     match draft {
@@ -70,10 +72,12 @@ fn take(
     row: &ByteRecord,
 ) -> Result<(), ScriptRefusal>
     requires known { KnowsOpen sessions.old.flags script.old.records }
+    requires before { length script.old.records < place }
     ensures none { OnOk result (first_code place script.old (fields_of row.now) ≡ None) }
     ensures script { OnOk result (script.new ≡ with_row place script.old (fields_of row.now)) }
     ensures known { OnOk result (KnowsOpen sessions.new.flags script.new.records) }
     ensures most { OnOk result (place ≤ MOST_RECORDS) }
+    ensures more { OnOk result (length script.new.records ≤ length script.old.records + 1) }
     ensures at { IfErr result (TellsCode place (first_code place script.old (fields_of row.now))) }
 {
     let word = Word::read(row);

@@ -5,7 +5,7 @@ ghost use Rattle.hg_base.specs.Lists.{greatest};
 ghost use Rattle.hg_script.specs.Meaning.{nothing};
 
 use crate::table::Table;
-use hg_base::{MOST_TABLES, NoMemory, Record};
+use hg_base::{MOST_RECORDS, MOST_TABLES, NoMemory, Record};
 use std::alloc::Global;
 use std::marker::Model;
 
@@ -19,13 +19,13 @@ pub struct Script {
 impl Model for Script {
     ghost use Rattle.std.specs.Prelude.{◌≤◌, length};
     ghost use Rattle.hg_base.specs.Script as base;
-    ghost use Rattle.hg_base.specs.declared.limits.TheConstants.{MOST_TABLES};
+    ghost use Rattle.hg_base.specs.declared.limits.TheConstants.{MOST_RECORDS, MOST_TABLES};
 
     ghost Value = { base.Script };
 
     ghost view = { λ s. record { tables = s.tables.items; records = s.records.items } };
 
-    ghost invariant = { λ s. length s.tables.items ≤ MOST_TABLES };
+    ghost invariant = { λ s. (length s.tables.items ≤ MOST_TABLES) × (length s.records.items ≤ MOST_RECORDS) };
 }
 
 fn greatest_session(records: &[Record]) -> u32
@@ -55,7 +55,8 @@ impl Script {
     }
 
     pub fn records(&self) -> &[Record]
-        ensures { result.now ≡ self.now.records }
+        ensures same { result.now ≡ self.now.records }
+        ensures most { length self.now.records ≤ MOST_RECORDS }
     {
         &self.records
     }
@@ -76,6 +77,7 @@ impl Script {
     }
 
     pub(crate) fn add(&mut self, statement: Record) -> Result<(), NoMemory>
+        requires { length self.old.records < MOST_RECORDS }
         ensures { OnOk result (self.new ≡ record self.old { records = self.old.records ++ statement ∷ [] }) }
     {
         self.records.push(statement)?;

@@ -1,4 +1,4 @@
-use Rattle.std.proofs.Common.{◌≡◌, ◌≤◌, ◌+◌, Bor, ℕ, List, Some, None, true, length}
+use Rattle.std.proofs.Common.{◌≡◌, ◌≤◌, ◌<◌, ◌+◌, Bor, ℕ, List, Some, None, true, length}
 use Rattle.csv.specs.Reading.{Reached, Ready, default_config, source_of, strip_bom, is_flexible, reader_trim, reader_config, reader_state}
 use Rattle.csv.specs.declared.parser.State.TheVariants as st
 use Rattle.csv.specs.declared.reader.Trim.TheVariants as trim
@@ -16,5 +16,6 @@ invariant-loop-place l = record {
       × Reached default_config st.StartRecord (strip_bom l.fn.bytes) rows (reader_state l.reader) y
       × (1 + length rows ≡ l.place) × (refusal_of rows ≡ None) × (l.script ≡ script_of rows);
   most : l.place ≤ 1048577;
+  before : length l.script.records < l.place;
   known : KnowsOpen l.sessions.flags l.script.records;
 }
