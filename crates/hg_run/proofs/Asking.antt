@@ -1,7 +1,8 @@
 -- What a statement in an open transaction is answered, and the entries that it leaves.
 use Rattle.std.proofs.Common.{◌≡◌, ℕ, zero, suc, ◌+◌, ◌<◌, ◌≤◌, ◌⊎◌, inl, inr, ℤ, List, [], ◌∷◌, ◌++◌, length, Bool, true, false, Option, Some, None, refl, sym, ap, ◌∙◌, subst, arith}
-use Rattle.std.specs.Prelude.{not, cond, map, filter, is_some, option_and_then, unwrap_or, IsTrue, IsFalse, IsSome, IfSome, Contains, ◌==◌, ◌||◌, ⊤}
+use Rattle.std.specs.Prelude.{◌%◌, ◌*◌, not, cond, map, filter, is_some, option_and_then, unwrap_or, IsTrue, IsFalse, IsSome, IfSome, Contains, ◌==◌, ◌||◌, ⊤}
 use Rattle.std.specs.List.{list_any}
+use Rattle.std.proofs.Math.Nat.{mod-lt}
 use Rattle.std.proofs.lemmas.Bool.Decides.{Decides-eqb}
 use Rattle.hg_base.specs.declared.rid.Rid.{Rid}
 use Rattle.hg_base.specs.declared.rid.TableId.{TableId}
@@ -36,7 +37,7 @@ use Rattle.hg_run.specs.Answering.{IsAsked, IsWritten, answer_row, conflict_of}
 use Rattle.hg_run.proofs.Versions.{newest_over}
 use Rattle.hg_run.proofs.Showing.{IsFree, by_of, begins, held_by, reads, same_number}
 use Rattle.hg_run.proofs.Keeping.{IsTelling, IsSame, telling_same, kept_telling, kept_wrote, with_written, is_now, none_of, by_session, put_here, put_other, put_same, put_more}
-use Rattle.hg_run.proofs.Parts.{part_of, part_rows, parts_join}
+use Rattle.hg_headline.proofs.Parts.{part_of, part_rows, parts_join}
 use Rattle.hg_run.proofs.LogFacts.{open_writes, open_unnumbered, snapshot_within}
 
 -- what an answer leaves untold, where it leaves nothing
@@ -236,6 +237,10 @@ kept_saws k p j snapshot table low high part session opened within are s (suc m)
     subst (IsKept k) (entries_more p j e (saws table low high part m))
     (kept_telling k q j e session tt tt (ap is_some now) (is_now (current (q.logs j)) snapshot _ now (within, subst (λ ws. AreRows (in_bucket (length k.buckets) m table (seen p.history ws snapshot.at)) low high (part m)) (sym own) (are m))) before)
 
+pub bucket_within : (buckets : ℕ) (r : Rid) → 0 < buckets → bucket_of buckets r < buckets
+unfolding bucket_of
+bucket_within buckets r some = mod-lt (r.key % buckets + 31 * r.table.0) some
+
 abbrev pub in_parts : ℕ → TableId → List (ℕ × List ℤ) → Unprinted
 in_parts buckets table rows = record { found = []; part = part_of buckets table rows; undone = [] }
 
@@ -244,12 +249,12 @@ asked_scan k p n j table low high snapshot rows session opened within are s =
     let f : Rid → Image = seen p.history (own_writes (p.logs j)) snapshot.at in
     record {
       u = in_parts (length k.buckets) table rows;
-      fits = parts_join (length k.buckets) table rows s.logged.some are.ascend;
+      fits = parts_join (length k.buckets) table rows (λ r. bucket_within (length k.buckets) r s.logged.some) are.ascend;
       met = tt;
       told = tt;
       newer = tt;
       wrote = λ log. (saws_same table low high (part_of (length k.buckets) table rows) (length k.buckets) log).own;
-      kept = kept_saws k p j snapshot table low high (part_of (length k.buckets) table rows) session opened within (λ b. part_rows (length k.buckets) table f low high rows b are) s (length k.buckets);
+      kept = kept_saws k p j snapshot table low high (part_of (length k.buckets) table rows) session opened within (λ b. part_rows (length k.buckets) b table f low high rows are) s (length k.buckets);
     }
 
 -- ---- what is read

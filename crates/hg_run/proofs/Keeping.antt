@@ -1,7 +1,7 @@
 -- What the driver keeps shows what happened, after each of its steps.
 use Rattle.std.proofs.Common.{◌≡◌, ℕ, suc, ◌+◌, ◌<◌, ◌≤◌, List, [], ◌∷◌, ◌++◌, length, drop, Bool, true, false, Option, Some, None, refl, sym, ap, ◌∙◌, subst, arith}
 use Rattle.std.specs.Prelude.{filter, map, not, ◌||◌, cond, is_some, IsTrue, IsFalse, IsSome, IfSome, ◌==◌, ◌&&◌, ⊤}
-use Rattle.std.proofs.lemmas.Bool.Decides.{Decides-eqb}
+use Rattle.std.proofs.lemmas.Bool.Decides.{Decides-eqb, nat_tests}
 use Rattle.std.proofs.lemmas.Bool.{or_right}
 use Rattle.std.proofs.lemmas.List.Folds.{list_any-append}
 use Rattle.hg_base.specs.declared.rid.Rid.{Rid}
@@ -81,6 +81,13 @@ undone_more k l p j d log session many more undid before n e =
     let within : j ≤ n = omega (arith, last, many, e) in
     more ∙ ap (λ m. m + d) (before n (sym many ∙ e)) ∙ sym (undone_put n p.logs j log d first within undid)
 
+-- the session at 0 is no other's
+pub still_rests : (k l : Driven) (j : ℕ) (t : Sitting) → IsSession k j → Sets k.sessions l.sessions j t → (sitting k.sessions 0).opened ≡ None → (sitting l.sessions 0).opened ≡ None
+still_rests k l j t session set zero =
+    let first = session.0 in
+    let other : (0 == j) ≡ false = grind (arith, nat_tests, first) in
+    ap (λ (x : Sitting). x.opened) (set.others 0 other) ∙ zero
+
 pub plus_none : (m n : ℕ) → m ≡ n → m ≡ n + 0
 plus_none m n e = omega (arith, e)
 
@@ -135,6 +142,7 @@ kept_telling k p j e session telling quiet judge replied s =
       records = λ r. stays p (with_entries p j (e ∷ [])) r (versions_in k.buckets r) refl refl (alike_but p j (e ∷ p.logs j) r (same_alike r (p.logs j) (e ∷ p.logs j) same)) (s.records r);
       logged = logged_entry (length k.buckets) p.history p.logs j e s.logged quiet judge replied;
       made = made_more k k p j 0 (e ∷ p.logs j) session refl (plus_none (held.made_in k.buckets) (held.made_in k.buckets) refl) (plus_none (first_writes every (e ∷ p.logs j)) (first_writes every (p.logs j)) same.made) s.made;
+      zero = s.zero;
       undone = undone_more k k p j 0 (e ∷ p.logs j) session refl (plus_none (held.undone_in k.buckets) (held.undone_in k.buckets) refl) (plus_none (undos every (e ∷ p.logs j)) (undos every (p.logs j)) same.undone) s.undone;
     }
 
@@ -170,6 +178,7 @@ kept_began k l p j scope session buckets mark idle set s =
             alone = sym sit.opened ∙ idle;
           }) tt);
       made = made_more k l p j 0 (Began k.mark scope ∷ p.logs j) session set.many (plus_none (held.made_in l.buckets) (held.made_in k.buckets) (ap held.made_in buckets)) (plus_none (first_writes every (Began k.mark scope ∷ p.logs j)) (first_writes every (p.logs j)) refl) s.made;
+      zero = still_rests k l j _ session set s.zero;
       undone = undone_more k l p j 0 (Began k.mark scope ∷ p.logs j) session set.many (plus_none (held.undone_in l.buckets) (held.undone_in k.buckets) (ap held.undone_in buckets)) (plus_none (undos every (Began k.mark scope ∷ p.logs j)) (undos every (p.logs j)) refl) s.undone;
     }
 
@@ -254,6 +263,7 @@ kept_wrote k l p j r image snapshot session mark opened within free becomes set 
       logged = subst (λ n. Logged n p.history q.logs) (sym becomes.many)
           (logged_entry (length k.buckets) p.history p.logs j (Wrote r image) s.logged tt (ap is_some now) (is_now (current (p.logs j)) snapshot (λ snapshot. IsTrue (has snapshot.scope r.table)) now within, sit.plain));
       made = made_more k l p j (cond (begins_open (writer_of k j) (versions_in k.buckets r)) 0 1) log session set.many made (first_adds (begins_open (writer_of k j) (versions_in k.buckets r)) (is_some (image_in r (own_writes (p.logs j)))) (first_writes every (p.logs j)) (sym began ∙ sit.covers r)) s.made;
+      zero = still_rests k l j _ session set s.zero;
       undone = undone_more k l p j 0 log session set.many (plus_none (held.undone_in l.buckets) (held.undone_in k.buckets) undone) (plus_none (undos every log) (undos every (p.logs j)) refl) s.undone;
     }
 
@@ -317,6 +327,7 @@ kept_ended k l p j session buckets mark opened none set s =
             none = λ r. open_is_own r (p.logs j) sit.plain ∙ unwritten r;
           }) tt);
       made = made_more k l p j 0 (Over ∷ p.logs j) session set.many (plus_none (held.made_in l.buckets) (held.made_in k.buckets) (ap held.made_in buckets)) (plus_none (first_writes every (Over ∷ p.logs j)) (first_writes every (p.logs j)) refl) s.made;
+      zero = still_rests k l j _ session set s.zero;
       undone = undone_more k l p j 0 (Over ∷ p.logs j) session set.many (plus_none (held.undone_in l.buckets) (held.undone_in k.buckets) (ap held.undone_in buckets)) (plus_none (undos every (Over ∷ p.logs j)) (undos every (p.logs j)) refl) s.undone;
     }
 
@@ -394,6 +405,7 @@ kept_undone k l p j session mark many opened each set made undone s =
           (stays p q r (versions_in k.buckets r) refl refl (alike_but p j log r (unwritten_alike (p.logs j) log r refl (none_of (image_in r (own_writes (p.logs j))) (sym (sit.covers r) ∙ e)))) (s.records r)));
       logged = subst (λ n. Logged n p.history q.logs) (sym many) (undone_logged (length k.buckets) p.history p.logs j rids s.logged now sit.plain sit.covers);
       made = made_more k l p j 0 log session set.many (plus_none (held.made_in l.buckets) (held.made_in k.buckets) made) (plus_none (first_writes every log) (first_writes every (p.logs j)) (made_undone rids (p.logs j))) s.made;
+      zero = still_rests k l j _ session set s.zero;
       undone = undone_more k l p j (length rids) log session set.many undone (undos_undone rids (p.logs j)) s.undone;
     }
 
@@ -477,5 +489,6 @@ kept_committed k l p j first session mark many opened wrote each set made undone
           (stays p q x (versions_in k.buckets x) (no_version p.history c x unwritten) (no_write p.history c x unwritten) (alike_but p j log x (unwritten_alike (p.logs j) log x refl none)) (s.records x)));
       logged = subst (λ n. Logged n q.history q.logs) (sym many) (committed_logged (length k.buckets) p j s.logged now sit.plain (wrote_some first (own_writes (p.logs j)) (sym (sit.covers first) ∙ wrote)) loses);
       made = made_more k l p j 0 log session set.many (plus_none (held.made_in l.buckets) (held.made_in k.buckets) made) (plus_none (first_writes every log) (first_writes every (p.logs j)) refl) s.made;
+      zero = still_rests k l j _ session set s.zero;
       undone = undone_more k l p j 0 log session set.many (plus_none (held.undone_in l.buckets) (held.undone_in k.buckets) undone) (plus_none (undos every log) (undos every (p.logs j)) refl) s.undone;
     }

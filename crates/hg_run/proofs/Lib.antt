@@ -1,8 +1,16 @@
+-- Reading and writing, and when each status comes.
+mod Known
+mod Exactly
+-- One record's versions, and what is kept after each step.
 mod Versions
 mod Showing
 mod LogFacts
 mod Keeping
-mod Parts
+-- A statement in a transaction, and the end of one.
 mod Asking
-mod Statements
 mod Ending
+mod Statements
+-- A whole script.
+mod Playing
+mod Looping
+mod Closing

@@ -17,6 +17,8 @@ use Rattle.hg_base.specs.declared.line.Reply.{Reply}
 use Rattle.hg_base.specs.Lists.{Each}
 use Rattle.hg_base.specs.History.{Write, History, image_in, is_among, NoneTwice}
 use Rattle.hg_base.specs.Replies.{is_written}
+use Rattle.hg_base.specs.declared.report.Sweep.{Sweep}
+use Rattle.hg_base.specs.Shape.{report_of}
 use Rattle.hg_base.specs.Transcript.{only, table_of, stored_by}
 use Rattle.hg_base.proofs.ListFacts.{cases, false_true, none_some}
 use Rattle.hg_core.specs.declared.log.LogEntry.{LogEntry}
@@ -32,6 +34,10 @@ use Rattle.hg_run.specs.Driving.{Sitting, Driven, Past, Sets, IsKept, IsSitting,
 use Rattle.hg_run.specs.Answering.{Ends, Goes, Stays, IsAsked, IsAnswered, IsFinished, IsTold, inside, newer_number, with_commit}
 use Rattle.hg_run.proofs.Keeping.{put_here, put_other, put_twice, length_snoc, none_of}
 use Rattle.hg_run.proofs.Asking.{untold}
+
+-- the report of an answer
+abbrev pub reported : Answer → Option Sweep
+reported answer = report_of (inside answer)
 
 -- ---- the log after a statement
 
@@ -60,6 +66,7 @@ answered_begin l p n j at scope mark idle kept =
       met = tt;
       timely = record { grows = same; reads = (down, tt); snapshot = up; mark = tt; newer = tt; commit = tt };
       kept = kept;
+      quiet = refl;
       logs = ap (put p.logs j) (sym (after_inside (length l.buckets) untold (Begin scope) (inside (Begun at)) (p.logs j) alone));
     }
 
@@ -94,6 +101,7 @@ answered_commit l p n j number opened f = go number f
       met = tt;
       timely = record { grows = same; reads = tt; snapshot = tt; mark = tt; newer = tt; commit = tt };
       kept = f.1;
+      quiet = refl;
       logs = ap (put p.logs j) (sym (after_inside (length l.buckets) untold CommitIt (inside Ended) (p.logs j) alone));
     }
     go (Some c) f =
@@ -109,6 +117,7 @@ answered_commit l p n j number opened f = go number f
           met = tt;
           timely = record { grows = grows; reads = tt; snapshot = tt; mark = tt; newer = tt; commit = (over, within, tt) };
           kept = f.2;
+          quiet = refl;
           logs = (λ i. put p.logs j (close (Some (sym is i)) ++ p.logs j)) ∙ ap (put p.logs j) (sym (after_inside (length l.buckets) untold CommitIt (inside (Committed c)) (p.logs j) alone));
         }
 
@@ -126,6 +135,7 @@ answered_rollback l p n j rids distinct covers kept =
       met = tt;
       timely = record { grows = same; reads = tt; snapshot = tt; mark = tt; newer = tt; commit = tt };
       kept = kept;
+      quiet = refl;
       logs = ap (put p.logs j) (sym (after_inside (length l.buckets) (undoing rids) Rollback (inside Undone) (p.logs j) alone));
     }
   where
@@ -134,6 +144,18 @@ answered_rollback l p n j rids distinct covers kept =
     alone_no (Some snapshot) = refl
 
 -- ---- a statement in a transaction
+
+-- an answer to a get, put, del or scan is no report
+pub told_quiet : (a : Answer) → IsTold a → reported a ≡ None
+told_quiet Stored told = refl
+told_quiet (Found row) told = refl
+told_quiet Nothing told = refl
+told_quiet Gone told = refl
+told_quiet (Rows rows) told = refl
+told_quiet (Newer number) told = refl
+told_quiet (OpenBy writer) told = refl
+told_quiet (Undeclared table) told = refl
+told_quiet _ told = absurd told
 
 pub timely_inside : (top : ℕ) (s : Statement) (a : Answer) → is_access s ≡ true → IsTold a → IfSome (newer_number a) (λ c. (0 < c) × (c ≤ top)) → IsTimely top top s (inside a)
 timely_inside top s a access told newer = record { grows = same; reads = reads a told newer; snapshot = none a told; mark = marks a told; newer = over a told newer; commit = commits s a access }
@@ -202,6 +224,7 @@ answered_inside l p n j s a snapshot access now h =
       met = h.met;
       timely = timely_inside (length p.history) s a access h.told h.newer;
       kept = h.kept;
+      quiet = told_quiet a h.told;
       logs = ap (put p.logs j) (sym (after_inside (length l.buckets) h.u s (inside a) (p.logs j) alone));
     }
 
@@ -408,6 +431,7 @@ answered_outside l m p n j at table s a number mark idle access names many h f =
       met = met;
       timely = timely_outside (length p.history) (length p.history) at s a None mark access h.told h.newer refl;
       kept = f.1;
+      quiet = told_quiet a h.told;
       logs = ended None;
     }
     go (Some c) f = record {
@@ -417,6 +441,7 @@ answered_outside l m p n j at table s a number mark idle access names many h f =
       met = met;
       timely = timely_outside (length p.history) (length (with_commit p2 j).history) at s a (Some c) mark access h.told h.newer (f.1, length_snoc p.history (commit_with j (p2.logs j) ∷ []));
       kept = f.2;
+      quiet = told_quiet a h.told;
       logs = (λ i. put p2.logs j (close (Some (sym f.1 i)) ++ p2.logs j)) ∙ ended (Some c);
     }
 

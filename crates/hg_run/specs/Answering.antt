@@ -7,6 +7,7 @@ use Rattle.hg_base.specs.declared.line.Answer.{Answer}
 use Rattle.hg_base.specs.declared.line.Answer.TheVariants.{Stored, Found, Nothing, Gone, Rows, Newer, OpenBy, Undeclared}
 use Rattle.hg_base.specs.declared.line.Reply.{Reply}
 use Rattle.hg_base.specs.declared.statement.Statement.{Statement}
+use Rattle.hg_base.specs.Shape.{report_of}
 use Rattle.hg_base.specs.Transcript.{stored_by}
 use Rattle.hg_core.specs.declared.log.LogEntry.{LogEntry}
 use Rattle.hg_core.specs.declared.log.LogEntry.TheVariants.{Refused, Wrote, Undid, Over}
@@ -25,6 +26,12 @@ pub record Within (n : ℕ) (k : Driven) (j : ℕ) : Type 0 where
   pub count : (sitting k.sessions j).count < n
   pub mark : k.mark < n
   pub made : made_in k.buckets < n
+
+-- no count passes n
+pub record IsWithin (n : ℕ) (k : Driven) : Type 0 where
+  pub counts : (j : ℕ) → (sitting k.sessions j).count ≤ n
+  pub mark : k.mark ≤ n
+  pub made : made_in k.buckets ≤ n
 
 -- how far a statement may go: one transaction more of session j, one commit and one version, in as many buckets and sessions
 pub record Goes (old new : Driven) (j : ℕ) : Type 0 where
@@ -104,6 +111,7 @@ pub record IsAnswered (k : Driven) (p : Past) (sessions j : ℕ) (s : Statement)
   pub timely : IsTimely (length p.history) (length q.history) s reply
   pub kept : IsKept k q
   pub logs : q.logs ≡ put p.logs j (log_after (length k.buckets) u s reply (p.logs j))
+  pub quiet : report_of reply ≡ None
 
 -- how a write is refused, unless it is for want of memory
 abbrev pub conflict_of : WriteRefusal → Option Answer

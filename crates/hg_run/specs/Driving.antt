@@ -113,6 +113,7 @@ pub record IsKept (k : Driven) (p : Past) : Type 0 where
   pub logged : Logged (length k.buckets) p.history p.logs
   pub made : (n : ℕ) → length k.sessions ≡ suc n → held.made_in k.buckets ≡ made_in n p.logs
   pub undone : (n : ℕ) → length k.sessions ≡ suc n → held.undone_in k.buckets ≡ undone_in n p.logs
+  pub zero : (sitting k.sessions 0).opened ≡ None
 
 -- a session that there is
 abbrev pub IsSession : Driven → ℕ → Type 0

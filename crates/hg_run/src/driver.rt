@@ -14,12 +14,14 @@ ghost use Rattle.hg_bucket.specs.Held.{record_at};
 ghost use Rattle.hg_script.specs.Lawful.{MayStand};
 ghost use Rattle.hg_run.specs.Buckets.{made_in};
 ghost use Rattle.hg_run.specs.Driving.{Past, Sets, IsKept, begun, sitting, writer_of, with_entries};
+ghost use Rattle.hg_run.specs.Closing.{IsAtRest, IsClosed};
+ghost use Rattle.hg_run.specs.Playing.{HasPlayed};
 ghost use Rattle.hg_run.specs.Answering.{Ends, Goes, Stays, Within, IsAsked, IsWritten, IsFinished, IsUndone, IsAnswered, answer_row, conflict_of, inside};
 
 use crate::buckets::Buckets;
 use crate::session::Sessions;
 use hg_base::{
-    Answer, Image, NoMemory, Reply, Rid, Row, RowList, Scope, Snapshot, Statement, TableId, Writer,
+    Answer, Image, NoMemory, Reply, Rid, Row, RowList, Scope, Snapshot, Statement, TableId, Totals, Writer,
 };
 use hg_bucket::WriteRefusal;
 use std::alloc::Global;
@@ -84,12 +86,18 @@ fn only(table: TableId) -> Scope
 }
 
 impl Driver {
-    /// The snapshot of the session's open transaction.
-    fn opened(&self, session: u32) -> Option<Snapshot>
-        requires { session < length self.now.sessions }
-        ensures { result ≡ (sitting self.now.sessions session).opened }
+    /// Nothing is held, and all sessions are at rest: those from 1 to `sessions`, and one at 0 that stays so.
+    pub(crate) fn new(alloc: Global, sessions: u32, buckets: u32) -> Result<Driver, NoMemory>
+        requires sessions { sessions < 2 ^ 31 }
+        requires buckets { 0 < buckets }
+        ensures { IfOk result (λ driver. HasPlayed driver sessions [] []) }
     {
-        self.sessions.opened(session)
+        Ok(Driver {
+            buckets: Buckets::new(alloc, buckets)?,
+            sessions: Sessions::new(alloc, sessions)?,
+            mark: 0,
+            alloc,
+        })
     }
 
     fn writer(&self, session: u32) -> Writer
@@ -389,5 +397,34 @@ impl Driver {
             }
             Statement::Gc(_) => unreachable!(),
         }
+    }
+
+    // Rolls open transactions back, in the order of sessions.
+    fn roll_back(&mut self)
+        requires some { 0 < length self.old.sessions }
+        requires most { length self.old.sessions ≤ 2 ^ 31 }
+        requires kept { (p : Past) × IsKept self.old p }
+        ensures rest { (p : Past) → IsKept self.old p → IsAtRest self.new p }
+        ensures many { length self.new.sessions ≡ length self.old.sessions }
+        ensures made { made_in self.new.buckets ≡ made_in self.old.buckets }
+    {
+        for session in 1..self.sessions.most() + 1 {
+            if self.sessions.opened(session).is_some() {
+                self.rollback(session);
+            }
+        }
+    }
+
+    /// Rolls open transactions back, cuts every table of every bucket at the mark, and counts.
+    pub(crate) fn close(mut self) -> Totals
+        requires some { 0 < length self.sessions }
+        requires most { length self.sessions ≤ 2 ^ 31 }
+        requires kept { (p : Past) × IsKept self p }
+        requires made { made_in self.buckets < 2 ^ 63 }
+        ensures { (p : Past) (n : ℕ) → IsKept self p → length self.sessions ≡ suc n → IsClosed p n result }
+    {
+        self.roll_back();
+        self.buckets.settle(self.mark);
+        self.buckets.totals()
     }
 }

@@ -1,8 +1,36 @@
-//! Scratch.
+//! From the bytes of a script to the bytes of its answers.
+//!
+//! `serve` goes down these steps once. Each takes what the one above it gave, or ends the call with a status:
+//!
+//!     step            takes              gives              or ends with
+//!     are_accepted    the words          leave to go on     Usage
+//!     read_all        the source         all its bytes      ReadFault, TooLong
+//!     read_script     the bytes          a script           BadScript
+//!     replay          the script         what is printed
+//!     text_of         what is printed    one text
+//!     write_all       the text           Done               WriteFault
+//!
+//! Want of memory may end every step but the first and the last. The text is whole before its first byte is written. So
+//! a script that is refused has run nothing, and what a sink took is a front of the text of a whole run.
+//!
+//! `Comes` says when each status comes. Its line for `Done` is the headline: the sink took the text of a printed value
+//! that is sound for the script which all the bytes of the source mean.
 #![tactic(auto)]
 
 mod buckets;
 mod driver;
+mod page;
+mod reading;
+mod replay;
+mod serving;
 mod session;
+mod status;
+mod text;
+mod words;
+mod writing;
 
-pub fn nothing() {}
+pub use serving::serve;
+pub use status::Status;
+
+#[cfg(test)]
+mod tests;

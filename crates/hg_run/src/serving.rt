@@ -1,0 +1,104 @@
+//! The steps in their order.
+
+ghost use Rattle.std.specs.Prelude.{◌≡◌, ◌≤◌, ◌<◌, ◌↔◌, ℕ, List, length, map, Some, None, IfOk, IfErr, IsTrue, IsFalse, string_bytes};
+ghost use Rattle.hg_script.specs.declared.code.Code.{Code};
+ghost use Rattle.hg_script.specs.Fields.{rows_of};
+ghost use Rattle.hg_script.specs.Meaning.{refusal_of};
+ghost use Rattle.hg_run.specs.Words.{are_accepted};
+ghost use Rattle.hg_run.specs.Serving.{Answers, Comes, Gives, HasFailed, IsTextFor, IsUnlessNoMemory, RefusesBytes, RefusesSource, WritesAll, change_of, may_write};
+
+use crate::replay::replay;
+use crate::reading::read_all;
+use crate::status::Status;
+use crate::text::text_of;
+use crate::words::are_accepted;
+use crate::writing::write_all;
+use hg_base::{Failed, Gate, MOST_SCRIPT_BYTES, Sink, Source};
+use hg_script::read_script;
+use std::alloc::Global;
+use std::sync::Wait;
+use std::thread::Threads;
+
+// The text that the script of these bytes prints. Here the script is known to be their meaning.
+fn text_of_bytes(alloc: Global, bytes: &[u8]) -> Result<Vec<u8>, Status>
+    ensures text { IfOk result (λ text. IsTextFor bytes.now text.items) }
+    ensures refused { IfErr result (RefusesBytes bytes.now) }
+{
+    let script = read_script(alloc, bytes)?;
+    let printed = replay(alloc, &script)?;
+    let text = text_of(alloc, &script, &printed)?;
+    Ok(text)
+}
+
+// The text that the script in a source prints.
+fn text_of_source<S: Source>(alloc: Global, source: &mut S) -> Result<Vec<u8>, Status>
+    ensures text { IfOk result (λ text. Answers (change_of S.left S.faults source.old source.new) text.items) }
+    ensures refused { IfErr result (RefusesSource (change_of S.left S.faults source.old source.new)) }
+{
+    let bytes = read_all(alloc, source)?;
+    text_of_bytes(alloc, &bytes)
+}
+
+// The answer, which always comes.
+fn answer<So: Source, Si: Sink>(
+    alloc: Global,
+    words: &[String],
+    source: &mut So,
+    sink: &mut Si,
+) -> Status
+    ensures comes { Comes (map string_bytes words.now) (change_of So.left So.faults source.old source.new)
+        (change_of Si.taken Si.faults sink.old sink.new) result }
+    ensures usage { (result ≡ Status.Usage) ↔ IsFalse (are_accepted (map string_bytes words.now)) }
+    ensures unread { result ≡ Status.Usage → source.new ≡ source.old }
+    ensures untouched { IsFalse (may_write result) → sink.new ≡ sink.old }
+{
+    if !are_accepted(words) {
+        return Status::Usage;
+    }
+    let text = match text_of_source(alloc, source) {
+        Ok(text) => text,
+        Err(status) => return status,
+    };
+    match write_all(sink, &text) {
+        Ok(()) => Status::Done,
+        Err(Failed) => Status::WriteFault,
+    }
+}
+
+/// Does what the words say: reads the script in the source, runs it, and writes its answers to the sink.
+pub fn serve<R: Threads + Wait + Sync, So: Source, Si: Sink, G: Gate + Sync>(
+    _rt: &R,
+    alloc: Global,
+    words: &[String],
+    source: &mut So,
+    sink: &mut Si,
+    _gate: &G,
+) -> Status
+    // The sink took the whole text of a printed value that is sound for the script in the source.
+    ensures sound { result ≡ Status.Done → WritesAll (change_of So.left So.faults source.old source.new)
+        (change_of Si.taken Si.faults sink.old sink.new) }
+
+    // Each status has its cause.
+    ensures comes { Comes (map string_bytes words.now) (change_of So.left So.faults source.old source.new)
+        (change_of Si.taken Si.faults sink.old sink.new) result }
+
+    // Other words are told before anything is read, and a script is refused before anything is written.
+    ensures usage { (result ≡ Status.Usage) ↔ IsFalse (are_accepted (map string_bytes words.now)) }
+    ensures unread { result ≡ Status.Usage → source.new ≡ source.old }
+    ensures untouched { IsFalse (may_write result) → sink.new ≡ sink.old }
+
+    // What a source holds that tells its bytes and does not fail decides the answer, where memory is found.
+    ensures complete { (bytes : List ℕ) → IsTrue (are_accepted (map string_bytes words.now))
+        → Gives (change_of So.left So.faults source.old source.new) bytes → length bytes ≤ MOST_SCRIPT_BYTES
+        → refusal_of (rows_of bytes) ≡ None → ¬ HasFailed (change_of Si.taken Si.faults sink.old sink.new)
+        → IsUnlessNoMemory result Status.Done }
+    ensures bad_script { (bytes : List ℕ) (line : ℕ) (code : Code) → IsTrue (are_accepted (map string_bytes words.now))
+        → Gives (change_of So.left So.faults source.old source.new) bytes → length bytes ≤ MOST_SCRIPT_BYTES
+        → refusal_of (rows_of bytes) ≡ Some (line, code)
+        → IsUnlessNoMemory result (Status.BadScript line code) }
+    ensures too_long { (bytes : List ℕ) → IsTrue (are_accepted (map string_bytes words.now))
+        → Gives (change_of So.left So.faults source.old source.new) bytes → MOST_SCRIPT_BYTES < length bytes
+        → IsUnlessNoMemory result Status.TooLong }
+{
+    answer(alloc, words, source, sink)
+}

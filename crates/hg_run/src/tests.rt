@@ -1,0 +1,253 @@
+//! Calls over a source and a sink in memory, and a text with every answer.
+
+ghost use Rattle.std.specs.Prelude.{◌<◌};
+
+use super::*;
+use crate::text::text_of;
+use hg_base::{
+    Answer, Kind, Line, LineList, MemorySink, MemorySource, NoGate, NoMemory, Printed, Reply, Row,
+    RowList, Sweep, TableId, Told, ToldList, Totals, Writer,
+};
+use hg_script::read_script;
+use std::alloc::Global;
+use std::sync::Wait;
+use std::test::Fail;
+use std::thread::Threads;
+
+const OWN_WRITE: &str = "table,t,1\n1,begin\n1,put,t,5,7\n1,get,t,5\n1,commit\n";
+
+const USAGE: &str =
+    "usage: hybridgc replay or run or load SEED, with --buckets N, --long N, --rounds N";
+
+// Words, as they stand between spaces, from a source whose listed calls fail.
+fn call<R: Threads + Wait + Sync>(
+    rt: &R,
+    alloc: Global,
+    words: &str,
+    text: Vec<u8>,
+    most: usize,
+    failing: &[u64],
+    sink: &mut MemorySink,
+) -> Result<Status, Fail>
+    requires { 0 < most }
+{
+    let mut all = Vec::new(alloc);
+    for word in words.split_whitespace() {
+        all.push(String::from_str(alloc, word)?)?;
+    }
+    let mut source = MemorySource::new(text, most, failing.to_vec(alloc)?);
+    Ok(serve(rt, alloc, &all, &mut source, sink, &NoGate))
+}
+
+// What ends a call before anything is written: the status, the exit status, and what is said.
+#[test]
+fn nothing_is_written(rt: HostRuntime) -> Result<(), Fail> {
+    for (words, text, failing, exit, said) in [
+        ("", OWN_WRITE, 0, 2, USAGE),
+        ("run", OWN_WRITE, 0, 2, USAGE),
+        ("replay replay", OWN_WRITE, 0, 2, USAGE),
+        (
+            "replay",
+            "table,t,1\n1,get,v,5\n",
+            0,
+            3,
+            "script record 2: Name",
+        ),
+        ("replay", OWN_WRITE, 2, 4, "read fault"),
+    ] {
+        let mut sink = MemorySink::new(rt.alloc(), 4, Vec::new(rt.alloc()));
+        sink.reserve(256)?;
+        let bytes = Vec::from_slice(rt.alloc(), text.as_bytes())?;
+        let status = call(&rt, rt.alloc(), words, bytes, 8, &[failing], &mut sink)?;
+        assert_eq!(rt;
+            format!(in rt.alloc(); "{status}")?.as_bytes(),
+            said.as_bytes()
+        );
+        assert_eq!(rt; status.exit_code(), exit);
+        assert!(rt; sink.bytes().is_empty());
+    }
+    Ok(())
+}
+
+// A script of as many bytes as it may have, and of one more.
+#[test]
+fn length_is_limited(rt: HostRuntime) -> Result<(), Fail> {
+    for (length, exit, said) in [
+        (16_777_216, 3, "script record 1: Word"),
+        (16_777_217, 6, "script longer than 16777216 bytes"),
+    ] {
+        let mut sink = MemorySink::new(rt.alloc(), 4, Vec::new(rt.alloc()));
+        let text = vec![in rt.alloc(); b'1'; length]?;
+        let status = call(&rt, rt.alloc(), "replay", text, 100_000, &[], &mut sink)?;
+        assert_eq!(rt;
+            format!(in rt.alloc(); "{status}")?.as_bytes(),
+            said.as_bytes()
+        );
+        assert_eq!(rt; status.exit_code(), exit);
+    }
+    Ok(())
+}
+
+// Scripts, and all that is written for them.
+#[test]
+fn scripts_have_their_answers(rt: HostRuntime) -> Result<(), Fail> {
+    for (script, lines, totals) in [
+        ("", "", [0, 0, 0]),
+        (
+            OWN_WRITE,
+            "1,2,begun,0\n1,3,stored\n1,4,row,7\n1,5,committed,1\n",
+            [1, 0, 1],
+        ),
+        ("table,t,1\n1,get,t,9\n", "1,2,at,0,none\n", [0, 0, 0]),
+        (
+            "table,t,1\n1,begin\n1,put,t,5,1\n1,put,t,5,2\n1,get,t,5\n1,commit\n",
+            "1,2,begun,0\n1,3,stored\n1,4,stored\n1,5,row,2\n1,6,committed,1\n",
+            [1, 0, 1],
+        ),
+        (
+            "table,t,2\n1,put,t,5,1,-2\n1,put,t,5,3,4\n1,get,t,5\n1,begin\n1,commit\n",
+            "1,2,at,0,stored,committed,1\n1,3,at,1,stored,committed,2\n1,4,at,2,row,3,4\n1,5,begun,2\n1,6,ended\n",
+            [2, 0, 1],
+        ),
+        (
+            "table,t,1\ntable,u,1\n1,put,t,5,1\n1,begin\n1,put,t,5,2\n1,put,u,5,2\n1,get,u,6\n",
+            "1,3,at,0,stored,committed,1\n1,4,begun,1\n1,5,stored\n1,6,stored\n1,7,none\n",
+            [3, 2, 1],
+        ),
+    ] {
+        let [made, undone, left] = totals;
+        let table = made - undone - left;
+        let want = format!(in rt.alloc();
+            "{lines}total,made,{made}\ntotal,undone,{undone}\ntotal,group,0\ntotal,table,{table}\ntotal,interval,0\ntotal,left,{left}\n"
+        )?;
+        let mut sink = MemorySink::new(rt.alloc(), 4, Vec::new(rt.alloc()));
+        sink.reserve(4096)?;
+        let bytes = Vec::from_slice(rt.alloc(), script.as_bytes())?;
+        let status = call(&rt, rt.alloc(), "replay", bytes, 8, &[], &mut sink)?;
+        assert_eq!(rt; status, Status::Done);
+        assert_eq!(rt; sink.bytes(), want.as_bytes(), "at {script}");
+    }
+    Ok(())
+}
+
+// A sink whose second call fails has what the first one took.
+#[test]
+fn a_sink_that_fails_keeps_what_it_took(rt: HostRuntime) -> Result<(), Fail> {
+    let mut sink = MemorySink::new(rt.alloc(), 4, vec![in rt.alloc(); 2]?);
+    sink.reserve(256)?;
+    let text = Vec::new(rt.alloc());
+    let status = call(&rt, rt.alloc(), "replay", text, 8, &[], &mut sink)?;
+    assert_eq!(rt;
+        format!(in rt.alloc(); "{status}")?.as_bytes(),
+        b"write fault".as_slice()
+    );
+    assert_eq!(rt; status.exit_code(), 5);
+    assert_eq!(rt; sink.bytes(), b"tota".as_slice());
+    Ok(())
+}
+
+fn add(
+    lines: &mut LineList,
+    at: Option<u64>,
+    answer: Answer,
+    number: Option<u64>,
+) -> Result<(), NoMemory> {
+    lines.push(Line {
+        session: 1,
+        place: 2,
+        reply: Reply { at, answer, number },
+    })
+}
+
+// Every answer, with one row of two values and one held snapshot.
+fn printed(alloc: Global) -> Result<Printed, NoMemory> {
+    let mut lines = LineList::new(alloc);
+    let mut rows = RowList::from(Vec::new(alloc));
+    rows.push(5, Row::from_slice(alloc, &[7, -8])?)?;
+    let mut held = Vec::new(alloc);
+    for moved in [true, false] {
+        held.push(Told {
+            session: 4,
+            number: 9,
+            moved,
+        })?;
+    }
+    let writer = Writer {
+        session: 4,
+        transaction: 3,
+    };
+    add(&mut lines, None, Answer::Begun(6), None)?;
+    add(&mut lines, Some(6), Answer::Stored, Some(7))?;
+    add(&mut lines, Some(6), Answer::Gone, Some(8))?;
+    add(
+        &mut lines,
+        None,
+        Answer::Found(Row::from_slice(alloc, &[7, -8])?),
+        None,
+    )?;
+    add(&mut lines, Some(6), Answer::Nothing, None)?;
+    add(&mut lines, None, Answer::Rows(rows), None)?;
+    add(&mut lines, None, Answer::Committed(7), None)?;
+    add(&mut lines, None, Answer::Ended, None)?;
+    add(&mut lines, None, Answer::Undone, None)?;
+    add(&mut lines, None, Answer::Newer(7), None)?;
+    add(&mut lines, None, Answer::OpenBy(writer), None)?;
+    add(&mut lines, Some(6), Answer::Undeclared(TableId(0)), None)?;
+    add(
+        &mut lines,
+        None,
+        Answer::Swept(Sweep {
+            kind: Kind::Interval,
+            mark: 12,
+            horizon: 11,
+            removed: 10,
+            held: ToldList::from(held),
+        }),
+        None,
+    )?;
+    add(&mut lines, None, Answer::Beside, None)?;
+    let totals = Totals {
+        made: 21,
+        undone: 1,
+        group: 2,
+        table: 3,
+        interval: 4,
+        left: 11,
+    };
+    Ok(Printed { lines, totals })
+}
+
+#[test]
+fn every_answer_has_its_text(rt: HostRuntime) -> Result<(), Fail> {
+    let script = match read_script(rt.alloc(), b"table,t,2\n") {
+        Ok(script) => script,
+        Err(_) => return Err(Fail::from(NoMemory)),
+    };
+    let text = text_of(rt.alloc(), &script, &printed(rt.alloc())?)?;
+    let want = b"1,2,begun,6
+1,2,at,6,stored,committed,7
+1,2,at,6,gone,committed,8
+1,2,row,7,-8
+1,2,at,6,none
+1,2,rows,1
+1,2,row,5,7,-8
+1,2,committed,7
+1,2,ended
+1,2,undone
+1,2,refused,newer,7
+1,2,refused,open,4,3
+1,2,at,6,refused,undeclared,t
+1,2,swept,interval,12,11,10
+1,2,held,4,9,moved
+1,2,held,4,9,unmoved
+1,2,beside
+total,made,21
+total,undone,1
+total,group,2
+total,table,3
+total,interval,4
+total,left,11
+";
+    assert_eq!(rt; text.as_slice(), want.as_slice());
+    Ok(())
+}
