@@ -1,15 +1,14 @@
 -- The totals of a replay are those of its lines.
 use Rattle.std.proofs.Common.{◌≡◌, inl, inr, ℕ, ◌+◌, List, [], ◌∷◌, ◌++◌, length, map, Bool, true, false, not, Option, Some, None, refl, sym, ap, ◌∙◌, arith}
-use Rattle.std.specs.Prelude.{◌==◌, ◌||◌, ◌&&◌, filter, filter_map, if◌then◌else◌, is_some, is_none, ⊤}
+use Rattle.std.specs.Prelude.{◌==◌, ◌||◌, filter, filter_map, if◌then◌else◌, is_some, ⊤}
 use Rattle.std.specs.List.{list_any, cons_option}
 use Rattle.hg_base.specs.declared.rid.Rid.{Rid}
-use Rattle.hg_base.specs.declared.image.Image.{Image}
 use Rattle.hg_base.specs.declared.line.Line.{Line}
 use Rattle.hg_base.specs.declared.line.Totals.{Totals}
 use Rattle.hg_base.specs.declared.line.Printed.{Printed}
 use Rattle.hg_base.specs.Lists.{onto}
 use Rattle.hg_base.specs.Script.{Script, replay}
-use Rattle.hg_base.specs.History.{History, image_in}
+use Rattle.hg_base.specs.History.{History}
 use Rattle.hg_base.specs.Transcript.{Said, is_of, committed, commits, history_of, said_from}
 use Rattle.hg_base.specs.Transcript.{numbers_in as printed_numbers}
 use Rattle.hg_base.specs.Counts.{AreTotals, is_committed}
@@ -17,7 +16,7 @@ use Rattle.hg_base.specs.Counts.{first_writes as printed_firsts}
 use Rattle.hg_base.specs.Sound.{IsSound}
 use Rattle.hg_core.specs.declared.log.LogEntry.{LogEntry}
 use Rattle.hg_core.specs.declared.log.LogEntry.TheVariants.{Began, Saw, Refused, Outside, Wrote, Undid, Published, Over}
-use Rattle.hg_core.specs.Logs.{begans, own_writes}
+use Rattle.hg_core.specs.Logs.{begans}
 use Rattle.hg_core.specs.Replies.{numbers_in}
 use Rattle.hg_core.specs.Counters.{first_writes, undos}
 use Rattle.hg_core.specs.Sums.{sum_to}

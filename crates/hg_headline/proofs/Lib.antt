@@ -23,3 +23,4 @@ pub mod Lives
 pub mod Counting
 pub mod Tallying
 pub mod Ending
+pub mod Worked

@@ -6,3 +6,4 @@ pub mod Replayed
 pub mod Gathered
 pub mod Answered
 pub mod Counted
+pub mod Worked
