@@ -24,3 +24,5 @@ pub mod Counting
 pub mod Tallying
 pub mod Ending
 pub mod Worked
+pub mod Running
+pub mod Rounds

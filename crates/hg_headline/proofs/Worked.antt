@@ -1,6 +1,6 @@
--- The premises can be met: a replay, statement by statement.
+-- The premises can be met: by a replay, statement by statement, and by a run.
 use Rattle.std.proofs.Common.{◌≡◌, inl, ℕ, suc, ◌+◌, List, [], ◌∷◌, Bool, true, false, Some, None, refl, sym, ap, ◌∙◌, subst, arith}
-use Rattle.std.specs.Prelude.{◌==◌, ◌||◌, ◌&&◌, if◌then◌else◌, option_map, is_some, pos}
+use Rattle.std.specs.Prelude.{cond, ◌==◌, ◌||◌, ◌&&◌, if◌then◌else◌, option_map, is_some, pos}
 use Rattle.std.specs.List.{cons_option}
 use Rattle.std.proofs.lemmas.Bool.Decides.{nat_tests}
 use Rattle.hg_base.specs.declared.rid.Rid.{Rid}
@@ -15,12 +15,15 @@ use Rattle.hg_base.specs.Transcript.{said_from}
 use Rattle.hg_core.specs.declared.log.LogEntry.{LogEntry}
 use Rattle.hg_core.specs.Logs.{current, begans, own_writes, is_plain}
 use Rattle.hg_core.specs.Events.{put}
-use Rattle.hg_core.specs.Reading.{log_with, log_after, is_alone, UndoesAll}
+use Rattle.hg_core.specs.Reading.{Unprinted, Fits, Tells, log_with, log_after, is_alone, UndoesAll}
 use Rattle.hg_headline.specs.Logged.{Logged}
 use Rattle.hg_headline.specs.Met.{live_in}
 use Rattle.hg_headline.specs.Replayed.{HasReplayed}
 use Rattle.hg_headline.specs.Counted.{made_in, undone_in, adding, Closes, IsCounted}
-use Rattle.hg_headline.specs.Worked.{five, image, asked, records, line, lines, history, totals}
+use Rattle.hg_base.specs.declared.report.Kind.{Kind}
+use Rattle.hg_base.specs.Shape.{HasShape}
+use Rattle.hg_headline.specs.Ran.{LeavesGc, AreReports, HasRun}
+use Rattle.hg_headline.specs.Worked.{five, image, asked, records, line, lines, history, totals, run_records, session_lines, report}
 use Rattle.hg_headline.proofs.Words.{true_false, same_rid_sym}
 use Rattle.hg_headline.proofs.Growing.{put_same}
 use Rattle.hg_headline.proofs.Answering.{nothing_more}
@@ -116,3 +119,39 @@ met =
     rests l j true e b f = let one : 1 ≡ j = grind (arith, nat_tests) in subst (λ k. current (l.logs k) ≡ None) one l.one
     rests l j false e true f = let two : 2 ≡ j = grind (arith, nat_tests) in subst (λ k. current (l.logs k) ≡ None) two l.two
     rests l j false e false f = l.others j (λ k. grind (arith, nat_tests)) (λ k. grind (arith, nat_tests))
+
+-- ---- a run
+
+pub record Ran : Type 0 where
+  pub logs : ℕ → List LogEntry
+  pub ran : HasRun 1 history logs 1 run_records session_lines (report kinds.Group ∷ []) (report kinds.Table ∷ []) (report kinds.Interval ∷ [])
+
+reports : (logs : ℕ → List LogEntry) (kind : Kind) → AreReports history logs kind 1 (report kind ∷ [])
+reports logs kind = record { count = refl; each = (record { kind = refl; horizon = omega arith; mark = omega arith; order = tt; met = tt }, tt); rising = (tt, tt) }
+
+pub ran : Ran
+ran =
+    let a = replayed_commits 1 2 [] none [] [] (asked 1 1 (Put five (pos 7 ∷ []))) Stored (written 7) (replayed_opened 1 2 (omega arith)) one_of refl refl (tt, tt) in
+    let f = a.replayed.follows in
+    record {
+      logs = a.more;
+      ran = record {
+        logged = a.replayed.logged;
+        numbered = (omega arith, tt);
+        shape = λ j. shape (1 == j);
+        tells = λ j. tells a.more f.1.0 f.1.1 f.1.2 j (1 == j) refl;
+        of_group = reports a.more kinds.Group;
+        of_table = reports a.more kinds.Table;
+        of_interval = reports a.more kinds.Interval;
+      };
+    }
+  where
+    shape : (b : Bool) → HasShape (cond b (asked 1 1 (Put five (pos 7 ∷ [])) ∷ []) []) (if b then line 1 1 (Some 0) Stored (Some 1) ∷ [] else [])
+    shape true = (record { session = refl; place = refl; report = tt }, tt)
+    shape false = tt
+
+    tells : (more : ℕ → List LogEntry) (u : Unprinted) → Fits 1 u [] (Put five (pos 7 ∷ [])) (record { at = Some 0; answer = Stored; number = Some 1 })
+        → ((j : ℕ) → more j ≡ put none 1 (log_after 1 u (Put five (pos 7 ∷ [])) (record { at = Some 0; answer = Stored; number = Some 1 }) []) j)
+        → (j : ℕ) (b : Bool) → (1 == j) ≡ b → Tells 1 (λ r line. LeavesGc r.statement line.reply.answer) [] (cond b (asked 1 1 (Put five (pos 7 ∷ [])) ∷ []) []) (if b then line 1 1 (Some 0) Stored (Some 1) ∷ [] else []) (more j)
+    tells more u fits e j true q = let one : 1 ≡ j = grind (arith, nat_tests) in (tt, (u, fits, ap more (sym one) ∙ e 1))
+    tells more u fits e j false q = let out : (j == 1) ≡ false = grind (arith, nat_tests) in e j ∙ ap (λ b. if b then log_after 1 u (Put five (pos 7 ∷ [])) (record { at = Some 0; answer = Stored; number = Some 1 }) [] else []) out

@@ -6,4 +6,5 @@ pub mod Replayed
 pub mod Gathered
 pub mod Answered
 pub mod Counted
+pub mod Ran
 pub mod Worked

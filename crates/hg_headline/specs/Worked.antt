@@ -1,9 +1,11 @@
--- A replay with a conflict, a rollback and a collector's pass.
-use Rattle.std.specs.Prelude.{ℕ, List, [], ◌∷◌, Option, Some, None, pos}
+-- A replay with a conflict, a rollback and a collector's pass; and a run.
+use Rattle.std.specs.Prelude.{ℕ, List, [], ◌∷◌, ◌==◌, if◌then◌else◌, Option, Some, None, pos}
 use Rattle.hg_base.specs.declared.rid.Rid.{Rid}
 use Rattle.hg_base.specs.declared.image.Image.{Image}
 use Rattle.hg_base.specs.declared.scope.Scope.TheVariants.{All}
+use Rattle.hg_base.specs.declared.report.Kind.{Kind}
 use Rattle.hg_base.specs.declared.report.Kind.TheVariants as kinds
+use Rattle.hg_base.specs.declared.report.Report.{Report}
 use Rattle.hg_base.specs.declared.statement.Record.{Record}
 use Rattle.hg_base.specs.declared.statement.Statement.{Statement}
 use Rattle.hg_base.specs.declared.statement.Statement.TheVariants.{Begin, Put, Rollback, Gc}
@@ -40,3 +42,14 @@ history = (record { session = 1; transaction = 1; at = 0; images = record { rid 
 
 abbrev pub totals : Totals
 totals = record { made = 2; undone = 1; group = 0; table = 0; interval = 0; left = 1 }
+
+-- ---- a run of one record, with one round of each collector
+
+abbrev pub run_records : List Record
+run_records = asked 1 1 (Put five (pos 7 ∷ [])) ∷ []
+
+abbrev pub session_lines : ℕ → List Line
+session_lines j = if 1 == j then line 1 1 (Some 0) Stored (Some 1) ∷ [] else []
+
+abbrev pub report : Kind → Report
+report kind = record { kind = kind; mark = 1; horizon = 1; removed = 0; entries = [] }

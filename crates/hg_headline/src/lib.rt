@@ -18,9 +18,11 @@
 //! one is right over the other.
 //!
 //! `HasReplayed` is what a replay knows after each record, and so at its end. It is kept line by line: `proofs/Stepping`
-//! has a lemma for each kind of statement, in which no log is looked into. `replay_is_sound` is the headline.
+//! has a lemma for each kind of statement, and says what a caller must know of a log. `HasRun` is what a run knows once its
+//! threads are joined: of each session alone its log and its lines, and of each collector its reports. `replay_is_sound` and
+//! `run_is_sound` are the headline.
 #![tactic(auto)]
 
 mod laws;
 
-pub use laws::{a_replay_is_known, replay_is_sound};
+pub use laws::{premises_are_met, replay_is_sound, run_is_sound};
