@@ -27,6 +27,8 @@ pub mod Fences
 pub mod Reclaiming
 pub mod Seats
 pub mod Exact
+pub mod Right
+pub mod Answering
 pub mod Runs
 pub mod Worked
 pub mod Counting

@@ -25,6 +25,8 @@ pub mod Placed
 pub mod Replies
 pub mod Judged
 pub mod Invariant
+pub mod Reading
+pub mod Answered
 -- What follows of gathers, a run, and which steps would be wrong.
 pub mod Missed
 pub mod Held

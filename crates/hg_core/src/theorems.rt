@@ -1,11 +1,14 @@
 //! What follows of the laws, in the words of the subject.
 
-ghost use Rattle.std.specs.Prelude.{◌≡◌, ℕ, ◌<◌, ◌≤◌, ◌*◌, ◌^◌, ◌++◌, IsTrue};
+ghost use Rattle.std.specs.Prelude.{◌≡◌, ℕ, List, ◌<◌, ◌≤◌, ◌*◌, ◌^◌, ◌++◌, IsTrue};
 ghost use Rattle.hg_base.specs.declared.rid.Rid.{Rid};
 ghost use Rattle.hg_base.specs.declared.rid.TableId.{TableId};
 ghost use Rattle.hg_base.specs.declared.scope.Scope.{Scope};
 ghost use Rattle.hg_base.specs.History.{visible, IsHistory, NoLostUpdate};
-ghost use Rattle.hg_base.specs.Transcript.{has};
+ghost use Rattle.hg_base.specs.Transcript.{has, Said};
+ghost use Rattle.hg_core.specs.declared.log.LogEntry.{LogEntry};
+ghost use Rattle.hg_core.specs.Reading.{Unprinted, log_after, Fits};
+ghost use Rattle.hg_core.specs.Answered.{StandsAt, IsAnswered};
 ghost use Rattle.hg_core.specs.Words.{IsRegister, word_of, register_of};
 ghost use Rattle.hg_core.specs.Passes.{IsWhole, horizon, recorded, table_bound, group_bound};
 ghost use Rattle.hg_core.specs.State.{CoreState, opened};
@@ -80,6 +83,13 @@ pub fn records_are_placed()
 /// write shows its cause.
 pub fn replies_are_right()
     ensures { Always (λ s. (j : ℕ) → AreReplied s.buckets s.history s.log j (s.log j)) }
+{}
+
+/// Every answer is right. After every list of steps, read a session's log as the replies to its statements: each reply is the
+/// one that `hg_base` defines over the history, commit and rollback among them. A refusal shows its cause, and a commit number is
+/// that of the group that has the transaction, with its snapshot and its images.
+pub fn every_answer_is_right()
+    ensures { Always (λ s. 0 < s.buckets → (j : ℕ) (later before : List LogEntry) (u : Unprinted) (now : Said) → s.log j ≡ later ++ log_after s.buckets u now.statement now.reply before → Fits s.buckets u before now.statement now.reply → StandsAt j before now → IsAnswered s.buckets s.history s.log j u before now) }
 {}
 
 /// No update is lost. After every list of steps, what a commit overwrites its transaction saw, or wrote itself. And each group

@@ -1,0 +1,188 @@
+-- A log read as replies: which entries a session's statement leaves there, and which replies they fit.
+use Rattle.std.specs.Prelude.{◌≡◌, ℕ, zero, suc, ◌<◌, ℤ, List, [], ◌∷◌, ◌++◌, map, Bool, true, false, ◌&&◌, Option, Some, None, is_some, unwrap_or, Contains, ⊤}
+use Rattle.hg_base.specs.declared.rid.Rid.{Rid}
+use Rattle.hg_base.specs.declared.rid.TableId.{TableId}
+use Rattle.hg_base.specs.declared.scope.Scope.{Scope}
+use Rattle.hg_base.specs.declared.scope.Snapshot.{Snapshot}
+use Rattle.hg_base.specs.declared.statement.Statement.{Statement}
+use Rattle.hg_base.specs.declared.statement.Statement.TheVariants.{Begin, Get, Put, Del, Scan, Commit as CommitIt, Rollback, Gc}
+use Rattle.hg_base.specs.declared.statement.Record.{Record}
+use Rattle.hg_base.specs.declared.line.Answer.{Answer}
+use Rattle.hg_base.specs.declared.line.Answer.TheVariants.{Begun, Stored, Found, Nothing, Gone, Rows, Committed, Newer, OpenBy, Undeclared, Swept, Beside}
+use Rattle.hg_base.specs.declared.line.Reply.{Reply}
+use Rattle.hg_base.specs.declared.line.Line.{Line}
+use Rattle.hg_base.specs.Lists.{Each, Ascends}
+use Rattle.hg_base.specs.History.{Write, nothing, image_in, is_among, NoneTwice}
+use Rattle.hg_base.specs.Transcript.{only, table_of, stored_by}
+use Rattle.hg_base.specs.Replies.{IsBegun, IsPut, IsCommitted, IsUndone, is_written}
+use Rattle.hg_core.specs.declared.log.LogEntry.{LogEntry}
+use Rattle.hg_core.specs.declared.log.LogEntry.TheVariants.{Began, Saw, Refused, Outside, Wrote, Undid, Published, Over}
+use Rattle.hg_core.specs.Logs.{current, own_writes}
+use Rattle.hg_core.specs.Contents.{bucket_of}
+use Rattle.hg_core.specs.Events.{put}
+
+-- What the entries of a statement hold and its reply doesn't print: the row that a `del` found, the rows that a `scan`
+-- found in each bucket, and the records whose writes a `rollback` removed, the last one first.
+pub record Unprinted : Type 0 where
+  pub found : List ℤ
+  pub part : ℕ → List (ℕ × List ℤ)
+  pub undone : List Rid
+
+-- ---- the entries of a statement, newest first
+
+-- a read of one key
+abbrev pub saw : ℕ → Rid → List (ℕ × List ℤ) → LogEntry
+saw buckets r rows = Saw r.table r.key r.key (bucket_of buckets r) rows
+
+-- a read of a range in each of the first buckets, in ascending order
+abbrev pub saws : TableId → ℕ → ℕ → (ℕ → List (ℕ × List ℤ)) → ℕ → List LogEntry
+saws table low high part zero = []
+saws table low high part (suc b) = Saw table low high b (part b) ∷ saws table low high part b
+
+-- a transaction ends, with or without a commit number
+abbrev pub close : Option ℕ → List LogEntry
+close None = Over ∷ []
+close (Some number) = Over ∷ Published number ∷ []
+
+abbrev pub begin_entries : Scope → Answer → List LogEntry
+begin_entries scope (Begun at) = Began at scope ∷ []
+begin_entries scope _ = []
+
+abbrev pub get_entries : ℕ → Rid → Answer → List LogEntry
+get_entries buckets r (Found row) = saw buckets r ((r.key, row) ∷ []) ∷ []
+get_entries buckets r Nothing = saw buckets r [] ∷ []
+get_entries buckets r (Undeclared table) = Outside table ∷ []
+get_entries buckets r _ = []
+
+abbrev pub put_entries : Rid → List ℤ → Answer → List LogEntry
+put_entries r row Stored = Wrote r (record { row = Some row }) ∷ []
+put_entries r row (Newer number) = Refused r (Newer number) ∷ []
+put_entries r row (OpenBy writer) = Refused r (OpenBy writer) ∷ []
+put_entries r row (Undeclared table) = Outside table ∷ []
+put_entries r row _ = []
+
+abbrev pub del_entries : ℕ → List ℤ → Rid → Answer → List LogEntry
+del_entries buckets found r Nothing = saw buckets r [] ∷ []
+del_entries buckets found r Gone = Wrote r nothing ∷ saw buckets r ((r.key, found) ∷ []) ∷ []
+del_entries buckets found r (Newer number) = Refused r (Newer number) ∷ saw buckets r ((r.key, found) ∷ []) ∷ []
+del_entries buckets found r (OpenBy writer) = Refused r (OpenBy writer) ∷ saw buckets r ((r.key, found) ∷ []) ∷ []
+del_entries buckets found r (Undeclared table) = Outside table ∷ []
+del_entries buckets found r _ = []
+
+abbrev pub scan_entries : ℕ → (ℕ → List (ℕ × List ℤ)) → TableId → ℕ → ℕ → Answer → List LogEntry
+scan_entries buckets part table low high (Rows rows) = saws table low high part buckets
+scan_entries buckets part table low high (Undeclared other) = Outside other ∷ []
+scan_entries buckets part table low high _ = []
+
+abbrev pub commit_entries : Answer → List LogEntry
+commit_entries (Committed number) = close (Some number)
+commit_entries _ = close None
+
+-- a statement's own entries
+abbrev pub own_entries : ℕ → Unprinted → Statement → Answer → List LogEntry
+own_entries buckets u (Begin scope) answer = begin_entries scope answer
+own_entries buckets u (Get r) answer = get_entries buckets r answer
+own_entries buckets u (Put r row) answer = put_entries r row answer
+own_entries buckets u (Del r) answer = del_entries buckets u.found r answer
+own_entries buckets u (Scan table low high) answer = scan_entries buckets u.part table low high answer
+own_entries buckets u CommitIt answer = commit_entries answer
+own_entries buckets u Rollback answer = Over ∷ map Undid u.undone
+own_entries buckets u (Gc kind) answer = []
+
+-- whether a statement reads or writes records
+abbrev pub is_access : Statement → Bool
+is_access (Get r) = true
+is_access (Put r row) = true
+is_access (Del r) = true
+is_access (Scan table low high) = true
+is_access _ = false
+
+-- whether it is a transaction of its own: it reads or writes, and none is open
+abbrev pub is_alone : Option Snapshot → Statement → Bool
+is_alone None statement = is_access statement
+is_alone (Some snapshot) statement = false
+
+-- the log after a statement in a transaction, or after one that is a transaction of its own
+abbrev pub log_with : Bool → ℕ → Unprinted → Statement → Reply → List LogEntry → List LogEntry
+log_with false buckets u statement reply log = own_entries buckets u statement reply.answer ++ log
+log_with true buckets u statement reply log = close reply.number ++ (own_entries buckets u statement reply.answer ++ (Began (unwrap_or reply.at 0) (only (table_of statement)) ∷ log))
+
+-- the log after a statement
+abbrev pub log_after : ℕ → Unprinted → Statement → Reply → List LogEntry → List LogEntry
+log_after buckets u statement reply log = log_with (is_alone (current log) statement) buckets u statement reply log
+
+-- ---- which replies fit
+
+-- the rows of all parts, by ascending key
+pub record Joins (buckets : ℕ) (part : ℕ → List (ℕ × List ℤ)) (rows : List (ℕ × List ℤ)) : Type 0 where
+  pub ascend : Ascends (map (λ p. p.0) rows)
+  pub each : Each (λ p. (b : ℕ) × (b < buckets) × Contains (part b) p) rows
+  pub every : (b : ℕ) → b < buckets → Each (λ p. Contains rows p) (part b)
+
+abbrev pub IsGetAnswer : Answer → Type 0
+IsGetAnswer (Found row) = ⊤
+IsGetAnswer Nothing = ⊤
+IsGetAnswer _ = ⊥
+
+abbrev pub IsDelAnswer : Answer → Type 0
+IsDelAnswer Nothing = ⊤
+IsDelAnswer Gone = ⊤
+IsDelAnswer (Newer number) = ⊤
+IsDelAnswer (OpenBy writer) = ⊤
+IsDelAnswer _ = ⊥
+
+abbrev pub IsScanAnswer : ℕ → (ℕ → List (ℕ × List ℤ)) → Answer → Type 0
+IsScanAnswer buckets part (Rows rows) = Joins buckets part rows
+IsScanAnswer buckets part _ = ⊥
+
+-- a statement on a table is refused as undeclared with that table, or else answered so
+abbrev pub FitsTable : TableId → Answer → Type 0 → Type 0
+FitsTable table (Undeclared other) Else = other.0 ≡ table.0
+FitsTable table _ Else = Else
+
+-- one `Undid` for each record written
+abbrev pub UndoesAll : List Write → List Rid → Type 0
+UndoesAll own undone = NoneTwice undone × ((r : Rid) → is_among r undone ≡ is_some (image_in r own))
+
+-- a `gc` leaves nothing in a log
+abbrev pub IsGcAnswer : Answer → Type 0
+IsGcAnswer (Swept sweep) = ⊤
+IsGcAnswer Beside = ⊤
+IsGcAnswer _ = ⊥
+
+-- the answer to a statement of a transaction with these stored writes
+abbrev pub FitsAnswer : ℕ → Unprinted → List Write → Statement → Answer → Type 0
+FitsAnswer buckets u own (Begin scope) answer = IsBegun answer
+FitsAnswer buckets u own (Get r) answer = FitsTable r.table answer (IsGetAnswer answer)
+FitsAnswer buckets u own (Put r row) answer = FitsTable r.table answer (IsPut answer)
+FitsAnswer buckets u own (Del r) answer = FitsTable r.table answer (IsDelAnswer answer)
+FitsAnswer buckets u own (Scan table low high) answer = FitsTable table answer (IsScanAnswer buckets u.part answer)
+FitsAnswer buckets u own CommitIt answer = IsCommitted (is_written own) answer
+FitsAnswer buckets u own Rollback answer = IsUndone answer × UndoesAll own u.undone
+FitsAnswer buckets u own (Gc kind) answer = IsGcAnswer answer
+
+-- The reply to a statement after a log. Whether the answer is right is no matter here: the log's entries say that.
+pub record Fits (buckets : ℕ) (u : Unprinted) (log : List LogEntry) (statement : Statement) (reply : Reply) : Type 0 where
+  pub at : is_some reply.at ≡ is_alone (current log) statement
+  pub number : is_some reply.number ≡ (is_alone (current log) statement && is_some (stored_by statement reply.answer))
+  pub answer : FitsAnswer buckets u (own_writes log) statement reply.answer
+
+-- ---- the lines that logs give
+
+-- One session: from the log on, the lines are the replies to its records, and the log gains their entries alone. Besides, P
+-- holds of each record with its line.
+abbrev pub Tells : ℕ → (Record → Line → Type 0) → List LogEntry → List Record → List Line → List LogEntry → Type 0
+Tells buckets P log [] [] final = final ≡ log
+Tells buckets P log [] (line ∷ lines) final = ⊥
+Tells buckets P log (r ∷ rs) [] final = ⊥
+Tells buckets P log (r ∷ rs) (line ∷ lines) final =
+    P r line × ((u : Unprinted) × Fits buckets u log r.statement line.reply × Tells buckets P (log_after buckets u r.statement line.reply log) rs lines final)
+
+-- All sessions, in any order of their records. Besides, P holds of each record with its line and the logs before it.
+abbrev pub Follows : ℕ → ((ℕ → List LogEntry) → Record → Line → Type 0) → (ℕ → List LogEntry) → List Record → List Line → (ℕ → List LogEntry) → Type 0
+Follows buckets P logs [] [] final = (j : ℕ) → final j ≡ logs j
+Follows buckets P logs [] (line ∷ lines) final = ⊥
+Follows buckets P logs (r ∷ rs) [] final = ⊥
+Follows buckets P logs (r ∷ rs) (line ∷ lines) final =
+    P logs r line × ((u : Unprinted) × Fits buckets u (logs r.session) r.statement line.reply
+    × Follows buckets P (put logs r.session (log_after buckets u r.statement line.reply (logs r.session))) rs lines final)
