@@ -1,6 +1,6 @@
 //! What follows of the laws, in the words of the subject.
 
-ghost use Rattle.std.specs.Prelude.{◌≡◌, ℕ, List, ◌<◌, ◌≤◌, ◌*◌, ◌^◌, ◌++◌, IsTrue};
+ghost use Rattle.std.specs.Prelude.{◌≡◌, ℕ, List, None, length, is_some, if◌then◌else◌, ◌<◌, ◌≤◌, ◌*◌, ◌^◌, ◌++◌, IsTrue};
 ghost use Rattle.hg_base.specs.declared.rid.Rid.{Rid};
 ghost use Rattle.hg_base.specs.declared.rid.TableId.{TableId};
 ghost use Rattle.hg_base.specs.declared.scope.Scope.{Scope};
@@ -10,10 +10,13 @@ ghost use Rattle.hg_core.specs.declared.log.LogEntry.{LogEntry};
 ghost use Rattle.hg_core.specs.Reading.{Unprinted, log_after, Fits};
 ghost use Rattle.hg_core.specs.Answered.{StandsAt, IsAnswered};
 ghost use Rattle.hg_core.specs.Words.{IsRegister, word_of, register_of};
-ghost use Rattle.hg_core.specs.Passes.{IsWhole, horizon, recorded, table_bound, group_bound};
+ghost use Rattle.hg_core.specs.Passes.{PassRecord, IsWhole, horizon, recorded, table_bound, group_bound};
 ghost use Rattle.hg_core.specs.State.{CoreState, opened};
 ghost use Rattle.hg_core.specs.Held.{held, left_by};
-ghost use Rattle.hg_core.specs.Versions.{first_at};
+ghost use Rattle.hg_core.specs.Versions.{first_at, unpublished};
+ghost use Rattle.hg_core.specs.Sums.{sum_below};
+ghost use Rattle.hg_core.specs.Logs.{newest_of};
+ghost use Rattle.hg_base.specs.Lists.{Each};
 ghost use Rattle.hg_core.specs.Contents.{versions};
 ghost use Rattle.hg_core.specs.Clean.{IsClean, IsCutAt, past, as_oldest, not_gone};
 ghost use Rattle.hg_core.specs.Placed.{IsPlaced};
@@ -100,9 +103,26 @@ pub fn history_is_sound()
     ensures groups { Always (λ s. IsHistory s.history) }
 {}
 
-/// No commit number passes the number of sessions times how often each may begin.
+/// No commit number passes the number of sessions times how often each may begin. And the logs tell the mark: it is the
+/// greatest commit number in them.
 pub fn mark_is_bounded()
-    ensures { Always (λ s. s.mark ≤ s.sessions * s.each) }
+    ensures most { Always (λ s. s.mark ≤ s.sessions * s.each) }
+    ensures told { Always (λ s. s.mark ≡ newest_of s.sessions s.log) }
+{}
+
+/// Nor does any count: what was made in all buckets together is at most the number of sessions times how often each may write,
+/// and what was undone, removed and held is what was made.
+pub fn counts_are_bounded()
+    ensures { Always (λ s. sum_below s.buckets (λ b. (s.counters b).made) ≤ s.sessions * s.each) }
+{}
+
+/// What settles. Where a record found all registers idle, as those of sessions at rest are, each bound is its mark. And of a
+/// record that is cut at the mark, with no open write, the row at the mark is left, if there is one, and nothing else.
+pub fn what_is_live_is_left()
+    ensures table { (pass : PassRecord) (t : TableId) → Each (λ e. e.1 ≡ Register.Idle) pass.loaded → table_bound t pass ≡ pass.mark }
+    ensures group { (pass : PassRecord) → Each (λ e. e.1 ≡ Register.Idle) pass.loaded → group_bound pass ≡ pass.mark }
+    ensures idle { Always (λ s. (j : ℕ) → s.phase j ≡ Phase.Idle → s.register j ≡ Register.Idle) }
+    ensures left { Always (λ s. (r : Rid) → unpublished s.mark (versions s.buckets s.bucket r) ≡ None → IsCutAt s.mark (versions s.buckets s.bucket r) → length (versions s.buckets s.bucket r) ≡ (if is_some (visible s.history r s.mark).row then 1 else 0)) }
 {}
 
 /// Each kind of event can happen. In this run a session goes live below the mark of a whole record, at its horizon.
