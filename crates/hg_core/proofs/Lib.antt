@@ -29,6 +29,7 @@ pub mod Seats
 pub mod Exact
 pub mod Bounded
 pub mod Settling
+pub mod Remaining
 pub mod Right
 pub mod Answering
 pub mod Runs

@@ -1,5 +1,5 @@
 -- Where all sessions rest, a pass leaves of each record its row at the mark, if it has one.
-use Rattle.std.proofs.Common.{◌≡◌, ℕ, suc, ◌≤◌, List, [], ◌∷◌, length, None, Some, Bool, true, false, not, ◌||◌, inl, refl, sym, ap, ◌∙◌, subst, arith}
+use Rattle.std.proofs.Common.{◌≡◌, ℕ, suc, ◌≤◌, List, [], ◌∷◌, length, None, Some, Bool, true, false, not, ◌||◌, inl, refl, sym, ap, ◌∙◌, subst, arith, Option}
 use Rattle.std.specs.Prelude.{if◌then◌else◌, cond, nat_le, is_some, IsSome}
 use Rattle.std.proofs.lemmas.Bool.Decides.{nat_tests}
 use Rattle.hg_base.specs.declared.rid.Rid.{Rid}
@@ -22,6 +22,9 @@ use Rattle.hg_core.specs.Clean.{IsOneRow, up_to, IsCutAt}
 use Rattle.hg_core.specs.Passes.{PassRecord, lower, least_entering, horizon, if_live, live_numbers, least, group_bound, table_bound}
 use Rattle.hg_core.specs.State.{CoreState}
 use Rattle.hg_core.specs.Invariant.{IsSteady}
+use Rattle.hg_core.specs.declared.phase.Phase.TheVariants.{Idle}
+use Rattle.hg_core.specs.Phases.{snapshot_in}
+use Rattle.hg_core.proofs.Begins.{none_open}
 
 -- ---- a record that found all registers idle
 
@@ -38,6 +41,18 @@ idle_table pass table h = ap (least (horizon pass)) (idle_numbers (λ scope move
 
 pub idle_group : (pass : PassRecord) → Each (λ e. e.1 ≡ registers.Idle) pass.loaded → group_bound pass ≡ pass.mark
 idle_group pass h = ap (least (horizon pass)) (idle_numbers (λ scope moved. true) pass.loaded h) ∙ idle_entering pass.mark pass.loaded h
+
+-- where all sessions rest, no write is open
+pub none_unpublished : (s : CoreState) → IsSteady s → ((j : ℕ) → s.phase j ≡ Idle) → (r : Rid) → unpublished s.mark (versions s.buckets s.bucket r) ≡ None
+none_unpublished s h rests r = go (unpublished s.mark (versions s.buckets s.bucket r)) refl
+  where
+    go : (x : Option (Writer × Image)) → unpublished s.mark (versions s.buckets s.bucket r) ≡ x → unpublished s.mark (versions s.buckets s.bucket r) ≡ None
+    go None e = e
+    go (Some (w, i)) e = absurd (
+        let own = (h.open_writes_stand.owned r w i e).1 in
+        let none = none_open s.history r (s.log w.session) (h.logs_answer.judged w.session) (h.logs_answer.reads w.session ∙ ap snapshot_in (rests w.session)) in
+        cc
+        )
 
 -- ---- a record that is cut at the mark
 

@@ -1,6 +1,6 @@
 //! What follows of the laws, in the words of the subject.
 
-ghost use Rattle.std.specs.Prelude.{◌≡◌, ℕ, List, None, length, is_some, if◌then◌else◌, ◌<◌, ◌≤◌, ◌*◌, ◌^◌, ◌++◌, IsTrue};
+ghost use Rattle.std.specs.Prelude.{◌≡◌, ℕ, List, None, length, filter, is_some, if◌then◌else◌, ◌<◌, ◌≤◌, ◌*◌, ◌^◌, ◌++◌, IsTrue};
 ghost use Rattle.hg_base.specs.declared.rid.Rid.{Rid};
 ghost use Rattle.hg_base.specs.declared.rid.TableId.{TableId};
 ghost use Rattle.hg_base.specs.declared.scope.Scope.{Scope};
@@ -17,17 +17,18 @@ ghost use Rattle.hg_core.specs.Versions.{first_at, unpublished};
 ghost use Rattle.hg_core.specs.Sums.{sum_below};
 ghost use Rattle.hg_core.specs.Logs.{newest_of};
 ghost use Rattle.hg_base.specs.Lists.{Each};
-ghost use Rattle.hg_core.specs.Contents.{versions};
+ghost use Rattle.hg_base.specs.Counts.{live};
+ghost use Rattle.hg_core.specs.Contents.{bucket_of, versions};
 ghost use Rattle.hg_core.specs.Clean.{IsClean, IsCutAt, past, as_oldest, not_gone};
 ghost use Rattle.hg_core.specs.Placed.{IsPlaced};
-ghost use Rattle.hg_core.specs.Counters.{CountersBalance};
+ghost use Rattle.hg_core.specs.Counters.{total, is_of, CountersBalance};
 ghost use Rattle.hg_core.specs.Visits.{VisitsStay};
 ghost use Rattle.hg_core.specs.Events.{MayReclaim};
 ghost use Rattle.hg_core.specs.Replies.{AreReplied};
 ghost use Rattle.hg_core.specs.Steps.{Always, Run, run};
 ghost use Rattle.hg_core.specs.Invariant.{IsSteady};
 ghost use Rattle.hg_core.specs.Missed.{MissesNone};
-ghost use Rattle.hg_core.specs.Worked.{slow_begin, long_snapshot};
+ghost use Rattle.hg_core.specs.Worked.{slow_begin, long_snapshot, committed_there, IsReadThere};
 
 use crate::phase::Phase;
 use crate::register::Register;
@@ -95,6 +96,12 @@ pub fn every_answer_is_right()
     ensures { Always (λ s. 0 < s.buckets → (j : ℕ) (later before : List LogEntry) (u : Unprinted) (now : Said) → s.log j ≡ later ++ log_after s.buckets u now.statement now.reply before → Fits s.buckets u before now.statement now.reply → StandsAt j before now → IsAnswered s.buckets s.history s.log j u before now) }
 {}
 
+/// A log is read. In the run of `every_event_happens`, the log of session 2 is what a begin, a put and a commit leave.
+pub fn a_log_is_read()
+    ensures log { (run (opened 2 1 1 1 1) slow_begin).log 2 ≡ committed_there }
+    ensures fits { IsReadThere }
+{}
+
 /// No update is lost. After every list of steps, what a commit overwrites its transaction saw, or wrote itself. And each group
 /// of the history is one: it has a commit, each commit writes something and read below the group's number, and no session and
 /// no record occurs twice in it.
@@ -116,13 +123,16 @@ pub fn counts_are_bounded()
     ensures { Always (λ s. sum_below s.buckets (λ b. (s.counters b).made) ≤ s.sessions * s.each) }
 {}
 
-/// What settles. Where a record found all registers idle, as those of sessions at rest are, each bound is its mark. And of a
-/// record that is cut at the mark, with no open write, the row at the mark is left, if there is one, and nothing else.
+/// What settles. Where a record found all registers idle, as those of sessions at rest are, each bound is its mark. Where all
+/// sessions rest, no write is open. And of a record that is cut at the mark, with no open write, the row at the mark is left, if there is one, and nothing else. So a
+/// bucket of such records holds as many versions as records of its own are rows.
 pub fn what_is_live_is_left()
     ensures table { (pass : PassRecord) (t : TableId) → Each (λ e. e.1 ≡ Register.Idle) pass.loaded → table_bound t pass ≡ pass.mark }
     ensures group { (pass : PassRecord) → Each (λ e. e.1 ≡ Register.Idle) pass.loaded → group_bound pass ≡ pass.mark }
     ensures idle { Always (λ s. (j : ℕ) → s.phase j ≡ Phase.Idle → s.register j ≡ Register.Idle) }
+    ensures rest { Always (λ s. ((j : ℕ) → s.phase j ≡ Phase.Idle) → (r : Rid) → unpublished s.mark (versions s.buckets s.bucket r) ≡ None) }
     ensures left { Always (λ s. (r : Rid) → unpublished s.mark (versions s.buckets s.bucket r) ≡ None → IsCutAt s.mark (versions s.buckets s.bucket r) → length (versions s.buckets s.bucket r) ≡ (if is_some (visible s.history r s.mark).row then 1 else 0)) }
+    ensures bucket { Always (λ s. (b : ℕ) → ((r : Rid) → bucket_of s.buckets r ≡ b → (unpublished s.mark (versions s.buckets s.bucket r) ≡ None) × IsCutAt s.mark (versions s.buckets s.bucket r)) → total (s.bucket b) ≡ length (filter (is_of s.buckets b) (live s.history))) }
 {}
 
 /// Each kind of event can happen. In this run a session goes live below the mark of a whole record, at its horizon.
