@@ -165,7 +165,8 @@ replay_whole buckets sessions top h logs closed script printed r c t = record {
 
 -- ---- a run
 
--- the records of each session are counted where the sessions are those that the script names, and those of the rounds read and write nothing
+-- The records of each session are counted where the sessions are those that the script names, and those of the rounds read and
+-- write nothing.
 run_counts : (rounds sessions : ℕ) (records : List Record) → Each (λ (q : Record). (1 ≤ q.session) × (q.session ≤ sessions)) records → Each (CountsFor sessions) (in_order (run rounds) records)
 run_counts rounds sessions records w =
     subst (Each (CountsFor sessions)) (sym (in_order_is rounds records))

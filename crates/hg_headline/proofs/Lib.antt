@@ -26,3 +26,4 @@ pub mod Ending
 pub mod Worked
 pub mod Running
 pub mod Rounds
+pub mod OverBuckets

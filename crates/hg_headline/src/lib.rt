@@ -25,4 +25,4 @@
 
 mod laws;
 
-pub use laws::{premises_are_met, replay_is_sound, run_is_sound};
+pub use laws::{premises_are_met, replay_is_sound, run_is_sound, states_are_logged};
