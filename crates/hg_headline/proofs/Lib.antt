@@ -27,3 +27,4 @@ pub mod Worked
 pub mod Running
 pub mod Rounds
 pub mod OverBuckets
+pub mod Quiet
