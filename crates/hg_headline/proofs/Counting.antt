@@ -30,7 +30,7 @@ use Rattle.hg_base.proofs.ListFacts.{each_keeps, each_append}
 use Rattle.hg_core.specs.Reading.{Follows}
 use Rattle.hg_headline.specs.Logged.{Logged}
 use Rattle.hg_headline.specs.Ran.{run_lines, HasRun}
-use Rattle.hg_headline.proofs.Words.{each_pairs}
+use Rattle.hg_headline.proofs.Words.{each_pairs, is_any}
 use Rattle.hg_headline.proofs.Same.{each_filter}
 use Rattle.hg_headline.proofs.Lines.{AsCollected}
 use Rattle.hg_headline.proofs.Running.{RunsGc, in_order_is, run_follows}
@@ -48,10 +48,6 @@ use Rattle.hg_headline.proofs.Tidy.{IsTidyBetween, follows_tidy, closed_tidy}
 use Rattle.hg_headline.proofs.Lives.{lives_same}
 
 -- ---- transactions with a number
-
-abbrev pub is_any : List ℕ → Bool
-is_any [] = false
-is_any (n ∷ ns) = true
 
 pub any_number : (o : Option ℕ) (b : Bool) (ns : List ℕ) → b ≡ is_any ns → (is_some o || b) ≡ is_any (cons_option o ns)
 any_number None b ns e = e

@@ -36,8 +36,9 @@ use Rattle.hg_headline.proofs.Words.{append_assoc, or_either, or_first, or_with,
 use Rattle.hg_headline.proofs.Adds.{IsAccessAnswer, get_answer, put_answer, del_answer, scan_answer}
 use Rattle.hg_headline.proofs.Ties.{ties_nothing}
 use Rattle.hg_headline.proofs.Whole.{IsTold, AtLine, IsKnown, said_says, lines_told, told_right, places_of}
+use Rattle.hg_headline.proofs.OpenSnapshots.{each_unmap}
 use Rattle.hg_headline.proofs.Replaying.{each_after_first}
-use Rattle.hg_headline.proofs.Running.{RunsGc, Leaves, round_of, parted, in_order_is, run_follows}
+use Rattle.hg_headline.proofs.Running.{RunsGc, LeavesLine, round_of, parted, in_order_is, run_follows}
 
 -- ---- the shape
 pub shape_more : (rs more : List Record) (lines later : List Line) → HasShape rs lines → HasShape more later → HasShape (rs ++ more) (lines ++ later)
@@ -118,7 +119,7 @@ no_mark kind now earlier e h = go (report_of now.reply) e
     go None k = h
     go (Some sweep) k = absurd (let z : Some sweep ≡ None = k in cc)
 
-pub session_known : (rounds buckets : ℕ) (h : History) (logs : ℕ → List LogEntry) (l m : List LogEntry) (rs more : List Record) (lines later : List Line) (earlier : List Said) → Tells buckets Leaves l rs lines m → NoMarks earlier →
+pub session_known : (rounds buckets : ℕ) (h : History) (logs : ℕ → List LogEntry) (l m : List LogEntry) (rs more : List Record) (lines later : List Line) (earlier : List Said) → Tells buckets LeavesLine l rs lines m → NoMarks earlier →
     ((es : List Said) → NoMarks es → EachAfter (IsKnown (run rounds) h logs) es (said_from es more later)) → EachAfter (IsKnown (run rounds) h logs) earlier (said_from earlier (rs ++ more) (lines ++ later))
 session_known rounds buckets h logs l m [] more [] later earlier t none f = f earlier none
 session_known rounds buckets h logs l m [] more (line ∷ lines) later earlier t none f = absurd t
@@ -130,7 +131,7 @@ session_known rounds buckets h logs l m (r ∷ rs) more (line ∷ lines) later e
       session_known rounds buckets h logs (log_after buckets t.1.0 r.statement line.reply l) m rs more lines later (now ∷ earlier) t.1.2 (λ kind. no_mark kind now earlier no (none kind)) f,
     )
 
-pub sessions_known : (rounds buckets : ℕ) (h : History) (logs : ℕ → List LogEntry) (records : List Record) (lines : ℕ → List Line) (more : List Record) (later : List Line) → ((j : ℕ) → Tells buckets Leaves [] (of_session j records) (lines j) (logs j)) →
+pub sessions_known : (rounds buckets : ℕ) (h : History) (logs : ℕ → List LogEntry) (records : List Record) (lines : ℕ → List Line) (more : List Record) (later : List Line) → ((j : ℕ) → Tells buckets LeavesLine [] (of_session j records) (lines j) (logs j)) →
     ((es : List Said) → NoMarks es → EachAfter (IsKnown (run rounds) h logs) es (said_from es more later)) → (n many : ℕ) (earlier : List Said) → NoMarks earlier →
     EachAfter (IsKnown (run rounds) h logs) earlier (said_from earlier (flat_map (λ j. of_session j records) (numbers_from n many) ++ more) (flat_map lines (numbers_from n many) ++ later))
 sessions_known rounds buckets h logs records lines more later t f n zero earlier none = f earlier none
@@ -190,10 +191,6 @@ told_gathered h logs kind report earlier p rising = record {
 abbrev pub Below : Kind → List Said → List Report → Type 0
 Below kind earlier reports = Each (λ (p : Report). Each (λ m. m ≤ p.mark) (filter_map (mark_of kind) earlier)) reports
 
-pub each_of_map : {X Y : Type 0} (P : Y → Type 0) (f : X → Y) (xs : List X) → Each P (map f xs) → Each (λ x. P (f x)) xs
-each_of_map P f [] h = tt
-each_of_map P f (x ∷ xs) h = (h.0, each_of_map P f xs h.1)
-
 abbrev pub report_said : Kind → ℕ → Report → Said
 report_said kind n report = record { session = 0; place = n; transaction = 0; at = 0; scope = All; alone = false; statement = Gc kind; reply = record { at = None; answer = Swept (sweep_of report); number = None } }
 
@@ -208,7 +205,7 @@ reports_known rounds h logs kind (report ∷ reports) n more later earlier ps ri
     let now : Said = report_said kind n report in (
       record { exact = tt; still = tt; report = told_gathered h logs kind report earlier ps.0 below.0 },
       reports_known rounds h logs kind reports (suc n) more later (now ∷ earlier) ps.1 rising.1
-          (each_after_mark reports (each_of_map (λ m. report.mark ≤ m) (λ (p : Report). p.mark) reports rising.0) below.1)
+          (each_after_mark reports (each_unmap (λ m. report.mark ≤ m) (λ (p : Report). p.mark) reports rising.0) below.1)
           (λ es k. f es (λ i e. k i e ∙ ap (λ b. cons_option (if b then Some report.mark else None) (filter_map (mark_of i) earlier)) (ap (λ c. same_kind c i) ps.0.kind ∙ e))),
     )
   where

@@ -40,8 +40,9 @@ use Rattle.hg_headline.proofs.Answering.{nothing_more}
 abbrev pub RunsGc : ℕ → (ℕ → List LogEntry) → Record → Line → Type 0
 RunsGc rounds logs r line = AsCollected (run rounds) r.session r.statement line.reply.answer
 
-abbrev pub Leaves : Record → Line → Type 0
-Leaves r line = LeavesGc r.statement line.reply.answer
+-- and so is that of a session's line
+abbrev pub LeavesLine : Record → Line → Type 0
+LeavesLine r line = LeavesGc r.statement line.reply.answer
 
 pub leaves_gc : (rounds j : ℕ) (s : Statement) (a : Answer) → (j == 0) ≡ false → LeavesGc s a → AsCollected (run rounds) j s a
 leaves_gc rounds j (Gc kind) a e k = subst (λ b. MatchBool b (IsSwept a) (IsBeside a)) (sym e) k
@@ -54,7 +55,7 @@ leaves_gc rounds j CommitIt a e k = tt
 leaves_gc rounds j Rollback a e k = tt
 
 -- the records of one session, from its log, and then the others
-pub session_follows : (rounds buckets j : ℕ) (rs more : List Record) (lines later : List Line) (logs final : ℕ → List LogEntry) (l m : List LogEntry) → (j == 0) ≡ false → Each (λ (r : Record). r.session ≡ j) rs → l ≡ logs j → Tells buckets Leaves l rs lines m → Follows buckets (RunsGc rounds) (put logs j m) more later final → Follows buckets (RunsGc rounds) logs (rs ++ more) (lines ++ later) final
+pub session_follows : (rounds buckets j : ℕ) (rs more : List Record) (lines later : List Line) (logs final : ℕ → List LogEntry) (l m : List LogEntry) → (j == 0) ≡ false → Each (λ (r : Record). r.session ≡ j) rs → l ≡ logs j → Tells buckets LeavesLine l rs lines m → Follows buckets (RunsGc rounds) (put logs j m) more later final → Follows buckets (RunsGc rounds) logs (rs ++ more) (lines ++ later) final
 session_follows rounds buckets j [] more [] later logs final l m not is e t f = subst (λ ls. Follows buckets (RunsGc rounds) ls more later final) (ap (put logs j) (t ∙ e) ∙ put_same logs j) f
 session_follows rounds buckets j [] more (line ∷ lines) later logs final l m not is e t f = absurd t
 session_follows rounds buckets j (r ∷ rs) more [] later logs final l m not is e t f = absurd t
@@ -105,7 +106,7 @@ not_done final n = ap (λ b. if b then final n else []) (not_below n)
     not_below : (m : ℕ) → nat_lt m m ≡ false
     not_below m = grind (arith, nat_tests)
 
-pub sessions_follow : (rounds buckets : ℕ) (records : List Record) (lines : ℕ → List Line) (final : ℕ → List LogEntry) (more : List Record) (later : List Line) → ((j : ℕ) → Tells buckets Leaves [] (of_session j records) (lines j) (final j)) → (n many : ℕ) → 1 ≤ n → Follows buckets (RunsGc rounds) (done final (n + many)) more later final →
+pub sessions_follow : (rounds buckets : ℕ) (records : List Record) (lines : ℕ → List Line) (final : ℕ → List LogEntry) (more : List Record) (later : List Line) → ((j : ℕ) → Tells buckets LeavesLine [] (of_session j records) (lines j) (final j)) → (n many : ℕ) → 1 ≤ n → Follows buckets (RunsGc rounds) (done final (n + many)) more later final →
     Follows buckets (RunsGc rounds) (done final n) (flat_map (λ j. of_session j records) (numbers_from n many) ++ more) (flat_map lines (numbers_from n many) ++ later) final
 sessions_follow rounds buckets records lines final more later t n zero some f = subst (λ m. Follows buckets (RunsGc rounds) (done final m) more later final) (plus_zero n) f
 sessions_follow rounds buckets records lines final more later t n (suc many) some f =
@@ -155,7 +156,7 @@ none_at_zero (r ∷ rs) h = ap (λ b. cond b (r ∷ of_session 0 rs) (of_session
     positive_not : (m : ℕ) → 1 ≤ m → (m == 0) ≡ false
     positive_not m k = grind (arith, nat_tests)
 
-pub tells_nothing : (buckets : ℕ) (l m : List LogEntry) (rs : List Record) (lines : List Line) → rs ≡ [] → Tells buckets Leaves l rs lines m → m ≡ l
+pub tells_nothing : (buckets : ℕ) (l m : List LogEntry) (rs : List Record) (lines : List Line) → rs ≡ [] → Tells buckets LeavesLine l rs lines m → m ≡ l
 tells_nothing buckets l m [] [] e t = t
 tells_nothing buckets l m [] (line ∷ lines) e t = absurd t
 tells_nothing buckets l m (r ∷ rs) lines e t = absurd (cons_is_not_nil r rs e)
@@ -163,7 +164,7 @@ tells_nothing buckets l m (r ∷ rs) lines e t = absurd (cons_is_not_nil r rs e)
 pub parts_follow : (rounds : ℕ) (buckets : ℕ) (kind : Kind) (reports : List Report) (logs final : ℕ → List LogEntry) (more : List Record) (later : List Line) → length reports ≡ rounds → Follows buckets (RunsGc rounds) logs more later final → Follows buckets (RunsGc rounds) logs (rounds_of kind rounds ++ more) (report_lines 1 reports ++ later) final
 parts_follow rounds buckets kind reports logs final more later e f = subst (λ n. Follows buckets (RunsGc rounds) logs (map (round_of kind) (numbers_from 1 n) ++ more) (report_lines 1 reports ++ later) final) e (reports_follow rounds buckets kind reports 1 logs final more later f)
 
-pub all_done : (buckets : ℕ) (records : List Record) (lines : ℕ → List Line) (final : ℕ → List LogEntry) → ((j : ℕ) → Tells buckets Leaves [] (of_session j records) (lines j) (final j)) → (j : ℕ) → final j ≡ done final (1 + greatest (map (λ (r : Record). r.session) records)) j
+pub all_done : (buckets : ℕ) (records : List Record) (lines : ℕ → List Line) (final : ℕ → List LogEntry) → ((j : ℕ) → Tells buckets LeavesLine [] (of_session j records) (lines j) (final j)) → (j : ℕ) → final j ≡ done final (1 + greatest (map (λ (r : Record). r.session) records)) j
 all_done buckets records lines final t j = cases (nat_lt j (1 + greatest (map (λ (r : Record). r.session) records)))
     (λ e. ap (λ b. if b then final j else []) (sym e))
     (λ e. tells_nothing buckets [] (final j) (of_session j records) (lines j) (none_over records j (over j (greatest (map (λ (r : Record). r.session) records)) e)) (t j) ∙ ap (λ b. if b then final j else []) (sym e))
