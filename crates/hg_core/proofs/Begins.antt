@@ -100,7 +100,7 @@ turn s j p register log added h session up shows same bounds grown enters replie
 
 -- its log stays
 quiet : (s : CoreState) (j : ℕ) (p : Phase) → IsSteady s → snapshot_in (s.phase j) ≡ snapshot_in p → FixedOver p (s.log j) → MayHaveBegun s.each p (begans (s.log j)) → LogsAnswer s.sessions s.each s.history (put s.phase j p) s.log
-quiet s j p h same over room = log_step s.sessions s.each s.history s.phase (put s.phase j p) s.log s.log j p (s.log j) h.logs_answer (only_put s.phase j p) (only_same s.log j) (h.logs_answer.reads j ∙ same) room over (h.logs_answer.within j) (h.logs_answer.judged j) (h.logs_answer.written j) (λ n. refl) (λ n e. e)
+quiet s j p h same over room = log_step s.sessions s.each s.history s.phase (put s.phase j p) s.log s.log j p (s.log j) h.logs_answer (only_put s.phase j p) (only_same s.log j) (h.logs_answer.reads j ∙ same) room over (h.logs_answer.within j) (h.logs_answer.judged j) (h.logs_answer.undone j) (h.logs_answer.written j) (λ n. refl) (λ n e. e)
 
 -- only the board's sessions are not at rest
 pub session_at : (s : CoreState) (j : ℕ) → IsSteady s → (s.phase j ≡ Idle → ⊥) → IsSession s.sessions j
@@ -110,7 +110,7 @@ if_some_all : {X : Type 0} (o : Option X) (P : X → Type 0) → ((x : X) → P 
 if_some_all None P f = tt
 if_some_all (Some x) P f = f x
 
-if_some_keeps : {X : Type 0} (o : Option X) (P Q : X → Type 0) → ((x : X) → P x → Q x) → IfSome o P → IfSome o Q
+pub if_some_keeps : {X : Type 0} (o : Option X) (P Q : X → Type 0) → ((x : X) → P x → Q x) → IfSome o P → IfSome o Q
 if_some_keeps None P Q f h = tt
 if_some_keeps (Some x) P Q f h = f x h
 
@@ -188,6 +188,7 @@ go_live_kept s j m scope h may =
     tt
     (below, h.logs_answer.within j)
     (record { within = below; over = over; alone = h.logs_answer.reads j ∙ ap snapshot_in at }, h.logs_answer.judged j)
+    (h.logs_answer.undone j)
     (h.logs_answer.written j) (λ n. refl) (λ n e. e))
     (counters_entry s.sessions s.buckets s.passes s.log s.bucket s.counters s.visits j (Began m scope ∷ s.log j) (λ test. (refl, refl)) h.counters_balance)
   where
@@ -236,6 +237,7 @@ end_kept s j h may = turn s j Idle (put s.register j registers.Idle) (put s.log 
     tt
     (h.logs_answer.within j)
     (record { opened = subst IsSome (sym (h.logs_answer.reads j)) may.live; none = may.none }, h.logs_answer.judged j)
+    (h.logs_answer.undone j)
     (h.logs_answer.written j) (λ n. refl) (λ n e. e))
     (counters_entry s.sessions s.buckets s.passes s.log s.bucket s.counters s.visits j (Over ∷ s.log j) (λ test. (refl, refl)) h.counters_balance)
   where

@@ -27,6 +27,11 @@ pub mod Fences
 pub mod Reclaiming
 pub mod Seats
 pub mod Exact
+pub mod Bounded
+pub mod Settling
+pub mod Remaining
+pub mod Right
+pub mod Answering
 pub mod Runs
 pub mod Worked
 pub mod Counting

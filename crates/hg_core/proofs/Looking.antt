@@ -37,6 +37,7 @@ use Rattle.hg_core.proofs.Replies.{writer_itself, read_own, read_other, backed_n
 use Rattle.hg_core.proofs.Writing.{IsOwn, answer_more, begun_more, current_open}
 use Rattle.hg_core.specs.Counters.{first_writes, undos}
 use Rattle.hg_core.proofs.Tallies.{counters_entry}
+use Rattle.hg_core.specs.Judged.{UndoesOpen}
 
 -- ---- what is read is what is seen
 
@@ -86,6 +87,12 @@ look_counts n (Refused q answer) log l test = (refl, refl)
 look_counts n (Outside t) log l test = (refl, refl)
 look_counts n _ log l test = absurd l
 
+look_undoes : (n : ℕ) (e : LogEntry) (log : List LogEntry) → IsLook n e → UndoesOpen log → UndoesOpen (e ∷ log)
+look_undoes n (Saw t low high b rows) log l u = u
+look_undoes n (Refused q answer) log l u = u
+look_undoes n (Outside t) log l u = u
+look_undoes n _ log l u = absurd l
+
 look_more : (s : CoreState) (j : ℕ) (e : LogEntry) → IsSteady s → IsLook (length s.history) e → IsSome (current (s.log j)) → IsReplied s.buckets s.history s.log j e (s.log j) → IsSteady (record s { log = put s.log j (e ∷ s.log j) })
 look_more s j e h look some replied = record {
   mark_is_length = h.mark_is_length;
@@ -102,7 +109,7 @@ look_more s j e h look some replied = record {
   records_bound_sessions = h.records_bound_sessions;
   open_writes_may_commit = λ k r image o. h.open_writes_may_commit k r image (sym (opened k r) ∙ o);
   counters_balance = counters_entry s.sessions s.buckets s.passes s.log s.bucket s.counters s.visits j (e ∷ s.log j) (λ test. look_counts (length s.history) e (s.log j) look test) h.counters_balance;
-  logs_answer = answer_more s j e h own.0 some (omega (arith, same.2, h.logs_answer.written j));
+  logs_answer = answer_more s j e h own.0 some (look_undoes (length s.history) e (s.log j) look (h.logs_answer.undone j)) (omega (arith, same.2, h.logs_answer.written j));
   replies_answer = replies_entry s.buckets s.history s.log j e own.1 h.logs_answer.within replied h.replies_answer;
   records_reach_logs = reach_step s.phase s.phase s.log (put s.log j (e ∷ s.log j)) s.pass j (s.phase j) (e ∷ []) h.records_reach_logs (only_same s.phase j) (only_put s.log j (e ∷ s.log j)) (λ x. inr x);
 }

@@ -24,7 +24,7 @@ use Rattle.hg_core.specs.Covered.{MayCommit}
 use Rattle.hg_core.specs.State.{CoreState}
 use Rattle.hg_core.specs.Events.{happens, May, MayPublish, Publish}
 use Rattle.hg_core.specs.Marks.{PhaseUpTo}
-use Rattle.hg_core.specs.Judged.{Judge, Judged, FixedOver, IsNamed, LogsAnswer}
+use Rattle.hg_core.specs.Judged.{Judge, Judged, FixedOver, IsNamed, LogsAnswer, UndoesOpen}
 use Rattle.hg_core.specs.Invariant.{IsSteady}
 use Rattle.hg_core.proofs.Groups.{wider, length_more, commits_kept}
 use Rattle.hg_core.proofs.Recalls.{reach_grown}
@@ -85,6 +85,7 @@ logs_published sessions each h phase log list js a session_of may = record {
   fixed = λ j. fixed_new j (is_in js j) refl;
   within = λ j. within_new j (is_in js j);
   judged = λ j. judged_new j (is_in js j) refl;
+  undone = λ j. undone_new j (is_in js j);
   commits = commits_kept h log js a.commits a.within may.distinct;
   named = λ n some last. cases (n == suc (length h))
       (λ e. let same : suc (length h) ≡ n = sym ((Decides-eqb n (suc (length h))).0 e) in subst (λ m. IsNamed sessions (published_logs log js (suc (length h))) m) same (named_new js refl))
@@ -121,6 +122,10 @@ logs_published sessions each h phase log list js a session_of may = record {
     room_new : (j : ℕ) (b : Bool) → MayHaveBegun each (phase j) (begans (if b then Published (suc (length h)) ∷ log j else log j))
     room_new j true = a.room j
     room_new j false = a.room j
+
+    undone_new : (j : ℕ) (b : Bool) → UndoesOpen (if b then Published (suc (length h)) ∷ log j else log j)
+    undone_new j true = a.undone j
+    undone_new j false = a.undone j
 
     written_new : (j : ℕ) (b : Bool) → wrotes (if b then Published (suc (length h)) ∷ log j else log j) ≤ each
     written_new j true = a.written j

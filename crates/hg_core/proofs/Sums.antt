@@ -1,5 +1,5 @@
 -- Sums where one summand, or none, changes.
-use Rattle.std.proofs.Common.{◌≡◌, ℕ, zero, suc, ◌+◌, ◌*◌, ◌<◌, ◌≤◌, ◌==◌, refl, subst, arith}
+use Rattle.std.proofs.Common.{true, false, ◌≡◌, ℕ, zero, suc, ◌+◌, ◌*◌, ◌<◌, ◌≤◌, ◌==◌, refl, subst, arith, Bool, ◌∙◌, if◌then◌else◌, ap, ◌&&◌}
 use Rattle.std.proofs.Math.Nat.{suc-mul}
 use Rattle.std.proofs.lemmas.Bool.Decides.{Decides-eqb, nat_tests}
 use Rattle.hg_base.proofs.ListFacts.{cases}
@@ -71,3 +71,45 @@ below_grown (suc n) j d f g last there here = cases (j == n)
     let rest = below_grown n j d f g less there here in
     let top = there n other in
     omega arith)
+
+pub below_plus : (n : ℕ) (f g : ℕ → ℕ) → sum_below n (λ k. f k + g k) ≡ sum_below n f + sum_below n g
+below_plus zero f g = omega arith
+below_plus (suc n) f g = omega (arith, below_plus n f g)
+
+-- sums of sums in either order
+pub sums_swap : (n m : ℕ) (f : ℕ → ℕ → ℕ) → sum_below n (λ b. sum_to m (λ j. f b j)) ≡ sum_to m (λ j. sum_below n (λ b. f b j))
+sums_swap n zero f = below_none n
+sums_swap n (suc m) f = below_plus n (λ b. sum_to m (λ j. f b j)) (λ b. f b (suc m)) ∙ ap (λ x. x + sum_below n (λ b. f b (suc m))) (sums_swap n m f)
+
+-- at most one of the numbers is that one
+record IsOnce (n at : ℕ) (x : Bool) : Type 0 where
+  pub most : sum_below n (λ b. if (at == b) && x then 1 else 0) ≤ 1
+  pub none : n ≤ at → sum_below n (λ b. if (at == b) && x then 1 else 0) ≡ 0
+
+abbrev pub one_of : Bool → ℕ
+one_of b = if b then 1 else 0
+
+one_most : (b : Bool) → one_of b ≤ 1
+one_most true = omega arith
+one_most false = omega arith
+
+gone_if : (b : Bool) → b ≡ false → one_of b ≡ 0
+gone_if true e = cc
+gone_if false e = refl
+
+once : (n at : ℕ) (x : Bool) → IsOnce n at x
+once zero at x = record { most = omega arith; none = λ le. refl }
+once (suc n) at x =
+    let rest = once n at x in
+    let last = one_most ((at == n) && x) in
+    cases (at == n)
+    (λ e.
+    let low : n ≤ at = grind (arith, nat_tests) in
+    record { most = omega (arith, rest.none low, last); none = λ le. absurd (let same : at ≡ n = grind (arith, nat_tests) in omega arith) })
+    (λ e.
+    let out : ((at == n) && x) ≡ false = ap (λ b. b && x) e in
+    let gone = gone_if ((at == n) && x) out in
+    record { most = omega (arith, rest.most, gone); none = λ le. omega (arith, rest.none (omega arith), gone) })
+
+pub below_one : (n at : ℕ) (x : Bool) → sum_below n (λ b. if (at == b) && x then 1 else 0) ≤ 1
+below_one n at x = (once n at x).most

@@ -17,7 +17,7 @@ use Rattle.hg_core.specs.OpenWrites.{writer_of}
 use Rattle.hg_core.specs.Covered.{Reads, Covers, MayCommit}
 use Rattle.hg_core.specs.Ordered.{IsOrdered, IsBacked}
 use Rattle.hg_base.specs.Transcript.{has}
-use Rattle.hg_core.specs.Judged.{Judge, Judged, LogsAnswer}
+use Rattle.hg_core.specs.Judged.{Judge, Judged, UndoesOpen, LogsAnswer}
 use Rattle.hg_core.specs.State.{CoreState}
 use Rattle.hg_core.specs.Events.{put, happens, May, Install, Undo, Stamp}
 use Rattle.hg_core.specs.Invariant.{IsSteady}
@@ -92,8 +92,8 @@ own_judge top h (Wrote r image) log own s = s
 own_judge top h (Undid r) log own s = s
 own_judge top h _ log own s = absurd own
 
-pub answer_more : (s : CoreState) (j : ℕ) (e : LogEntry) → IsSteady s → IsOwn (length s.history) e → IsSome (current (s.log j)) → wrotes (e ∷ s.log j) ≤ s.each → LogsAnswer s.sessions s.each s.history s.phase (put s.log j (e ∷ s.log j))
-answer_more s j e h own some room =
+pub answer_more : (s : CoreState) (j : ℕ) (e : LogEntry) → IsSteady s → IsOwn (length s.history) e → IsSome (current (s.log j)) → UndoesOpen (e ∷ s.log j) → wrotes (e ∷ s.log j) ≤ s.each → LogsAnswer s.sessions s.each s.history s.phase (put s.log j (e ∷ s.log j))
+answer_more s j e h own some undone room =
     let top : ℕ = length s.history in
     let same = own_same top e (s.log j) own in
     log_step s.sessions s.each s.history s.phase s.phase s.log (put s.log j (e ∷ s.log j)) j (s.phase j) (e ∷ s.log j) h.logs_answer (only_same s.phase j) (only_put s.log j (e ∷ s.log j))
@@ -102,6 +102,7 @@ answer_more s j e h own some room =
     (over_live (s.phase j) (e ∷ s.log j) (subst IsSome (h.logs_answer.reads j) some))
     (own_up top e (s.log j) own (h.logs_answer.within j))
     (own_judge top s.history e (s.log j) own some, h.logs_answer.judged j)
+    undone
     room
     (λ n. own_published top n j e (s.log j) own)
     (λ n. own_named top n e (s.log j) own)
@@ -169,7 +170,7 @@ install_kept s j r image h (at, scope, may) =
       open_writes_stand = stand_alike s.mark (begun_in s.log) _ _ _ _ (λ k q. refl) (λ k q i e. begun_more s.log j (Wrote r image) refl k) (stand_installed s.mark s.buckets s.bucket (begun_in s.log) (open_writes s.log) _ j r image may.free f h.open_writes_stand);
       stamped_is_next = next_installed s.mark s.buckets s.bucket (begun_in s.log) (open_writes s.log) _ j r image s.stamped_list may.unstamped f h.stamped_is_next;
       replies_answer = replies_entry s.buckets s.history s.log j (Wrote r image) tt h.logs_answer.within (subst (λ o. IfSome o (λ snapshot. IsTrue (has snapshot.scope r.table))) (sym (h.logs_answer.reads j ∙ ap snapshot_in may.live)) may.table, may.plain) h.replies_answer;
-      logs_answer = answer_more s j (Wrote r image) h tt (subst IsSome (sym (h.logs_answer.reads j ∙ ap snapshot_in may.live)) refl) (let k = may.room in omega arith);
+      logs_answer = answer_more s j (Wrote r image) h tt (subst IsSome (sym (h.logs_answer.reads j ∙ ap snapshot_in may.live)) refl) (h.logs_answer.undone j) (let k = may.room in omega arith);
     }
   where
     fresh : added (versions s.buckets s.bucket r) ≡ (if not (is_some (image_in r (own_writes (s.log j)))) then 1 else 0)
@@ -210,7 +211,7 @@ undo_kept s j r h may =
       open_writes_stand = stand_alike s.mark (begun_in s.log) _ _ _ _ (λ k q. refl) (λ k q i e. begun_more s.log j (Undid r) refl k) (stand_undone s.mark s.buckets s.bucket (begun_in s.log) (open_writes s.log) _ j r was f h.open_writes_stand);
       stamped_is_next = next_undone s.mark s.buckets s.bucket (begun_in s.log) (open_writes s.log) _ j r s.stamped_list may.unstamped was f h.stamped_is_next;
       replies_answer = replies_entry s.buckets s.history s.log j (Undid r) tt h.logs_answer.within tt h.replies_answer;
-      logs_answer = answer_more s j (Undid r) h tt mine (h.logs_answer.written j);
+      logs_answer = answer_more s j (Undid r) h tt mine (subst IsSome (sym (h.open_writes_stand.owned r w was.image was.owned).1) refl, h.logs_answer.undone j) (h.logs_answer.written j);
     }
   where
     here : (q : Rid) (i : Image) → (if same_rid r q then None else open_in q (s.log j)) ≡ Some i → MayCommit s.history q (s.phase j)

@@ -5,7 +5,7 @@ use Rattle.hg_base.specs.History.{History, Group, group_at}
 use Rattle.hg_core.specs.declared.phase.Phase.{Phase}
 use Rattle.hg_core.specs.declared.phase.Phase.TheVariants.{Idle, Probed, Entered, Fixed, Live}
 use Rattle.hg_core.specs.declared.log.LogEntry.{LogEntry}
-use Rattle.hg_core.specs.declared.log.LogEntry.TheVariants.{Began, Published, Over}
+use Rattle.hg_core.specs.declared.log.LogEntry.TheVariants.{Began, Undid, Published, Over}
 use Rattle.hg_core.specs.Logs.{current, open_in, begans, wrotes, is_plain, published, has_number, UpTo}
 use Rattle.hg_core.specs.Phases.{IsSession, snapshot_in, MayHaveBegun}
 
@@ -45,6 +45,12 @@ FixedOver (Entered f) log = ⊤
 FixedOver (Fixed f m) log = UpTo m log
 FixedOver (Live at scope) log = ⊤
 
+-- each write that was taken back was open
+abbrev pub UndoesOpen : List LogEntry → Type 0
+UndoesOpen [] = ⊤
+UndoesOpen (Undid r ∷ earlier) = IsSome (open_in r earlier) × UndoesOpen earlier
+UndoesOpen (_ ∷ earlier) = UndoesOpen earlier
+
 -- the commits of session j in a group
 abbrev pub of_session : ℕ → Group → Group
 of_session j group = filter (λ c. c.session == j) group
@@ -62,6 +68,7 @@ pub record LogsAnswer (sessions each : ℕ) (history : History) (phase : ℕ →
   -- no number is over the mark
   pub within : (j : ℕ) → UpTo (length history) (log j)
   pub judged : (j : ℕ) → Judged history (log j)
+  pub undone : (j : ℕ) → UndoesOpen (log j)
   -- the commits of each group are the transactions of the logs that have its number
   pub commits : (n j : ℕ) → of_session j (group_at history n) ≡ published n j (log j)
   -- and each group has one

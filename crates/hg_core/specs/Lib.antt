@@ -26,6 +26,7 @@ pub mod Replies
 pub mod Judged
 pub mod Invariant
 pub mod Reading
+pub mod Answered
 -- What follows of gathers, a run, and which steps would be wrong.
 pub mod Missed
 pub mod Held

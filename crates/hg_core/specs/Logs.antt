@@ -1,5 +1,5 @@
 -- The log of a session, newest entry first, and what it says of the session's transactions.
-use Rattle.std.specs.Prelude.{ℕ, suc, ◌≤◌, List, [], ◌∷◌, ◌++◌, map, Bool, true, false, ◌||◌, ◌==◌, if◌then◌else◌, Option, Some, None, ⊤}
+use Rattle.std.specs.Prelude.{ℕ, zero, suc, max, ◌≤◌, List, [], ◌∷◌, ◌++◌, map, Bool, true, false, ◌||◌, ◌==◌, if◌then◌else◌, Option, Some, None, ⊤}
 use Rattle.std.specs.List.{list_any}
 use Rattle.hg_base.specs.declared.scope.Snapshot.{Snapshot}
 use Rattle.hg_base.specs.declared.rid.Rid.{Rid}
@@ -90,6 +90,16 @@ abbrev pub has_number : ℕ → List LogEntry → Bool
 has_number n [] = false
 has_number n (Published number ∷ log) = (number == n) || has_number n log
 has_number n (_ ∷ log) = has_number n log
+
+-- the greatest commit number of a log, and of the logs of the first sessions
+abbrev pub newest_number : List LogEntry → ℕ
+newest_number [] = 0
+newest_number (Published number ∷ log) = max number (newest_number log)
+newest_number (_ ∷ log) = newest_number log
+
+abbrev pub newest_of : ℕ → (ℕ → List LogEntry) → ℕ
+newest_of zero log = 0
+newest_of (suc n) log = max (newest_of n log) (newest_number (log (suc n)))
 
 -- the transactions of these sessions as one group
 abbrev pub new_group : (ℕ → List LogEntry) → List ℕ → Group

@@ -1,5 +1,5 @@
 -- Runs of two sessions and a pass. In each, session 2 commits a write, so that the mark grows from 0 to 1.
-use Rattle.std.specs.Prelude.{List, [], ◌∷◌, ◌++◌, Some, pos}
+use Rattle.std.specs.Prelude.{List, [], ◌∷◌, ◌++◌, Some, None, pos}
 use Rattle.hg_base.specs.declared.rid.Rid.{Rid}
 use Rattle.hg_base.specs.declared.image.Image.{Image}
 use Rattle.hg_base.specs.declared.scope.Scope.TheVariants.{All, Declared}
@@ -7,6 +7,13 @@ use Rattle.hg_base.specs.declared.report.Kind.TheVariants.{Interval}
 use Rattle.hg_core.specs.declared.ask.Ask.TheVariants.{Outside}
 use Rattle.hg_core.specs.Events.{Event, Probe, Enter, Fix, GoLive, End, Mark, Sample, Move, Install, Undo, Stamp, Publish, Reclaim, Take, Look}
 use Rattle.hg_core.specs.Steps.{Step, Act, Arrive, Leave, Split, acts}
+use Rattle.hg_base.specs.declared.statement.Statement.TheVariants.{Begin, Put, Commit as CommitIt}
+use Rattle.hg_base.specs.declared.line.Answer.{Answer}
+use Rattle.hg_base.specs.declared.line.Answer.TheVariants.{Begun, Stored, Committed}
+use Rattle.hg_base.specs.declared.line.Reply.{Reply}
+use Rattle.hg_core.specs.declared.log.LogEntry.{LogEntry}
+use Rattle.hg_core.specs.declared.visit.Removed.{Removed}
+use Rattle.hg_core.specs.Reading.{Unprinted, log_after, Fits}
 
 -- two records of table 0, and a row
 abbrev pub one_rid : Rid
@@ -66,3 +73,33 @@ open_write = acts (Probe 1 ∷ Enter 1 0 ∷ Fix 1 0 ∷ GoLive 1 0 All ∷ Prob
 -- both registers, and takes the bucket.
 abbrev pub late_snapshot : List Step
 late_snapshot = acts (commits ++ commits_again row ++ Probe 1 ∷ Enter 1 2 ∷ Fix 1 2 ∷ GoLive 1 2 All ∷ Mark 0 (λ j. 0) ∷ Sample 0 1 ∷ Sample 0 2 ∷ []) ++ Arrive 0 0 ∷ []
+
+-- and the pass sweeps the record, and gives the bucket back
+abbrev pub swept_visit : List Step
+swept_visit = late_snapshot ++ Act (Reclaim 0 Interval one_rid) ∷ Leave 0 ∷ []
+
+abbrev pub one_swept : Removed
+one_swept = record { group = 0; table = 0; interval = 1 }
+
+-- What the log of session 2 says after its commits: a begin that is answered `begun,0`, a put that is answered `stored`, and
+-- a commit that is answered `committed,1`.
+abbrev pub all_printed : Unprinted
+all_printed = record { found = []; part = λ b. []; undone = [] }
+
+abbrev pub only_answer : Answer → Reply
+only_answer answer = record { at = None; answer = answer; number = None }
+
+abbrev pub begun_there : List LogEntry
+begun_there = log_after 1 all_printed (Begin All) (only_answer (Begun 0)) []
+
+abbrev pub written_there : List LogEntry
+written_there = log_after 1 all_printed (Put one_rid (pos 7 ∷ [])) (only_answer Stored) begun_there
+
+abbrev pub committed_there : List LogEntry
+committed_there = log_after 1 all_printed CommitIt (only_answer (Committed 1)) written_there
+
+-- these replies fit
+pub record IsReadThere : Type 0 where
+  pub begin : Fits 1 all_printed [] (Begin All) (only_answer (Begun 0))
+  pub put : Fits 1 all_printed begun_there (Put one_rid (pos 7 ∷ [])) (only_answer Stored)
+  pub commit : Fits 1 all_printed written_there CommitIt (only_answer (Committed 1))

@@ -1,7 +1,7 @@
 //! The state machine under every concurrent claim: snapshots, commits, and the removal of old versions.
 //!
 //! There are no threads here. An event is one atomic action of one actor, and one invariant holds after every list of
-//! events (`always_steady`). So nothing above has to argue about an order of steps again.
+//! events and moves of seats (`always_steady`). So nothing above has to argue about an order of steps again.
 //!
 //! The mark is the number of the last group of commits. A session reads at a mark, its snapshot, and takes no lock for it.
 //! A collector has to know every snapshot in use, since it takes away what none of them sees. Each session has a register
@@ -32,13 +32,17 @@
 //! At most the first isn't published: an open write, or one that is stamped with the next number. A version lives from its
 //! number up to, and not including, its successor's. A sweep takes it where the successor is at or below the horizon and no
 //! snapshot that counts for the table is in that lifetime. A cut takes all at or below a bound but the newest, and that too
-//! where it is a deletion. So a reader finds what a table shows that never reclaims (`no_removal_is_seen`), every reply is
-//! right (`replies_are_right`), and no update is lost (`history_is_sound`).
+//! where it is a deletion (`removal_is_exact`). So a reader finds what a table shows that never reclaims
+//! (`no_removal_is_seen`), every reply is right (`every_answer_is_right`), and no update is lost (`history_is_sound`).
+//!
+//! A pass takes a bucket to remove something there, and gives it back: that is a visit. A bucket counts what was made, undone
+//! and removed, which is what its logs and visits say, and what is left is the rest (`counters_balance`). A record that was cut
+//! at a bound, or clean, when the bucket was given back, is so still (`what_was_left_stays`).
 //!
 //! Each law that ends in `is_refuted` has a state that a wrong step spoils.
 //!
 //! `specs/` has the state, the events and the invariant, a part a file. `Register` and `Ask` are the types of the layer
-//! above. Of `Phase` and `LogEntry` contracts alone speak.
+//! above. Of `Phase`, `LogEntry`, `Version` and `Visit` contracts alone speak.
 #![tactic(auto)]
 
 mod ask;
@@ -67,9 +71,10 @@ pub use refuted::{
 };
 pub use register::Register;
 pub use theorems::{
-    counters_balance, every_event_happens, history_is_sound, mark_is_bounded,
-    no_gather_misses_a_snapshot, no_removal_is_seen, records_are_placed, removal_is_exact,
-    replies_are_right, what_was_left_stays, words_are_exact,
+    a_log_is_read, a_visit_counts, counters_balance, counts_are_bounded, every_answer_is_right,
+    every_event_happens, history_is_sound, mark_is_bounded, no_gather_misses_a_snapshot,
+    no_removal_is_seen, records_are_placed, removal_is_exact, replies_are_right,
+    what_is_live_is_left, what_was_left_stays, words_are_exact,
 };
 pub use version::{Stamp, Version};
 pub use visit::{Counters, Removed, Visit};

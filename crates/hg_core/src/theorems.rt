@@ -1,27 +1,34 @@
 //! What follows of the laws, in the words of the subject.
 
-ghost use Rattle.std.specs.Prelude.{◌≡◌, ℕ, ◌<◌, ◌≤◌, ◌*◌, ◌^◌, ◌++◌, IsTrue};
+ghost use Rattle.std.specs.Prelude.{◌≡◌, ℕ, List, [], ◌∷◌, None, length, filter, map, is_some, if◌then◌else◌, ◌<◌, ◌≤◌, ◌*◌, ◌^◌, ◌++◌, IsTrue};
 ghost use Rattle.hg_base.specs.declared.rid.Rid.{Rid};
 ghost use Rattle.hg_base.specs.declared.rid.TableId.{TableId};
 ghost use Rattle.hg_base.specs.declared.scope.Scope.{Scope};
 ghost use Rattle.hg_base.specs.History.{visible, IsHistory, NoLostUpdate};
-ghost use Rattle.hg_base.specs.Transcript.{has};
+ghost use Rattle.hg_base.specs.Transcript.{has, Said};
+ghost use Rattle.hg_core.specs.declared.log.LogEntry.{LogEntry};
+ghost use Rattle.hg_core.specs.Reading.{Unprinted, log_after, Fits};
+ghost use Rattle.hg_core.specs.Answered.{StandsAt, IsAnswered};
 ghost use Rattle.hg_core.specs.Words.{IsRegister, word_of, register_of};
-ghost use Rattle.hg_core.specs.Passes.{IsWhole, horizon, recorded, table_bound, group_bound};
+ghost use Rattle.hg_core.specs.Passes.{PassRecord, IsWhole, horizon, recorded, table_bound, group_bound};
 ghost use Rattle.hg_core.specs.State.{CoreState, opened};
 ghost use Rattle.hg_core.specs.Held.{held, left_by};
-ghost use Rattle.hg_core.specs.Versions.{first_at};
-ghost use Rattle.hg_core.specs.Contents.{versions};
+ghost use Rattle.hg_core.specs.Versions.{first_at, unpublished};
+ghost use Rattle.hg_core.specs.Sums.{sum_below};
+ghost use Rattle.hg_core.specs.Logs.{newest_of};
+ghost use Rattle.hg_base.specs.Lists.{Each};
+ghost use Rattle.hg_base.specs.Counts.{live};
+ghost use Rattle.hg_core.specs.Contents.{bucket_of, versions};
 ghost use Rattle.hg_core.specs.Clean.{IsClean, IsCutAt, past, as_oldest, not_gone};
 ghost use Rattle.hg_core.specs.Placed.{IsPlaced};
-ghost use Rattle.hg_core.specs.Counters.{CountersBalance};
+ghost use Rattle.hg_core.specs.Counters.{total, is_of, CountersBalance};
 ghost use Rattle.hg_core.specs.Visits.{VisitsStay};
 ghost use Rattle.hg_core.specs.Events.{MayReclaim};
 ghost use Rattle.hg_core.specs.Replies.{AreReplied};
 ghost use Rattle.hg_core.specs.Steps.{Always, Run, run};
 ghost use Rattle.hg_core.specs.Invariant.{IsSteady};
 ghost use Rattle.hg_core.specs.Missed.{MissesNone};
-ghost use Rattle.hg_core.specs.Worked.{slow_begin, long_snapshot};
+ghost use Rattle.hg_core.specs.Worked.{swept_visit, one_swept, slow_begin, long_snapshot, committed_there, IsReadThere};
 
 use crate::phase::Phase;
 use crate::register::Register;
@@ -82,6 +89,19 @@ pub fn replies_are_right()
     ensures { Always (λ s. (j : ℕ) → AreReplied s.buckets s.history s.log j (s.log j)) }
 {}
 
+/// Every answer is right. After every list of steps, read a session's log as the replies to its statements: each reply is the
+/// one that `hg_base` defines over the history, commit and rollback among them. A refusal shows its cause, and a commit number is
+/// that of the group that has the transaction, with its snapshot and its images.
+pub fn every_answer_is_right()
+    ensures { Always (λ s. 0 < s.buckets → (j : ℕ) (later before : List LogEntry) (u : Unprinted) (now : Said) → s.log j ≡ later ++ log_after s.buckets u now.statement now.reply before → Fits s.buckets u before now.statement now.reply → StandsAt j before now → IsAnswered s.buckets s.history s.log j u before now) }
+{}
+
+/// A log is read. In the run of `every_event_happens`, the log of session 2 is what a begin, a put and a commit leave.
+pub fn a_log_is_read()
+    ensures log { (run (opened 2 1 1 1 1) slow_begin).log 2 ≡ committed_there }
+    ensures fits { IsReadThere }
+{}
+
 /// No update is lost. After every list of steps, what a commit overwrites its transaction saw, or wrote itself. And each group
 /// of the history is one: it has a commit, each commit writes something and read below the group's number, and no session and
 /// no record occurs twice in it.
@@ -90,9 +110,29 @@ pub fn history_is_sound()
     ensures groups { Always (λ s. IsHistory s.history) }
 {}
 
-/// No commit number passes the number of sessions times how often each may begin.
+/// No commit number passes the number of sessions times how often each may begin. And the logs tell the mark: it is the
+/// greatest commit number in them.
 pub fn mark_is_bounded()
-    ensures { Always (λ s. s.mark ≤ s.sessions * s.each) }
+    ensures most { Always (λ s. s.mark ≤ s.sessions * s.each) }
+    ensures told { Always (λ s. s.mark ≡ newest_of s.sessions s.log) }
+{}
+
+/// Nor does any count: what was made in all buckets together is at most the number of sessions times how often each may write,
+/// and what was undone, removed and held is what was made.
+pub fn counts_are_bounded()
+    ensures { Always (λ s. sum_below s.buckets (λ b. (s.counters b).made) ≤ s.sessions * s.each) }
+{}
+
+/// What settles. Where a record found all registers idle, as those of sessions at rest are, each bound is its mark. Where all
+/// sessions rest, no write is open. And of a record that is cut at the mark, with no open write, the row at the mark is left,
+/// if there is one, and nothing else. So a bucket of such records holds as many versions as records of its own are rows.
+pub fn what_is_live_is_left()
+    ensures table { (pass : PassRecord) (t : TableId) → Each (λ e. e.1 ≡ Register.Idle) pass.loaded → table_bound t pass ≡ pass.mark }
+    ensures group { (pass : PassRecord) → Each (λ e. e.1 ≡ Register.Idle) pass.loaded → group_bound pass ≡ pass.mark }
+    ensures idle { Always (λ s. (j : ℕ) → s.phase j ≡ Phase.Idle → s.register j ≡ Register.Idle) }
+    ensures rest { Always (λ s. ((j : ℕ) → s.phase j ≡ Phase.Idle) → (r : Rid) → unpublished s.mark (versions s.buckets s.bucket r) ≡ None) }
+    ensures left { Always (λ s. (r : Rid) → unpublished s.mark (versions s.buckets s.bucket r) ≡ None → IsCutAt s.mark (versions s.buckets s.bucket r) → length (versions s.buckets s.bucket r) ≡ (if is_some (visible s.history r s.mark).row then 1 else 0)) }
+    ensures bucket { Always (λ s. (b : ℕ) → ((r : Rid) → bucket_of s.buckets r ≡ b → (unpublished s.mark (versions s.buckets s.bucket r) ≡ None) × IsCutAt s.mark (versions s.buckets s.bucket r)) → total (s.bucket b) ≡ length (filter (is_of s.buckets b) (live s.history))) }
 {}
 
 /// Each kind of event can happen. In this run a session goes live below the mark of a whole record, at its horizon.
@@ -102,6 +142,14 @@ pub fn every_event_happens()
     ensures mark { ((run (opened 2 1 1 1 1) slow_begin).pass 0).mark ≡ 1 }
     ensures horizon { horizon ((run (opened 2 1 1 1 1) slow_begin).pass 0) ≡ 0 }
     ensures live { (run (opened 2 1 1 1 1) slow_begin).phase 1 ≡ Phase.Live 0 (Scope.Declared 1) }
+{}
+
+/// A visit counts. In this run a sweep takes one of two versions that were made, and the visit is over.
+pub fn a_visit_counts()
+    ensures run { Run (opened 2 1 1 1 2) swept_visit }
+    ensures bucket { (run (opened 2 1 1 1 2) swept_visit).counters 0 ≡ record { made = 2; undone = 0; removed = one_swept } }
+    ensures held { total ((run (opened 2 1 1 1 2) swept_visit).bucket 0) ≡ 1 }
+    ensures visit { map (λ v. v.removed) ((run (opened 2 1 1 1 2) swept_visit).visits 0) ≡ one_swept ∷ [] }
 {}
 
 /// A word shows one register, and each register of a board has a word.

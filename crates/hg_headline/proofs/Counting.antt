@@ -1,27 +1,40 @@
 -- The totals of a replay are those of its lines.
-use Rattle.std.proofs.Common.{◌≡◌, inl, inr, ℕ, ◌+◌, List, [], ◌∷◌, ◌++◌, length, map, Bool, true, false, not, Option, Some, None, refl, sym, ap, ◌∙◌, arith}
-use Rattle.std.specs.Prelude.{◌==◌, ◌||◌, ◌&&◌, filter, filter_map, if◌then◌else◌, is_some, is_none, ⊤}
-use Rattle.std.specs.List.{list_any, cons_option}
+use Rattle.std.proofs.Common.{◌≡◌, inl, inr, ℕ, ◌+◌, ◌≤◌, subst, List, [], ◌∷◌, ◌++◌, length, map, Bool, true, false, not, Option, Some, None, refl, sym, ap, ◌∙◌, arith}
+use Rattle.std.specs.Prelude.{◌==◌, ◌||◌, filter, filter_map, if◌then◌else◌, is_some, ⊤}
+use Rattle.std.specs.List.{flat_map, list_any, cons_option}
 use Rattle.hg_base.specs.declared.rid.Rid.{Rid}
-use Rattle.hg_base.specs.declared.image.Image.{Image}
 use Rattle.hg_base.specs.declared.line.Line.{Line}
 use Rattle.hg_base.specs.declared.line.Totals.{Totals}
 use Rattle.hg_base.specs.declared.line.Printed.{Printed}
-use Rattle.hg_base.specs.Lists.{onto}
-use Rattle.hg_base.specs.Script.{Script, replay}
-use Rattle.hg_base.specs.History.{History, image_in}
-use Rattle.hg_base.specs.Transcript.{Said, is_of, committed, commits, history_of, said_from}
+use Rattle.hg_base.specs.Lists.{Each, numbers_from, onto}
+use Rattle.hg_base.specs.Script.{Mode, Script, replay, run}
+use Rattle.hg_base.specs.History.{History}
+use Rattle.hg_base.specs.Transcript.{Said, is_of, committed, commits, history_of, said_from, of_session, sessions_of, rounds_of, in_order}
 use Rattle.hg_base.specs.Transcript.{numbers_in as printed_numbers}
 use Rattle.hg_base.specs.Counts.{AreTotals, is_committed}
 use Rattle.hg_base.specs.Counts.{first_writes as printed_firsts}
 use Rattle.hg_base.specs.Sound.{IsSound}
 use Rattle.hg_core.specs.declared.log.LogEntry.{LogEntry}
 use Rattle.hg_core.specs.declared.log.LogEntry.TheVariants.{Began, Saw, Refused, Outside, Wrote, Undid, Published, Over}
-use Rattle.hg_core.specs.Logs.{begans, own_writes}
+use Rattle.hg_core.specs.Logs.{begans}
 use Rattle.hg_core.specs.Replies.{numbers_in}
 use Rattle.hg_core.specs.Counters.{first_writes, undos}
 use Rattle.hg_core.specs.Sums.{sum_to}
 use Rattle.hg_core.proofs.Sums.{sum_same, sum_none}
+use Rattle.hg_base.specs.declared.report.Kind.{Kind}
+use Rattle.hg_base.specs.declared.report.Kind.TheVariants as kinds
+use Rattle.hg_base.specs.declared.report.Report.{Report}
+use Rattle.hg_base.specs.declared.statement.Record.{Record}
+use Rattle.hg_base.specs.declared.statement.Statement.TheVariants.{Gc}
+use Rattle.hg_base.proofs.ListFacts.{each_keeps, each_append}
+use Rattle.hg_core.specs.Reading.{Follows}
+use Rattle.hg_headline.specs.Logged.{Logged}
+use Rattle.hg_headline.specs.Ran.{run_lines, HasRun}
+use Rattle.hg_headline.proofs.Words.{each_pairs, is_any}
+use Rattle.hg_headline.proofs.Same.{each_filter}
+use Rattle.hg_headline.proofs.Lines.{AsCollected}
+use Rattle.hg_headline.proofs.Running.{RunsGc, in_order_is, run_follows}
+use Rattle.hg_headline.proofs.Rounds.{run_sound}
 use Rattle.hg_headline.specs.Met.{IsMet}
 use Rattle.hg_headline.specs.Replayed.{HasReplayed}
 use Rattle.hg_headline.specs.Counted.{every, Closes, IsCounted}
@@ -29,16 +42,12 @@ use Rattle.hg_headline.proofs.Ties.{Ties, ties_nothing}
 use Rattle.hg_headline.proofs.Commits.{Matches, same_printed, printed_onto}
 use Rattle.hg_headline.proofs.Whole.{lines_told, matches_all, places_of}
 use Rattle.hg_headline.proofs.Replaying.{met_collected, replay_sound}
-use Rattle.hg_headline.proofs.Firsts.{first_by, first_writes_is, first_undone, passes, lines_counted}
+use Rattle.hg_headline.proofs.Firsts.{first_by, first_writes_is, first_undone, passes, CountsFor, lines_counted}
 use Rattle.hg_headline.proofs.Undone.{publishes, undone_in_log}
 use Rattle.hg_headline.proofs.Tidy.{IsTidyBetween, follows_tidy, closed_tidy}
 use Rattle.hg_headline.proofs.Lives.{lives_same}
 
 -- ---- transactions with a number
-
-abbrev pub is_any : List ℕ → Bool
-is_any [] = false
-is_any (n ∷ ns) = true
 
 pub any_number : (o : Option ℕ) (b : Bool) (ns : List ℕ) → b ≡ is_any ns → (is_some o || b) ≡ is_any (cons_option o ns)
 any_number None b ns e = e
@@ -109,18 +118,17 @@ add_nothing m n z e f = omega (arith, e, f)
 
 -- ---- the totals
 
-pub replay_counts : (buckets sessions top : ℕ) (h : History) (logs closed : ℕ → List LogEntry) (script : Script) (lines : List Line) (totals : Totals) → HasReplayed buckets sessions h logs top script.records lines → ((j : ℕ) → Closes (logs j) (closed j)) → IsCounted sessions h closed (said_from [] script.records lines) totals →
-    AreTotals (said_from [] script.records lines) (history_of (said_from [] script.records lines)) totals
-replay_counts buckets sessions top h logs closed script lines totals r c t =
-    let all : List Said = said_from [] script.records lines in
+pub counts_are : (mode : Mode) (buckets sessions : ℕ) (h : History) (logs closed : ℕ → List LogEntry) (P : (ℕ → List LogEntry) → Record → Line → Type 0) (records : List Record) (lines : List Line) (totals : Totals) → ((ls : ℕ → List LogEntry) (r : Record) (line : Line) → P ls r line → AsCollected mode r.session r.statement line.reply.answer) → Each (CountsFor sessions) records →
+    Logged buckets h logs → Follows buckets P (λ j. []) records lines logs → ((j : ℕ) → Closes (logs j) (closed j)) → IsCounted sessions h closed (said_from [] records lines) totals → AreTotals (said_from [] records lines) (history_of (said_from [] records lines)) totals
+counts_are mode buckets sessions h logs closed P records lines totals gc within logged follows c t =
+    let all : List Said = said_from [] records lines in
     let k : History = history_of all in
-    let places = places_of buckets r.logged.some in
-    let told = lines_told replay buckets h k logs all (IsMet sessions) (λ j l. ⊤) (λ j e l q. tt) places (λ ls q line m. met_collected sessions q.session ls q.statement line.reply.answer m) script.records lines (λ j. []) logs []
-    (λ j. ties_nothing j) r.follows r.logged.judged r.logged.replied (λ j. tt) in
-    let m : Matches h (commits all) = matches_all buckets h logs all r.logged told.1 in
-    let tidy : (j : ℕ) → IsTidyBetween (logs j) = follows_tidy buckets h logs (IsMet sessions) script.records lines (λ j. []) logs r.follows r.logged.judged r.logged.replied (λ j. (tt, refl)) in
+    let places = places_of buckets logged.some in
+    let told = lines_told mode buckets h k logs all P (λ j l. ⊤) (λ j e l q. tt) places gc records lines (λ j. []) logs [] (λ j. ties_nothing j) follows logged.judged logged.replied (λ j. tt) in
+    let m : Matches h (commits all) = matches_all buckets h logs all logged told.1 in
+    let tidy : (j : ℕ) → IsTidyBetween (logs j) = follows_tidy buckets h logs P records lines (λ j. []) logs follows logged.judged logged.replied (λ j. (tt, refl)) in
     let counted = λ (test : ℕ → ℕ → Bool). add_nothing (length (filter (passes test) (printed_firsts all))) (sum_to sessions (λ j. first_by (test j) (logs j))) (sum_to sessions (λ j. 0)) (sum_none sessions)
-    (lines_counted replay buckets sessions h k logs all test (IsMet sessions) places (λ ls q line m. met_collected sessions q.session ls q.statement line.reply.answer m) script.records lines (λ j. []) logs [] (λ j. ties_nothing j) r.within r.follows r.logged.judged r.logged.replied) in
+    (lines_counted mode buckets sessions h k logs all test P places gc records lines (λ j. []) logs [] (λ j. ties_nothing j) within follows logged.judged logged.replied) in
     record {
       made =
           t.made
@@ -138,9 +146,42 @@ replay_counts buckets sessions top h logs closed script lines totals r c t =
       group = t.group;
       table = t.table;
       interval = t.interval;
-      left = t.left ∙ lives_same h k (same_printed h all r.logged.history m) r.logged.history;
+      left = t.left ∙ lives_same h k (same_printed h all logged.history m) logged.history;
       balance = t.balance;
     }
 
+-- ---- a replay
+
 pub replay_whole : (buckets sessions top : ℕ) (h : History) (logs closed : ℕ → List LogEntry) (script : Script) (printed : Printed) → HasReplayed buckets sessions h logs top script.records printed.lines → ((j : ℕ) → Closes (logs j) (closed j)) → IsCounted sessions h closed (said_from [] script.records printed.lines) printed.totals → IsSound replay script printed
-replay_whole buckets sessions top h logs closed script printed r c t = record { lines = replay_sound buckets sessions top h logs script printed.lines r; totals = replay_counts buckets sessions top h logs closed script printed.lines printed.totals r c t }
+replay_whole buckets sessions top h logs closed script printed r c t = record {
+  lines = replay_sound buckets sessions top h logs script printed.lines r;
+  totals = counts_are replay buckets sessions h logs closed (IsMet sessions) script.records printed.lines printed.totals (λ ls q line m. met_collected sessions q.session ls q.statement line.reply.answer m)
+      (each_keeps (λ (q : Record). (1 ≤ q.session) × (q.session ≤ sessions)) (CountsFor sessions) (λ q k. inl k) script.records r.within) r.logged r.follows c t;
+}
+
+-- ---- a run
+
+-- The records of each session are counted where the sessions are those that the script names, and those of the rounds read and
+-- write nothing.
+run_counts : (rounds sessions : ℕ) (records : List Record) → Each (λ (q : Record). (1 ≤ q.session) × (q.session ≤ sessions)) records → Each (CountsFor sessions) (in_order (run rounds) records)
+run_counts rounds sessions records w =
+    subst (Each (CountsFor sessions)) (sym (in_order_is rounds records))
+    (each_append (CountsFor sessions) (flat_map (λ j. of_session j records) (sessions_of records)) _ (by_session (sessions_of records))
+    (each_append (CountsFor sessions) (rounds_of kinds.Group rounds) _ (of_rounds kinds.Group (numbers_from 1 rounds)) (each_append (CountsFor sessions) (rounds_of kinds.Table rounds) (rounds_of kinds.Interval rounds) (of_rounds kinds.Table (numbers_from 1 rounds)) (of_rounds kinds.Interval (numbers_from 1 rounds)))))
+  where
+    of_rounds : (kind : Kind) (ns : List ℕ) → Each (CountsFor sessions) (map (λ n. record { place = n; session = 0; statement = Gc kind }) ns)
+    of_rounds kind [] = tt
+    of_rounds kind (n ∷ ns) = (inr refl, of_rounds kind ns)
+
+    by_session : (js : List ℕ) → Each (CountsFor sessions) (flat_map (λ j. of_session j records) js)
+    by_session [] = tt
+    by_session (j ∷ js) = each_append (CountsFor sessions) (of_session j records) (flat_map (λ i. of_session i records) js) (each_filter (CountsFor sessions) (λ (q : Record). q.session == j) records (each_keeps (λ (q : Record). (1 ≤ q.session) × (q.session ≤ sessions)) (CountsFor sessions) (λ q k. inl k) records w)) (by_session js)
+
+pub run_whole : (buckets sessions : ℕ) (h : History) (logs closed : ℕ → List LogEntry) (rounds : ℕ) (script : Script) (lines : ℕ → List Line) (group table interval : List Report) (totals : Totals) → HasRun buckets h logs rounds script.records lines group table interval → Each (λ (q : Record). q.session ≤ sessions) script.records → ((j : ℕ) → Closes (logs j) (closed j)) →
+    let printed : List Line = run_lines script.records lines group table interval in
+    IsCounted sessions h closed (said_from [] (in_order (run rounds) script.records) printed) totals → IsSound (run rounds) script (record { lines = printed; totals = totals })
+run_whole buckets sessions h logs closed rounds script lines group table interval totals r w c t = record {
+  lines = run_sound buckets h logs rounds script lines group table interval r;
+  totals = counts_are (run rounds) buckets sessions h logs closed (RunsGc rounds) (in_order (run rounds) script.records) (run_lines script.records lines group table interval) totals (λ ls q line m. m)
+      (run_counts rounds sessions script.records (each_pairs (λ (q : Record). 1 ≤ q.session) (λ q. q.session ≤ sessions) script.records r.numbered w)) r.logged (run_follows buckets h logs rounds script.records lines group table interval r) c t;
+}

@@ -1,5 +1,5 @@
 -- The first writes of records in transactions: those that lines print are those that logs have.
-use Rattle.std.proofs.Common.{◌≡◌, not, ℕ, zero, suc, ◌+◌, ◌<◌, ◌≤◌, ℤ, List, [], ◌∷◌, ◌++◌, length, map, Bool, true, false, Option, Some, None, refl, sym, ap, ◌∙◌, subst, arith}
+use Rattle.std.proofs.Common.{◌⊎◌, inl, inr, ◌≡◌, not, ℕ, zero, suc, ◌+◌, ◌<◌, ◌≤◌, ℤ, List, [], ◌∷◌, ◌++◌, length, map, Bool, true, false, Option, Some, None, refl, sym, ap, ◌∙◌, subst, arith}
 use Rattle.std.specs.Prelude.{is_some, ◌&&◌, cond, filter, if◌then◌else◌, IsTrue, is_none, unwrap_or}
 use Rattle.std.specs.List.{cons_option}
 use Rattle.std.specs.Option.{option_map_or}
@@ -31,7 +31,7 @@ use Rattle.hg_core.specs.Sums.{sum_to}
 use Rattle.hg_core.specs.Counters.{first_writes}
 use Rattle.hg_headline.specs.Counted.{every}
 use Rattle.hg_core.specs.Reading.{Unprinted, saws, own_entries, is_access, is_alone, close, log_with, log_after, FitsAnswer, Fits, Follows}
-use Rattle.hg_core.proofs.Indices.{by_number, put_here, put_else}
+use Rattle.hg_core.proofs.Indices.{by_number, at_index, put_here, put_else}
 use Rattle.hg_core.proofs.Sums.{sum_same, sum_grown}
 use Rattle.hg_headline.proofs.Words.{true_false}
 use Rattle.hg_headline.proofs.Ties.{Ties, StandsIn, ties_other}
@@ -201,8 +201,33 @@ filter_step p now own (Some w) rest test e = go (is_none (image_in w.rid own))
 abbrev pub passes : (ℕ → ℕ → Bool) → Said → Bool
 passes test said = test said.session said.transaction
 
+-- a record of a session that is counted, or one that neither reads nor writes
+abbrev pub CountsFor : ℕ → Record → Type 0
+CountsFor sessions r = ((1 ≤ r.session) × (r.session ≤ sessions)) ⊎ (is_access r.statement ≡ false)
+
+no_write : (s : Statement) (a : Answer) → is_access s ≡ false → stored_by s a ≡ None
+no_write (Begin scope) a e = refl
+no_write CommitIt a e = refl
+no_write Rollback a e = refl
+no_write (Gc kind) a e = refl
+no_write (Get r) a e = absurd (true_false e)
+no_write (Put r row) a e = absurd (true_false e)
+no_write (Del r) a e = absurd (true_false e)
+no_write (Scan t low high) a e = absurd (true_false e)
+
+-- a sum of which one number grows, or none
+sum_with : (n j d : ℕ) (f g : ℕ → ℕ) {P : Type 0} → ((1 ≤ j) × (j ≤ n)) ⊎ P → (P → d ≡ 0) → ((k : ℕ) → (k ≡ j → ⊥) → g k ≡ f k) → g j ≡ f j + d → sum_to n g ≡ sum_to n f + d
+sum_with n j d f g (inl w) none there here = sum_grown n j d f g w.0 w.1 there here
+sum_with n j d f g (inr p) none there here =
+    let zero_more : d ≡ 0 = none p in
+    let same : sum_to n g ≡ sum_to n f = sum_same n f g (λ k le. at_index j (λ i. g i ≡ f i) (nothing_more (f j) (g j) d here zero_more) there k) in
+    omega (arith, same, zero_more)
+  where
+    nothing_more : (a b c : ℕ) → b ≡ a + c → c ≡ 0 → b ≡ a
+    nothing_more a b c e z = omega (arith, e, z)
+
 pub lines_counted : (mode : Mode) (buckets sessions : ℕ) (h k : History) (all_logs : ℕ → List LogEntry) (all : List Said) (test : ℕ → ℕ → Bool) (P : (ℕ → List LogEntry) → Record → Line → Type 0) → ((r : Rid) → bucket_of buckets r < buckets) → ((logs : ℕ → List LogEntry) (r : Record) (line : Line) → P logs r line → AsCollected mode r.session r.statement line.reply.answer) →
-    (rs : List Record) (lines : List Line) (logs final : ℕ → List LogEntry) (earlier : List Said) → ((j : ℕ) → Ties j earlier (logs j)) → Each (λ (r : Record). (1 ≤ r.session) × (r.session ≤ sessions)) rs → Follows buckets P logs rs lines final → ((j : ℕ) → Judged h (final j)) → ((j : ℕ) → AreReplied buckets h all_logs j (final j)) →
+    (rs : List Record) (lines : List Line) (logs final : ℕ → List LogEntry) (earlier : List Said) → ((j : ℕ) → Ties j earlier (logs j)) → Each (CountsFor sessions) rs → Follows buckets P logs rs lines final → ((j : ℕ) → Judged h (final j)) → ((j : ℕ) → AreReplied buckets h all_logs j (final j)) →
     length (filter (passes test) (first_writes_from earlier (said_from earlier rs lines))) + sum_to sessions (λ j. first_by (test j) (logs j)) ≡ sum_to sessions (λ j. first_by (test j) (final j))
 lines_counted mode buckets sessions h k all_logs all test P places gc [] [] logs final earlier t w f d g = let same = sum_same sessions (λ j. first_by (test j) (final j)) (λ j. first_by (test j) (logs j)) (λ j le. ap (first_by (test j)) (sym (f j))) in omega (arith, same)
 lines_counted mode buckets sessions h k all_logs all test P places gc [] (line ∷ lines) logs final earlier t w f d g = absurd f
@@ -223,7 +248,7 @@ lines_counted mode buckets sessions h k all_logs all test P places gc (r ∷ rs)
     ap (first_by (test r.session)) (put_here logs r.session after) ∙ line_counted (test r.session) buckets earlier f.1.0 l r.place r.session r.statement line.reply (t r.session) f.1.1
     ∙ first_adds (test r.session) now.transaction own (stored now) (first_by (test r.session) l) ∙ ap (λ j. first_by (test r.session) l + first_more (test j) now.transaction own (stored now)) (sym says.0) in
     let grown : sum_to sessions (λ j. first_by (test j) (next j)) ≡ sum_to sessions (λ j. first_by (test j) (logs j)) + more =
-    sum_grown sessions r.session more (λ j. first_by (test j) (logs j)) (λ j. first_by (test j) (next j)) w.0.0 w.0.1 (λ j z. ap (first_by (test j)) (put_else logs r.session j after z)) here in
+    sum_with sessions r.session more (λ j. first_by (test j) (logs j)) (λ j. first_by (test j) (next j)) w.0 (λ e. ap (first_more (test now.session) now.transaction own) ((λ i. stored_by (says.1 i) (says.2 i).answer) ∙ no_write r.statement line.reply.answer e)) (λ j z. ap (first_by (test j)) (put_else logs r.session j after z)) here in
     let rest = lines_counted mode buckets sessions h k all_logs all test P places gc rs lines next final (now ∷ earlier)
     (by_number r.session (λ i b. Ties i (now ∷ earlier) (if b then after else logs i)) right.ties (λ i e. ties_other i earlier now (logs i) (differs_from now.session r.session i says.0 e) (t i))) w.1 f.1.2 d g in
     let step = filter_step (passes test) now own (stored now) (first_writes_from (now ∷ earlier) (said_from (now ∷ earlier) rs lines)) (test now.session) refl in

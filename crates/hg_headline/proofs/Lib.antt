@@ -23,3 +23,8 @@ pub mod Lives
 pub mod Counting
 pub mod Tallying
 pub mod Ending
+pub mod Worked
+pub mod Running
+pub mod Rounds
+pub mod OverBuckets
+pub mod Quiet

@@ -8,7 +8,7 @@ use Rattle.hg_base.specs.declared.image.Image.{Image}
 use Rattle.hg_base.specs.History.{Write, Group, History, IsHistory, same_rid, is_among, NoneTwice, rids_of, group_rids, image_in, group_image, writes_from, writes, last_image, visible}
 use Rattle.hg_base.specs.Counts.{once, live}
 use Rattle.hg_base.proofs.HistoryFacts.{same_rid_equal, same_rid_itself}
-use Rattle.hg_headline.proofs.Words.{true_false, or_left, or_right, any_append, same_rid_sym}
+use Rattle.hg_headline.proofs.Words.{true_false, or_left, or_right, any_append, same_rid_sym, is_any}
 use Rattle.hg_headline.proofs.Same.{SameGroups, writes_same, length_same}
 
 -- ---- lists in which none stands twice
@@ -98,10 +98,6 @@ once_among k (r ∷ rs) = go (same_rid k r) refl (among_filtered (λ other. not 
     go false e h = h ∙ ap (λ b. if not b then is_among k rs else false) e
 
 -- ---- records that a history writes
-
-abbrev pub is_any : List (ℕ × Image) → Bool
-is_any [] = false
-is_any (w ∷ ws) = true
 
 or_same : (a b : Bool) (n : ℕ) (o : Option Image) (rest : List (ℕ × Image)) → is_some o ≡ a → is_any rest ≡ b → is_any (cons_option (option_map (λ image. (n, image)) o) rest) ≡ (a || b)
 or_same a b n None rest e f = f ∙ ap (λ x. x || b) e

@@ -15,7 +15,7 @@ use Rattle.hg_core.specs.declared.log.LogEntry.TheVariants.{Began, Saw, Refused,
 use Rattle.hg_core.specs.Logs.{current, begans}
 use Rattle.hg_headline.specs.Gathered.{began_at, WasLive}
 use Rattle.hg_headline.specs.Met.{live_in, HasDeclared}
-use Rattle.hg_headline.proofs.Words.{same_number, differs, or_first, or_with, none_is_not_some, some_is_some, of_some}
+use Rattle.hg_headline.proofs.Words.{same_number, differs, or_first, or_with, none_is_not_some, some_is_some, of_some, ascends_cons}
 use Rattle.hg_headline.proofs.Commits.{greatest_within, each_map}
 use Rattle.hg_headline.proofs.Ties.{Ties, StandsIn}
 
@@ -66,10 +66,6 @@ live_is_open sessions logs earlier t w =
     (λ j k. ap (λ o. open_snapshot j (open_after o)) (last_of_none j earlier (none_named j earlier (omega (arith, k)))))
 
 -- ---- what is held ascends, and was begun
-
-pub ascends_cons : (a : ℕ) (xs : List ℕ) → Each (λ m. a < m) xs → Ascends xs → Ascends (a ∷ xs)
-ascends_cons a [] h k = tt
-ascends_cons a (x ∷ xs) h k = (h.0, k)
 
 -- the pairs that are picked of a stretch of sessions
 abbrev pub live_from : (ℕ → List LogEntry) → ℕ → ℕ → List (ℕ × ℕ)

@@ -13,16 +13,13 @@ use Rattle.hg_base.proofs.ListFacts.{each_keeps}
 use Rattle.hg_core.specs.Contents.{bucket_of}
 use Rattle.hg_core.specs.Replies.{in_bucket}
 use Rattle.hg_core.specs.Reading.{Joins}
-use Rattle.hg_headline.proofs.Words.{same_number, or_first, or_with}
+use Rattle.hg_headline.proofs.Words.{same_number, or_first, or_with, ascends_cons}
 
 pub contains_first : {X : Type 0} (x : X) (xs : List X) → Contains (x ∷ xs) x
 contains_first x xs = (0, omega arith, refl)
 
 pub contains_more : {X : Type 0} (y x : X) (xs : List X) → Contains xs x → Contains (y ∷ xs) x
 contains_more y x xs c = let k = c.1 in (suc c.0, omega (arith, k), c.2)
-
-pub each_contained : {X : Type 0} (ys xs : List X) → ((x : X) → Contains ys x → Contains xs x) → Each (λ x. Contains ys x) ys → Each (λ x. Contains xs x) ys
-each_contained ys xs f h = each_keeps (λ x. Contains ys x) (λ x. Contains xs x) f ys h
 
 pub all_contained : {X : Type 0} (xs : List X) → Each (λ x. Contains xs x) xs
 all_contained [] = tt
@@ -59,10 +56,6 @@ pub ascends_rest : (a : ℕ) (xs : List ℕ) → Ascends (a ∷ xs) → Ascends 
 ascends_rest a [] h = tt
 ascends_rest a (x ∷ xs) h = h.1
 
-pub ascends_put : (a : ℕ) (xs : List ℕ) → Each (λ m. a < m) xs → Ascends xs → Ascends (a ∷ xs)
-ascends_put a [] h k = tt
-ascends_put a (x ∷ xs) h k = (h.0, k)
-
 pub each_filtered : {X : Type 0} (P : ℕ → Type 0) (f : X → ℕ) (p : X → Bool) (xs : List X) → Each P (map f xs) → Each P (map f (filter p xs))
 each_filtered P f p [] h = tt
 each_filtered P f p (x ∷ xs) h = go (p x) (each_filtered P f p xs h.1)
@@ -76,7 +69,7 @@ ascends_filtered f p [] h = tt
 ascends_filtered f p (x ∷ xs) h = go (p x) (ascends_filtered f p xs (ascends_rest (f x) (map f xs) h))
   where
     go : (b : Bool) → Ascends (map f (filter p xs)) → Ascends (map f (cond b (x ∷ filter p xs) (filter p xs)))
-    go true k = ascends_put (f x) (map f (filter p xs)) (each_filtered (λ m. f x < m) f p xs (ascends_over (f x) (map f xs) h)) k
+    go true k = ascends_cons (f x) (map f (filter p xs)) (each_filtered (λ m. f x < m) f p xs (ascends_over (f x) (map f xs) h)) k
     go false k = k
 
 -- ---- parts
@@ -87,9 +80,6 @@ bucket_in buckets table p = bucket_of buckets (record { table = table; key = p.0
 
 abbrev pub part_of : ℕ → TableId → List (ℕ × List ℤ) → ℕ → List (ℕ × List ℤ)
 part_of buckets table rows b = filter (λ p. bucket_in buckets table p == b) rows
-
-pub each_known : {X : Type 0} (P Q : X → Type 0) (xs : List X) → Each P xs → ((x : X) → P x → Q x) → Each Q xs
-each_known P Q xs h f = each_keeps P Q f xs h
 
 pub parts_join : (buckets : ℕ) (table : TableId) (rows : List (ℕ × List ℤ)) → ((r : Rid) → bucket_of buckets r < buckets) → Ascends (map (λ (p : ℕ × List ℤ). p.0) rows) → Joins buckets (part_of buckets table rows) rows
 parts_join buckets table rows places ascend = record {

@@ -18,7 +18,6 @@ use Rattle.hg_base.specs.Lists.{Each}
 use Rattle.hg_base.specs.History.{Write, Commit, History, LosesNothing, same_rid, image_in, is_among, writes}
 use Rattle.hg_base.specs.Transcript.{only, table_of, stored_by, committed_by, last_images}
 use Rattle.hg_base.specs.Replies.{is_written}
-use Rattle.hg_base.proofs.ListFacts.{cases}
 use Rattle.hg_core.specs.declared.log.LogEntry.{LogEntry}
 use Rattle.hg_core.specs.declared.log.LogEntry.TheVariants.{Began, Undid, Published, Over}
 use Rattle.hg_core.specs.Logs.{current, begans, own_writes, is_plain, open_in, number_in, commit_in}
@@ -37,7 +36,7 @@ use Rattle.hg_headline.specs.Answered.{IsAnswered, HasGone}
 use Rattle.hg_core.specs.Counters.{first_writes, undos}
 use Rattle.hg_headline.specs.Counted.{every, made_in, undone_in, adding}
 use Rattle.hg_headline.proofs.Tallying.{made_put, undone_put, no_more, made_access, undos_access, made_undone, undos_undone}
-use Rattle.hg_headline.proofs.Words.{true_false, none_of_no, same_rid_sym}
+use Rattle.hg_headline.proofs.Words.{true_false, none_of_no, same_rid_turned}
 use Rattle.hg_headline.proofs.Adds.{Adds, adds_access, access_commits}
 use Rattle.hg_headline.proofs.Entries.{adds_undone}
 use Rattle.hg_headline.proofs.Lines.{judged_snapshot}
@@ -400,11 +399,8 @@ on_undone buckets h logs j c l (q ∷ rids) g =
 -- what is undone isn't open
 pub undone_open : (r : Rid) (rids : List Rid) (l : List LogEntry) → open_in r (map Undid rids ++ l) ≡ (if is_among r rids then None else open_in r l)
 undone_open r [] l = refl
-undone_open r (q ∷ rids) l = go (same_rid q r) (same_rid r q) (same_turned q r) (undone_open r rids l)
+undone_open r (q ∷ rids) l = go (same_rid q r) (same_rid r q) (same_rid_turned q r) (undone_open r rids l)
   where
-    same_turned : (a b : Rid) → same_rid a b ≡ same_rid b a
-    same_turned a b = cases (same_rid a b) (λ e. e ∙ sym (same_rid_sym a b e)) (λ e. e ∙ sym (cases (same_rid b a) (λ k. absurd (true_false (sym (same_rid_sym b a k) ∙ e))) (λ k. k)))
-
     go : (x z : Bool) → x ≡ z → open_in r (map Undid rids ++ l) ≡ (if is_among r rids then None else open_in r l) → (if x then None else open_in r (map Undid rids ++ l)) ≡ (if z || is_among r rids then None else open_in r l)
     go true true e ih = refl
     go false false e ih = ih

@@ -1,10 +1,9 @@
 -- What each statement of a replay adds to what the logs made and took back.
-use Rattle.std.proofs.Common.{◌≡◌, ℕ, zero, suc, ◌+◌, ◌≤◌, ℤ, List, [], ◌∷◌, ◌++◌, length, map, Bool, true, false, Option, Some, None, refl, sym, ap, ◌∙◌, arith}
+use Rattle.std.proofs.Common.{◌≡◌, ℕ, zero, suc, ◌+◌, ◌≤◌, ℤ, List, [], ◌∷◌, ◌++◌, length, map, Bool, true, Option, Some, None, refl, sym, ap, ◌∙◌, arith}
 use Rattle.std.specs.Prelude.{◌&&◌, if◌then◌else◌, IsTrue, is_some, is_none}
 use Rattle.hg_base.specs.declared.rid.Rid.{Rid}
 use Rattle.hg_base.specs.declared.rid.TableId.{TableId}
 use Rattle.hg_base.specs.declared.image.Image.{Image}
-use Rattle.hg_base.specs.declared.scope.Scope.{Scope}
 use Rattle.hg_base.specs.declared.statement.Statement.{Statement}
 use Rattle.hg_base.specs.declared.statement.Statement.TheVariants.{Begin, Get, Put, Del, Scan, Commit as CommitIt, Rollback, Gc}
 use Rattle.hg_base.specs.declared.line.Answer.{Answer}
@@ -12,7 +11,7 @@ use Rattle.hg_base.specs.declared.line.Answer.TheVariants.{Stored, Found, Nothin
 use Rattle.hg_base.specs.History.{Write, image_in}
 use Rattle.hg_base.specs.Transcript.{stored_by}
 use Rattle.hg_core.specs.declared.log.LogEntry.{LogEntry}
-use Rattle.hg_core.specs.declared.log.LogEntry.TheVariants.{Began, Saw, Refused, Outside, Wrote, Undid, Published, Over}
+use Rattle.hg_core.specs.declared.log.LogEntry.TheVariants.{Undid}
 use Rattle.hg_core.specs.Logs.{begans, own_writes}
 use Rattle.hg_core.specs.Events.{put}
 use Rattle.hg_core.specs.Counters.{first_writes, undos}
@@ -21,7 +20,7 @@ use Rattle.hg_core.proofs.Indices.{put_here, put_else}
 use Rattle.hg_core.proofs.Sums.{sum_grown}
 use Rattle.hg_headline.specs.Counted.{every, made_in, undone_in, adding}
 use Rattle.hg_headline.proofs.Words.{true_false}
-use Rattle.hg_headline.proofs.Firsts.{one_if, first_by, first_with, first_access, first_writes_is, first_close, first_undone}
+use Rattle.hg_headline.proofs.Firsts.{one_if, first_by, first_with, first_access, first_writes_is}
 
 -- ---- a log given anew
 

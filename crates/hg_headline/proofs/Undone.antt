@@ -13,7 +13,7 @@ use Rattle.hg_core.specs.Logs.{current, begans, own_writes, is_plain, open_in}
 use Rattle.hg_core.specs.Counters.{undos}
 use Rattle.hg_core.proofs.NewGroup.{image_open}
 use Rattle.hg_headline.specs.Counted.{every}
-use Rattle.hg_headline.proofs.Words.{true_false, none_is_not_some, same_number, same_rid_sym}
+use Rattle.hg_headline.proofs.Words.{true_false, none_is_not_some, same_number, same_rid_turned}
 use Rattle.hg_headline.proofs.Firsts.{one_if, first_by}
 
 -- ---- logs in which each entry stands where it may
@@ -50,15 +50,6 @@ opens (Wrote q image ∷ l) = add_open (is_some (open_in q l)) q (opens l)
 opens (Undid q ∷ l) = take_out q (opens l)
 opens (_ ∷ l) = opens l
 
-same_turned : (a b : Rid) → same_rid a b ≡ same_rid b a
-same_turned a b = go (same_rid a b) refl (same_rid b a) refl
-  where
-    go : (x : Bool) → same_rid a b ≡ x → (z : Bool) → same_rid b a ≡ z → x ≡ z
-    go true e true f = refl
-    go false e false f = refl
-    go true e false f = absurd (true_false (sym (same_rid_sym a b e) ∙ f))
-    go false e true f = absurd (true_false (sym (same_rid_sym b a f) ∙ e))
-
 take_out_has : (r q : Rid) (os : List Rid) → is_among r (take_out q os) ≡ (if same_rid r q then false else is_among r os)
 take_out_has r q [] = go (same_rid r q)
   where
@@ -78,7 +69,7 @@ take_out_once q [] h = tt
 take_out_once q (o ∷ os) h = go (same_rid q o) refl (take_out_once q os h.1)
   where
     out : same_rid q o ≡ false → is_among o (take_out q os) ≡ false
-    out e = take_out_has o q os ∙ ap (λ b. if b then false else is_among o os) (same_turned o q ∙ e) ∙ h.0
+    out e = take_out_has o q os ∙ ap (λ b. if b then false else is_among o os) (same_rid_turned o q ∙ e) ∙ h.0
 
     go : (b : Bool) → same_rid q o ≡ b → NoneTwice (take_out q os) → NoneTwice (cond (not b) (o ∷ take_out q os) (take_out q os))
     go true e ih = ih
@@ -106,14 +97,14 @@ opens_has r [] = refl
 opens_has r (Began at scope ∷ l) = refl
 opens_has r (Over ∷ l) = refl
 opens_has r (Published n ∷ l) = refl
-opens_has r (Wrote q image ∷ l) = go (is_some (open_in q l)) refl (same_rid r q) refl (opens_has r l) ∙ ap (λ b. is_some (if b then Some image else open_in r l)) (same_turned r q)
+opens_has r (Wrote q image ∷ l) = go (is_some (open_in q l)) refl (same_rid r q) refl (opens_has r l) ∙ ap (λ b. is_some (if b then Some image else open_in r l)) (same_rid_turned r q)
   where
     go : (o : Bool) → is_some (open_in q l) ≡ o → (b : Bool) → same_rid r q ≡ b → is_among r (opens l) ≡ is_some (open_in r l) → is_among r (add_open o q (opens l)) ≡ is_some (if b then Some image else open_in r l)
     go false e true f ih = ap (λ b. b || is_among r (opens l)) f
     go false e false f ih = ap (λ b. b || is_among r (opens l)) f ∙ ih
     go true e true f ih = ih ∙ ap (λ x. is_some (open_in x l)) (same_rid_equal r q f) ∙ e
     go true e false f ih = ih
-opens_has r (Undid q ∷ l) = take_out_has r q (opens l) ∙ go (same_rid r q) (opens_has r l) ∙ ap (λ b. is_some (if b then None else open_in r l)) (same_turned r q)
+opens_has r (Undid q ∷ l) = take_out_has r q (opens l) ∙ go (same_rid r q) (opens_has r l) ∙ ap (λ b. is_some (if b then None else open_in r l)) (same_rid_turned r q)
   where
     go : (b : Bool) → is_among r (opens l) ≡ is_some (open_in r l) → (if b then false else is_among r (opens l)) ≡ is_some (if b then None else open_in r l)
     go true ih = refl

@@ -4,7 +4,7 @@ use Rattle.std.specs.Prelude.{◌==◌, ◌||◌, ◌&&◌, cond, IfSome, IsSome
 use Rattle.std.specs.List.{list_any, cons_option}
 use Rattle.std.proofs.lemmas.Bool.Decides.{Decides-eqb, nat_tests}
 use Rattle.hg_base.specs.declared.rid.Rid.{Rid}
-use Rattle.hg_base.specs.Lists.{Each, onto}
+use Rattle.hg_base.specs.Lists.{Each, Ascends, onto}
 use Rattle.hg_base.specs.History.{same_rid, is_among}
 use Rattle.hg_base.proofs.HistoryFacts.{same_rid_equal, same_rid_itself}
 
@@ -90,6 +90,15 @@ of_some o P x e h = subst (λ p. IfSome p P) e h
 pub same_rid_sym : (a b : Rid) → same_rid a b ≡ true → same_rid b a ≡ true
 same_rid_sym a b e = subst (λ r. same_rid r a ≡ true) (same_rid_equal a b e) (same_rid_itself a)
 
+pub same_rid_turned : (a b : Rid) → same_rid a b ≡ same_rid b a
+same_rid_turned a b = go (same_rid a b) refl (same_rid b a) refl
+  where
+    go : (x : Bool) → same_rid a b ≡ x → (z : Bool) → same_rid b a ≡ z → x ≡ z
+    go true e true f = refl
+    go false e false f = refl
+    go true e false f = absurd (true_false (sym (same_rid_sym a b e) ∙ f))
+    go false e true f = absurd (true_false (sym (same_rid_sym b a f) ∙ e))
+
 -- what is not among records is not among them under an equal name
 pub not_among_same : (r a : Rid) (rids : List Rid) → same_rid r a ≡ true → is_among a rids ≡ false → is_among r rids ≡ false
 not_among_same r a rids k e = ap (λ q. is_among q rids) (same_rid_equal r a k) ∙ e
@@ -154,3 +163,12 @@ each_pairs P Q (x ∷ xs) h k = ((h.0, k.0), each_pairs P Q xs h.1 k.1)
 pub each_cons : {X : Type 0} (P : X → Type 0) (o : Option X) (xs : List X) → IfSome o P → Each P xs → Each P (cons_option o xs)
 each_cons P None xs h k = k
 each_cons P (Some x) xs h k = (h, k)
+
+pub ascends_cons : (a : ℕ) (xs : List ℕ) → Each (λ m. a < m) xs → Ascends xs → Ascends (a ∷ xs)
+ascends_cons a [] h k = tt
+ascends_cons a (x ∷ xs) h k = (h.0, k)
+
+-- whether there is one
+abbrev pub is_any : {X : Type 0} → List X → Bool
+is_any [] = false
+is_any (x ∷ xs) = true

@@ -27,7 +27,8 @@ live_in sessions logs = filter_map (λ j. option_map (λ snapshot. (j, snapshot.
 abbrev pub HasDeclared : (ℕ → List LogEntry) → Told → Type 0
 HasDeclared logs told = IfSome (current (logs told.session)) (λ snapshot. IsTrue (is_declared snapshot.scope))
 
--- a report of that collector: its horizon is the mark, it holds exactly the open snapshots, and those that were moved had declared their tables
+-- A report of that collector: its horizon is the mark, it holds exactly the open snapshots, and those that were moved had
+-- declared their tables.
 pub record IsMetReport (sessions : ℕ) (logs : ℕ → List LogEntry) (kind : Kind) (sweep : Sweep) : Type 0 where
   pub same : IsTrue (same_kind sweep.kind kind)
   pub horizon : sweep.horizon ≡ sweep.mark
