@@ -1,30 +1,33 @@
 -- A record that breaks no rule keeps the script lawful.
-use Rattle.std.proofs.Common.{◌≡◌, ◌<◌, ◌≤◌, ◌+◌, ℕ, Bool, true, false, not, ◌&&◌, ◌||◌, ◌==◌, nat_lt, nat_le, List, [], ◌∷◌, ◌++◌, length, map, drop, Option, Some, None, is_some, option_map, unwrap_or, position, if◌then◌else◌, refl, sym, subst, arith, length-append, append_assoc}
+use Rattle.std.proofs.Common.{◌≡◌, ◌<◌, ◌≤◌, ◌+◌, ℕ, Bool, true, false, not, ◌||◌, ◌==◌, nat_lt, nat_le, List, [], ◌∷◌, ◌++◌, length, map, drop, Option, Some, None, if◌then◌else◌, refl, sym, subst, arith, length-append, append_assoc, option_map}
+use Rattle.std.proofs.lemmas.Bool.{and_parts as and-parts}
 use Rattle.std.proofs.lemmas.Bool.Decides.{nat_tests}
-use Rattle.std.proofs.lemmas.List.Quantifiers.{position-Some}
+use Rattle.std.specs.Option.{option_map_or}
+use Rattle.hg_base.specs.declared.limits.TheConstants.{MOST_SESSIONS}
 use Rattle.hg_base.specs.declared.statement.Record.{Record}
 use Rattle.hg_base.specs.declared.statement.Statement.{Statement}
 use Rattle.hg_base.specs.Lists.{Each, Ascends}
 use Rattle.hg_base.specs.Script.{Declaration, Script}
 use Rattle.hg_base.proofs.ListFacts.{append_nil}
+use Rattle.hg_script.proofs.Names.{distinct-more, none-twice}
+use Rattle.hg_script.proofs.Scopes.{among, scope-fits}
 use Rattle.hg_script.specs.declared.code.Code.{Code}
 use Rattle.hg_script.specs.declared.number.Natural.{Natural}
 use Rattle.hg_script.specs.declared.number.Natural.TheVariants as n
-use Rattle.hg_script.specs.declared.rules.TheConstants.{SESSIONS}
 use Rattle.hg_script.specs.declared.values.Values.{Values}
 use Rattle.hg_script.specs.declared.values.Values.TheVariants.{No, Over, Are}
 use Rattle.hg_script.specs.declared.word.Word.{Word}
 use Rattle.hg_script.specs.declared.word.Word.TheVariants as word
 use Rattle.hg_script.specs.declared.draft.Ask.{Ask}
-use Rattle.hg_script.specs.declared.draft.Ask.TheVariants.{Begin, Get, Put, Commit}
+use Rattle.hg_script.specs.declared.draft.Ask.TheVariants.{Begin, Get, Put, Del, Scan, Commit, Rollback}
 use Rattle.hg_script.specs.declared.draft.Draft.{Draft}
 use Rattle.hg_script.specs.declared.draft.Draft.TheVariants.{Table, Session}
 use Rattle.hg_script.specs.Number.{is_between, natural_of, value_of}
 use Rattle.hg_script.specs.Fields.{Field, Fields, nth, word_of}
-use Rattle.hg_script.specs.Draft.{draft_of, has_name, is_fresh, table_at, table_named, values_of}
-use Rattle.hg_script.specs.Rules.{count_of, first_table, count_breaks, number_breaks, range_breaks, name_breaks, columns_breaks, ask_order_breaks, is_open, order_breaks}
-use Rattle.hg_script.specs.Meaning.{draft_code, first_code, nothing, or_next, refusal_from, refusal_of, row_of, script_from, script_of, statement_of, with_draft, with_row, with_word, word_code}
-use Rattle.hg_script.specs.Lawful.{AreInOrder, FitsTables, IsAmong, IsLawful, IsStatement, IsTable, MayStand}
+use Rattle.hg_script.specs.Draft.{draft_of, is_fresh, scope_named, table_named, values_of}
+use Rattle.hg_script.specs.Rules.{count_of, count_breaks, number_breaks, range_breaks, name_breaks, columns_breaks, ask_order_breaks, is_open, order_breaks}
+use Rattle.hg_script.specs.Meaning.{draft_code, first_code, nothing, or_next, refusal_from, refusal_of, row_of, script_from, script_of, statement_of, with_draft, with_row, code_table, first_broken}
+use Rattle.hg_script.specs.Lawful.{AreInOrder, FitsTables, IsLawful, IsStatement, IsTable, MayStand}
 
 -- ---- lists
 
@@ -52,11 +55,15 @@ in-order-one before (q ∷ qs) r h may = (h.0, in-order-one (before ++ q ∷ [])
 
 -- what no rule of order refuses may stand
 may-stand : (within : Bool) (ask : Ask) → ask_order_breaks within ask ≡ false → MayStand within (statement_of ask)
-may-stand within Begin e = e
+may-stand within (Begin scope) e = e
 may-stand within (Get table key) e = tt
 may-stand within (Put table key values) e = tt
+may-stand within (Del table key) e = tt
+may-stand within (Scan table low high) e = tt
 may-stand true Commit e = refl
 may-stand false Commit e = absurd (let bad : ⊥ = cc e in bad)
+may-stand true Rollback e = refl
+may-stand false Rollback e = absurd (let bad : ⊥ = cc e in bad)
 
 -- ---- the tests, as facts
 
@@ -101,16 +108,6 @@ right false b e = e
 
 -- ---- tables
 
--- a table that is found is one of the tables
-among-by : (tables : List Declaration) (name : Field) (place : Option ℕ) → position (has_name name) tables ≡ place
-    → not (is_some (option_map table_at place)) ≡ false
-    → IsAmong tables (unwrap_or (option_map table_at place) first_table)
-among-by tables name None e h = absurd (let bad : ⊥ = cc h in bad)
-among-by tables name (Some i) e h = (position-Some (has_name name) tables i (record { name = []; columns = 0 }) e).0
-
-among : (tables : List Declaration) (name : Field) → not (is_some (table_named tables name)) ≡ false → IsAmong tables (unwrap_or (table_named tables name) first_table)
-among tables name h = among-by tables name (position (has_name name) tables) refl h
-
 -- a row of as many values as its table has columns
 row-fits : (n : ℕ) (values : Values) → not (n == count_of values) ≡ false → length (row_of values) ≡ n
 row-fits n No h = grind (arith, nat_tests, h)
@@ -127,13 +124,14 @@ pub record Grown (place : ℕ) (s : Script) : Type 0 where
 abbrev with-statement : ℕ → Script → ℕ → Statement → Script
 with-statement place s session st = record s { records = s.records ++ (record { place = place; session = session; statement = st }) ∷ [] }
 
-statement-more : (place : ℕ) (s : Script) (session : ℕ) (st : Statement) → Grown place s → Lies 1 SESSIONS session → FitsTables s.tables st
+statement-more : (place : ℕ) (s : Script) (session : ℕ) (st : Statement) → Grown place s → Lies 1 MOST_SESSIONS session → FitsTables s.tables st
     → MayStand (is_open session s.records) st → Grown (place + 1) (with-statement place s session st)
 statement-more place s session st g in_range fits may =
     let added : Record = record { place = place; session = session; statement = st } in record {
       lawful = record {
         most = g.lawful.most;
         tables = g.lawful.tables;
+        names = g.lawful.names;
         statements = each-one (IsStatement s.tables) s.records added g.lawful.statements (record { some = in_range.some; most = in_range.most; fits = fits });
         order = in-order-one [] s.records added g.lawful.order may;
         places = ascends-one s.records added g.lawful.places g.before;
@@ -145,12 +143,13 @@ none-left : (rs : List Record) → nat_lt 0 (length rs) ≡ false → rs ≡ []
 none-left [] h = refl
 none-left (r ∷ rs) h = absurd (let bad : 0 < 0 = grind (arith, nat_tests, h) in omega (arith, bad))
 
-table-more : (place : ℕ) (s : Script) (d : Declaration) → Grown place s → length s.tables < 16 → IsTable d → s.records ≡ []
+table-more : (place : ℕ) (s : Script) (d : Declaration) → Grown place s → length s.tables < 16 → IsTable d → is_fresh s.tables d.name ≡ true → s.records ≡ []
     → Grown (place + 1) (record s { tables = s.tables ++ d ∷ [] })
-table-more place s d g room is none = record {
+table-more place s d g room is fresh none = record {
   lawful = record {
     most = omega (arith, length-append s.tables (d ∷ []), room);
     tables = each-one IsTable s.tables d g.lawful.tables is;
+    names = distinct-more s.tables d g.lawful.names fresh;
     statements = subst (λ rs. Each (IsStatement (s.tables ++ d ∷ [])) rs) (sym none) tt;
     order = g.lawful.order;
     places = g.lawful.places;
@@ -158,9 +157,9 @@ table-more place s d g room is none = record {
   before = later place s.records g.before;
 }
 
-fresh-name : (a b : Bool) → not (a && b) ≡ false → a ≡ true
-fresh-name true b h = refl
-fresh-name false b h = absurd (let bad : ⊥ = cc h in bad)
+not-not : (b : Bool) → not b ≡ false → b ≡ true
+not-not true h = refl
+not-not false h = absurd (let bad : ⊥ = cc h in bad)
 
 has-room : (n : ℕ) → nat_le 16 n ≡ false → n < 16
 has-room n h = grind (arith, nat_tests, h)
@@ -168,29 +167,38 @@ has-room n h = grind (arith, nat_tests, h)
 asked-more : (place : ℕ) (s : Script) (session : Natural) (ask : Ask) → Grown place s → range_breaks (Session session ask) ≡ false → ask_order_breaks (is_open (value_of session) s.records) ask ≡ false
     → FitsTables s.tables (statement_of ask) → Grown (place + 1) (with-statement place s (value_of session) (statement_of ask))
 asked-more place s session ask g range order fits =
-    statement-more place s (value_of session) (statement_of ask) g (lies 1 SESSIONS session (left _ _ range)) fits (may-stand (is_open (value_of session) s.records) ask order)
+    statement-more place s (value_of session) (statement_of ask) g (lies 1 MOST_SESSIONS session (left _ _ range)) fits (may-stand (is_open (value_of session) s.records) ask order)
 
 declared-more : (place : ℕ) (s : Script) (name : Field) (columns : Natural) → Grown place s → nat_le 16 (length s.tables) ≡ false
     → Keeps s (Table (is_fresh s.tables name) columns)
     → Grown (place + 1) (record s { tables = s.tables ++ (record { name = name; columns = value_of columns }) ∷ [] })
 declared-more place s name columns g count k =
     let lie = lies 1 8 columns k.range in
+    let fresh = not-not (is_fresh s.tables name) k.name in
     table-more place s (record { name = name; columns = value_of columns }) g (has-room _ count)
-    (record { name = fresh-name _ _ k.name; some = lie.some; most = lie.most }) (none-left s.records k.order)
+    (record { name = (and-parts _ _ fresh).0; some = lie.some; most = lie.most }) fresh (none-left s.records k.order)
 
 by-word : (place : ℕ) (s : Script) (r : Fields) (w : Word) → Grown place s → count_breaks place s.tables (Some w) ≡ false
     → Keeps s (draft_of s.tables w r) → Grown (place + 1) (with_draft place s r (draft_of s.tables w r))
 by-word place s r word.Table g count k = declared-more place s (nth r 1) (natural_of (nth r 2)) g (right _ _ count) k
-by-word place s r word.Begin g count k = asked-more place s (natural_of (nth r 0)) Begin g k.range k.order tt
+by-word place s r word.Begin g count k =
+    asked-more place s (natural_of (nth r 0)) (Begin (scope_named s.tables (drop 2 r))) g k.range k.order (scope-fits s.tables (drop 2 r) k.name)
 by-word place s r word.Get g count k =
     asked-more place s (natural_of (nth r 0)) (Get (table_named s.tables (nth r 2)) (natural_of (nth r 3))) g k.range k.order (among s.tables (nth r 2) k.name)
 by-word place s r word.Put g count k =
     asked-more place s (natural_of (nth r 0)) (Put (table_named s.tables (nth r 2)) (natural_of (nth r 3)) (values_of (drop 4 r))) g k.range k.order
     (among s.tables (nth r 2) k.name, row-fits _ _ k.columns)
+by-word place s r word.Del g count k =
+    asked-more place s (natural_of (nth r 0)) (Del (table_named s.tables (nth r 2)) (natural_of (nth r 3))) g k.range k.order (among s.tables (nth r 2) k.name)
+by-word place s r word.Scan g count k =
+    asked-more place s (natural_of (nth r 0)) (Scan (table_named s.tables (nth r 2)) (natural_of (nth r 3)) (natural_of (nth r 4))) g k.range k.order (among s.tables (nth r 2) k.name)
 by-word place s r word.Commit g count k = asked-more place s (natural_of (nth r 0)) Commit g k.range k.order tt
+by-word place s r word.Rollback g count k = asked-more place s (natural_of (nth r 0)) Rollback g k.range k.order tt
 
 by-words : (place : ℕ) (s : Script) (r : Fields) (w : Option Word) → Grown place s → count_breaks place s.tables w ≡ false
-    → word_code s r w ≡ None → Grown (place + 1) (with_word place s r w)
+    → first_broken (drop 1 (code_table place s r w (option_map (λ word. draft_of s.tables word r) w))) ≡ None
+    → Grown (place + 1) (option_map_or (with_draft place s r) (option_map (λ word. draft_of s.tables word r) w) s)
+unfolding draft_code
 by-words place s r None g count e = absurd (let bad : ⊥ = cc e in bad)
 by-words place s r (Some w) g count e = by-word place s r w g count (keeps s (draft_of s.tables w r) (no-code _ _ _ e).1)
 
@@ -210,4 +218,4 @@ lawful-from place s (r ∷ rs) g e =
 
 -- the script of records that break no rule
 pub lawful : (rows : List Fields) → refusal_of rows ≡ None → IsLawful (script_of rows)
-lawful rows e = lawful-from 1 nothing rows (record { lawful = record { most = omega arith; tables = tt; statements = tt; order = tt; places = tt }; before = tt }) e
+lawful rows e = lawful-from 1 nothing rows (record { lawful = record { most = omega arith; tables = tt; names = none-twice; statements = tt; order = tt; places = tt }; before = tt }) e

@@ -3,5 +3,8 @@ pub mod Decimal
 pub mod Open
 pub mod Whole
 pub mod Rows
+pub mod Names
+pub mod Scopes
+pub mod Sets
 pub mod Taken
 pub mod Lawful

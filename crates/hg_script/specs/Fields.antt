@@ -2,7 +2,7 @@
 use Rattle.std.specs.Prelude.{ℕ, List, [], get_or, codes, bytes_eq, Option, Some, None, if◌then◌else◌}
 use Rattle.csv.specs.Reading.{default_config, records, strip_bom}
 use Rattle.hg_script.specs.declared.word.Word.{Word}
-use Rattle.hg_script.specs.declared.word.Word.TheVariants.{Table, Begin, Get, Put, Commit}
+use Rattle.hg_script.specs.declared.word.Word.TheVariants.{Table, Begin, Get, Put, Del, Scan, Commit, Rollback}
 
 -- a field is its bytes
 abbrev pub Field : Type 0
@@ -19,14 +19,17 @@ rows_of bytes = records default_config (strip_bom bytes)
 abbrev pub nth : Fields → ℕ → Field
 nth r i = get_or r i []
 
--- the words of this version's statements
+-- the word of a statement
 abbrev pub statement_word : Field → Option Word
 statement_word word =
     if bytes_eq word (codes "begin") then Some Begin
     else (if bytes_eq word (codes "get") then Some Get
     else (if bytes_eq word (codes "put") then Some Put
+    else (if bytes_eq word (codes "del") then Some Del
+    else (if bytes_eq word (codes "scan") then Some Scan
     else (if bytes_eq word (codes "commit") then Some Commit
-    else None)))
+    else (if bytes_eq word (codes "rollback") then Some Rollback
+    else None))))))
 
 -- A table record is one whose first field is `table`. Every other is a session's, and its second field is its word.
 abbrev pub word_of : Fields → Option Word

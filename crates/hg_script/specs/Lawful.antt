@@ -1,7 +1,9 @@
 -- What a script is that breaks no rule, in words of its own.
-use Rattle.std.specs.Prelude.{◌≡◌, ◌<◌, ◌≤◌, List, [], ◌∷◌, ◌++◌, length, map, Bool, IsTrue, IsFalse, ⊤}
-use Rattle.hg_base.specs.declared.limits.TheConstants.{MOST_TABLES, MOST_COLUMNS}
+use Rattle.std.specs.Prelude.{◌≡◌, ◌<◌, ◌≤◌, ◌^◌, List, [], ◌∷◌, ◌++◌, length, map, Bool, IsTrue, IsFalse, bytes_eq, ⊤}
+use Rattle.std.specs.List.{IsDistinct}
+use Rattle.hg_base.specs.declared.limits.TheConstants.{MOST_SESSIONS, MOST_TABLES, MOST_COLUMNS}
 use Rattle.hg_base.specs.declared.rid.TableId.{TableId}
+use Rattle.hg_base.specs.declared.scope.Scope.{Scope}
 use Rattle.hg_base.specs.declared.scope.Scope.TheVariants.{All, Declared}
 use Rattle.hg_base.specs.declared.statement.Record.{Record}
 use Rattle.hg_base.specs.declared.statement.Statement.{Statement}
@@ -9,7 +11,6 @@ use Rattle.hg_base.specs.declared.statement.Statement.TheVariants as say
 use Rattle.hg_base.specs.Lists.{Each, Ascends}
 use Rattle.hg_base.specs.Script.{Declaration, Script}
 use Rattle.hg_base.specs.Text.{columns_of}
-use Rattle.hg_script.specs.declared.rules.TheConstants.{SESSIONS}
 use Rattle.hg_script.specs.Draft.{is_name}
 use Rattle.hg_script.specs.Rules.{is_open}
 
@@ -23,39 +24,50 @@ pub record IsTable (d : Declaration) : Type 0 where
 abbrev pub IsAmong : List Declaration → TableId → Type 0
 IsAmong tables table = table.0 < length tables
 
--- a statement on a table that is declared, and a row of as many values as it has columns
+-- every table, or some set of them that is not empty
+abbrev pub IsScope : List Declaration → Scope → Type 0
+IsScope tables All = ⊤
+IsScope tables (Declared mask) = (1 ≤ mask) × (mask < 2 ^ length tables)
+
+-- A statement on tables that are declared, and a row of as many values as its table has columns. A scan may have its ends in any order.
 abbrev pub FitsTables : List Declaration → Statement → Type 0
+FitsTables tables (say.Begin scope) = IsScope tables scope
 FitsTables tables (say.Get r) = IsAmong tables r.table
 FitsTables tables (say.Put r row) = IsAmong tables r.table × (length row ≡ columns_of tables r.table)
 FitsTables tables (say.Del r) = IsAmong tables r.table
 FitsTables tables (say.Scan table low high) = IsAmong tables table
-FitsTables tables _ = ⊤
+FitsTables tables say.Commit = ⊤
+FitsTables tables say.Rollback = ⊤
+FitsTables tables (say.Gc kind) = ⊤
 
 -- a statement of a session that there is
 pub record IsStatement (tables : List Declaration) (r : Record) : Type 0 where
   pub some : 1 ≤ r.session
-  pub most : r.session ≤ SESSIONS
+  pub most : r.session ≤ MOST_SESSIONS
   pub fits : FitsTables tables r.statement
 
--- A statement may stand where its session's transaction is open, or where it is not: a `begin` where it is not, a `commit`
--- where it is. The other statements are not in this version, nor are declared tables.
+-- A statement may stand where its session's transaction is open, or where it is not: a `begin` where it is not, a `commit` or
+-- `rollback` where it is, and the others anywhere. A `gc` is not in this version.
 abbrev pub MayStand : Bool → Statement → Type 0
-MayStand within (say.Begin All) = IsFalse within
-MayStand within (say.Begin (Declared mask)) = ⊥
+MayStand within (say.Begin scope) = IsFalse within
 MayStand within (say.Get r) = ⊤
 MayStand within (say.Put r row) = ⊤
+MayStand within (say.Del r) = ⊤
+MayStand within (say.Scan table low high) = ⊤
 MayStand within say.Commit = IsTrue within
-MayStand within _ = ⊥
+MayStand within say.Rollback = IsTrue within
+MayStand within (say.Gc kind) = ⊥
 
 -- each record may stand after those before it
 abbrev pub AreInOrder : List Record → List Record → Type 0
 AreInOrder before [] = ⊤
 AreInOrder before (r ∷ rs) = MayStand (is_open r.session before) r.statement × AreInOrder (before ++ r ∷ []) rs
 
--- No more tables than there may be, and statements that fit them, in order, by ascending place.
+-- No more tables than there may be, by distinct names, and statements that fit them, in order, by ascending place.
 pub record IsLawful (s : Script) : Type 0 where
   pub most : length s.tables ≤ MOST_TABLES
   pub tables : Each IsTable s.tables
+  pub names : IsDistinct bytes_eq (map (λ d. d.name) s.tables)
   pub statements : Each (IsStatement s.tables) s.records
   pub order : AreInOrder [] s.records
   pub places : Ascends (map (λ r. r.place) s.records)

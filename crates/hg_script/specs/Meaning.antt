@@ -1,11 +1,12 @@
 -- The first record that breaks a rule, with its first code, and the script that the records give.
-use Rattle.std.specs.Prelude.{◌≡◌, ℕ, ℤ, ◌+◌, List, [], ◌∷◌, ◌++◌, length, Option, Some, None, unwrap_or, if◌then◌else◌, ⊤}
+use Rattle.std.specs.Prelude.{◌≡◌, ℕ, ℤ, ◌+◌, List, [], ◌∷◌, ◌++◌, length, drop, Bool, false, Option, Some, None, is_none, option_map, unwrap_or, if◌then◌else◌, ⊤}
+use Rattle.std.specs.Option.{option_map_or}
 use Rattle.hg_base.specs.declared.rid.Rid.{Rid}
 use Rattle.hg_base.specs.declared.rid.TableId.{TableId}
 use Rattle.hg_base.specs.declared.scope.Scope.TheVariants.{All}
 use Rattle.hg_base.specs.declared.statement.Statement.{Statement}
 use Rattle.hg_base.specs.declared.statement.Statement.TheVariants as say
-use Rattle.hg_base.specs.Script.{Script}
+use Rattle.hg_base.specs.Script.{Declaration, Script}
 use Rattle.hg_script.specs.declared.code.Code.{Code}
 use Rattle.hg_script.specs.declared.code.Code.TheVariants.{Count, Word as BadWord, Fields as BadFields, Number, Range, Name, Columns, Order}
 use Rattle.hg_script.specs.declared.refusal.ScriptRefusal.{ScriptRefusal}
@@ -15,7 +16,7 @@ use Rattle.hg_script.specs.declared.values.Values.{Values}
 use Rattle.hg_script.specs.declared.values.Values.TheVariants.{Are}
 use Rattle.hg_script.specs.declared.word.Word.{Word}
 use Rattle.hg_script.specs.declared.draft.Ask.{Ask}
-use Rattle.hg_script.specs.declared.draft.Ask.TheVariants.{Begin, Get, Put, Commit}
+use Rattle.hg_script.specs.declared.draft.Ask.TheVariants.{Begin, Get, Put, Del, Scan, Commit, Rollback}
 use Rattle.hg_script.specs.declared.draft.Draft.{Draft}
 use Rattle.hg_script.specs.declared.draft.Draft.TheVariants.{Table, Session}
 use Rattle.hg_script.specs.Number.{value_of}
@@ -23,26 +24,40 @@ use Rattle.hg_script.specs.Fields.{Fields, nth, word_of}
 use Rattle.hg_script.specs.Draft.{draft_of}
 use Rattle.hg_script.specs.Rules.{count_breaks, fields_breaks, number_breaks, range_breaks, name_breaks, columns_breaks, order_breaks, first_table}
 
--- ---- the codes, in the order in which they are tested
+-- ---- the codes
 
--- the first code of a record that has its fields
-unfoldable pub draft_code : Script → Draft → Option Code
-draft_code s d =
-    if number_breaks d then Some Number
-    else (if range_breaks d then Some Range
-    else (if name_breaks d then Some Name
-    else (if columns_breaks s.tables d then Some Columns
-    else (if order_breaks s.records d then Some Order
-    else None))))
+-- a record's draft, if it has a word
+abbrev pub read_as : List Declaration → Fields → Option Draft
+read_as tables r = option_map (λ word. draft_of tables word r) (word_of r)
 
--- the first code of a record, after Count
-abbrev pub word_code : Script → Fields → Option Word → Option Code
-word_code s r None = Some BadWord
-word_code s r (Some word) = if fields_breaks word (length r) then Some BadFields else draft_code s (draft_of s.tables word r)
+-- whether P holds of what is there
+abbrev pub holds_of : {X : Type 0} → (X → Bool) → Option X → Bool
+holds_of P o = option_map_or P o false
 
--- the first code of a record that stands at this place, after the records that gave s
+-- The table of codes: of each code, whether the record breaks its rule. It stands at this place, after the records that gave s.
+abbrev pub code_table : ℕ → Script → Fields → Option Word → Option Draft → List (Code × Bool)
+code_table place s r word draft =
+    (Count, count_breaks place s.tables word)
+    ∷ (BadWord, is_none word)
+    ∷ (BadFields, holds_of (λ w. fields_breaks w (length r)) word)
+    ∷ (Number, holds_of number_breaks draft)
+    ∷ (Range, holds_of range_breaks draft)
+    ∷ (Name, holds_of name_breaks draft)
+    ∷ (Columns, holds_of (columns_breaks s.tables) draft)
+    ∷ (Order, holds_of (order_breaks s.records) draft)
+    ∷ []
+
+abbrev pub first_broken : List (Code × Bool) → Option Code
+first_broken [] = None
+first_broken ((code, breaks) ∷ more) = if breaks then Some code else first_broken more
+
+-- the first code whose rule the record breaks
 unfoldable pub first_code : ℕ → Script → Fields → Option Code
-first_code place s r = if count_breaks place s.tables (word_of r) then Some Count else word_code s r (word_of r)
+first_code place s r = first_broken (code_table place s r (word_of r) (read_as s.tables r))
+
+-- the first of the codes from the fourth on, which ask for the draft alone
+unfoldable pub draft_code : Script → Draft → Option Code
+draft_code s d = first_broken (drop 3 (code_table 1 s [] None (Some d)))
 
 -- ---- what a record adds
 
@@ -57,24 +72,22 @@ rid_of table key = record { table = unwrap_or table first_table; key = value_of 
 
 -- the statement that is asked
 abbrev pub statement_of : Ask → Statement
-statement_of Begin = say.Begin All
+statement_of (Begin scope) = say.Begin (unwrap_or scope All)
 statement_of (Get table key) = say.Get (rid_of table key)
 statement_of (Put table key values) = say.Put (rid_of table key) (row_of values)
+statement_of (Del table key) = say.Del (rid_of table key)
+statement_of (Scan table low high) = say.Scan (unwrap_or table first_table) (value_of low) (value_of high)
 statement_of Commit = say.Commit
+statement_of Rollback = say.Rollback
 
 -- The script with one more record that has its fields. A table's name stands in its second field.
 abbrev pub with_draft : ℕ → Script → Fields → Draft → Script
 with_draft place s r (Table fresh columns) = record s { tables = s.tables ++ (record { name = nth r 1; columns = value_of columns }) ∷ [] }
 with_draft place s r (Session session ask) = record s { records = s.records ++ (record { place = place; session = value_of session; statement = statement_of ask }) ∷ [] }
 
--- the script with one more record, by its word
-abbrev pub with_word : ℕ → Script → Fields → Option Word → Script
-with_word place s r None = s
-with_word place s r (Some word) = with_draft place s r (draft_of s.tables word r)
-
 -- the script with one more record
 unfoldable pub with_row : ℕ → Script → Fields → Script
-with_row place s r = with_word place s r (word_of r)
+with_row place s r = option_map_or (with_draft place s r) (read_as s.tables r) s
 
 -- ---- all records
 

@@ -1,19 +1,18 @@
 -- Which records break which rule: one test for each code.
 use Rattle.std.specs.Prelude.{ℕ, List, length, fold, Bool, true, false, not, ◌&&◌, ◌||◌, ◌==◌, nat_lt, nat_le, Option, Some, is_some, unwrap_or, if◌then◌else◌}
-use Rattle.hg_base.specs.declared.limits.TheConstants.{MOST_RECORDS, MOST_TABLES, MOST_COLUMNS}
+use Rattle.hg_base.specs.declared.limits.TheConstants.{MOST_RECORDS, MOST_TABLES, MOST_COLUMNS, MOST_SESSIONS}
 use Rattle.hg_base.specs.declared.rid.TableId.{TableId}
 use Rattle.hg_base.specs.declared.statement.Record.{Record}
 use Rattle.hg_base.specs.declared.statement.Statement.{Statement}
 use Rattle.hg_base.specs.declared.statement.Statement.TheVariants as say
 use Rattle.hg_base.specs.Script.{Declaration}
 use Rattle.hg_base.specs.Text.{columns_of}
-use Rattle.hg_script.specs.declared.rules.TheConstants.{SESSIONS}
 use Rattle.hg_script.specs.declared.values.Values.{Values}
 use Rattle.hg_script.specs.declared.values.Values.TheVariants.{No, Over, Are}
 use Rattle.hg_script.specs.declared.word.Word.{Word}
 use Rattle.hg_script.specs.declared.word.Word.TheVariants as word
 use Rattle.hg_script.specs.declared.draft.Ask.{Ask}
-use Rattle.hg_script.specs.declared.draft.Ask.TheVariants.{Begin, Get, Put, Commit}
+use Rattle.hg_script.specs.declared.draft.Ask.TheVariants.{Begin, Get, Put, Del, Scan, Commit, Rollback}
 use Rattle.hg_script.specs.declared.draft.Draft.{Draft}
 use Rattle.hg_script.specs.declared.draft.Draft.TheVariants.{Table, Session}
 use Rattle.hg_script.specs.Number.{is_no, is_over, is_between, value_of}
@@ -31,10 +30,13 @@ count_breaks place tables w = nat_lt MOST_RECORDS place || (is_table w && nat_le
 
 abbrev pub fields_breaks : Word → ℕ → Bool
 fields_breaks word.Table n = not (n == 3)
-fields_breaks word.Begin n = not (n == 2)
+fields_breaks word.Begin n = nat_lt n 2 || nat_lt 18 n
 fields_breaks word.Get n = not (n == 4)
 fields_breaks word.Put n = nat_lt n 5 || nat_lt 12 n
+fields_breaks word.Del n = not (n == 4)
+fields_breaks word.Scan n = not (n == 5)
 fields_breaks word.Commit n = not (n == 2)
+fields_breaks word.Rollback n = not (n == 2)
 
 -- ---- Number: a field that is not written as a number
 
@@ -43,10 +45,13 @@ is_no_values No = true
 is_no_values _ = false
 
 abbrev pub ask_number_breaks : Ask → Bool
-ask_number_breaks Begin = false
+ask_number_breaks (Begin scope) = false
 ask_number_breaks (Get table key) = is_no key
 ask_number_breaks (Put table key values) = is_no key || is_no_values values
+ask_number_breaks (Del table key) = is_no key
+ask_number_breaks (Scan table low high) = is_no low || is_no high
 ask_number_breaks Commit = false
+ask_number_breaks Rollback = false
 
 abbrev pub number_breaks : Draft → Bool
 number_breaks (Table fresh columns) = is_no columns
@@ -59,22 +64,28 @@ is_over_values Over = true
 is_over_values _ = false
 
 abbrev pub ask_range_breaks : Ask → Bool
-ask_range_breaks Begin = false
+ask_range_breaks (Begin scope) = false
 ask_range_breaks (Get table key) = is_over key
 ask_range_breaks (Put table key values) = is_over key || is_over_values values
+ask_range_breaks (Del table key) = is_over key
+ask_range_breaks (Scan table low high) = is_over low || is_over high
 ask_range_breaks Commit = false
+ask_range_breaks Rollback = false
 
 abbrev pub range_breaks : Draft → Bool
 range_breaks (Table fresh columns) = not (is_between 1 MOST_COLUMNS columns)
-range_breaks (Session session ask) = not (is_between 1 SESSIONS session) || ask_range_breaks ask
+range_breaks (Session session ask) = not (is_between 1 MOST_SESSIONS session) || ask_range_breaks ask
 
 -- ---- Name: a name that no table may take, or that no table has
 
 abbrev pub ask_name_breaks : Ask → Bool
-ask_name_breaks Begin = false
+ask_name_breaks (Begin scope) = not (is_some scope)
 ask_name_breaks (Get table key) = not (is_some table)
 ask_name_breaks (Put table key values) = not (is_some table)
+ask_name_breaks (Del table key) = not (is_some table)
+ask_name_breaks (Scan table low high) = not (is_some table)
 ask_name_breaks Commit = false
+ask_name_breaks Rollback = false
 
 abbrev pub name_breaks : Draft → Bool
 name_breaks (Table fresh columns) = not fresh
@@ -92,10 +103,8 @@ count_of (Are row) = length row
 count_of _ = 0
 
 abbrev pub ask_columns_breaks : List Declaration → Ask → Bool
-ask_columns_breaks tables Begin = false
-ask_columns_breaks tables (Get table key) = false
 ask_columns_breaks tables (Put table key values) = not (columns_of tables (unwrap_or table first_table) == count_of values)
-ask_columns_breaks tables Commit = false
+ask_columns_breaks tables _ = false
 
 abbrev pub columns_breaks : List Declaration → Draft → Bool
 columns_breaks tables (Table fresh columns) = false
@@ -117,12 +126,12 @@ opened_by j before r = if r.session == j then opened before r.statement else bef
 abbrev pub is_open : ℕ → List Record → Bool
 is_open j records = fold (opened_by j) false records
 
--- where the session's transaction is open, or not; a get or put outside is a transaction of its own
+-- where the session's transaction is open, or not; a get, put, del or scan outside is a transaction of its own
 abbrev pub ask_order_breaks : Bool → Ask → Bool
-ask_order_breaks within Begin = within
-ask_order_breaks within (Get table key) = false
-ask_order_breaks within (Put table key values) = false
+ask_order_breaks within (Begin scope) = within
 ask_order_breaks within Commit = not within
+ask_order_breaks within Rollback = not within
+ask_order_breaks within _ = false
 
 abbrev pub order_breaks : List Record → Draft → Bool
 order_breaks records (Table fresh columns) = nat_lt 0 (length records)

@@ -8,6 +8,7 @@ ghost use Rattle.hg_script.specs.Meaning.{rid_of, statement_of};
 
 use crate::number::{Natural, read_natural};
 use crate::rules::FIRST_TABLE;
+use crate::scope::find_scope;
 use crate::table::{Table, find_table, is_free};
 use crate::values::Values;
 use crate::word::{Word, field};
@@ -15,10 +16,12 @@ use csv::ByteRecord;
 use hg_base::{MOST_TABLES, NoMemory, Rid, Scope, Statement, TableId};
 use std::alloc::Global;
 
-/// What a session's record asks. A table that is not declared is `None`.
+/// What a session's record asks. A table that is not declared is `None`, and so is a scope that names one.
 #[derive(Debug, Drop)]
 pub enum Ask {
-    Begin,
+    Begin {
+        scope: Option<Scope>,
+    },
     Get {
         table: Option<TableId>,
         key: Natural,
@@ -28,7 +31,17 @@ pub enum Ask {
         key: Natural,
         values: Values,
     },
+    Del {
+        table: Option<TableId>,
+        key: Natural,
+    },
+    Scan {
+        table: Option<TableId>,
+        low: Natural,
+        high: Natural,
+    },
     Commit,
+    Rollback,
 }
 
 /// A record that has the fields of its word.
@@ -56,13 +69,20 @@ impl Ask {
         ensures { result ≡ statement_of self }
     {
         match self {
-            Ask::Begin => Statement::Begin(Scope::All),
+            Ask::Begin { scope } => Statement::Begin(scope.unwrap_or(Scope::All)),
             Ask::Get { table, key } => Statement::Get(rid_at(table, key)),
             Ask::Put { table, key, values } => Statement::Put(
                 rid_at(table, key),
                 values.into_row(),
             ),
+            Ask::Del { table, key } => Statement::Del(rid_at(table, key)),
+            Ask::Scan { table, low, high } => Statement::Scan {
+                table: table.unwrap_or(FIRST_TABLE),
+                low: low.value(),
+                high: high.value(),
+            },
             Ask::Commit => Statement::Commit,
+            Ask::Rollback => Statement::Rollback,
         }
     }
 }
@@ -84,7 +104,9 @@ impl Draft {
                 fresh: is_free(tables, field(row, 1)),
                 columns: read_natural(field(row, 2)),
             }),
-            Word::Begin => Ask::Begin,
+            Word::Begin => Ask::Begin {
+                scope: find_scope(tables, row),
+            },
             Word::Get => Ask::Get {
                 table: find_table(tables, field(row, 2)),
                 key: read_natural(field(row, 3)),
@@ -94,7 +116,17 @@ impl Draft {
                 key: read_natural(field(row, 3)),
                 values: Values::read(alloc, row)?,
             },
+            Word::Del => Ask::Del {
+                table: find_table(tables, field(row, 2)),
+                key: read_natural(field(row, 3)),
+            },
+            Word::Scan => Ask::Scan {
+                table: find_table(tables, field(row, 2)),
+                low: read_natural(field(row, 3)),
+                high: read_natural(field(row, 4)),
+            },
             Word::Commit => Ask::Commit,
+            Word::Rollback => Ask::Rollback,
         };
         Ok(Draft::Session {
             session: read_natural(field(row, 0)),

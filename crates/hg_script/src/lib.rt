@@ -4,11 +4,15 @@
 //! Every other record is a statement of a session, with the session's number and then a word:
 //!
 //!     table,t,1        a table `t` of one column
-//!     1,begin          session 1 begins a transaction
+//!     1,begin          session 1 begins a transaction on every table
+//!     2,begin,t        session 2 begins one that reads and writes `t` alone
 //!     1,put,t,5,7      the row of key 5 is 7
+//!     1,del,t,6
 //!     1,get,t,5
+//!     1,scan,t,0,9     every row of a key from 0 to 9
 //!     1,commit
-//!     1,get,t,5        outside of a transaction: a transaction of its own
+//!     2,rollback
+//!     3,get,t,5        outside of a transaction: a transaction of its own
 //!
 //! Records are counted from 1, table records included, and a statement keeps its count as its place.
 //!
@@ -17,15 +21,16 @@
 //! | Code      | Breaks it |
 //! |-----------|-----------|
 //! | `Count`   | the record after the 1,048,576th, and the 17th table record |
-//! | `Word`    | a session record without a word, or with another than `begin`, `get`, `put` and `commit` |
+//! | `Word`    | a session record without a word, or with another than those above |
 //! | `Fields`  | a number of fields that the record's word does not have |
-//! | `Number`  | a session, key, value or number of columns that is not written as a decimal number |
-//! | `Range`   | columns not from 1 to 8, a session other than 1, a key of more than 64 bits, a value out of a signed 64-bit number |
-//! | `Name`    | a table declared twice, or by no name of 1 to 32 letters, digits and `_`; a statement on a table that is not declared |
+//! | `Number`  | a session, key, end of a scan, value or number of columns that is not written as a decimal number |
+//! | `Range`   | columns not from 1 to 8, a session not from 1 to 64, a key or end of 2^64 or more, a value out of a signed 64-bit number |
+//! | `Name`    | a table declared twice, or by no name of 1 to 32 letters, digits and `_`; a table named that is not declared |
 //! | `Columns` | a put of another number of values than its table has columns |
-//! | `Order`   | a table record behind a session record, `begin` in a transaction, and `commit` outside of one |
+//! | `Order`   | a table record behind a session record, `begin` in a transaction, and `commit` or `rollback` outside of one |
 //!
 //! A number is `0`, or a digit from 1 to 9 and then digits; a value may be `-` and then such a number other than `0`.
+//! The ends of a scan may stand in any order, and a `begin` may name a table twice.
 //!
 //! `specs/` says the same of whole lists of records: `rows_of` gives the records of the bytes, `refusal_of` the first
 //! that breaks a rule, and `script_of` the script. The reader goes over the bytes once. Of each record it reads the word
@@ -40,6 +45,7 @@ mod number;
 mod reader;
 mod refusal;
 mod rules;
+mod scope;
 mod script;
 mod sessions;
 mod table;
@@ -49,7 +55,7 @@ mod values;
 mod word;
 
 pub use code::Code;
-pub use law::numbers_are_decimal;
+pub use law::{numbers_are_decimal, scopes_have_what_is_named};
 pub use reader::read_script;
 pub use refusal::ScriptRefusal;
 pub use script::Script;

@@ -61,7 +61,7 @@ fn add(
 }
 
 // Takes one more record, or tells the first rule that it breaks.
-#[tactic(auto, unfolding(crate::specs::Meaning::first_code, crate::specs::Meaning::with_row))]
+#[tactic(auto, unfolding(crate::specs::Meaning::draft_code, crate::specs::Meaning::first_code, crate::specs::Meaning::with_row))]
 fn take(
     alloc: Global,
     place: u64,

@@ -12,10 +12,7 @@ use crate::script::Script;
 use crate::sessions::OpenSessions;
 use crate::table::Table;
 use crate::word::Word;
-use hg_base::{MOST_COLUMNS, MOST_RECORDS, MOST_TABLES, Record, TableId};
-
-/// Sessions are numbered from 1 to this. The server has room for `MOST_SESSIONS` of them.
-pub const SESSIONS: u64 = 1;
+use hg_base::{MOST_COLUMNS, MOST_RECORDS, MOST_SESSIONS, MOST_TABLES, Record, TableId};
 
 /// What stands for a table that is not declared, where no rule asks for one.
 pub(crate) const FIRST_TABLE: TableId = TableId(0);
@@ -31,10 +28,13 @@ pub(crate) fn breaks_fields(word: Word, count: usize) -> bool
 {
     match word {
         Word::Table => count != 3,
-        Word::Begin => count != 2,
+        Word::Begin => count < 2 || count > 18,
         Word::Get => count != 4,
         Word::Put => count < 5 || count > 12,
+        Word::Del => count != 4,
+        Word::Scan => count != 5,
         Word::Commit => count != 2,
+        Word::Rollback => count != 2,
     }
 }
 
@@ -52,10 +52,13 @@ impl Ask {
         ensures { result ≡ ask_number_breaks self.now }
     {
         match self {
-            Ask::Begin => false,
+            Ask::Begin { .. } => false,
             Ask::Get { key, .. } => key.is_no(),
             Ask::Put { key, values, .. } => key.is_no() || values.is_no(),
+            Ask::Del { key, .. } => key.is_no(),
+            Ask::Scan { low, high, .. } => low.is_no() || high.is_no(),
             Ask::Commit => false,
+            Ask::Rollback => false,
         }
     }
 
@@ -63,10 +66,13 @@ impl Ask {
         ensures { result ≡ ask_range_breaks self.now }
     {
         match self {
-            Ask::Begin => false,
+            Ask::Begin { .. } => false,
             Ask::Get { key, .. } => key.is_over(),
             Ask::Put { key, values, .. } => key.is_over() || values.is_over(),
+            Ask::Del { key, .. } => key.is_over(),
+            Ask::Scan { low, high, .. } => low.is_over() || high.is_over(),
             Ask::Commit => false,
+            Ask::Rollback => false,
         }
     }
 
@@ -74,10 +80,13 @@ impl Ask {
         ensures { result ≡ ask_name_breaks self.now }
     {
         match self {
-            Ask::Begin => false,
+            Ask::Begin { scope } => !scope.is_some(),
             Ask::Get { table, .. } => !table.is_some(),
             Ask::Put { table, .. } => !table.is_some(),
+            Ask::Del { table, .. } => !table.is_some(),
+            Ask::Scan { table, .. } => !table.is_some(),
             Ask::Commit => false,
+            Ask::Rollback => false,
         }
     }
 
@@ -85,12 +94,15 @@ impl Ask {
         ensures { result ≡ ask_columns_breaks tables.now self.now }
     {
         match self {
-            Ask::Begin => false,
+            Ask::Begin { .. } => false,
             Ask::Get { .. } => false,
             Ask::Put { table, values, .. } => {
                 columns_of(tables, table.unwrap_or(FIRST_TABLE)) as usize != values.count()
             }
+            Ask::Del { .. } => false,
+            Ask::Scan { .. } => false,
             Ask::Commit => false,
+            Ask::Rollback => false,
         }
     }
 
@@ -98,10 +110,13 @@ impl Ask {
         ensures { result ≡ ask_order_breaks within self.now }
     {
         match self {
-            Ask::Begin => within,
+            Ask::Begin { .. } => within,
             Ask::Get { .. } => false,
             Ask::Put { .. } => false,
+            Ask::Del { .. } => false,
+            Ask::Scan { .. } => false,
             Ask::Commit => !within,
+            Ask::Rollback => !within,
         }
     }
 }
@@ -122,7 +137,7 @@ impl Draft {
         match self {
             Draft::Table { columns, .. } => !columns.is_between(1, MOST_COLUMNS as u64),
             Draft::Session { session, ask } => {
-                !session.is_between(1, SESSIONS) || ask.breaks_range()
+                !session.is_between(1, MOST_SESSIONS as u64) || ask.breaks_range()
             }
         }
     }

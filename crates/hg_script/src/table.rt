@@ -72,7 +72,8 @@ fn find_place(tables: &[Table], name: &[u8]) -> Option<usize>
 /// The table of this name.
 pub(crate) fn find_table(tables: &[Table], name: &[u8]) -> Option<TableId>
     requires { length tables.now ≤ MOST_TABLES }
-    ensures { result ≡ table_named tables.now name.now }
+    ensures found { result ≡ table_named tables.now name.now }
+    ensures bound { IfSome result (λ table. table.0 < length tables.now) }
 {
     match find_place(tables, name) {
         Some(i) => Some(TableId(i as u8)),

@@ -13,7 +13,10 @@ pub enum Word {
     Begin,
     Get,
     Put,
+    Del,
+    Scan,
     Commit,
+    Rollback,
 }
 
 /// The field at this place, counted from 0, and no bytes where there is none.
@@ -35,8 +38,14 @@ fn read_statement_word(word: &[u8]) -> Option<Word>
         Some(Word::Get)
     } else if word == b"put".as_slice() {
         Some(Word::Put)
+    } else if word == b"del".as_slice() {
+        Some(Word::Del)
+    } else if word == b"scan".as_slice() {
+        Some(Word::Scan)
     } else if word == b"commit".as_slice() {
         Some(Word::Commit)
+    } else if word == b"rollback".as_slice() {
+        Some(Word::Rollback)
     } else {
         None
     }
