@@ -1,0 +1,297 @@
+-- Every line of any statement is right, and its session's lines go on showing the session's log.
+use Rattle.std.proofs.Common.{◌≡◌, ℕ, suc, ◌<◌, ◌≤◌, List, [], ◌∷◌, ◌++◌, length, map, true, false, Option, Some, None, refl, sym, ap, ◌∙◌, subst, arith}
+use Rattle.std.specs.Prelude.{◌&&◌, IfSome, IsSome, is_some, ⊤}
+use Rattle.std.specs.Option.{option_or}
+use Rattle.hg_base.specs.declared.rid.Rid.{Rid}
+use Rattle.hg_base.specs.declared.scope.Scope.{Scope}
+use Rattle.hg_base.specs.declared.scope.Snapshot.{Snapshot}
+use Rattle.hg_base.specs.declared.report.Kind.{Kind}
+use Rattle.hg_base.specs.declared.statement.Statement.{Statement}
+use Rattle.hg_base.specs.declared.statement.Statement.TheVariants.{Begin, Get, Put, Del, Scan, Commit as CommitIt, Rollback, Gc}
+use Rattle.hg_base.specs.declared.line.Answer.{Answer}
+use Rattle.hg_base.specs.declared.line.Answer.TheVariants.{Begun, Stored, Committed, Ended, Undone}
+use Rattle.hg_base.specs.declared.line.Reply.{Reply}
+use Rattle.hg_base.specs.Lists.{Each}
+use Rattle.hg_base.specs.Script.{Mode}
+use Rattle.hg_base.specs.History.{History}
+use Rattle.hg_base.specs.Transcript.{Said, last_of, open_of, next_after, stored_in, only, table_of, standing, said, said_after, stored_by, committed, committed_by}
+use Rattle.hg_base.specs.Transcript.{own_writes as own_before}
+use Rattle.hg_base.specs.Replies.{IsAnswer, IsReply, IsBegun, IsCommitted, IsUndone, IsCollected, is_written}
+use Rattle.hg_base.specs.Conflicts.{ShowsConflict, OnReplay, target}
+use Rattle.hg_base.specs.Freshness.{snapshot_of, known}
+use Rattle.hg_core.specs.declared.log.LogEntry.{LogEntry}
+use Rattle.hg_core.specs.declared.log.LogEntry.TheVariants.{Began, Saw, Refused, Outside, Wrote, Undid, Published, Over}
+use Rattle.hg_core.specs.Logs.{current, begans, own_writes, UpTo}
+use Rattle.hg_core.specs.Judged.{Judged}
+use Rattle.hg_core.specs.Contents.{bucket_of}
+use Rattle.hg_core.specs.Replies.{AreReplied}
+use Rattle.hg_core.specs.Reading.{Unprinted, own_entries, begin_entries, commit_entries, is_access, is_alone, close, log_with, log_after, FitsAnswer, IsGcAnswer, Fits}
+use Rattle.hg_headline.specs.Timely.{commit_in}
+use Rattle.hg_headline.proofs.Words.{none_of_no, none_is_not_some, some_is_some}
+use Rattle.hg_headline.proofs.Ties.{Ties, StandsIn, ties_step, ties_beside}
+use Rattle.hg_headline.proofs.Adds.{adds_nothing, access_answer, access_snapshot, access_commits}
+use Rattle.hg_headline.proofs.Entries.{reply_of, record_of, writes_above, own_is, says_inside, stands_inside, says_outside, stands_outside, says_begin, stands_begin, says_end, stands_end, adds_undone, says_gc, gc_snapshot}
+use Rattle.hg_headline.proofs.Right.{Reads, StillIn, answer_right, conflict_right, seen_is}
+
+-- the snapshot of a line is at least what the session's lines before it print
+abbrev pub IsRising : List Said → Said → Type 0
+IsRising earlier now = IfSome (snapshot_of now) (λ s. Each (λ n. n ≤ s) (known now.session earlier))
+
+-- the write that a refusal shows is open there, in a replay
+abbrev pub IsStill : Mode → List Said → Said → Type 0
+IsStill mode earlier now = IfSome (target now.statement) (λ r. OnReplay mode (StillIn earlier r now.reply.answer))
+
+-- a `gc` is answered as the command has it
+abbrev pub AsCollected : Mode → ℕ → Statement → Answer → Type 0
+AsCollected mode j (Gc kind) answer = IsCollected mode j answer
+AsCollected mode j _ answer = ⊤
+
+-- Of one line: its session's log goes on; and it is right, once all lines are known to show the history and the logs.
+pub record Right (h : History) (logs : ℕ → List LogEntry) (mode : Mode) (k : History) (all : List Said) (earlier : List Said) (now : Said) (j : ℕ) (after : List LogEntry) : Type 0 where
+  pub ties : Ties j (now ∷ earlier) after
+  pub reply : Reads h k logs all → IsReply mode k earlier now
+  pub conflict : Reads h k logs all → IsStill mode earlier now → ShowsConflict mode k all earlier now
+  pub rising : IsRising earlier now
+  pub commit : committed now ≡ commit_in now.statement now.reply
+
+pub or_none : (o : Option ℕ) → o ≡ option_or o None
+or_none None = refl
+or_none (Some c) = refl
+
+-- what stands before a number that is not there
+pub none_or : (o p : Option ℕ) → o ≡ None → p ≡ option_or o p
+none_or o p e = sym (ap (λ q. option_or q p) e)
+
+pub rising_none : (earlier : List Said) (now : Said) → snapshot_of now ≡ None → IsRising earlier now
+rising_none earlier now e = subst (λ o. IfSome o (λ s. Each (λ n. n ≤ s) (known now.session earlier))) (sym e) tt
+
+pub rising_some : (j : ℕ) (earlier : List Said) (l : List LogEntry) (now : Said) (s : ℕ) → Ties j earlier l → now.session ≡ j → snapshot_of now ≡ Some s → UpTo s l → IsRising earlier now
+rising_some j earlier l now s t mine e h = subst (λ o. IfSome o (λ m. Each (λ n. n ≤ m) (known now.session earlier))) (sym e) (subst (λ i. Each (λ n. n ≤ s) (known i earlier)) (sym mine) (t.known s h))
+
+-- ---- what was judged of a log was judged of its beginning
+
+pub close_judged : (h : History) (o : Option ℕ) (l : List LogEntry) → Judged h (close o ++ l) → Judged h l
+close_judged h None l d = d.1
+close_judged h (Some c) l d = d.1.1
+
+pub append_judged : (h : History) (es l : List LogEntry) → Judged h (es ++ l) → Judged h l
+append_judged h [] l d = d
+append_judged h (e ∷ es) l d = append_judged h es l d.1
+
+pub close_replied : (buckets : ℕ) (h : History) (logs : ℕ → List LogEntry) (j : ℕ) (o : Option ℕ) (l : List LogEntry) → AreReplied buckets h logs j (close o ++ l) → AreReplied buckets h logs j l
+close_replied buckets h logs j None l g = g.1
+close_replied buckets h logs j (Some c) l g = g.1.1
+
+pub append_replied : (buckets : ℕ) (h : History) (logs : ℕ → List LogEntry) (j : ℕ) (es l : List LogEntry) → AreReplied buckets h logs j (es ++ l) → AreReplied buckets h logs j l
+append_replied buckets h logs j [] l g = g
+append_replied buckets h logs j (e ∷ es) l g = append_replied buckets h logs j es l g.1
+
+-- a snapshot is at or below the number of groups
+pub judged_snapshot : (h : History) (l : List LogEntry) (c : Snapshot) → Judged h l → current l ≡ Some c → c.at ≤ length h
+judged_snapshot h [] c d e = absurd (none_is_not_some c e)
+judged_snapshot h (Began at scope ∷ l) c d e = subst (λ (x : Snapshot). x.at ≤ length h) (some_is_some (record { at = at; scope = scope }) c e) d.0.within
+judged_snapshot h (Saw t low high b rows ∷ l) c d e = judged_snapshot h l c d.1 e
+judged_snapshot h (Refused r a ∷ l) c d e = judged_snapshot h l c d.1 e
+judged_snapshot h (Outside t ∷ l) c d e = judged_snapshot h l c d.1 e
+judged_snapshot h (Wrote r image ∷ l) c d e = judged_snapshot h l c d.1 e
+judged_snapshot h (Undid r ∷ l) c d e = judged_snapshot h l c d.1 e
+judged_snapshot h (Published n ∷ l) c d e = judged_snapshot h l c d.1 e
+judged_snapshot h (Over ∷ l) c d e = absurd (none_is_not_some c e)
+
+-- ---- get, put, del and scan
+
+pub inside_own : (j : ℕ) (earlier : List Said) (l : List LogEntry) (c : Snapshot) (now : Said) → Ties j earlier l → now.session ≡ j → now.transaction ≡ begans l → current l ≡ Some c → own_before earlier now ≡ own_writes l
+inside_own j earlier l c now t mine tr cur = (λ i. stored_in (mine i) (tr i) earlier) ∙ t.own (begans l) ∙ sym (own_is l c cur)
+
+pub above : (m i : ℕ) → m ≡ suc i → i < m
+above m i z = omega (arith, z)
+
+pub access_line : (mode : Mode) (buckets : ℕ) (h k : History) (logs : ℕ → List LogEntry) (all earlier : List Said) (u : Unprinted) (l : List LogEntry) (place j : ℕ) (s : Statement) (at : Option ℕ) (a : Answer) (number : Option ℕ) → ((r : Rid) → bucket_of buckets r < buckets) → Ties j earlier l → is_access s ≡ true → FitsAnswer buckets u (own_writes l) s a →
+    (o : Option Said) (c : Option Snapshot) → open_of j earlier ≡ o → current l ≡ c → StandsIn o c (begans l) → is_some at ≡ is_alone c s → is_some number ≡ (is_alone c s && is_some (stored_by s a)) →
+    Judged h (log_with (is_alone c s) buckets u s (reply_of at a number) l) → AreReplied buckets h logs j (log_with (is_alone c s) buckets u s (reply_of at a number) l) →
+    Right h logs mode k all earlier (standing o (next_after (last_of j earlier)) (record_of place j s) (reply_of at a number)) j (log_with (is_alone c s) buckets u s (reply_of at a number) l)
+access_line mode buckets h k logs all earlier u l place j s at a number places ties e f None (Some c) p q st fat fnumber d g = absurd st
+access_line mode buckets h k logs all earlier u l place j s at a number places ties e f (Some opened) None p q st fat fnumber d g = absurd st
+access_line mode buckets h k logs all earlier u l place j s at a number places ties e f (Some opened) (Some c) p q st fat fnumber d g =
+    let now : Said = standing (Some opened) (next_after (last_of j earlier)) (record_of place j s) (reply_of at a number) in
+    let own : own_before earlier now ≡ own_writes l = inside_own j earlier l c now ties refl st.0 q in
+    let small : c.at ≤ length h = judged_snapshot h l c (append_judged h (own_entries buckets u s a) l d) q in
+    record {
+      ties = ties_step j earlier now l (own_entries buckets u s a ++ l) ties
+          (says_inside buckets u l opened (next_after (last_of j earlier)) (record_of place j s) at a number e f (none_of_no at fat) (none_of_no number fnumber) st.0)
+          (stands_inside buckets u l c opened (next_after (last_of j earlier)) (record_of place j s) at a number e f q st);
+      reply = λ t. record {
+        at = fat;
+        number = fnumber;
+        snapshot = subst (λ n. n ≤ length k) (sym st.1.0) (subst (λ n. c.at ≤ n) t.count small);
+        answer = subst (λ sees. IsAnswer mode sees (is_written (own_before earlier now)) now s) (seen_is h k logs all earlier now (own_writes l) c.at t st.1.0 own)
+            (answer_right mode buckets h logs (is_written (own_before earlier now)) u j (own_writes l) s now l c places q st.1.1 e f g);
+      };
+      conflict = λ t still. conflict_right mode buckets h k logs all earlier now u j s l c t refl st.1.0 own still q g;
+      rising = rising_none earlier now (access_snapshot a at (access_answer buckets u (own_writes l) s a e f) ∙ none_of_no at fat);
+      commit = none_or number (committed_by s a) (none_of_no number fnumber);
+    }
+access_line mode buckets h k logs all earlier u l place j s at a number places ties e f None None p q st fat fnumber d g =
+    subst (λ b. Judged h (log_with b buckets u s (reply_of at a number) l) → AreReplied buckets h logs j (log_with b buckets u s (reply_of at a number) l) → Right h logs mode k all earlier (standing None (next_after (last_of j earlier)) (record_of place j s) (reply_of at a number)) j (log_with b buckets u s (reply_of at a number) l)) (sym e)
+    (go at (fat ∙ e)) d g
+  where
+    go : (at : Option ℕ) → is_some at ≡ true → Judged h (log_with true buckets u s (reply_of at a number) l) → AreReplied buckets h logs j (log_with true buckets u s (reply_of at a number) l) → Right h logs mode k all earlier (standing None (next_after (last_of j earlier)) (record_of place j s) (reply_of at a number)) j (log_with true buckets u s (reply_of at a number) l)
+    go None not_there d g = absurd (let z : false ≡ true = not_there in cc)
+    go (Some n) is_there d g =
+        let now : Said = standing None (next_after (last_of j earlier)) (record_of place j s) (reply_of (Some n) a number) in
+        let scope : Scope = only (table_of s) in
+        let c : Snapshot = record { at = n; scope = scope } in
+        let l0 : List LogEntry = Began n scope ∷ l in
+        let replied : AreReplied buckets h logs j (own_entries buckets u s a ++ l0) = close_replied buckets h logs j number (own_entries buckets u s a ++ l0) g in
+        let began : Judged h l0 = append_judged h (own_entries buckets u s a) l0 (close_judged h number (own_entries buckets u s a ++ l0) d) in
+        let fresh : own_before earlier now ≡ [] = ties.own (next_after (last_of j earlier)) ∙ writes_above (next_after (last_of j earlier)) l (above (next_after (last_of j earlier)) (begans l) ties.next) in
+        record {
+          ties = ties_step j earlier now l (close number ++ (own_entries buckets u s a ++ l0)) ties
+              (says_outside buckets u l (record_of place j s) n a number (next_after (last_of j earlier)) e f ties.next)
+              (stands_outside buckets u l (record_of place j s) n a number (next_after (last_of j earlier)) e f ties.next);
+          reply = λ t. record {
+            at = refl;
+            number = fnumber ∙ ap (λ b. b && is_some (stored_by s a)) e;
+            snapshot = subst (λ m. n ≤ m) t.count began.0.within;
+            answer = subst (λ sees. IsAnswer mode sees (is_written (own_before earlier now)) now s) (seen_is h k logs all earlier now [] n t refl fresh)
+                (answer_right mode buckets h logs (is_written (own_before earlier now)) u j (own_writes l) s now l0 c places refl refl e f replied);
+          };
+          conflict = λ t still. conflict_right mode buckets h k logs all earlier now u j s l0 c t refl refl fresh still refl replied;
+          rising = rising_some j earlier l now n ties refl (access_snapshot a (Some n) (access_answer buckets u (own_writes l) s a e f)) began.0.over;
+          commit = or_none number ∙ ap (option_or number) (sym (access_commits s a e));
+        }
+
+-- ---- the others
+
+pub not_alone : (c : Option Snapshot) (s : Statement) → is_access s ≡ false → is_alone c s ≡ false
+not_alone None s e = e
+not_alone (Some c) s e = refl
+
+-- neither `at` nor a number stands beside the answer
+pub bare : (buckets : ℕ) (u : Unprinted) (l : List LogEntry) (s : Statement) (reply : Reply) → is_access s ≡ false → Fits buckets u l s reply → (reply.at ≡ None) × (reply.number ≡ None)
+bare buckets u l s reply e f = (
+  none_of_no reply.at (f.at ∙ not_alone (current l) s e),
+  none_of_no reply.number (f.number ∙ ap (λ b. b && is_some (stored_by s reply.answer)) (not_alone (current l) s e)),
+)
+
+pub begin_line : (mode : Mode) (h k : History) (logs : ℕ → List LogEntry) (all earlier : List Said) (l : List LogEntry) (place j : ℕ) (scope : Scope) (at : Option ℕ) (a : Answer) (number : Option ℕ) → Ties j earlier l → at ≡ None → number ≡ None → IsBegun a →
+    Judged h (begin_entries scope a ++ l) → Right h logs mode k all earlier (said_after (last_of j earlier) (record_of place j (Begin scope)) (reply_of at a number) (Begin scope)) j (begin_entries scope a ++ l)
+begin_line mode h k logs all earlier l place j scope at (Begun n) number ties no_at no_number f d =
+    let now : Said = said_after (last_of j earlier) (record_of place j (Begin scope)) (reply_of at (Begun n) number) (Begin scope) in
+    record {
+      ties = ties_step j earlier now l (Began n scope ∷ l) ties (says_begin (last_of j earlier) l place j scope at n number) (stands_begin (last_of j earlier) l place j scope at n number ties.next);
+      reply = λ t. record { at = ap is_some no_at; number = ap is_some no_number; snapshot = subst (λ m. n ≤ m) t.count d.0.within; answer = tt };
+      conflict = λ t still. tt;
+      rising = rising_some j earlier l now n ties refl refl d.0.over;
+      commit = none_or number None no_number;
+    }
+begin_line mode h k logs all earlier l place j scope at _ number ties no_at no_number f d = absurd f
+
+pub commit_judged : (h : History) (a : Answer) (l : List LogEntry) → Judged h (commit_entries a ++ l) → IsSome (current l) × Judged h l
+commit_judged h (Committed n) l d = (d.0.opened, d.1.1)
+commit_judged h _ l d = (d.0.opened, d.1)
+
+-- below the undone writes the transaction is the same
+pub undone_current : (rids : List Rid) (l : List LogEntry) → current (map Undid rids ++ l) ≡ current l
+undone_current [] l = refl
+undone_current (r ∷ rids) l = undone_current rids l
+
+pub undone_judged : (h : History) (rids : List Rid) (l : List LogEntry) → Judged h (Over ∷ (map Undid rids ++ l)) → IsSome (current l) × Judged h l
+undone_judged h rids l d = (subst IsSome (undone_current rids l) d.0.opened, append_judged h (map Undid rids) l d.1)
+
+pub inside_small : (h k : History) (l : List LogEntry) (c : Snapshot) (at : ℕ) → length h ≡ length k → at ≡ c.at → Judged h l → current l ≡ Some c → at ≤ length k
+inside_small h k l c at count e d q = subst (λ n. n ≤ length k) (sym e) (subst (λ n. c.at ≤ n) count (judged_snapshot h l c d q))
+
+pub commit_line : (mode : Mode) (h k : History) (logs : ℕ → List LogEntry) (all earlier : List Said) (l : List LogEntry) (place j : ℕ) (at : Option ℕ) (a : Answer) (number : Option ℕ) → Ties j earlier l → at ≡ None → number ≡ None → IsCommitted (is_written (own_writes l)) a → Judged h l →
+    (o : Option Said) (c : Option Snapshot) → current l ≡ c → StandsIn o c (begans l) → IsSome c →
+    Right h logs mode k all earlier (standing o (next_after (last_of j earlier)) (record_of place j CommitIt) (reply_of at a number)) j (commit_entries a ++ l)
+commit_line mode h k logs all earlier l place j at a number ties no_at no_number f d None None q st is = absurd (let z : false ≡ true = is in cc)
+commit_line mode h k logs all earlier l place j at a number ties no_at no_number f d (Some opened) None q st is = absurd st
+commit_line mode h k logs all earlier l place j at a number ties no_at no_number f d None (Some c) q st is = absurd st
+commit_line mode h k logs all earlier l place j at (Committed n) number ties no_at no_number f d (Some opened) (Some c) q st is =
+    let now : Said = standing (Some opened) (next_after (last_of j earlier)) (record_of place j CommitIt) (reply_of at (Committed n) number) in
+    record {
+      ties = ties_step j earlier now l (Over ∷ Published n ∷ l) ties
+          (says_end opened (next_after (last_of j earlier)) l l c place j CommitIt at (Committed n) number (Some n) refl no_at refl refl (adds_nothing l Stored tt) q st)
+          (stands_end opened (next_after (last_of j earlier)) l l c place j CommitIt (reply_of at (Committed n) number) (Some n) refl (adds_nothing l Stored tt) q st);
+      reply = λ t. record { at = ap is_some no_at; number = ap is_some no_number; snapshot = inside_small h k l c opened.at t.count st.1.0 d q; answer = ap is_written (inside_own j earlier l c now ties refl st.0 q) ∙ f };
+      conflict = λ t still. tt;
+      rising = rising_none earlier now no_at;
+      commit = none_or number (committed now) no_number;
+    }
+commit_line mode h k logs all earlier l place j at Ended number ties no_at no_number f d (Some opened) (Some c) q st is =
+    let now : Said = standing (Some opened) (next_after (last_of j earlier)) (record_of place j CommitIt) (reply_of at Ended number) in
+    record {
+      ties = ties_step j earlier now l (Over ∷ l) ties
+          (says_end opened (next_after (last_of j earlier)) l l c place j CommitIt at Ended number None refl no_at refl refl (adds_nothing l Stored tt) q st)
+          (stands_end opened (next_after (last_of j earlier)) l l c place j CommitIt (reply_of at Ended number) None refl (adds_nothing l Stored tt) q st);
+      reply = λ t. record { at = ap is_some no_at; number = ap is_some no_number; snapshot = inside_small h k l c opened.at t.count st.1.0 d q; answer = ap is_written (inside_own j earlier l c now ties refl st.0 q) ∙ f };
+      conflict = λ t still. tt;
+      rising = rising_none earlier now no_at;
+      commit = none_or number (committed now) no_number;
+    }
+commit_line mode h k logs all earlier l place j at _ number ties no_at no_number f d (Some opened) (Some c) q st is = absurd f
+
+pub rollback_line : (mode : Mode) (h k : History) (logs : ℕ → List LogEntry) (all earlier : List Said) (u : Unprinted) (l : List LogEntry) (place j : ℕ) (at : Option ℕ) (a : Answer) (number : Option ℕ) → Ties j earlier l → at ≡ None → number ≡ None → IsUndone a → Judged h l →
+    (o : Option Said) (c : Option Snapshot) → current l ≡ c → StandsIn o c (begans l) → IsSome c →
+    Right h logs mode k all earlier (standing o (next_after (last_of j earlier)) (record_of place j Rollback) (reply_of at a number)) j (Over ∷ (map Undid u.undone ++ l))
+rollback_line mode h k logs all earlier u l place j at a number ties no_at no_number f d None None q st is = absurd (let z : false ≡ true = is in cc)
+rollback_line mode h k logs all earlier u l place j at a number ties no_at no_number f d (Some opened) None q st is = absurd st
+rollback_line mode h k logs all earlier u l place j at a number ties no_at no_number f d None (Some c) q st is = absurd st
+rollback_line mode h k logs all earlier u l place j at Undone number ties no_at no_number f d (Some opened) (Some c) q st is =
+    let now : Said = standing (Some opened) (next_after (last_of j earlier)) (record_of place j Rollback) (reply_of at Undone number) in
+    record {
+      ties = ties_step j earlier now l (Over ∷ (map Undid u.undone ++ l)) ties
+          (says_end opened (next_after (last_of j earlier)) l (map Undid u.undone ++ l) c place j Rollback at Undone number None refl no_at refl refl (adds_undone u.undone l) q st)
+          (stands_end opened (next_after (last_of j earlier)) l (map Undid u.undone ++ l) c place j Rollback (reply_of at Undone number) None refl (adds_undone u.undone l) q st);
+      reply = λ t. record { at = ap is_some no_at; number = ap is_some no_number; snapshot = inside_small h k l c opened.at t.count st.1.0 d q; answer = tt };
+      conflict = λ t still. tt;
+      rising = rising_none earlier now no_at;
+      commit = none_or number (committed now) no_number;
+    }
+rollback_line mode h k logs all earlier u l place j at _ number ties no_at no_number f d (Some opened) (Some c) q st is = absurd f
+
+pub gc_line : (mode : Mode) (h k : History) (logs : ℕ → List LogEntry) (all earlier : List Said) (l : List LogEntry) (place j : ℕ) (kind : Kind) (at : Option ℕ) (a : Answer) (number : Option ℕ) → Ties j earlier l → at ≡ None → number ≡ None → IsGcAnswer a → IsCollected mode j a →
+    Right h logs mode k all earlier (said_after (last_of j earlier) (record_of place j (Gc kind)) (reply_of at a number) (Gc kind)) j l
+gc_line mode h k logs all earlier l place j kind at a number ties no_at no_number is f =
+    let now : Said = said_after (last_of j earlier) (record_of place j (Gc kind)) (reply_of at a number) (Gc kind) in
+    record {
+      ties = ties_beside j earlier now l ties (says_gc (last_of j earlier) l place j kind at a number no_at no_number is) refl;
+      reply = λ t. record { at = ap is_some no_at; number = ap is_some no_number; snapshot = omega arith; answer = f };
+      conflict = λ t still. tt;
+      rising = rising_none earlier now (gc_snapshot a at is ∙ no_at);
+      commit = none_or number None no_number;
+    }
+
+-- ---- any line
+
+pub plain_after : (buckets : ℕ) (u : Unprinted) (s : Statement) (reply : Reply) (l : List LogEntry) → is_access s ≡ false → own_entries buckets u s reply.answer ++ l ≡ log_after buckets u s reply l
+plain_after buckets u s reply l e = sym (ap (λ b. log_with b buckets u s reply l) (not_alone (current l) s e))
+
+pub line_right : (mode : Mode) (buckets : ℕ) (h k : History) (logs : ℕ → List LogEntry) (all earlier : List Said) (u : Unprinted) (l : List LogEntry) (place j : ℕ) (s : Statement) (reply : Reply) → ((r : Rid) → bucket_of buckets r < buckets) → Ties j earlier l → Fits buckets u l s reply → AsCollected mode j s reply.answer →
+    Judged h (log_after buckets u s reply l) → AreReplied buckets h logs j (log_after buckets u s reply l) → Right h logs mode k all earlier (said earlier (record_of place j s) reply) j (log_after buckets u s reply l)
+line_right mode buckets h k logs all earlier u l place j (Get r) reply places ties f gc d g = access_line mode buckets h k logs all earlier u l place j (Get r) reply.at reply.answer reply.number places ties refl f.answer (open_of j earlier) (current l) refl refl ties.standing f.at f.number d g
+line_right mode buckets h k logs all earlier u l place j (Put r row) reply places ties f gc d g = access_line mode buckets h k logs all earlier u l place j (Put r row) reply.at reply.answer reply.number places ties refl f.answer (open_of j earlier) (current l) refl refl ties.standing f.at f.number d g
+line_right mode buckets h k logs all earlier u l place j (Del r) reply places ties f gc d g = access_line mode buckets h k logs all earlier u l place j (Del r) reply.at reply.answer reply.number places ties refl f.answer (open_of j earlier) (current l) refl refl ties.standing f.at f.number d g
+line_right mode buckets h k logs all earlier u l place j (Scan table low high) reply places ties f gc d g = access_line mode buckets h k logs all earlier u l place j (Scan table low high) reply.at reply.answer reply.number places ties refl f.answer (open_of j earlier) (current l) refl refl ties.standing f.at f.number d g
+line_right mode buckets h k logs all earlier u l place j (Begin scope) reply places ties f gc d g =
+    let no = bare buckets u l (Begin scope) reply refl f in
+    let e = plain_after buckets u (Begin scope) reply l refl in
+    subst (Right h logs mode k all earlier (said earlier (record_of place j (Begin scope)) reply) j) e
+    (begin_line mode h k logs all earlier l place j scope reply.at reply.answer reply.number ties no.0 no.1 f.answer (subst (Judged h) (sym e) d))
+line_right mode buckets h k logs all earlier u l place j CommitIt reply places ties f gc d g =
+    let no = bare buckets u l CommitIt reply refl f in
+    let e = plain_after buckets u CommitIt reply l refl in
+    let was = commit_judged h reply.answer l (subst (Judged h) (sym e) d) in
+    subst (Right h logs mode k all earlier (said earlier (record_of place j CommitIt) reply) j) e
+    (commit_line mode h k logs all earlier l place j reply.at reply.answer reply.number ties no.0 no.1 f.answer was.1 (open_of j earlier) (current l) refl ties.standing was.0)
+line_right mode buckets h k logs all earlier u l place j Rollback reply places ties f gc d g =
+    let no = bare buckets u l Rollback reply refl f in
+    let e = plain_after buckets u Rollback reply l refl in
+    let was = undone_judged h u.undone l (subst (Judged h) (sym e) d) in
+    subst (Right h logs mode k all earlier (said earlier (record_of place j Rollback) reply) j) e
+    (rollback_line mode h k logs all earlier u l place j reply.at reply.answer reply.number ties no.0 no.1 f.answer.0 was.1 (open_of j earlier) (current l) refl ties.standing was.0)
+line_right mode buckets h k logs all earlier u l place j (Gc kind) reply places ties f gc d g =
+    let no = bare buckets u l (Gc kind) reply refl f in
+    subst (Right h logs mode k all earlier (said earlier (record_of place j (Gc kind)) reply) j) (plain_after buckets u (Gc kind) reply l refl)
+    (gc_line mode h k logs all earlier l place j kind reply.at reply.answer reply.number ties no.0 no.1 f.answer gc)

@@ -1,0 +1,15 @@
+-- What a command knows when it has printed its lines. A reader meets the definitions in this order.
+pub mod Logged
+-- A replay.
+pub mod Timely
+pub mod Met
+pub mod Replayed
+pub mod Answered
+-- A run.
+pub mod Gathered
+pub mod Ran
+-- The totals of both.
+pub mod Counted
+pub mod Boards
+-- A replay and a run that meet all this.
+pub mod Worked
