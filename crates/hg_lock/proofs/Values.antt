@@ -1,7 +1,8 @@
--- The values of a new list, each under a free lock.
-use Rattle.std.proofs.Common.{◌≡◌, ℕ, zero, suc, ◌<◌, List, [], ◌∷◌, map, length, replicate, refl, sym, ap, ◌∙◌, arith, Option, Some}
+-- The values of a new list: for callers that they fit, and that each lies under a free lock.
+use Rattle.std.proofs.Common.{◌≡◌, ℕ, zero, suc, ◌<◌, List, [], ◌∷◌, ◌++◌, map, length, replicate, refl, sym, ap, subst, ◌∙◌, arith, Option, Some}
 use Rattle.std.proofs.lemmas.List.{length-map, length-replicate}
-use Rattle.std.specs.Prelude.{slice_get}
+use Rattle.std.proofs.lemmas.Option.{slice_get_within}
+use Rattle.std.specs.Prelude.{slice_get, unwrap_or}
 use mathlib.Core.Option.{some, some-injective, some-ne-none}
 use lib.ListN.{get_elem?}
 use Rattle.atomic_table.specs.Table.{opening}
@@ -32,3 +33,14 @@ begins {X} {V} fits values words slots v zeros filled each =
           let t = at_home values k (omega arith) in (t.0, ap (λ l. get_elem? (map some l) k) filled ∙ t.2, each k t.0 t.1);
       held = λ k n e. let z = all_free (length slots) k (suc n) (ap (λ l. get_elem? l k) (sym zeros) ∙ e) in absurd (omega arith);
     }
+
+-- for callers, who fill a list: no value
+pub EachFits-[] : {X : Type 0} (fits : ℕ → X → Type 0) → EachFits fits []
+EachFits-[] fits k x e = let below = slice_get_within [] k x e in absurd (omega arith)
+
+-- one value more
+pub EachFits-push : {X : Type 0} (fits : ℕ → X → Type 0) (values : List X) (y : X) → EachFits fits values → fits (length values) y → EachFits fits (values ++ y ∷ [])
+EachFits-push fits [] y each last zero x e = subst (fits zero) (ap (λ o. unwrap_or o y) e) last
+EachFits-push fits [] y each last (suc k) x e = let below = slice_get_within [] k x e in absurd (omega arith)
+EachFits-push fits (v ∷ vs) y each last zero x e = each zero x e
+EachFits-push fits (v ∷ vs) y each last (suc k) x e = EachFits-push (λ n. fits (suc n)) vs y (λ n z h. each (suc n) z h) last k x e
