@@ -36,7 +36,7 @@ module _ {X V : Type 0} (fits : ℕ → X → Type 0) where
         (at_set s.words i k (suc n) (suc m) e);
   }
 
-  -- a held lock stays held
+  -- a held lock stays held, by whatever number
   marked : (s : State (Option X) V) (views : List V) (i m n : ℕ) → Guarded fits s → get_elem? s.words i ≡ some (suc m)
       → Guarded fits record { words = set s.words i (suc n); homes = s.homes; views = views }
   marked s views i m n g at = record {
@@ -66,45 +66,20 @@ module _ {X V : Type 0} (fits : ℕ → X → Type 0) where
         (at_set s.words i k 0 (suc m) e);
   }
 
-  -- a load changes nothing
-  pub looks : (slots i : ℕ) (v : V) → Enters (Guarded {V = V} fits) slots i (λ found w. w ≡ v)
-  looks slots i v s g wide small = (v, record { paired = g.paired; free = g.free; held = g.held }, refl)
+  -- a swap takes the slot where it finds the lock free, and leaves it held
+  swaps_at : (i to : ℕ) (v : V) (s : State (Option X) V) → Guarded fits s → i < length s.words → (n : ℕ) → n ≡ slice_index s.words i
+      → (w : V) × (a : Act (Option X)) × Valid s.homes [] a × Guarded fits record { words = set s.words i (suc to); homes = homes_after s.homes [] a; views = s.views ++ w ∷ [] } × (n ≡ 0 → HasValue fits i (w, carried_after [] a))
+  swaps_at i to v s g below zero is =
+      let at = word_at s.words i 0 below is in
+      let t = g.free i at in (v, takes i (Some t.0), t.1, seized s _ i to g at, λ _. (t.0, refl, t.2))
+  swaps_at i to v s g below (suc m) is =
+      let at = word_at s.words i (suc m) below is in (v, keeps, tt, marked s _ i m to g at, λ (z : suc m ≡ 0). absurd (omega arith))
 
-  -- an exchange takes the slot where it finds the lock free
-  claims_at : (slots id i : ℕ) (v : V) (s : State (Option X) V) → Guarded fits s → i < length s.words → (n : ℕ) → n ≡ slice_index s.words i
-      → (w : V) × (a : Act (Option X)) × Valid s.homes [] a × Guarded fits (stepped s i (either (n == 0) 1 n) id [] w a) × (n ≡ 0 → HasValue fits i (w, carried_after [] a))
-  claims_at slots id i v s g below zero is =
-      let at = word_at s.words i 0 below is in let t = g.free i at in (v, takes i (Some t.0), t.1, seized s _ i 0 g at, λ _. (t.0, refl, t.2))
-  claims_at slots id i v s g below (suc m) is =
-      let at = word_at s.words i (suc m) below is in
-      let not_free : suc m ≢ 0 = λ z. absurd (omega arith) in (
-        v,
-        keeps,
-        tt,
-        subst (λ b. Guarded fits (stepped s i (either b 1 (suc m)) id [] v keeps)) (sym (ne_eqb (suc m) 0 not_free)) (marked s (set s.views id v) i m m g at),
-        λ (z : suc m ≡ 0). absurd (not_free z),
-      )
-
-  claims_here : (slots id i : ℕ) (v : V) → i < slots → Allows (Guarded {V = V} fits) slots id (v, []) i (λ n. either (n == 0) 1 n) (λ found me. found ≡ 0 → HasValue fits i me)
-  claims_here slots id i v below s g wide at small = claims_at slots id i v s g (let p = g.paired in omega arith) (slice_index s.words i) refl
-
-  -- so does a swap, which says that somebody may sleep
-  swaps_at : (slots i : ℕ) (v : V) (s : State (Option X) V) → Guarded fits s → i < length s.words → (n : ℕ) → n ≡ slice_index s.words i
-      → (w : V) × (a : Act (Option X)) × Valid s.homes [] a × Guarded fits record { words = set s.words i 2; homes = homes_after s.homes [] a; views = s.views ++ w ∷ [] } × (n ≡ 0 → HasValue fits i (w, carried_after [] a))
-  swaps_at slots i v s g below zero is =
-      let at = word_at s.words i 0 below is in let t = g.free i at in (v, takes i (Some t.0), t.1, seized s _ i 1 g at, λ _. (t.0, refl, t.2))
-  swaps_at slots i v s g below (suc m) is =
-      let at = word_at s.words i (suc m) below is in (v, keeps, tt, marked s _ i m 1 g at, λ (z : suc m ≡ 0). absurd (omega arith))
-
-  pub swaps : (slots i : ℕ) (v : V) → i < slots → Arrives (Guarded {V = V} fits) slots i (λ _. 2) (λ found me. found ≡ 0 → HasValue fits i me)
-  swaps slots i v below s g wide small = swaps_at slots i v s g (let p = g.paired in omega arith) (slice_index s.words i) refl
+  pub swaps : (slots i word : ℕ) (v : V) → i < slots → 0 < word → Arrives (Guarded {V = V} fits) slots i (λ _. word) (λ found me. found ≡ 0 → HasValue fits i me)
+  swaps slots i zero v below held s g wide small = absurd (omega arith)
+  swaps slots i (suc to) v below held s g wide small = swaps_at i to v s g (let p = g.paired in omega arith) (slice_index s.words i) refl
 
   -- a swap to 0 by who has the slot brings it home
   pub releases : (slots id i : ℕ) (m : Me (Option X) V) (x : X) → i < slots → m.1 ≡ (i, Some x) ∷ [] → fits i x → Allows (Guarded {V = V} fits) slots id m i (λ _. 0) (λ found me. me.1 ≡ [])
   releases slots id i m x below has ok s g wide at small =
       subst (λ (c : List (ℕ × Option X)). (w : V) × (a : Act (Option X)) × Valid s.homes c a × Guarded fits (stepped s i 0 id c w a) × (carried_after c a ≡ [])) (sym has) (m.0, gives, tt, released s _ i x g (omega arith) ok, refl)
-
-module _ {X V : Type 0} (fits : V → ℕ → X → Type 0) where
-  pub claims : (slots id i : ℕ) (tag : V) (m : Me (Option X) V) → i < slots → m.0 ≡ tag → m.1 ≡ [] → Allows (Guarded {V = V} (fits tag)) slots id m i (λ n. either (n == 0) 1 n) (λ found me. found ≡ 0 → HasValue (fits m.0) i me)
-  claims slots id i tag m below same empty =
-      subst (λ (m : Me (Option X) V). Allows (Guarded {V = V} (fits tag)) slots id m i (λ n. either (n == 0) 1 n) (λ found me. found ≡ 0 → HasValue (fits m.0) i me)) (λ k. (sym same k, sym empty k)) (claims_here (fits tag) slots id i tag below)

@@ -26,15 +26,6 @@ impl<X: Fits> TableRule<Option<X>, X::Tag, X::Tag> for Guard<X> {
     ghost first = { λ tag. tag };
 }
 
-/// A step that takes nothing.
-pub struct Look;
-
-impl<X: Fits> Play<Option<X>, X::Tag> for Look {
-    ghost use Rattle.std.specs.Prelude.{◌≡◌};
-
-    ghost then = { λ step before found after. after.0 ≡ before.0 };
-}
-
 /// A step that takes the slot where it finds the lock free.
 pub struct Seize<X> {
     marker: PhantomData<X>,

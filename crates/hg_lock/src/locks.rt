@@ -1,9 +1,9 @@
 //! A list of locks.
 
-ghost use Rattle.std.specs.Prelude.{◌≡◌, ◌<◌, Some, [], length, map, IfOk, IfSome};
+ghost use Rattle.std.specs.Prelude.{◌≡◌, ◌<◌, Some, [], length, map, IfOk};
 
 use crate::fits::Fits;
-use crate::guard::{AWAITED, FREE, Guard, HELD, Look, Release, Seize};
+use crate::guard::{AWAITED, FREE, Guard, HELD, Release, Seize};
 use crate::loan::Loan;
 use atomic_table::{Refused, Seat, Table};
 use hg_base::NoMemory;
@@ -80,56 +80,50 @@ impl<X: Fits + Drop> Locks<X> {
         self.wake(self.free(value, loan));
     }
 
-    // Takes the slot, at once where the lock is free.
+    // Takes the slot, by one step where the lock is free.
     fn claim<R: Wait>(&self, rt: &R, place: usize) -> Seat<Option<X>, X::Tag>
         requires { place < count_of self.now }
-        ensures seat { result.table_id ≡ self.now.table.shared.table_id }
+        ensures list { result.table_id ≡ self.now.table.shared.table_id }
         ensures value { HasValue (X.fits (tag_of self.now)) place result.me }
     {
-        match self.try_claim(place) {
-            Some(seat) => seat,
-            None => self.wait(rt, place),
+        match self.seize(place, HELD) {
+            Ok(seat) => seat,
+            Err(found) => self.wait(rt, place, found),
         }
     }
 
-    // Takes the slot where the lock is free.
-    fn try_claim(&self, place: usize) -> Option<Seat<Option<X>, X::Tag>>
+    // Takes the slot of a lock that was found held, and sleeps until it is free.
+    fn wait<R: Wait>(&self, rt: &R, place: usize, found: u64) -> Seat<Option<X>, X::Tag>
         requires { place < count_of self.now }
-        ensures seat { IfSome result (λ seat. seat.table_id ≡ self.now.table.shared.table_id) }
-        ensures value { IfSome result (λ seat. HasValue (X.fits (tag_of self.now)) place seat.me) }
-    {
-        let shared = &self.table.shared;
-        let (seen, mut seat) = shared.load_new_seat::<Look>(place);
-        if seen != FREE {
-            return None;
-        }
-        let found = shared.compare_exchange::<Seize<X>>(&mut seat, place, FREE, HELD);
-        if found == FREE { Some(seat) } else { None }
-    }
-
-    // Sleeps until the lock is free, and takes the slot.
-    fn wait<R: Wait>(&self, rt: &R, place: usize) -> Seat<Option<X>, X::Tag>
-        requires { place < count_of self.now }
-        ensures seat { result.table_id ≡ self.now.table.shared.table_id }
+        ensures list { result.table_id ≡ self.now.table.shared.table_id }
         ensures value { HasValue (X.fits (tag_of self.now)) place result.me }
     {
-        let shared = &self.table.shared;
-        if self.look(place) == FREE {
-            if let Some(seat) = self.try_claim(place) {
+        if found == HELD && self.look(place) == FREE {
+            if let Ok(seat) = self.seize(place, HELD) {
                 return seat;
             }
         }
+        // `HELD` may have been written over `AWAITED`, which is put back before anything else.
         for _ in rt.forever() {
-            // Others may sleep, so from here on the lock is taken as one that is awaited.
-            if self.look(place) != AWAITED {
-                let (found, seat) = shared.swap_new_seat::<Seize<X>>(place, AWAITED);
-                if found == FREE {
-                    return seat;
-                }
+            if let Ok(seat) = self.seize(place, AWAITED) {
+                return seat;
             }
-            shared.park(rt, place, AWAITED as u32);
+            self.table.shared.park(rt, place, AWAITED as u32);
+            self.look(place);
         }
         unreachable!()
+    }
+
+    // Writes the word of a lock, which is held from then on, and takes the slot if it was free. Else answers the word
+    // that it found.
+    fn seize(&self, place: usize, word: u64) -> Result<Seat<Option<X>, X::Tag>, u64>
+        requires place { place < count_of self.now }
+        requires held { FREE < word }
+        ensures list { IfOk result (λ seat. seat.table_id ≡ self.now.table.shared.table_id) }
+        ensures value { IfOk result (λ seat. HasValue (X.fits (tag_of self.now)) place seat.me) }
+    {
+        let (found, seat) = self.table.shared.swap_new_seat::<Seize<X>>(place, word);
+        if found == FREE { Ok(seat) } else { Err(found) }
     }
 
     // Looks for a while, as long as the lock is held and nobody sleeps.
