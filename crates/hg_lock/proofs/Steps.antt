@@ -1,11 +1,11 @@
 -- Each step of a lock keeps the rule.
-use Rattle.std.proofs.Common.{◌≡◌, ◌≢◌, ℕ, zero, suc, ◌==◌, ◌<◌, List, [], ◌∷◌, ◌++◌, length, set, refl, sym, ap, ◌∙◌, ⊎_elim, arith, subst, length-set, ne_eqb, Option, Some}
+use Rattle.std.proofs.Common.{◌≡◌, ◌≢◌, ℕ, zero, suc, ◌<◌, List, [], ◌∷◌, ◌++◌, length, set, refl, sym, ap, ◌∙◌, ⊎_elim, arith, subst, length-set, Option, Some}
 use Rattle.std.specs.Prelude.{slice_index}
 use mathlib.Core.Option.{some, none, some-ne-none}
-use prog.Atomic.{either}
 use lib.ListN.{get_elem?}
-use Rattle.atomic_table.specs.Table.{State, Me, Act, keeps, takes, gives, Valid, carried_after, homes_after, stepped, Allows, Arrives, Enters}
+use Rattle.atomic_table.specs.Table.{State, Me, Act, keeps, takes, gives, Valid, carried_after, homes_after, stepped, Allows, Arrives}
 use Rattle.atomic_table.proofs.Lists.{at_set, set_here, set_else}
+use Rattle.hg_lock.specs.declared.guard.Seen.{Seen}
 use Rattle.hg_lock.specs.Guarded.{Guarded, HasValue}
 
 -- a word at a place is a place
@@ -79,7 +79,9 @@ module _ {X V : Type 0} (fits : ℕ → X → Type 0) where
   swaps slots i zero v below held s g wide small = absurd (omega arith)
   swaps slots i (suc to) v below held s g wide small = swaps_at i to v s g (let p = g.paired in omega arith) (slice_index s.words i) refl
 
-  -- a swap to 0 by who has the slot brings it home
-  pub releases : (slots id i : ℕ) (m : Me (Option X) V) (x : X) → i < slots → m.1 ≡ (i, Some x) ∷ [] → fits i x → Allows (Guarded {V = V} fits) slots id m i (λ _. 0) (λ found me. me.1 ≡ [])
-  releases slots id i m x below has ok s g wide at small =
-      subst (λ (c : List (ℕ × Option X)). (w : V) × (a : Act (Option X)) × Valid s.homes c a × Guarded fits (stepped s i 0 id c w a) × (carried_after c a ≡ [])) (sym has) (m.0, gives, tt, released s _ i x g (omega arith) ok, refl)
+-- a swap to 0 by who has the slot brings it home
+pub releases : {X T : Type 0} (fits : ℕ → X → Type 0) (slots id i : ℕ) (m : Me (Option X) (Seen T)) (x : X) → i < slots → m.1 ≡ (i, Some x) ∷ [] → fits i x
+    → Allows (Guarded {V = Seen T} fits) slots id m i (λ _. 0) (λ found me. (me.1 ≡ []) × (me.0.found ≡ found))
+releases {X} {T} fits slots id i m x below has ok s g wide at small =
+    let n = slice_index s.words i in
+    subst (λ (c : List (ℕ × Option X)). (w : Seen T) × (a : Act (Option X)) × Valid s.homes c a × Guarded fits (stepped s i 0 id c w a) × ((carried_after c a ≡ []) × (w.found ≡ n))) (sym has) (record { tag = m.0.tag; found = n }, gives, tt, released fits s _ i x g (omega arith) ok, (refl, refl))

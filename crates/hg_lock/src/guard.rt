@@ -13,17 +13,23 @@ pub const HELD: u64 = 1;
 /// The word of a lock that is held, while somebody may sleep on it.
 pub const AWAITED: u64 = 2;
 
-// The view of every seat is the tag.
+/// What a seat knows. No value of it is made.
+pub struct Seen<T> {
+    pub tag: T,
+    // The word that its last step found.
+    pub found: u64,
+}
+
 pub struct Guard<X> {
     marker: PhantomData<X>,
 }
 
-impl<X: Fits> TableRule<Option<X>, X::Tag, X::Tag> for Guard<X> {
+impl<X: Fits> TableRule<Option<X>, Seen<X::Tag>, X::Tag> for Guard<X> {
     ghost use Rattle.hg_lock.specs.Guarded.{Guarded};
 
     ghost holds = { λ tag. Guarded (X.fits tag) };
 
-    ghost first = { λ tag. tag };
+    ghost first = { λ tag. record { tag = tag; found = 0 } };
 }
 
 /// A step that takes the slot where it finds the lock free.
@@ -31,18 +37,18 @@ pub struct Seize<X> {
     marker: PhantomData<X>,
 }
 
-impl<X: Fits> Play<Option<X>, X::Tag> for Seize<X> {
+impl<X: Fits> Play<Option<X>, Seen<X::Tag>> for Seize<X> {
     ghost use Rattle.std.specs.Prelude.{◌≡◌};
     ghost use Rattle.hg_lock.specs.Guarded.{HasValue};
 
-    ghost then = { λ step before found after. found ≡ 0 → HasValue (X.fits before.0) step.word after };
+    ghost then = { λ step before found after. found ≡ 0 → HasValue (X.fits before.0.tag) step.word after };
 }
 
-/// A step that brings the slot home.
+/// A step that brings the slot home, and tells which word it found.
 pub struct Release;
 
-impl<X: Fits> Play<Option<X>, X::Tag> for Release {
+impl<X: Fits> Play<Option<X>, Seen<X::Tag>> for Release {
     ghost use Rattle.std.specs.Prelude.{◌≡◌, []};
 
-    ghost then = { λ step before found after. after.1 ≡ [] };
+    ghost then = { λ step before found after. (after.1 ≡ []) × (after.0.found ≡ found) };
 }

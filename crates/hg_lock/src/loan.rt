@@ -2,12 +2,13 @@
 
 ghost use Rattle.std.specs.Prelude.{◌≡◌, None, [], ◌∷◌};
 
+use crate::guard::Seen;
 use atomic_table::Seat;
 
 /// The right to give a value back, and the duty: it has no `Drop`.
 pub struct Loan<X, T> {
     pub(crate) place: usize,
-    pub(crate) seat: Seat<Option<X>, T>,
+    pub(crate) seat: Seat<Option<X>, Seen<T>>,
     ghost out: { seat.me.1 ≡ (place, None) ∷ [] },
 }
 

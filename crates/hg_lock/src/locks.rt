@@ -1,9 +1,9 @@
 //! A list of locks.
 
-ghost use Rattle.std.specs.Prelude.{◌≡◌, ◌<◌, Some, [], length, map, IfOk};
+ghost use Rattle.std.specs.Prelude.{◌≡◌, ◌<◌, ◌==◌, Some, [], length, map, IfOk};
 
 use crate::fits::Fits;
-use crate::guard::{AWAITED, FREE, Guard, HELD, Release, Seize};
+use crate::guard::{AWAITED, FREE, Guard, HELD, Release, Seen, Seize};
 use crate::loan::Loan;
 use atomic_table::{Refused, Seat, Table};
 use hg_base::NoMemory;
@@ -17,7 +17,7 @@ const LOOKS: u32 = 100;
 /// Values, each under a lock of its own. Two locks of a list can be held at once.
 #[derive(Drop)]
 pub struct Locks<X: Fits> {
-    table: Table<Option<X>, X::Tag, X::Tag, Guard<X>, Global>,
+    table: Table<Option<X>, Seen<X::Tag>, X::Tag, Guard<X>, Global>,
     ghost paired: { table.shared.table_id.words ≡ table.shared.table_id.slots },
 }
 
@@ -25,8 +25,10 @@ pub struct Locks<X: Fits> {
 struct Freed<X, T> {
     place: usize,
     awaited: bool,
-    seat: Seat<Option<X>, T>,
+    seat: Seat<Option<X>, Seen<T>>,
     ghost home: { seat.me.1 ≡ [] },
+    // Somebody may sleep exactly where the step that freed the lock found `AWAITED`.
+    ghost told: { awaited ≡ (seat.me.0.found == 2) },
 }
 
 fn filled<X: Drop>(alloc: Global, values: Vec<X>) -> Result<Vec<Option<X>>, AllocError>
@@ -81,7 +83,7 @@ impl<X: Fits + Drop> Locks<X> {
     }
 
     // Takes the slot, by one step where the lock is free.
-    fn claim<R: Wait>(&self, rt: &R, place: usize) -> Seat<Option<X>, X::Tag>
+    fn claim<R: Wait>(&self, rt: &R, place: usize) -> Seat<Option<X>, Seen<X::Tag>>
         requires { place < count_of self.now }
         ensures list { result.table_id ≡ self.now.table.shared.table_id }
         ensures value { HasValue (X.fits (tag_of self.now)) place result.me }
@@ -93,7 +95,7 @@ impl<X: Fits + Drop> Locks<X> {
     }
 
     // Takes the slot of a lock that was found held, and sleeps until it is free.
-    fn wait<R: Wait>(&self, rt: &R, place: usize, found: u64) -> Seat<Option<X>, X::Tag>
+    fn wait<R: Wait>(&self, rt: &R, place: usize, found: u64) -> Seat<Option<X>, Seen<X::Tag>>
         requires { place < count_of self.now }
         ensures list { result.table_id ≡ self.now.table.shared.table_id }
         ensures value { HasValue (X.fits (tag_of self.now)) place result.me }
@@ -116,7 +118,7 @@ impl<X: Fits + Drop> Locks<X> {
 
     // Writes the word of a lock, which is held from then on, and takes the slot if it was free. Else answers the word
     // that it found.
-    fn seize(&self, place: usize, word: u64) -> Result<Seat<Option<X>, X::Tag>, u64>
+    fn seize(&self, place: usize, word: u64) -> Result<Seat<Option<X>, Seen<X::Tag>>, u64>
         requires place { place < count_of self.now }
         requires held { FREE < word }
         ensures list { IfOk result (λ seat. seat.table_id ≡ self.now.table.shared.table_id) }
