@@ -1,0 +1,87 @@
+-- Each step of a lock keeps the rule.
+use Rattle.std.proofs.Common.{◌≡◌, ◌≢◌, ℕ, zero, suc, ◌<◌, List, [], ◌∷◌, ◌++◌, length, set, refl, sym, ap, ◌∙◌, ⊎_elim, arith, subst, length-set, Option, Some}
+use Rattle.std.specs.Prelude.{slice_index}
+use mathlib.Core.Option.{some, none, some-ne-none}
+use lib.ListN.{get_elem?}
+use Rattle.atomic_table.specs.Table.{State, Me, Act, keeps, takes, gives, Valid, carried_after, homes_after, stepped, Allows, Arrives}
+use Rattle.atomic_table.proofs.Lists.{at_set, set_here, set_else}
+use Rattle.hg_lock.specs.declared.guard.Seen.{Seen}
+use Rattle.hg_lock.specs.Guarded.{Guarded, HasValue}
+
+-- a word at a place is a place
+pub below_of : {A : Type 0} (l : List A) (k : ℕ) (a : A) → get_elem? l k ≡ some a → k < length l
+below_of [] k a e = absurd (some-ne-none a (sym e))
+below_of (x ∷ xs) zero a e = omega arith
+below_of (x ∷ xs) (suc k) a e = let s = below_of xs k a e in omega arith
+
+-- and a place has its word
+word_at : (l : List ℕ) (k n : ℕ) → k < length l → n ≡ slice_index l k → get_elem? l k ≡ some n
+word_at [] k n below e = absurd (omega arith)
+word_at (x ∷ xs) zero n below e = ap some (sym e)
+word_at (x ∷ xs) (suc k) n below e = word_at xs k n (omega arith) e
+
+module _ {X V : Type 0} (fits : ℕ → X → Type 0) where
+  -- a free lock becomes held, and its slot goes out
+  seized : (s : State (Option X) V) (views : List V) (i n : ℕ) → Guarded fits s → get_elem? s.words i ≡ some 0
+      → Guarded fits record { words = set s.words i (suc n); homes = set s.homes i none; views = views }
+  seized s views i n g at = record {
+    paired = length-set s.words i (suc n) ∙ g.paired ∙ sym (length-set s.homes i none);
+    free = λ k e. ⊎_elim
+        (λ (hit : (k ≡ i) × (suc n ≡ 0)). let z = hit.1 in absurd (omega arith))
+        (λ (miss : (k ≢ i) × (get_elem? s.words k ≡ some 0)). let u = g.free k miss.1 in (u.0, set_else s.homes i k none miss.0 ∙ u.1, u.2))
+        (at_set s.words i k (suc n) 0 e);
+    held = λ k m e. ⊎_elim
+        (λ (hit : (k ≡ i) × (suc n ≡ suc m)). let below = below_of s.words i 0 at in let p = g.paired in ap (λ j. get_elem? (set s.homes i none) j) hit.0 ∙ set_here s.homes i none (omega arith))
+        (λ (miss : (k ≢ i) × (get_elem? s.words k ≡ some (suc m))). set_else s.homes i k none miss.0 ∙ g.held k m miss.1)
+        (at_set s.words i k (suc n) (suc m) e);
+  }
+
+  -- a held lock stays held, by whatever number
+  marked : (s : State (Option X) V) (views : List V) (i m n : ℕ) → Guarded fits s → get_elem? s.words i ≡ some (suc m)
+      → Guarded fits record { words = set s.words i (suc n); homes = s.homes; views = views }
+  marked s views i m n g at = record {
+    paired = length-set s.words i (suc n) ∙ g.paired;
+    free = λ k e. ⊎_elim
+        (λ (hit : (k ≡ i) × (suc n ≡ 0)). let z = hit.1 in absurd (omega arith))
+        (λ (miss : (k ≢ i) × (get_elem? s.words k ≡ some 0)). g.free k miss.1)
+        (at_set s.words i k (suc n) 0 e);
+    held = λ k p e. ⊎_elim
+        (λ (hit : (k ≡ i) × (suc n ≡ suc p)). ap (λ j. get_elem? s.homes j) hit.0 ∙ g.held i m at)
+        (λ (miss : (k ≢ i) × (get_elem? s.words k ≡ some (suc p))). g.held k p miss.1)
+        (at_set s.words i k (suc n) (suc p) e);
+  }
+
+  -- a lock becomes free, and its slot comes home with a value that fits
+  released : (s : State (Option X) V) (views : List V) (i : ℕ) (x : X) → Guarded fits s → i < length s.homes → fits i x
+      → Guarded fits record { words = set s.words i 0; homes = set s.homes i (some (Some x)); views = views }
+  released s views i x g below ok = record {
+    paired = length-set s.words i 0 ∙ g.paired ∙ sym (length-set s.homes i (some (Some x)));
+    free = λ k e. ⊎_elim
+        (λ (hit : (k ≡ i) × (0 ≡ 0)). (x, ap (λ j. get_elem? (set s.homes i (some (Some x))) j) hit.0 ∙ set_here s.homes i (some (Some x)) below, subst (λ j. fits j x) (sym hit.0) ok))
+        (λ (miss : (k ≢ i) × (get_elem? s.words k ≡ some 0)). let u = g.free k miss.1 in (u.0, set_else s.homes i k (some (Some x)) miss.0 ∙ u.1, u.2))
+        (at_set s.words i k 0 0 e);
+    held = λ k m e. ⊎_elim
+        (λ (hit : (k ≡ i) × (0 ≡ suc m)). let z = hit.1 in absurd (omega arith))
+        (λ (miss : (k ≢ i) × (get_elem? s.words k ≡ some (suc m))). set_else s.homes i k (some (Some x)) miss.0 ∙ g.held k m miss.1)
+        (at_set s.words i k 0 (suc m) e);
+  }
+
+  -- a swap takes the slot where it finds the lock free, and leaves it held
+  swaps_at : (i to : ℕ) (v : V) (s : State (Option X) V) → Guarded fits s → i < length s.words → (n : ℕ) → n ≡ slice_index s.words i
+      → (w : V) × (a : Act (Option X)) × Valid s.homes [] a × Guarded fits record { words = set s.words i (suc to); homes = homes_after s.homes [] a; views = s.views ++ w ∷ [] } × (n ≡ 0 → HasValue fits i (w, carried_after [] a))
+  swaps_at i to v s g below zero is =
+      let at = word_at s.words i 0 below is in
+      let t = g.free i at in (v, takes i (Some t.0), t.1, seized s _ i to g at, λ _. (t.0, refl, t.2))
+  swaps_at i to v s g below (suc m) is =
+      let at = word_at s.words i (suc m) below is in (v, keeps, tt, marked s _ i m to g at, λ (z : suc m ≡ 0). absurd (omega arith))
+
+  pub swaps : (slots i word : ℕ) (v : V) → i < slots → 0 < word → Arrives (Guarded {V = V} fits) slots i (λ _. word) (λ found me. found ≡ 0 → HasValue fits i me)
+  swaps slots i zero v below held s g wide small = absurd (omega arith)
+  swaps slots i (suc to) v below held s g wide small = swaps_at i to v s g (let p = g.paired in omega arith) (slice_index s.words i) refl
+
+-- a swap to 0 by who has the slot brings it home
+pub releases : {X T : Type 0} (fits : ℕ → X → Type 0) (slots id i : ℕ) (m : Me (Option X) (Seen T)) (x : X) → i < slots → m.1 ≡ (i, Some x) ∷ [] → fits i x
+    → Allows (Guarded {V = Seen T} fits) slots id m i (λ _. 0) (λ found me. (me.1 ≡ []) × (me.0.found ≡ found))
+releases {X} {T} fits slots id i m x below has ok s g wide at small =
+    let n = slice_index s.words i in
+    subst (λ (c : List (ℕ × Option X)). (w : Seen T) × (a : Act (Option X)) × Valid s.homes c a × Guarded fits (stepped s i 0 id c w a) × ((carried_after c a ≡ []) × (w.found ≡ n))) (sym has) (record { tag = m.0.tag; found = n }, gives, tt, released fits s _ i x g (omega arith) ok, (refl, refl))

@@ -1,0 +1,24 @@
+//! What stands for a value that was taken.
+
+ghost use Rattle.std.specs.Prelude.{◌≡◌, None, [], ◌∷◌};
+
+use crate::guard::Seen;
+use atomic_table::Seat;
+
+/// The right to give a value back, and the duty: it has no `Drop`.
+pub struct Loan<X, T> {
+    pub(crate) place: usize,
+    pub(crate) seat: Seat<Option<X>, Seen<T>>,
+    ghost out: { seat.me.1 ≡ (place, None) ∷ [] },
+}
+
+impl<X, T> Loan<X, T> {
+    ghost use Rattle.hg_lock.specs.Locks.{place_of};
+
+    /// Which lock of its list it is of.
+    pub fn place(&self) -> usize
+        ensures { result ≡ place_of self.now }
+    {
+        self.place
+    }
+}

@@ -1,0 +1,176 @@
+//! A list of locks.
+
+ghost use Rattle.std.specs.Prelude.{◌≡◌, ◌<◌, ◌==◌, Some, [], length, map, IfOk};
+
+use crate::fits::Fits;
+use crate::guard::{AWAITED, FREE, Guard, HELD, Release, Seen, Seize};
+use crate::loan::Loan;
+use atomic_table::{Refused, Seat, Table};
+use hg_base::NoMemory;
+use std::alloc::{AllocError, Global};
+use std::hint::spin_loop;
+use std::sync::Wait;
+
+// How often a thread looks at a lock that is held before it sleeps.
+const LOOKS: u32 = 100;
+
+/// Values, each under a lock of its own. Two locks of a list can be held at once.
+#[derive(Drop)]
+pub struct Locks<X: Fits> {
+    table: Table<Option<X>, Seen<X::Tag>, X::Tag, Guard<X>, Global>,
+    ghost paired: { table.shared.table_id.words ≡ table.shared.table_id.slots },
+}
+
+// A lock that was freed. It has no `Drop`: whoever sleeps on it is owed a wake.
+struct Freed<X, T> {
+    place: usize,
+    awaited: bool,
+    seat: Seat<Option<X>, Seen<T>>,
+    ghost home: { seat.me.1 ≡ [] },
+    // Somebody may sleep exactly where the step that freed the lock found `AWAITED`.
+    ghost told: { awaited ≡ (seat.me.0.found == 2) },
+}
+
+fn filled<X: Drop>(alloc: Global, values: Vec<X>) -> Result<Vec<Option<X>>, AllocError>
+    ensures { IfOk result (λ slots. slots.items ≡ map Some values.items) }
+{
+    values.into_iter().map(Some).collect(alloc)
+}
+
+impl<X: Fits + Drop> Locks<X> {
+    ghost use Rattle.hg_lock.specs.Guarded.{HasValue};
+    ghost use Rattle.hg_lock.specs.Locks.{EachFits, IsLoanOf, count_of, place_of, tag_of};
+
+    /// A free lock for each value, in order.
+    pub fn new(alloc: Global, values: Vec<X>, tag: &X::Tag) -> Result<Locks<X>, NoMemory>
+        requires { EachFits (X.fits tag.now) values.items }
+        ensures tag { IfOk result (λ locks. tag_of locks ≡ tag.now) }
+        ensures count { IfOk result (λ locks. count_of locks ≡ length values.items) }
+    {
+        let slots = filled(alloc, values)?;
+        let words = vec![in alloc; FREE; slots.len()]?;
+        match Table::new(alloc, words.as_slice(), slots, tag) {
+            Ok((table, _seat)) => Ok(Locks { table }),
+            Err(Refused { slots: _ }) => Err(NoMemory),
+        }
+    }
+
+    /// How many locks there are.
+    pub fn count(&self) -> usize
+        ensures { result ≡ count_of self.now }
+    {
+        self.table.slot_count()
+    }
+
+    /// Sleeps while the lock is held. A thread that holds it already waits for itself.
+    pub fn take<R: Wait>(&self, rt: &R, place: usize) -> (X, Loan<X, X::Tag>)
+        requires { place < count_of self.now }
+        ensures fits { X.fits (tag_of self.now) place result.0 }
+        ensures loan { IsLoanOf self.now result.1 }
+        ensures place { place_of result.1 ≡ place }
+    {
+        let mut seat = self.claim(rt, place);
+        let value = self.table.shared.exchange(&mut seat, place, None);
+        (value.unwrap(), Loan { place, seat })
+    }
+
+    /// Frees the lock, with this value under it. It waits for nobody.
+    pub fn give(&self, value: X, loan: Loan<X, X::Tag>)
+        requires fits { X.fits (tag_of self.now) (place_of loan) value }
+        requires loan { IsLoanOf self.now loan }
+    {
+        self.wake(self.free(value, loan));
+    }
+
+    // Takes the slot, by one step where the lock is free.
+    fn claim<R: Wait>(&self, rt: &R, place: usize) -> Seat<Option<X>, Seen<X::Tag>>
+        requires { place < count_of self.now }
+        ensures list { result.table_id ≡ self.now.table.shared.table_id }
+        ensures value { HasValue (X.fits (tag_of self.now)) place result.me }
+    {
+        match self.seize(place, HELD) {
+            Ok(seat) => seat,
+            Err(found) => self.wait(rt, place, found),
+        }
+    }
+
+    // Takes the slot of a lock that was found held, and sleeps until it is free.
+    fn wait<R: Wait>(&self, rt: &R, place: usize, found: u64) -> Seat<Option<X>, Seen<X::Tag>>
+        requires { place < count_of self.now }
+        ensures list { result.table_id ≡ self.now.table.shared.table_id }
+        ensures value { HasValue (X.fits (tag_of self.now)) place result.me }
+    {
+        if found == HELD && self.look(place) == FREE {
+            if let Ok(seat) = self.seize(place, HELD) {
+                return seat;
+            }
+        }
+        // `HELD` may have been written over `AWAITED`, which is put back before anything else.
+        for _ in rt.forever() {
+            if let Ok(seat) = self.seize(place, AWAITED) {
+                return seat;
+            }
+            self.table.shared.park(rt, place, AWAITED as u32);
+            self.look(place);
+        }
+        unreachable!()
+    }
+
+    // Writes the word of a lock, which is held from then on, and takes the slot if it was free. Else answers the word
+    // that it found.
+    fn seize(&self, place: usize, word: u64) -> Result<Seat<Option<X>, Seen<X::Tag>>, u64>
+        requires place { place < count_of self.now }
+        requires held { FREE < word }
+        ensures list { IfOk result (λ seat. seat.table_id ≡ self.now.table.shared.table_id) }
+        ensures value { IfOk result (λ seat. HasValue (X.fits (tag_of self.now)) place seat.me) }
+    {
+        let (found, seat) = self.table.shared.swap_new_seat::<Seize<X>>(place, word);
+        if found == FREE { Ok(seat) } else { Err(found) }
+    }
+
+    // Looks for a while, as long as the lock is held and nobody sleeps.
+    fn look(&self, place: usize) -> u64
+        requires { place < count_of self.now }
+    {
+        for _ in 0..LOOKS {
+            let seen = self.table.shared.peek(place);
+            if seen != HELD {
+                return seen;
+            }
+            spin_loop();
+        }
+        HELD
+    }
+
+    // Lays the value down and frees the lock. A lock whose slot is at home is free, by the rule.
+    fn free(&self, value: X, loan: Loan<X, X::Tag>) -> Freed<X, X::Tag>
+        requires fits { X.fits (tag_of self.now) (place_of loan) value }
+        requires loan { IsLoanOf self.now loan }
+        ensures list { result.seat.table_id ≡ self.now.table.shared.table_id }
+        ensures place { (result.place ≡ place_of loan) × (result.place < count_of self.now) }
+    {
+        let Loan { place, mut seat } = loan;
+        let shared = &self.table.shared;
+        drop(shared.exchange(&mut seat, place, Some(value)));
+        let found = shared.swap::<Release>(&mut seat, place, FREE);
+        Freed {
+            place,
+            awaited: found == AWAITED,
+            seat,
+        }
+    }
+
+    // Wakes one who sleeps on the lock, where somebody may.
+    fn wake(&self, freed: Freed<X, X::Tag>)
+        requires { freed.place < count_of self.now }
+    {
+        let Freed {
+            place,
+            awaited,
+            seat: _,
+        } = freed;
+        if awaited {
+            self.table.shared.wake_one(place);
+        }
+    }
+}
