@@ -10,3 +10,5 @@ pub mod Naming
 pub mod Installing
 pub mod Stamping
 pub mod Refusing
+pub mod Cutting
+pub mod Shortening

@@ -72,6 +72,11 @@ pub record AreWhole (index : List (Rid × ℕ)) (chains : List (Rid × List Vers
   pub falls : (r : Rid) (p : ℕ) → place_of index r ≡ Some p → Each (λ v. IsOver v.stamp (image_at places p)) (chain_of chains r)
   pub rows : (r : Rid) (p : ℕ) → place_of index r ≡ Some p → IsRow (image_at places p)
 
+-- what a cut hands out of a chain becomes the oldest image, where it is a row; where nothing is handed out, that stays
+abbrev pub settled : Oldest → Oldest → Oldest
+settled None image = image
+settled (Some p) image = if is_some p.1.row then Some p else None
+
 -- ---- changing the parts
 
 -- each place that the index names is as before

@@ -1,11 +1,11 @@
 //! Records with their versions, and counters of them.
 
-ghost use Rattle.std.specs.Prelude.{◌≡◌, ◌+◌, ◌<◌, ◌^◌, [], None, IsTrue, IsOk, IfSome, IfErr, OnOk, OnErr, drop, if◌then◌else◌};
+ghost use Rattle.std.specs.Prelude.{◌≡◌, ◌+◌, ◌<◌, ◌^◌, length, [], None, IsTrue, IsOk, IfSome, IfErr, OnOk, OnErr, drop, if◌then◌else◌};
 ghost use Rattle.std.specs.Option.{option_copied};
 ghost use Rattle.hg_base.specs.Lists.{Each};
 ghost use Rattle.hg_bucket.specs.declared.refusal.WriteRefusal.TheVariants.{Open, Newer};
 ghost use Rattle.hg_bucket.specs.Conflicts.{holder, newer, IsCause};
-ghost use Rattle.hg_bucket.specs.Held.{versions_of, begins_open, installed, stamped, OthersStay, IsBelow, read_at, counts_of, IsNextKey};
+ghost use Rattle.hg_bucket.specs.Held.{versions_of, begins_open, installed, stamped, OthersStay, IsBelow, read_at, cut_at, counts_of, IsNextKey};
 
 use crate::records::Records;
 use crate::refusal::WriteRefusal;
@@ -101,6 +101,18 @@ impl Bucket {
         ensures counters { self.new ≡ record self.old { records = self.new.records } }
     {
         self.records.stamp(rid, by, number);
+    }
+
+    /// Cuts a record's versions at a bound. The answer says how many went.
+    pub fn cut_record(&mut self, rid: Rid, bound: u64) -> u64
+        ensures here { versions_of self.new.records rid ≡ cut_at bound (versions_of self.old.records rid) }
+        ensures others { OthersStay self.old.records self.new.records rid }
+        ensures gone { length (versions_of self.new.records rid) + result ≡ length (versions_of self.old.records rid) }
+        ensures group { self.new ≡ record self.old { records = self.new.records; group = self.old.group + result } }
+    {
+        let gone = self.records.cut(rid, bound);
+        self.group += gone;
+        gone
     }
 
     /// The least key of a table at or over a number, of those that have a version.

@@ -2,12 +2,12 @@
 
 ghost use Rattle.std.specs.Prelude.{◌≡◌, [], not, drop, IsTrue, IsSome, IsOk, IfOk, OnOk, OnErr};
 ghost use Rattle.hg_base.specs.Lists.{Each};
-ghost use Rattle.hg_chain.specs.Versions.{newest, number_in, image_by, image_at, is_open_by, installed, stamped, IsBelow, NoOther};
+ghost use Rattle.hg_chain.specs.Versions.{newest, number_in, image_by, image_at, is_open_by, installed, stamped, left_by, oldest_at, others_at, IsBelow, NoOther};
 ghost use Rattle.std.specs.Option.{option_copied, option_or};
 ghost use Rattle.hg_bucket.specs.Parts.{chain_of, ChainIs};
 
 use hg_base::{Image, NoMemory, Rid, Writer};
-use hg_chain::{Chain, Stamp};
+use hg_chain::{Chain, Cut, Stamp};
 use std::alloc::Global;
 use std::collections::BTreeMap;
 
@@ -114,4 +114,24 @@ pub(crate) fn stamp(chains: &mut Chains, rid: Rid, by: Writer, number: u64)
     if let Some(chain) = chains.get_mut(&rid) {
         chain.stamp(by, number);
     }
+}
+
+/// Removes every version of a record's chain numbered at or below the bound, and hands out the newest of them.
+pub(crate) fn cut(chains: &mut Chains, rid: Rid, bound: u64) -> Cut
+    ensures here { ChainIs chains.old.entries chains.new.entries rid (left_by bound (chain_of chains.old.entries rid)) }
+    ensures image { result.image ≡ oldest_at bound (chain_of chains.old.entries rid) }
+    ensures gone { result.gone ≡ others_at bound (chain_of chains.old.entries rid) }
+{
+    let Some(chain) = chains.get_mut(&rid) else {
+        return Cut {
+            image: None,
+            gone: 0,
+        };
+    };
+    let cut = chain.cut(bound);
+    if chain.newest().is_none() {
+        end(chains, rid);
+        return cut;
+    }
+    cut
 }
