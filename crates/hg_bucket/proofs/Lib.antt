@@ -12,3 +12,6 @@ pub mod Stamping
 pub mod Refusing
 pub mod Cutting
 pub mod Shortening
+pub mod Ranging
+pub mod Settling
+pub mod Walking

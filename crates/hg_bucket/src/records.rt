@@ -1,14 +1,15 @@
 //! Records with their versions.
 
-ghost use Rattle.std.specs.Prelude.{◌≡◌, ◌+◌, ◌≤◌, ◌^◌, length, [], not, drop, IsTrue, IsOk, IfOk, IfErr, OnOk, OnErr, IfSome, if◌then◌else◌, None};
+ghost use Rattle.std.specs.Prelude.{◌≡◌, ℕ, ◌+◌, ◌<◌, ◌≤◌, ◌^◌, length, [], not, drop, IsTrue, IsOk, IfOk, IfErr, OnOk, OnErr, IfSome, if◌then◌else◌, None};
 ghost use Rattle.hg_base.specs.Lists.{Each};
+ghost use Rattle.hg_base.specs.declared.rid.Rid.{Rid};
 ghost use Rattle.std.specs.Option.{option_copied};
 ghost use Rattle.hg_space.specs.Places as seat;
 ghost use Rattle.hg_space.specs.Places.{IsTaken};
 ghost use Rattle.hg_space.specs.Index.{AreTaken, place_of, IsIndex};
-ghost use Rattle.hg_bucket.specs.Parts.{oldest_by, records_of, AreWhole};
+ghost use Rattle.hg_bucket.specs.Parts.{oldest_by, records_of, AreWhole, IsNextLong};
 ghost use Rattle.hg_bucket.specs.Conflicts.{conflict, NoOther, holder, newer, IsCause};
-ghost use Rattle.hg_bucket.specs.Held.{versions_of, begins_open, installed, stamped, OthersStay, IsBelow, read_at, cut_at, IsNextKey, left};
+ghost use Rattle.hg_bucket.specs.Held.{versions_of, begins_open, installed, stamped, OthersStay, IsBelow, read_at, record_at, cut_at, IsNextKey, left};
 
 use crate::chains::{self, Chains};
 use crate::places::{self, drop_bare};
@@ -166,6 +167,37 @@ impl Records {
         };
         let gone = gone + places::settle(&mut self.space, place, newest);
         drop_bare(&mut self.index, &mut self.space, &self.chains, rid);
+        gone
+    }
+
+    // The least key of a table whose record can be shortened: those below it can't.
+    fn first_long(&self, table: TableId) -> Option<u64>
+        ensures next { IsNextLong self.now table 0 result }
+        ensures fits { IfSome result (λ key. key < 2 ^ 64) }
+    {
+        chains::first(&self.chains, table)
+    }
+
+    fn long_after(&self, table: TableId, key: u64) -> Option<u64>
+        ensures next { IsNextLong self.now table (key + 1) result }
+        ensures fits { IfSome result (λ key. key < 2 ^ 64) }
+    {
+        chains::after(&self.chains, table, key)
+    }
+
+    /// Cuts each record of a table at a bound. The answer says how many versions went.
+    pub fn cut_table(&mut self, table: TableId, bound: u64) -> u64
+        requires { left self.old ≤ 2 ^ 40 }
+        ensures each { (k : ℕ) → versions_of self.new (record_at table k) ≡ cut_at bound (versions_of self.old (record_at table k)) }
+        ensures others { (q : Rid) → (q.table ≡ table → ⊥) → versions_of self.new q ≡ versions_of self.old q }
+        ensures left { left self.new + result ≡ left self.old }
+    {
+        let mut gone = 0;
+        let mut next = self.first_long(table);
+        while let Some(key) = next {
+            gone += self.cut(Rid { table, key }, bound);
+            next = self.long_after(table, key);
+        }
         gone
     }
 }
