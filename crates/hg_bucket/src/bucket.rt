@@ -1,14 +1,15 @@
 //! Records with their versions, and counters of them.
 
-ghost use Rattle.std.specs.Prelude.{◌≡◌, ◌+◌, ◌<◌, ◌^◌, [], None, not, IsTrue, IsOk, IfOk, IfSome, IfErr, OnOk, OnErr, drop, if◌then◌else◌};
+ghost use Rattle.std.specs.Prelude.{◌≡◌, ℕ, ◌+◌, ◌<◌, ◌^◌, length, [], None, not, IsTrue, IsOk, IfOk, IfSome, IfErr, OnOk, OnErr, drop, if◌then◌else◌};
 ghost use Rattle.std.specs.Option.{option_copied};
 ghost use Rattle.std.specs.List.{IsDistinct};
 ghost use Rattle.std.specs.Map.{keys_of};
 ghost use Rattle.hg_base.specs.History.{same_rid};
 ghost use Rattle.hg_base.specs.Lists.{Each};
+ghost use Rattle.hg_base.specs.declared.rid.Rid.{Rid};
 ghost use Rattle.hg_bucket.specs.declared.refusal.WriteRefusal.TheVariants.{Open, Newer};
 ghost use Rattle.hg_bucket.specs.Conflicts.{holder, newer, IsCause};
-ghost use Rattle.hg_bucket.specs.Held.{versions_of, begins_open, installed, stamped, OthersStay, IsBelow, read_at, counts_of, IsBalanced, IsNextKey};
+ghost use Rattle.hg_bucket.specs.Held.{versions_of, begins_open, installed, stamped, OthersStay, IsBelow, read_at, record_at, cut_at, left, counts_of, IsBalanced, IsNextKey};
 
 use crate::records::Records;
 use crate::refusal::WriteRefusal;
@@ -105,6 +106,31 @@ impl Bucket {
         ensures counters { self.new ≡ record self.old { records = self.new.records } }
     {
         self.records.stamp(rid, by, number);
+    }
+
+    /// Cuts a record's versions at a bound. The answer says how many went.
+    pub fn cut_record(&mut self, rid: Rid, bound: u64) -> u64
+        ensures here { versions_of self.new.records rid ≡ cut_at bound (versions_of self.old.records rid) }
+        ensures others { OthersStay self.old.records self.new.records rid }
+        ensures gone { length (versions_of self.new.records rid) + result ≡ length (versions_of self.old.records rid) }
+        ensures group { self.new ≡ record self.old { records = self.new.records; group = self.old.group + result } }
+    {
+        let gone = self.records.cut(rid, bound);
+        self.group += gone;
+        gone
+    }
+
+    /// Cuts each record of a table at a bound. The answer says how many versions went. A record that has only its oldest
+    /// image costs nothing.
+    pub fn cut_table(&mut self, table: TableId, bound: u64) -> u64
+        ensures each { (k : ℕ) → versions_of self.new.records (record_at table k) ≡ cut_at bound (versions_of self.old.records (record_at table k)) }
+        ensures others { (q : Rid) → (q.table ≡ table → ⊥) → versions_of self.new.records q ≡ versions_of self.old.records q }
+        ensures gone { left self.new.records + result ≡ left self.old.records }
+        ensures counted { self.new ≡ record self.old { records = self.new.records; table = self.old.table + result } }
+    {
+        let gone = self.records.cut_table(table, bound);
+        self.table += gone;
+        gone
     }
 
     /// The least key of a table at or over a number, of those that have a version.
