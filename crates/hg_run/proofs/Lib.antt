@@ -6,3 +6,6 @@ mod Parts
 mod Asking
 mod Statements
 mod Ending
+mod BucketsPlaced
+mod BucketsWriting
+mod BucketsBatches
