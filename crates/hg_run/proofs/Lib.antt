@@ -9,3 +9,6 @@ mod Ending
 mod BucketsPlaced
 mod BucketsWriting
 mod BucketsBatches
+mod BucketsBeginning
+mod BucketsScanning
+mod BucketsGathering

@@ -1,5 +1,5 @@
 -- The versions of all records, as a list of buckets keeps them.
-use Rattle.std.specs.Prelude.{◌≡◌, ℕ, ℤ, zero, suc, ◌+◌, ◌<◌, ◌≤◌, List, [], ◌∷◌, ◌++◌, length, sum_by, Bool, true, false, not, ◌==◌, if◌then◌else◌, Option, Some, None, IsFalse, ⊤}
+use Rattle.std.specs.Prelude.{◌≡◌, ℕ, ℤ, zero, suc, ◌+◌, ◌<◌, ◌≤◌, List, [], ◌∷◌, ◌++◌, length, sum_by, Bool, true, false, not, ◌==◌, if◌then◌else◌, Option, Some, None, option_map, option_to_list, IsFalse, ⊤}
 use Rattle.std.specs.Option.{MatchOption}
 use Rattle.hg_base.specs.declared.rid.Rid.{Rid}
 use Rattle.hg_base.specs.declared.rid.TableId.{TableId}
@@ -78,6 +78,10 @@ IsNextWithin records table from high found =
     ((k : ℕ) → from ≤ k → k ≤ high → IsThere records table k → ⊥)
     (λ least. (from ≤ least) × (least ≤ high) × ((k : ℕ) → from ≤ k → IsThere records table k → least ≤ k))
 
+-- a row with its key, where there is one
+abbrev pub with_key : ℕ → Option (List ℤ) → List (ℕ × List ℤ)
+with_key key row = option_to_list (option_map (λ values. (key, values)) row)
+
 -- behind the rows that were there now stand those of the range
 pub record Appends (look : ℕ → Image) (low high : ℕ) (old new : List (ℕ × List ℤ)) : Type 0 where
   pub more : List (ℕ × List ℤ)
@@ -106,6 +110,13 @@ pub record Settles (old new : List Held) (bound : ℕ) : Type 0 where
   pub many : length new ≡ length old
   pub made : made_in new ≡ made_in old
   pub undone : undone_in new ≡ undone_in old
+
+-- Of one bucket: each record of a table that there may be is cut, and each other one as before. Only the counter of the tables
+-- is another.
+pub record IsSettled (old new : Held) (bound : ℕ) : Type 0 where
+  pub each : (r : Rid) → r.table.0 < MOST_TABLES → versions_of new.records r ≡ cut_at bound (versions_of old.records r)
+  pub others : (r : Rid) → MOST_TABLES ≤ r.table.0 → versions_of new.records r ≡ versions_of old.records r
+  pub counters : new ≡ record old { records = new.records; table = new.table }
 
 -- whether there is a version
 abbrev pub is_any : List Kept → Bool

@@ -1,6 +1,6 @@
 //! The versions of all records, in buckets.
 
-ghost use Rattle.std.specs.Prelude.{◌≡◌, ◌+◌, ◌<◌, ◌≤◌, ◌^◌, length, drop, IsTrue, IfOk, IfErr, OnOk, OnErr, unwrap_or};
+ghost use Rattle.std.specs.Prelude.{◌≡◌, ◌+◌, ◌++◌, ◌<◌, ◌≤◌, ◌^◌, length, drop, IsTrue, IfOk, IfErr, OnOk, OnErr, unwrap_or};
 ghost use Rattle.std.specs.Option.{option_copied};
 ghost use Rattle.hg_base.specs.declared.rid.Rid.{Rid};
 ghost use Rattle.hg_base.specs.Lists.{Each};
@@ -9,9 +9,9 @@ ghost use Rattle.hg_base.specs.Replies.{AreRows};
 ghost use Rattle.hg_core.specs.Contents.{bucket_of};
 ghost use Rattle.hg_bucket.specs.Held.{begins_open, stamped, read_at, IsBelow, record_at, versions_of};
 ghost use Rattle.hg_base.specs.declared.limits.TheConstants.{MOST_TABLES};
-ghost use Rattle.hg_run.specs.Buckets.{Appends, IsNextWithin, IsBalance, both, Becomes, AreCounts, AreEmpty, ChangesEach, Settles, Refuses, Stores, made_in, undone_in, versions_in};
+ghost use Rattle.hg_run.specs.Buckets.{Appends, IsSettled, with_key, IsNextWithin, IsBalance, both, Becomes, AreCounts, AreEmpty, ChangesEach, Settles, Refuses, Stores, made_in, undone_in, versions_in};
 
-use hg_base::{Image, NoMemory, Rid, Row, TableId, Totals, Writer};
+use hg_base::{Image, MOST_TABLES, NoMemory, Rid, Row, TableId, Totals, Writer};
 use hg_bucket::{Bucket, WriteRefusal};
 use std::alloc::Global;
 use std::marker::Model;
@@ -153,7 +153,9 @@ impl Buckets {
     pub(crate) fn settle(&mut self, bound: u64)
         ensures { Settles self.old self.new bound }
     {
-        unreachable!()
+        for bucket in self.buckets.iter_mut() {
+            settle_bucket(bucket, bound);
+        }
     }
 
     /// The counts of all buckets together.
@@ -211,11 +213,31 @@ fn next_within(bucket: &Bucket, table: TableId, from: u64, high: u64) -> Option<
     bucket.next_key(table, from).filter(|key| *key <= high)
 }
 
-// The row that a transaction reads of a record, if it is one.
-fn row_at(bucket: &Bucket, rid: Rid, at: u64, by: Writer) -> Option<&Row>
-    ensures { option_copied result ≡ (unwrap_or (read_at by at (versions_of bucket.now.records rid)) nothing).row }
+// The next one after a key.
+fn next_after(bucket: &Bucket, table: TableId, key: u64, high: u64) -> Option<u64>
+    ensures { IsNextWithin bucket.now.records table (key + 1) high result }
 {
-    bucket.read(rid, at, by)?.row.as_ref()
+    if key < high {
+        next_within(bucket, table, key + 1, high)
+    } else {
+        None
+    }
+}
+
+// Adds the row that a transaction reads of a record, if it reads one.
+fn push_row(
+    bucket: &Bucket,
+    rid: Rid,
+    at: u64,
+    by: Writer,
+    rows: &mut Vec<(u64, Row)>,
+) -> Result<(), NoMemory>
+    ensures { OnOk result (rows.new.items ≡ rows.old.items ++ with_key rid.key (unwrap_or (read_at by at (versions_of bucket.now.records rid)) nothing).row) }
+{
+    if let Some(Image { row: Some(row) }) = bucket.read(rid, at, by) {
+        rows.push((rid.key, row.copy()?))?;
+    }
+    Ok(())
 }
 
 // Adds the rows that a transaction reads of a bucket from `low` to `high`.
@@ -232,14 +254,17 @@ fn push_rows(
 {
     let mut next = next_within(bucket, table, low, high);
     while let Some(key) = next {
-        if let Some(row) = row_at(bucket, Rid { table, key }, at, by) {
-            rows.push((key, row.copy()?))?;
-        }
-        next = if key < high {
-            next_within(bucket, table, key + 1, high)
-        } else {
-            None
-        };
+        push_row(bucket, Rid { table, key }, at, by, rows)?;
+        next = next_after(bucket, table, key, high);
     }
     Ok(())
+}
+
+// Cuts every table of a bucket at a bound.
+fn settle_bucket(bucket: &mut Bucket, bound: u64)
+    ensures { IsSettled bucket.old bucket.new bound }
+{
+    for table in 0..MOST_TABLES {
+        bucket.cut_table(TableId(table), bound);
+    }
 }
