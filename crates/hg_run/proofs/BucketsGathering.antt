@@ -52,12 +52,12 @@ ascends_tail : (x : ℕ) (xs : List ℕ) → Ascends (x ∷ xs) → Ascends xs
 ascends_tail x [] a = tt
 ascends_tail x (y ∷ ys) a = a.1
 
+nothing_twice : IsDistinct nat_eq []
+unfolding IsDistinct
+nothing_twice = tt
+
 ascends_distinct : (xs : List ℕ) → Ascends xs → IsDistinct nat_eq xs
 ascends_distinct [] a = nothing_twice
-  where
-    nothing_twice : IsDistinct nat_eq []
-    unfolding IsDistinct
-    nothing_twice = tt
 ascends_distinct (x ∷ xs) a = IsDistinct-cons nat_eq x xs (all_of (λ y. nat_eq x y ≡ false) xs (each_keeps (λ y. x < y) (λ y. nat_eq x y ≡ false) (λ y l. is_apart x y (λ e. absurd (omega (arith, l, e)))) xs (all_over x xs a))) (ascends_distinct xs (ascends_tail x xs a))
 
 -- ---- one bucket more

@@ -67,7 +67,7 @@ ascends_snoc [] k a b = tt
 ascends_snoc (m ∷ []) k a b = (b.0, tt)
 ascends_snoc (m ∷ n ∷ ns) k a b = (a.0, ascends_snoc (n ∷ ns) k a.1 b.1)
 
-map_append : (xs ys : Pairs) → map key_of (xs ++ ys) ≡ map key_of xs ++ map key_of ys
+pub map_append : (xs ys : Pairs) → map key_of (xs ++ ys) ≡ map key_of xs ++ map key_of ys
 map_append [] ys = refl
 map_append (x ∷ xs) ys = ap (λ ns. x.0 ∷ ns) (map_append xs ys)
 
@@ -75,7 +75,7 @@ each_mapped : (P : ℕ → Type 0) (xs : Pairs) → Each (λ p. P p.0) xs → Ea
 each_mapped P [] e = tt
 each_mapped P (x ∷ xs) e = (e.0, each_mapped P xs e.1)
 
-any_behind : {X : Type 0} (p : X → Bool) (xs ys : List X) → IsTrue (list_any p ys) → IsTrue (list_any p (xs ++ ys))
+pub any_behind : {X : Type 0} (p : X → Bool) (xs ys : List X) → IsTrue (list_any p ys) → IsTrue (list_any p (xs ++ ys))
 any_behind p [] ys h = h
 any_behind p (x ∷ xs) ys h = go (p x) (any_behind p xs ys h)
   where

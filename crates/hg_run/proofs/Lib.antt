@@ -12,3 +12,5 @@ mod BucketsBatches
 mod BucketsBeginning
 mod BucketsScanning
 mod BucketsGathering
+mod BucketsCounting
+mod BucketsSettling
