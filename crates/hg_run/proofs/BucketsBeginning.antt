@@ -6,7 +6,7 @@ use Rattle.hg_base.specs.declared.rid.Rid.{Rid}
 use Rattle.hg_base.specs.Lists.{Each}
 use Rattle.hg_base.proofs.ListFacts.{each_keeps}
 use Rattle.hg_core.specs.Contents.{bucket_of}
-use Rattle.hg_bucket.specs.Held.{Held, Kept, versions_of}
+use Rattle.hg_bucket.specs.Held.{Held, versions_of}
 use Rattle.hg_run.specs.Buckets.{records_at, AreEmpty, ArePlaced}
 
 abbrev pub fresh : Held

@@ -1,12 +1,12 @@
 -- The counts of all buckets, and the records that they hold.
 use Rattle.std.proofs.Common.{◌≡◌, ℕ, zero, suc, ◌+◌, ◌<◌, ◌≤◌, List, [], ◌∷◌, ◌++◌, length, take, get_or, Bool, true, false, refl, sym, ap, ◌∙◌, subst, arith}
-use Rattle.std.specs.Prelude.{◌==◌, ◌||◌, cond, filter, sum_by, IsTrue, IsFalse, unwrap_or, option_map, Option, Some, None, ⊤}
-use Rattle.std.specs.List.{list_any, IsDistinct, AllByRecursion}
+use Rattle.std.specs.Prelude.{◌==◌, ◌||◌, cond, sum_by, unwrap_or, Some}
+use Rattle.std.specs.List.{IsDistinct, AllByRecursion}
 use Rattle.std.specs.Map.{keys_of, lookup}
 use Rattle.std.proofs.lemmas.List.Sums.{sum_by-cons, sum_by_more, sum_by_more_le}
 use Rattle.std.proofs.Math.Seq.{take-length}
 use Rattle.std.proofs.lemmas.Bool.Decides.{Decides-eqb}
-use Rattle.std.proofs.lemmas.Map.{NonePasses, lookup-none}
+use Rattle.std.proofs.lemmas.Map.{NonePasses}
 use Rattle.std.proofs.lemmas.Map.Keys.{IsDistinct-head, IsDistinct-tail}
 use Rattle.std.proofs.lemmas.Map.Entries.{none_past_head}
 use Rattle.hg_base.specs.declared.rid.Rid.{Rid}
@@ -14,12 +14,11 @@ use Rattle.hg_base.specs.declared.line.Totals.{Totals}
 use Rattle.hg_base.specs.Lists.{Each}
 use Rattle.hg_base.specs.History.{same_rid, is_among, NoneTwice}
 use Rattle.hg_base.proofs.ListFacts.{cases, false_true, each_keeps}
-use Rattle.hg_base.proofs.HistoryFacts.{same_rid_equal}
 use Rattle.hg_base.proofs.RidOrder.{rids_equiv, is_same, same_back}
 use Rattle.hg_core.specs.Contents.{bucket_of}
 use Rattle.hg_bucket.specs.Held.{Held, Kept, versions_of, left, counts_of}
-use Rattle.hg_run.specs.Buckets.{records_at, versions_in, ArePlaced, AreHeld, AreCounts, IsBalance, both, is_any, made_in, undone_in}
-use Rattle.hg_run.proofs.BucketsPlaced.{is_apart, differ, each_get}
+use Rattle.hg_run.specs.Buckets.{records_at, ArePlaced, AreCounts, IsBalance, both, is_any, made_in}
+use Rattle.hg_run.proofs.BucketsPlaced.{is_apart}
 
 abbrev pub Entries : Type 0
 Entries = List (Rid × List Kept)
@@ -131,9 +130,10 @@ among_all r (h ∷ hs) (suc home) d n =
 
 once_append : (xs ys : List Rid) → NoneTwice xs → NoneTwice ys → ((r : Rid) → is_among r xs ≡ true → is_among r ys ≡ false) → NoneTwice (xs ++ ys)
 once_append [] ys a b k = b
-once_append (x ∷ xs) ys a b k =
-    (among_append x xs ys ∙ ap (λ c. c || is_among x ys) a.0 ∙ k x (ap (λ c. c || is_among x xs) (is_same x)),
-    once_append xs ys a.1 b (λ r t. k r (ap (λ c. same_rid r x || c) t ∙ or_true (same_rid r x))))
+once_append (x ∷ xs) ys a b k = (
+  among_append x xs ys ∙ ap (λ c. c || is_among x ys) a.0 ∙ k x (ap (λ c. c || is_among x xs) (is_same x)),
+  once_append xs ys a.1 b (λ r t. k r (ap (λ c. same_rid r x || c) t ∙ or_true (same_rid r x))),
+)
 
 -- each once, since each stands in its own bucket alone
 pub all_once : (hs : List Held) (home : Rid → ℕ) (first : ℕ) → Each IsOnce hs → ((b : ℕ) (r : Rid) → (first + b ≡ home r → ⊥) → versions_of (records_at hs b) r ≡ []) → NoneTwice (held_in hs)

@@ -1,6 +1,6 @@
 -- One bucket changes: what becomes of its record, and of all others.
-use Rattle.std.proofs.Common.{◌≡◌, ℕ, zero, suc, ◌+◌, ◌<◌, ◌≤◌, List, [], ◌∷◌, length, get_or, Bool, true, false, refl, sym, ap, ◌∙◌, subst, arith}
-use Rattle.std.specs.Prelude.{◌==◌, nat_lt, sum_by, IsTrue, IsFalse}
+use Rattle.std.proofs.Common.{◌≡◌, ℕ, zero, suc, ◌<◌, ◌≤◌, List, [], ◌∷◌, length, get_or, false, refl, sym, ap, ◌∙◌, arith}
+use Rattle.std.specs.Prelude.{◌==◌, nat_lt, IsTrue}
 use Rattle.std.proofs.Math.ListN.{set}
 use Rattle.std.proofs.lemmas.List.{length-set}
 use Rattle.std.proofs.lemmas.Bool.Decides.{Decides-eqb, nat_tests}
@@ -13,7 +13,7 @@ use Rattle.hg_base.proofs.ListFacts.{cases, false_true}
 use Rattle.hg_base.proofs.HistoryFacts.{same_rid_equal}
 use Rattle.hg_core.specs.Contents.{bucket_of}
 use Rattle.hg_bucket.specs.Held.{Held, Kept, versions_of, OthersStay, begins_open}
-use Rattle.hg_run.specs.Buckets.{records_at, versions_in, AreOwn, ArePlaced, Becomes}
+use Rattle.hg_run.specs.Buckets.{records_at, versions_in, ArePlaced, Becomes}
 
 -- ---- tests of numbers
 
@@ -99,8 +99,8 @@ module _ (hs : List Held) (i : ℕ) (r : Rid) (g h : Held) (t : Turns hs i r g h
   placed p table group interval = record {
     some = rw (length-set hs i h) p.some;
     own = λ b q apart.
-    let elsewhere : (b == bucket_of (length hs) q) ≡ false = ap (λ n. b == bucket_of n q) (sym (length-set hs i h)) ∙ apart in
-    cases (b == i)
+        let elsewhere : (b == bucket_of (length hs) q) ≡ false = ap (λ n. b == bucket_of n q) (sym (length-set hs i h)) ∙ apart in
+        cases (b == i)
         (λ s.
         let at : b ≡ i = (Decides-eqb b i).0 s in
         let other : same_rid r q ≡ false = cases (same_rid r q) (λ same. absurd (differ b (bucket_of (length hs) q) elsewhere (at ∙ t.own ∙ ap (bucket_of (length hs)) (same_rid_equal r q same)))) (λ f. f) in

@@ -1,5 +1,5 @@
 -- Every table of every bucket is cut at a bound.
-use Rattle.std.proofs.Common.{◌≡◌, ℕ, zero, suc, ◌+◌, ◌<◌, ◌≤◌, List, [], ◌∷◌, ◌++◌, length, take, drop, get_or, Bool, true, false, refl, sym, ap, ◌∙◌, subst, arith}
+use Rattle.std.proofs.Common.{◌≡◌, ℕ, zero, suc, ◌+◌, ◌<◌, ◌≤◌, List, [], ◌∷◌, ◌++◌, length, take, drop, get_or, refl, sym, ap, ◌∙◌, subst, arith}
 use Rattle.std.specs.Prelude.{◌==◌, nat_lt, sum_by}
 use Rattle.std.proofs.Math.ListN.{set}
 use Rattle.std.proofs.Math.Seq.{take-length}
@@ -46,8 +46,8 @@ table_cut old now new bound t table gone is c each others counted = record {
       let below : r.table.0 < t = less_still r.table.0 t less apart in
       others r (λ e. apart (ap (λ x. x.0) e ∙ is)) ∙ c.each r below);
   others = λ r k.
-  let from : t ≤ r.table.0 = omega (arith, k) in
-  others r (λ e. let same : r.table.0 ≡ t = ap (λ x. x.0) e ∙ is in absurd (omega (arith, same, k))) ∙ c.others r from;
+      let from : t ≤ r.table.0 = omega (arith, k) in
+      others r (λ e. let same : r.table.0 ≡ t = ap (λ x. x.0) e ∙ is in absurd (omega (arith, same, k))) ∙ c.others r from;
   counters = counted ∙ ap {A = Held} {B = Held} (λ h. record h { records = new.records; table = now.table + gone }) c.counters ∙ ap {A = ℕ} {B = Held} (λ n. record old { records = new.records; table = n }) (sym (ap (λ h. h.table) counted));
 }
   where
@@ -153,8 +153,8 @@ module _ (old new : List Held) (bound i : ℕ) (p : ArePlaced old) (all : length
   still_placed = record {
     some = let some = p.some in let many = c.many in omega (arith, some, many);
     own = λ b r apart.
-    let none = p.own b r (ap (λ n. b == bucket_of n r) (sym c.many) ∙ apart) in
-    cases (nat_lt r.table.0 MOST_TABLES)
+        let none = p.own b r (ap (λ n. b == bucket_of n r) (sym c.many) ∙ apart) in
+        cases (nat_lt r.table.0 MOST_TABLES)
         (λ t. let table : r.table.0 < MOST_TABLES = grind (arith, nat_tests, t) in cut_of b r table ∙ ap (cut_at bound) none)
         (λ f. let table : MOST_TABLES ≤ r.table.0 = grind (arith, nat_tests, f) in stays_of b r table ∙ none);
     tables = λ r table. same_bucket r ∙ stays_of (bucket_of (length old) r) r table ∙ p.tables r table;

@@ -1,6 +1,6 @@
 -- What a write of one bucket tells of all.
-use Rattle.std.proofs.Common.{◌≡◌, ℕ, ◌+◌, List, length, get_or, Bool, true, false, refl, sym, ap, ◌∙◌, subst, arith}
-use Rattle.std.specs.Prelude.{Result, Ok, Err, Option, Some, None, IsTrue, IsFalse, IsOk, IfSome, IfOk, IfErr, OnOk, OnErr, not, sum_by, if◌then◌else◌}
+use Rattle.std.proofs.Common.{◌≡◌, ℕ, ◌+◌, List, Bool, true, false, refl, sym, ap, ◌∙◌, subst, arith}
+use Rattle.std.specs.Prelude.{Result, Ok, Err, Option, Some, None, IsTrue, IsOk, IfSome, IfOk, IfErr, OnOk, OnErr, not, sum_by, if◌then◌else◌}
 use Rattle.std.proofs.Math.ListN.{set}
 use Rattle.std.proofs.lemmas.List.Sums.{sum_by-set}
 use Rattle.hg_base.specs.declared.rid.Rid.{Rid}
@@ -10,7 +10,7 @@ use Rattle.hg_base.proofs.ListFacts.{false_true}
 use Rattle.hg_bucket.specs.declared.refusal.WriteRefusal.{WriteRefusal}
 use Rattle.hg_bucket.specs.declared.refusal.WriteRefusal.TheVariants.{Open, Newer, NoMemory}
 use Rattle.hg_bucket.specs.Conflicts.{holder, newer, IsCause}
-use Rattle.hg_bucket.specs.Held.{Held, Kept, versions_of, begins_open, installed}
+use Rattle.hg_bucket.specs.Held.{Held, versions_of, begins_open, installed}
 use Rattle.hg_run.specs.Buckets.{versions_in, Stores, Refuses, made_in, undone_in}
 use Rattle.hg_run.proofs.BucketsPlaced.{Turns, had, becomes}
 

@@ -14,7 +14,7 @@ use Rattle.hg_core.specs.Contents.{bucket_of}
 use Rattle.hg_bucket.specs.declared.refusal.WriteRefusal.{WriteRefusal}
 use Rattle.hg_bucket.specs.declared.refusal.WriteRefusal.TheVariants.{Open, Newer, NoMemory}
 use Rattle.hg_bucket.specs.Conflicts.{holder, newer}
-use Rattle.hg_bucket.specs.Held.{Held, Kept, IsThere, record_at, versions_of, begins_open, installed, cut_at}
+use Rattle.hg_bucket.specs.Held.{Held, Kept, IsThere, versions_of, begins_open, installed, cut_at}
 
 -- the records of bucket b, and none where there is no such bucket
 abbrev pub records_at : List Held → ℕ → List (Rid × List Kept)

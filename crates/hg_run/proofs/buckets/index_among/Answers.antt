@@ -1,4 +1,4 @@
-use Rattle.std.proofs.Common.{◌≡◌, ℕ, ◌+◌, ◌*◌, ◌%◌, ap}
+use Rattle.std.proofs.Common.{◌+◌, ◌*◌, ◌%◌, ap}
 use Rattle.hg_core.specs.Contents.{bucket_of}
 use Rattle.hg_run.proofs.buckets.index_among.Goals as goal
 

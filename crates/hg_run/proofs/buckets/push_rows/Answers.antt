@@ -1,4 +1,4 @@
-use Rattle.std.proofs.Common.{◌<◌, Some, sym, subst}
+use Rattle.std.proofs.Common.{◌<◌, sym, subst}
 use Rattle.hg_run.proofs.BucketsScanning.{IsSoFar, seen_of, begins, row_added, goes_on, ends, room, falls}
 use Rattle.hg_run.proofs.buckets.push_rows.Goals as goal
 

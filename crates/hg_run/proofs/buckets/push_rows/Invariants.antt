@@ -1,4 +1,3 @@
-use Rattle.std.proofs.Common.{◌≡◌}
 use Rattle.hg_run.proofs.BucketsScanning.{IsSoFar, seen_of, room}
 use Rattle.hg_run.proofs.buckets.push_rows.Given as goal
 

@@ -1,4 +1,4 @@
-use Rattle.std.proofs.Common.{◌≡◌, refl, arith}
+use Rattle.std.proofs.Common.{refl, arith}
 use Rattle.hg_run.proofs.BucketsSettling.{none_cut, table_cut, bucket_cut}
 use Rattle.hg_run.proofs.buckets.settle_bucket.Goals as goal
 

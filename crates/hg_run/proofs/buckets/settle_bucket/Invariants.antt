@@ -1,4 +1,3 @@
-use Rattle.std.proofs.Common.{◌≡◌}
 use Rattle.hg_run.proofs.BucketsSettling.{IsCutBelow}
 use Rattle.hg_run.proofs.buckets.settle_bucket.Given as goal
 

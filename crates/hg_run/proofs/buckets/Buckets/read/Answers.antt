@@ -1,4 +1,4 @@
-use Rattle.std.proofs.Common.{◌≡◌, ◌<◌, length, sym, ap, ◌∙◌, subst}
+use Rattle.std.proofs.Common.{◌<◌, length, sym, ap, ◌∙◌, subst}
 use Rattle.hg_core.specs.Contents.{bucket_of}
 use Rattle.hg_bucket.specs.Held.{read_at}
 use Rattle.hg_run.specs.Buckets.{versions_in}

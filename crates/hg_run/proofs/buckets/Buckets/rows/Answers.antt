@@ -1,4 +1,4 @@
-use Rattle.std.proofs.Common.{◌≡◌, ◌<◌, ◌≤◌, ℕ, length, get_or, rules, sym, ap, ◌∙◌, subst, arith}
+use Rattle.std.proofs.Common.{◌≡◌, ◌<◌, ◌≤◌, length, get_or, rules, sym, ap, ◌∙◌, subst, arith}
 use Rattle.std.proofs.lemmas.List.Sorted.{IsNonDecreasingBy-from_sort, answers_always}
 use Rattle.hg_bucket.specs.Held.{record_at}
 use Rattle.hg_run.specs.Buckets.{ArePlaced}
@@ -37,4 +37,4 @@ returns c =
     (λ key. let home = home_within (length hs) (record_at c.args.table key) placed.some in omega (arith, home, last))
     c.loop-bucket.invariant
     c.sort_unstable_by_key.ensures.permutation
-    (IsNonDecreasingBy-from_sort key_of _ (c.sort_unstable_by_key.ensures.sorted key_of (answers_always _ _ _ (λ f a r g h. search rules))))
+    (IsNonDecreasingBy-from_sort key_of c.sort_unstable_by_key.new.self.items (c.sort_unstable_by_key.ensures.sorted key_of (answers_always _ _ _ (λ f a r g h. search rules))))

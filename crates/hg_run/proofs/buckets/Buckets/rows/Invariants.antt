@@ -1,4 +1,3 @@
-use Rattle.std.proofs.Common.{◌≡◌}
 use Rattle.hg_run.proofs.BucketsGathering.{AreBelow, seen_in, home_in}
 use Rattle.hg_run.proofs.buckets.Buckets.rows.Given as goal
 

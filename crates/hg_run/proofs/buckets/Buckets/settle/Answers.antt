@@ -1,6 +1,6 @@
-use Rattle.std.proofs.Common.{◌≡◌, ◌<◌, ◌≤◌, length, sym, ap, ◌∙◌, subst, arith}
+use Rattle.std.proofs.Common.{length, sym, ap, ◌∙◌, subst, arith}
 use Rattle.hg_run.specs.Buckets.{ArePlaced, IsSettled, Settles}
-use Rattle.hg_run.proofs.BucketsSettling.{AreCutBelow, one_is_cut, settles, still_placed, whole}
+use Rattle.hg_run.proofs.BucketsSettling.{one_is_cut, settles, still_placed, whole}
 use Rattle.hg_run.proofs.buckets.Buckets.settle.Goals as goal
 
 pub loop-bucket-preserved : goal.loop-bucket-preserved

@@ -1,4 +1,4 @@
-use Rattle.std.proofs.Common.{◌≡◌, ◌<◌, ◌≤◌, ◌+◌, length, get_or, sym, ap, ◌∙◌, subst, arith}
+use Rattle.std.proofs.Common.{◌≡◌, ◌<◌, ◌+◌, length, get_or, sym, ap, ◌∙◌, subst, arith}
 use Rattle.hg_run.specs.Buckets.{ArePlaced, IsBalance}
 use Rattle.hg_run.proofs.BucketsCounting.{AreSums, no_sums, one_more, within, are_counts}
 use Rattle.hg_run.proofs.buckets.Buckets.totals.Goals as goal

@@ -1,4 +1,3 @@
-use Rattle.std.proofs.Common.{◌≡◌}
 use Rattle.hg_run.proofs.BucketsCounting.{AreSums}
 use Rattle.hg_run.proofs.buckets.Buckets.totals.Given as goal
 

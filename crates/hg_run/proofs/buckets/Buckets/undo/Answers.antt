@@ -1,9 +1,8 @@
-use Rattle.std.proofs.Common.{◌≡◌, ◌<◌, length, drop, sym, ap, ◌∙◌, subst}
+use Rattle.std.proofs.Common.{◌<◌, length, drop, sym, ap, ◌∙◌, subst}
 use Rattle.std.specs.Prelude.{IsTrue}
 use Rattle.std.proofs.Math.ListN.{set}
-use Rattle.hg_base.specs.Lists.{Each}
 use Rattle.hg_core.specs.Contents.{bucket_of}
-use Rattle.hg_bucket.specs.Held.{IsBelow, begins_open, stamped}
+use Rattle.hg_bucket.specs.Held.{begins_open}
 use Rattle.hg_run.specs.Buckets.{Becomes, versions_in}
 use Rattle.hg_run.proofs.BucketsPlaced.{Turns, placed, becomes, had, had_there, open_table}
 use Rattle.hg_run.proofs.buckets.Buckets.undo.Goals as goal

@@ -1,8 +1,7 @@
-use Rattle.std.proofs.Common.{◌≡◌, ◌+◌, ◌<◌, length, drop, get_or, sym, ◌∙◌, subst, arith}
+use Rattle.std.proofs.Common.{◌<◌, length, drop, get_or, sym, ◌∙◌, subst, arith}
 use Rattle.std.specs.Prelude.{IsTrue}
 use Rattle.hg_base.specs.declared.rid.Rid.{Rid}
-use Rattle.hg_base.specs.Lists.{Each}
-use Rattle.hg_bucket.specs.Held.{IsBelow, begins_open, stamped}
+use Rattle.hg_bucket.specs.Held.{begins_open}
 use Rattle.hg_run.specs.Buckets.{versions_in}
 use Rattle.hg_run.proofs.BucketsBatches.{among_at, next_is_untouched, one_more_done}
 use Rattle.hg_run.proofs.buckets.Buckets.undo_all.Goals as goal

@@ -2,7 +2,6 @@ use Rattle.std.proofs.Common.{◌≡◌, ◌+◌, length, take, drop}
 use Rattle.std.specs.Prelude.{cond}
 use Rattle.hg_base.specs.declared.rid.Rid.{Rid}
 use Rattle.hg_base.specs.History.{is_among}
-use Rattle.hg_bucket.specs.Held.{stamped}
 use Rattle.hg_run.specs.Buckets.{versions_in, made_in, undone_in}
 use Rattle.hg_run.proofs.buckets.Buckets.undo_all.Given as goal
 
