@@ -13,7 +13,7 @@ use Rattle.hg_base.proofs.RidOrder.{at_rid}
 use Rattle.hg_chain.specs.declared.version.Version.{Version}
 use Rattle.hg_chain.specs.Versions as chain
 use Rattle.hg_bucket.specs.Parts.{chain_of, some_chain, ChainIs}
-use Rattle.hg_bucket.proofs.Reading.{looked_up}
+use Rattle.hg_bucket.proofs.Reading.{looked_up, alike}
 
 -- by an insertion or a removal
 pub updated : (m n : BTreeMap Rid (List Version)) (r : Rid) (ws : List Version) (o : Option (List Version)) → some_chain ws ≡ o → UpdatesBy rid_cmp (rid_cmp r) m n o → ChainIs m.entries n.entries r ws
@@ -57,3 +57,11 @@ none_newest (v ∷ vs) h = absurd cc
 pub some_newest : (vs : List Version) → is_some (chain.newest vs) ≡ true → some_chain vs ≡ Some vs
 some_newest [] h = absurd cc
 some_newest (v ∷ vs) h = refl
+
+-- a record that has no chain keeps none
+pub unchanged : (cs : List (Rid × List Version)) (r : Rid) → lookup (is_at (rid_cmp r)) cs ≡ None → ChainIs cs cs r []
+unchanged cs r none q = go (same_rid r q) refl
+  where
+    go : (b : Bool) → same_rid r q ≡ b → lookup (same_rid q) cs ≡ cond b None (lookup (same_rid q) cs)
+    go true e = alike cs r q e ∙ sym (looked_up cs r) ∙ none
+    go false e = refl

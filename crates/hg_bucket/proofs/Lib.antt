@@ -10,3 +10,8 @@ pub mod Naming
 pub mod Installing
 pub mod Stamping
 pub mod Refusing
+pub mod Cutting
+pub mod Shortening
+pub mod Ranging
+pub mod Settling
+pub mod Walking

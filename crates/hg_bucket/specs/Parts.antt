@@ -1,8 +1,10 @@
 -- What a bucket holds, read from its parts: for the bucket itself.
-use Rattle.std.specs.Prelude.{◌≡◌, ℕ, List, ◌∷◌, [], ◌++◌, map, Option, Some, None, IsSome, unwrap_or, option_map, option_to_list, nat_le, if◌then◌else◌, ◌<◌, length, is_some, IsTrue, ⊤, false, slice_index_or}
+use Rattle.std.specs.Prelude.{◌≡◌, ℕ, List, ◌∷◌, [], ◌++◌, map, Option, Some, None, IsSome, unwrap_or, option_map, option_to_list, nat_le, if◌then◌else◌, ◌<◌, length, is_some, IsTrue, ⊤, ◌≤◌, false, slice_index_or}
 use Rattle.std.specs.Map.{lookup}
+use Rattle.std.specs.Option.{MatchOption}
 use Rattle.std.specs.BTreeMap.{insert_entry}
 use Rattle.hg_base.specs.declared.rid.Rid.{Rid}
+use Rattle.hg_base.specs.declared.rid.TableId.{TableId}
 use Rattle.hg_base.specs.declared.image.Image.{Image}
 use Rattle.hg_base.specs.History.{same_rid}
 use Rattle.hg_base.specs.Lists.{Each}
@@ -12,7 +14,7 @@ use Rattle.hg_chain.specs.declared.version.Version.{Version}
 use Rattle.hg_base.specs.RidOrder.{rid_cmp}
 use Rattle.hg_space.specs.Places.{Seat, Oldest, image_at, IsTaken, free}
 use Rattle.hg_space.specs.Index.{AreTaken, place_of}
-use Rattle.hg_bucket.specs.Held.{Kept}
+use Rattle.hg_bucket.specs.Held.{Kept, versions_of, record_at}
 
 -- a version of a chain
 abbrev pub kept_as : Stamp → Image → Kept
@@ -71,6 +73,33 @@ pub record AreWhole (index : List (Rid × ℕ)) (chains : List (Rid × List Vers
   pub chained : (r : Rid) (vs : List Version) → lookup (same_rid r) chains ≡ Some vs → IsSome (place_of index r) × (0 < length vs)
   pub falls : (r : Rid) (p : ℕ) → place_of index r ≡ Some p → Each (λ v. IsOver v.stamp (image_at places p)) (chain_of chains r)
   pub rows : (r : Rid) (p : ℕ) → place_of index r ≡ Some p → IsRow (image_at places p)
+
+-- what a cut hands out of a chain becomes the oldest image, where it is a row; where nothing is handed out, that stays
+abbrev pub settled : Oldest → Oldest → Oldest
+settled None image = image
+settled (Some p) image = if is_some p.1.row then Some p else None
+
+-- ---- going through a table
+
+-- nothing can be shortened: there is an oldest image alone, which is a row, or nothing
+abbrev pub IsSettled : List Kept → Type 0
+IsSettled [] = ⊤
+IsSettled (v ∷ []) = (v.by ≡ None) × IsSome v.number × IsTrue (is_some v.image.row)
+IsSettled (v ∷ w ∷ vs) = ⊥
+
+-- the least key of a table at or over a number whose record has a chain, and none where no such record has one
+abbrev pub IsNextChain : List (Rid × List Version) → TableId → ℕ → Option ℕ → Type 0
+IsNextChain chains table from found =
+    MatchOption found
+    ((k : ℕ) → from ≤ k → lookup (same_rid (record_at table k)) chains ≡ None)
+    (λ least. (from ≤ least) × ((k : ℕ) → from ≤ k → k < least → lookup (same_rid (record_at table k)) chains ≡ None))
+
+-- below that key nothing can be shortened from the number on
+abbrev pub IsNextLong : List (Rid × List Kept) → TableId → ℕ → Option ℕ → Type 0
+IsNextLong records table from found =
+    MatchOption found
+    ((k : ℕ) → from ≤ k → IsSettled (versions_of records (record_at table k)))
+    (λ least. (from ≤ least) × ((k : ℕ) → from ≤ k → k < least → IsSettled (versions_of records (record_at table k))))
 
 -- ---- changing the parts
 

@@ -1,11 +1,15 @@
 //! Records with their versions, and counters of them.
 
-ghost use Rattle.std.specs.Prelude.{◌≡◌, ◌+◌, ◌<◌, ◌^◌, [], None, IsTrue, IsOk, IfSome, IfErr, OnOk, OnErr, drop, if◌then◌else◌};
+ghost use Rattle.std.specs.Prelude.{◌≡◌, ℕ, ◌+◌, ◌<◌, ◌^◌, length, [], None, not, IsTrue, IsOk, IfOk, IfSome, IfErr, OnOk, OnErr, drop, if◌then◌else◌};
 ghost use Rattle.std.specs.Option.{option_copied};
+ghost use Rattle.std.specs.List.{IsDistinct};
+ghost use Rattle.std.specs.Map.{keys_of};
+ghost use Rattle.hg_base.specs.History.{same_rid};
 ghost use Rattle.hg_base.specs.Lists.{Each};
+ghost use Rattle.hg_base.specs.declared.rid.Rid.{Rid};
 ghost use Rattle.hg_bucket.specs.declared.refusal.WriteRefusal.TheVariants.{Open, Newer};
 ghost use Rattle.hg_bucket.specs.Conflicts.{holder, newer, IsCause};
-ghost use Rattle.hg_bucket.specs.Held.{versions_of, begins_open, installed, stamped, OthersStay, IsBelow, read_at, counts_of, IsNextKey};
+ghost use Rattle.hg_bucket.specs.Held.{versions_of, begins_open, installed, stamped, OthersStay, IsBelow, read_at, record_at, cut_at, left, counts_of, IsBalanced, IsNextKey};
 
 use crate::records::Records;
 use crate::refusal::WriteRefusal;
@@ -57,7 +61,7 @@ impl Bucket {
     }
 
     /// Writes an image. A transaction's second write of a record replaces its first one. That takes no memory, and it isn't
-    /// counted.
+    /// counted. The answer says whether a version was added.
     pub fn write(
         &mut self,
         rid: Rid,
@@ -65,7 +69,7 @@ impl Bucket {
         image: Image,
         snapshot: u64,
         mark: u64,
-    ) -> Result<(), WriteRefusal>
+    ) -> Result<bool, WriteRefusal>
         requires { self.old.made < 2 ^ 40 }
         ensures open { IfSome (holder by mark (versions_of self.old.records rid)) (λ w. result ≡ Err (Open w)) }
         ensures newer { holder by mark (versions_of self.old.records rid) ≡ None → IfSome (newer snapshot (versions_of self.old.records rid)) (λ n. result ≡ Err (Newer n)) }
@@ -73,12 +77,13 @@ impl Bucket {
         ensures replaced { IsTrue (begins_open by (versions_of self.old.records rid)) → IsOk result }
         ensures stored { OnOk result (versions_of self.new.records rid ≡ installed by image (versions_of self.old.records rid)) }
         ensures others { OthersStay self.old.records self.new.records rid }
+        ensures added { IfOk result (λ added. added ≡ not (begins_open by (versions_of self.old.records rid))) }
         ensures made { OnOk result (self.new ≡ record self.old { records = self.new.records; made = self.old.made + (if begins_open by (versions_of self.old.records rid) then 0 else 1) }) }
         ensures refused { OnErr result (self.new ≡ self.old) }
     {
         let added = self.records.write(rid, by, image, snapshot, mark)?;
         self.made += if added { 1 } else { 0 };
-        Ok(())
+        Ok(added)
     }
 
     /// Removes the transaction's open write of a record. A record that has no other version is dropped.
@@ -103,6 +108,31 @@ impl Bucket {
         self.records.stamp(rid, by, number);
     }
 
+    /// Cuts a record's versions at a bound. The answer says how many went.
+    pub fn cut_record(&mut self, rid: Rid, bound: u64) -> u64
+        ensures here { versions_of self.new.records rid ≡ cut_at bound (versions_of self.old.records rid) }
+        ensures others { OthersStay self.old.records self.new.records rid }
+        ensures gone { length (versions_of self.new.records rid) + result ≡ length (versions_of self.old.records rid) }
+        ensures group { self.new ≡ record self.old { records = self.new.records; group = self.old.group + result } }
+    {
+        let gone = self.records.cut(rid, bound);
+        self.group += gone;
+        gone
+    }
+
+    /// Cuts each record of a table at a bound. The answer says how many versions went. A record that has only its oldest
+    /// image costs nothing.
+    pub fn cut_table(&mut self, table: TableId, bound: u64) -> u64
+        ensures each { (k : ℕ) → versions_of self.new.records (record_at table k) ≡ cut_at bound (versions_of self.old.records (record_at table k)) }
+        ensures others { (q : Rid) → (q.table ≡ table → ⊥) → versions_of self.new.records q ≡ versions_of self.old.records q }
+        ensures gone { left self.new.records + result ≡ left self.old.records }
+        ensures counted { self.new ≡ record self.old { records = self.new.records; table = self.old.table + result } }
+    {
+        let gone = self.records.cut_table(table, bound);
+        self.table += gone;
+        gone
+    }
+
     /// The least key of a table at or over a number, of those that have a version.
     pub fn next_key(&self, table: TableId, from: u64) -> Option<u64>
         ensures { IsNextKey self.now.records table from result }
@@ -112,8 +142,11 @@ impl Bucket {
 
     /// How many versions were made, undone, removed by each collector, and are held.
     pub fn counts(&self) -> Totals
-        ensures { result ≡ counts_of self.now }
+        ensures counts { result ≡ counts_of self.now }
+        ensures balance { IsBalanced self.now }
+        ensures distinct { IsDistinct same_rid (keys_of self.now.records) }
     {
+        self.records.stand_once();
         Totals {
             made: self.made,
             undone: self.undone,

@@ -1,15 +1,16 @@
 //! The chains of the records that have one: no other record is in the map.
 
-ghost use Rattle.std.specs.Prelude.{◌≡◌, [], not, drop, IsTrue, IsSome, IsOk, IfOk, OnOk, OnErr};
+ghost use Rattle.std.specs.Prelude.{◌≡◌, ◌+◌, ◌<◌, ◌^◌, IfSome, [], not, drop, IsTrue, IsSome, IsOk, IfOk, OnOk, OnErr};
 ghost use Rattle.hg_base.specs.Lists.{Each};
-ghost use Rattle.hg_chain.specs.Versions.{newest, number_in, image_by, image_at, is_open_by, installed, stamped, IsBelow, NoOther};
+ghost use Rattle.hg_chain.specs.Versions.{newest, number_in, image_by, image_at, is_open_by, installed, stamped, left_by, oldest_at, others_at, IsBelow, NoOther};
 ghost use Rattle.std.specs.Option.{option_copied, option_or};
-ghost use Rattle.hg_bucket.specs.Parts.{chain_of, ChainIs};
+ghost use Rattle.hg_bucket.specs.Parts.{chain_of, ChainIs, IsNextChain};
 
-use hg_base::{Image, NoMemory, Rid, Writer};
-use hg_chain::{Chain, Stamp};
+use hg_base::{Image, NoMemory, Rid, TableId, Writer};
+use hg_chain::{Chain, Cut, Stamp};
 use std::alloc::Global;
 use std::collections::BTreeMap;
+use std::ops::Bound;
 
 pub(crate) type Chains = BTreeMap<Rid, Chain>;
 
@@ -114,4 +115,58 @@ pub(crate) fn stamp(chains: &mut Chains, rid: Rid, by: Writer, number: u64)
     if let Some(chain) = chains.get_mut(&rid) {
         chain.stamp(by, number);
     }
+}
+
+/// Removes every version of a record's chain numbered at or below the bound, and hands out the newest of them.
+pub(crate) fn cut(chains: &mut Chains, rid: Rid, bound: u64) -> Cut
+    ensures here { ChainIs chains.old.entries chains.new.entries rid (left_by bound (chain_of chains.old.entries rid)) }
+    ensures image { result.image ≡ oldest_at bound (chain_of chains.old.entries rid) }
+    ensures gone { result.gone ≡ others_at bound (chain_of chains.old.entries rid) }
+{
+    let Some(chain) = chains.get_mut(&rid) else {
+        return Cut {
+            image: None,
+            gone: 0,
+        };
+    };
+    let cut = chain.cut(bound);
+    if chain.newest().is_none() {
+        end(chains, rid);
+        return cut;
+    }
+    cut
+}
+
+/// The least key of a table whose record has a chain.
+pub(crate) fn first(chains: &Chains, table: TableId) -> Option<u64>
+    ensures next { IsNextChain chains.now.entries table 0 result }
+    ensures fits { IfSome result (λ key. key < 2 ^ 64) }
+{
+    let (rid, _) = chains.range(Rid { table, key: 0 }..).next()?;
+    if rid.table != table {
+        return None;
+    }
+    fits(rid.key);
+    Some(rid.key)
+}
+
+/// The least key of a table over another whose record has a chain.
+pub(crate) fn after(chains: &Chains, table: TableId, key: u64) -> Option<u64>
+    ensures next { IsNextChain chains.now.entries table (key + 1) result }
+    ensures fits { IfSome result (λ key. key < 2 ^ 64) }
+{
+    let start = Bound::Excluded(Rid { table, key });
+    let (rid, _) = chains.range((start, Bound::Unbounded)).next()?;
+    if rid.table != table {
+        return None;
+    }
+    fits(rid.key);
+    Some(rid.key)
+}
+
+// A fact of every key, for clauses.
+fn fits(key: u64)
+    ensures { key < 2 ^ 64 }
+{
+    let _ = key;
 }

@@ -1,13 +1,13 @@
 //! The places of records.
 
-ghost use Rattle.std.specs.Prelude.{◌≡◌, ℕ, length, IsSome, IsOk, OnOk, OnErr, None, Some, nat_lt, if◌then◌else◌, option_and_then};
+ghost use Rattle.std.specs.Prelude.{◌≡◌, ◌+◌, ℕ, is_some, slice_set, IsSome, IsOk, OnOk, OnErr, None, Some, nat_lt, if◌then◌else◌, option_and_then};
 ghost use Rattle.std.specs.Option.{option_copied};
 ghost use Rattle.hg_space.specs.Places as seat;
 ghost use Rattle.hg_space.specs.Places.{IsTaken};
 ghost use Rattle.hg_space.specs.Index.{AreTaken, place_of, IsIndex};
 ghost use Rattle.hg_bucket.specs.declared.refusal.WriteRefusal.TheVariants.{Newer};
 ghost use Rattle.hg_bucket.specs.Held.{versions_of, OthersStay, left};
-ghost use Rattle.hg_bucket.specs.Parts.{oldest_by, records_of, AreWhole, SeatsStay, Names, MayBeBare};
+ghost use Rattle.hg_bucket.specs.Parts.{oldest_by, settled, records_of, AreWhole, SeatsStay, Names, MayBeBare};
 
 use crate::chains::Chains;
 use crate::refusal::WriteRefusal;
@@ -59,6 +59,32 @@ pub(crate) fn name(index: &mut RidIndex, space: &mut TableSpace, rid: Rid) -> Re
         return Err(refused);
     }
     Ok(())
+}
+
+/// Puts a record's newest version at a bound in the place of its oldest image, or none where that is a deletion. The answer
+/// says how many versions went.
+pub(crate) fn settle(space: &mut TableSpace, place: u64, newest: (u64, Image)) -> u64
+    requires { IsTaken space.old.places place }
+    ensures set { space.new.places ≡ slice_set space.old.places place (seat.taken (settled (Some newest) (seat.image_at space.old.places place))) }
+    ensures gone { result ≡ (if is_some (seat.image_at space.old.places place) then 1 else 0) + (if is_some newest.1.row then 0 else 1) }
+{
+    let (number, image) = newest;
+    if image.row.is_none() {
+        let old = space.set_image(place, None);
+        return 1 + is_there(&old);
+    }
+    let old = space.set_image(place, Some((number, image)));
+    is_there(&old)
+}
+
+// 1 where there is an image, and 0 where there is none.
+fn is_there(image: &Option<(u64, Image)>) -> u64
+    ensures { result ≡ (if is_some image.now then 1 else 0) }
+{
+    match image {
+        Some(_) => 1,
+        None => 0,
+    }
 }
 
 /// Drops a record that has no version left.

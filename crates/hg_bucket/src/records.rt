@@ -1,20 +1,24 @@
 //! Records with their versions.
 
-ghost use Rattle.std.specs.Prelude.{◌≡◌, ◌+◌, [], not, drop, IsTrue, IsOk, IfOk, IfErr, OnOk, OnErr, IfSome, if◌then◌else◌, None};
+ghost use Rattle.std.specs.Prelude.{◌≡◌, ℕ, ◌+◌, ◌<◌, ◌≤◌, ◌^◌, length, [], not, drop, IsTrue, IsOk, IfOk, IfErr, OnOk, OnErr, IfSome, if◌then◌else◌, None};
+ghost use Rattle.std.specs.List.{IsDistinct};
+ghost use Rattle.std.specs.Map.{keys_of};
+ghost use Rattle.hg_base.specs.History.{same_rid};
 ghost use Rattle.hg_base.specs.Lists.{Each};
+ghost use Rattle.hg_base.specs.declared.rid.Rid.{Rid};
 ghost use Rattle.std.specs.Option.{option_copied};
 ghost use Rattle.hg_space.specs.Places as seat;
 ghost use Rattle.hg_space.specs.Places.{IsTaken};
 ghost use Rattle.hg_space.specs.Index.{AreTaken, place_of, IsIndex};
-ghost use Rattle.hg_bucket.specs.Parts.{oldest_by, records_of, AreWhole};
+ghost use Rattle.hg_bucket.specs.Parts.{oldest_by, records_of, AreWhole, IsNextLong};
 ghost use Rattle.hg_bucket.specs.Conflicts.{conflict, NoOther, holder, newer, IsCause};
-ghost use Rattle.hg_bucket.specs.Held.{versions_of, begins_open, installed, stamped, OthersStay, IsBelow, read_at, IsNextKey, left};
+ghost use Rattle.hg_bucket.specs.Held.{versions_of, begins_open, installed, stamped, OthersStay, IsBelow, read_at, record_at, cut_at, IsNextKey, left};
 
 use crate::chains::{self, Chains};
 use crate::places::{self, drop_bare};
 use crate::refusal::{WriteRefusal, refusal};
 use hg_base::{Image, NoMemory, Rid, TableId, Writer};
-use hg_chain::Stamp;
+use hg_chain::Cut;
 use hg_space::{RidIndex, TableSpace};
 use std::alloc::Global;
 use std::collections::BTreeMap;
@@ -72,6 +76,14 @@ impl Records {
         ensures { IsNextKey self.now table from result }
     {
         self.index.next_key(table, from)
+    }
+
+    /// No record stands twice: for the counts, which tell it.
+    pub fn stand_once(&self)
+        ensures { IsDistinct same_rid (keys_of self.now) }
+    {
+        let table = TableId(0);
+        self.index.place(Rid { table, key: 0 });
     }
 
     // Why a write is refused, memory aside.
@@ -147,5 +159,56 @@ impl Records {
         ensures left { left self.new ≡ left self.old }
     {
         chains::stamp(&mut self.chains, rid, by, number);
+    }
+
+    /// Cuts a record's versions at a bound. The answer says how many went.
+    pub fn cut(&mut self, rid: Rid, bound: u64) -> u64
+        requires { left self.old ≤ 2 ^ 40 }
+        ensures here { versions_of self.new rid ≡ cut_at bound (versions_of self.old rid) }
+        ensures others { OthersStay self.old self.new rid }
+        ensures gone { length (versions_of self.new rid) + result ≡ length (versions_of self.old rid) }
+        ensures left { left self.new + result ≡ left self.old }
+    {
+        let Some(place) = self.index.place(rid) else {
+            return 0;
+        };
+        let Cut { image, gone } = chains::cut(&mut self.chains, rid, bound);
+        let Some(newest) = image else {
+            return 0;
+        };
+        let gone = gone + places::settle(&mut self.space, place, newest);
+        drop_bare(&mut self.index, &mut self.space, &self.chains, rid);
+        gone
+    }
+
+    // The least key of a table whose record can be shortened: those below it can't.
+    fn first_long(&self, table: TableId) -> Option<u64>
+        ensures next { IsNextLong self.now table 0 result }
+        ensures fits { IfSome result (λ key. key < 2 ^ 64) }
+    {
+        chains::first(&self.chains, table)
+    }
+
+    fn long_after(&self, table: TableId, key: u64) -> Option<u64>
+        ensures next { IsNextLong self.now table (key + 1) result }
+        ensures fits { IfSome result (λ key. key < 2 ^ 64) }
+    {
+        chains::after(&self.chains, table, key)
+    }
+
+    /// Cuts each record of a table at a bound. The answer says how many versions went.
+    pub fn cut_table(&mut self, table: TableId, bound: u64) -> u64
+        requires { left self.old ≤ 2 ^ 40 }
+        ensures each { (k : ℕ) → versions_of self.new (record_at table k) ≡ cut_at bound (versions_of self.old (record_at table k)) }
+        ensures others { (q : Rid) → (q.table ≡ table → ⊥) → versions_of self.new q ≡ versions_of self.old q }
+        ensures left { left self.new + result ≡ left self.old }
+    {
+        let mut gone = 0;
+        let mut next = self.first_long(table);
+        while let Some(key) = next {
+            gone += self.cut(Rid { table, key }, bound);
+            next = self.long_after(table, key);
+        }
+        gone
     }
 }

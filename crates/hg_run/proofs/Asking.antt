@@ -111,14 +111,19 @@ refused_open k p j r snapshot w session s opened within e =
     let now = reads_at k p j snapshot s opened in
     let theirs : IsSome (current (p.logs w.session)) = open_where (p.logs w.session) (λ e. sit.idle (sit.opened ∙ e)) h.does in
     let writes : image_in r (writes_in w.transaction (p.logs w.session)) ≡ image_in r (own_writes (p.logs w.session)) = ap (image_in r) (ap (λ x. writes_in x (p.logs w.session)) (sym h.number) ∙ open_writes (p.logs w.session) theirs sit.plain) in
-    let numbers : numbers_in w.transaction (p.logs w.session) ≡ [] = ap (λ x. numbers_in x (p.logs w.session)) (sym h.number) ∙ open_unnumbered (p.logs w.session) theirs sit.plain in
-    (
+    let numbers : numbers_in w.transaction (p.logs w.session) ≡ [] = ap (λ x. numbers_in x (p.logs w.session)) (sym h.number) ∙ open_unnumbered (p.logs w.session) theirs sit.plain in (
       record { opened = theirs; number = h.number; does = h.does },
-      kept_telling k p j (Refused r (OpenBy w)) session tt tt (ap is_some now) (is_now (current (p.logs j)) snapshot _ now (within, (ap is_some h.unwritten, record {
-        other = h.other;
-        does = ap is_some writes ∙ h.does;
-        after = subst (Each (λ c. snapshot.at < c)) (sym numbers) tt;
-      }))) s,
+      kept_telling k p j (Refused r (OpenBy w)) session tt tt (ap is_some now) (is_now (current (p.logs j)) snapshot _ now (
+        within,
+        (
+          ap is_some h.unwritten,
+          record {
+            other = h.other;
+            does = ap is_some writes ∙ h.does;
+            after = subst (Each (λ c. snapshot.at < c)) (sym numbers) tt;
+          },
+        ),
+      )) s,
     )
   where
     open_where : (log : List LogEntry) → (current log ≡ None → own_writes log ≡ []) → IsSome (image_in r (own_writes log)) → IsSome (current log)
@@ -131,13 +136,15 @@ refused_newer k p j r snapshot c session s opened within free unwritten e =
     let front : newer snapshot.at (open_part p.logs (s.records r).owner ++ versions_from 1 p.history r) ≡ Some c = ap (newer snapshot.at) (sym (s.records r).all) ∙ e in
     let k2 = newest_over snapshot.at 1 c p.history r (behind (s.records r).owner front) in
     let within_is : c ≤ length p.history = let l = k2.1 in omega (arith, l) in
-    let positive : 0 < c = let l = k2.0 in omega (arith, l) in
-    (
+    let positive : 0 < c = let l = k2.0 in omega (arith, l) in (
       (positive, within_is),
-      kept_telling k p j (Refused r (NewerThan c)) session tt within_is (ap is_some now) (is_now (current (p.logs j)) snapshot _ now (within, (
-        sym (begins p r (versions_in k.buckets r) j (s.records r)) ∙ ap (λ w. begins_open w (versions_in k.buckets r)) (sym by) ∙ unwritten,
-        record { over = k2.0; within = within_is; does = k2.2 },
-      ))) s,
+      kept_telling k p j (Refused r (NewerThan c)) session tt within_is (ap is_some now) (is_now (current (p.logs j)) snapshot _ now (
+        within,
+        (
+          sym (begins p r (versions_in k.buckets r) j (s.records r)) ∙ ap (λ w. begins_open w (versions_in k.buckets r)) (sym by) ∙ unwritten,
+          record { over = k2.0; within = within_is; does = k2.2 },
+        ),
+      )) s,
     )
   where
     behind : (o : Owner) → newer snapshot.at (open_part p.logs o ++ versions_from 1 p.history r) ≡ Some c → newer snapshot.at (versions_from 1 p.history r) ≡ Some c
@@ -160,9 +167,9 @@ entries_more p j e entries = ap (λ logs. record { history = p.history; logs = l
 pub open_still : (p : Past) (j : ℕ) (e : LogEntry) (r : Rid) (w : Writer) → IsTelling e → IsOpenWrite (with_entries p j (e ∷ [])).logs r w → IsOpenWrite p.logs r w
 open_still p j e r w telling s =
     let same : IsSame (p.logs w.session) (put p.logs j (e ∷ p.logs j) w.session) = by_session (λ i. IsSame (p.logs i) (put p.logs j (e ∷ p.logs j) i)) j
-        (subst (IsSame (p.logs j)) (sym (put_here p.logs j (e ∷ p.logs j))) (telling_same e (p.logs j) telling))
-        (λ i f. subst (IsSame (p.logs i)) (sym (put_other p.logs j (e ∷ p.logs j) i f)) (record { own = refl; number = refl; current_is = refl; plain = refl; made = refl; undone = refl }))
-        w.session in
+    (subst (IsSame (p.logs j)) (sym (put_here p.logs j (e ∷ p.logs j))) (telling_same e (p.logs j) telling))
+    (λ i f. subst (IsSame (p.logs i)) (sym (put_other p.logs j (e ∷ p.logs j) i f)) (record { own = refl; number = refl; current_is = refl; plain = refl; made = refl; undone = refl }))
+    w.session in
     record { opened = ap is_some (sym same.current_is) ∙ s.opened; number = sym same.number ∙ s.number; does = ap (λ own. is_some (image_in r own)) (sym same.own) ∙ s.does }
 
 abbrev pub found_row : List ℤ → Unprinted

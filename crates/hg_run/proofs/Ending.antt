@@ -51,8 +51,7 @@ pub finished_some : (k l : Driven) (p : Past) (j : ℕ) (w : Writer) (rids : Lis
 finished_some k l p j w rids number session by is next mark opened some changes set undone s =
     let first = some_among rids some in
     let among : IsTrue (is_among first.0 (sitting k.sessions j).written) = ap (is_among first.0) (sym is) ∙ first.1 in
-    let here : number ≡ suc (length p.history) = (let m = s.mark in omega (arith, m, next)) in
-    (
+    let here : number ≡ suc (length p.history) = (let m = s.mark in omega (arith, m, next)) in (
       wrote_some first.0 (own_writes (p.logs j)) (sym ((s.sessions j).covers first.0) ∙ among),
       here,
       kept_committed k l p j first.0 session (mark ∙ next) changes.many opened among (λ r. changes.each r ∙ (λ i. cond (is_among r (is i)) (stamped (by i) (next i) (versions_in k.buckets r)) (versions_in k.buckets r))) set changes.made undone s,

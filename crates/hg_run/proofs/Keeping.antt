@@ -187,8 +187,7 @@ kept_began k l p j scope session buckets mark idle set s =
 pub none_twice_snoc : (rids : List Rid) (r : Rid) → NoneTwice rids → is_among r rids ≡ false → NoneTwice (rids ++ r ∷ [])
 none_twice_snoc [] r h e = (refl, tt)
 none_twice_snoc (q ∷ rids) r h e =
-    let parts = or_parts (same_rid r q) (is_among r rids) e in
-    (
+    let parts = or_parts (same_rid r q) (is_among r rids) e in (
       list_any-append (same_rid q) rids (r ∷ []) ∙ (λ i. h.0 i || ((same_back q r ∙ parts.0) i || false)),
       none_twice_snoc rids r h.1 parts.1,
     )

@@ -253,8 +253,7 @@ opens p r vs j s does = go s.owner s.all s.own s.over (ap is_some (sym (s.own j)
     go : (o : Owner) → vs ≡ open_part p.logs o ++ V → ((k : ℕ) → image_in r (own_writes (p.logs k)) ≡ owned_by k o) → IfSome o (λ o. Each (λ w. w.0 ≤ number_in (current (p.logs o.0))) (writes p.history r)) → IsSome (owned_by j o) → (image : Image) × (image_in r (own_writes (p.logs j)) ≡ Some image) × (vs ≡ open_write (by_of p.logs j) image ∷ V) × Each (λ (w : ℕ × Image). w.0 ≤ number_in (current (p.logs j))) (writes p.history r) × ((i : ℕ) → (i == j) ≡ false → image_in r (own_writes (p.logs i)) ≡ None)
     go None all own over k = absurd (false_true k)
     go (Some (i, image)) all own over k = cases (i == j)
-        (λ e. let is : i ≡ j = (Decides-eqb i j).0 e in
-        (
+        (λ e. let is : i ≡ j = (Decides-eqb i j).0 e in (
           image,
           own j ∙ ap (λ m. owned_by j (Some (m, image))) is ∙ owned_itself j image,
           all ∙ ap (λ m. open_write (by_of p.logs m) image ∷ V) is,

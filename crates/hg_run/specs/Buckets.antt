@@ -1,17 +1,20 @@
 -- The versions of all records, as a list of buckets keeps them.
-use Rattle.std.specs.Prelude.{◌≡◌, ℕ, zero, suc, ◌+◌, ◌<◌, ◌≤◌, List, [], ◌∷◌, length, sum_by, Bool, true, false, not, ◌==◌, if◌then◌else◌, Option, Some, None, IsFalse, ⊤}
+use Rattle.std.specs.Prelude.{◌≡◌, ℕ, ℤ, zero, suc, ◌+◌, ◌<◌, ◌≤◌, List, [], ◌∷◌, ◌++◌, length, sum_by, Bool, true, false, not, ◌==◌, if◌then◌else◌, Option, Some, None, option_map, option_to_list, IsFalse, ⊤}
+use Rattle.std.specs.Option.{MatchOption}
 use Rattle.hg_base.specs.declared.rid.Rid.{Rid}
+use Rattle.hg_base.specs.declared.rid.TableId.{TableId}
 use Rattle.hg_base.specs.declared.image.Image.{Image}
 use Rattle.hg_base.specs.declared.writer.Writer.{Writer}
 use Rattle.hg_base.specs.declared.limits.TheConstants.{MOST_TABLES}
 use Rattle.hg_base.specs.declared.line.Totals.{Totals}
 use Rattle.hg_base.specs.Lists.{Each}
 use Rattle.hg_base.specs.History.{same_rid, is_among, NoneTwice}
+use Rattle.hg_base.specs.Replies.{AreRows}
 use Rattle.hg_core.specs.Contents.{bucket_of}
 use Rattle.hg_bucket.specs.declared.refusal.WriteRefusal.{WriteRefusal}
 use Rattle.hg_bucket.specs.declared.refusal.WriteRefusal.TheVariants.{Open, Newer, NoMemory}
 use Rattle.hg_bucket.specs.Conflicts.{holder, newer}
-use Rattle.hg_bucket.specs.Held.{Held, Kept, versions_of, begins_open, installed, cut_at}
+use Rattle.hg_bucket.specs.Held.{Held, Kept, IsThere, versions_of, begins_open, installed, cut_at}
 
 -- the records of bucket b, and none where there is no such bucket
 abbrev pub records_at : List Held → ℕ → List (Rid × List Kept)
@@ -66,6 +69,25 @@ Refuses vs by at mark (Open writer) = holder by mark vs ≡ Some writer
 Refuses vs by at mark (Newer number) = (holder by mark vs ≡ None) × IsFalse (begins_open by vs) × (newer at vs ≡ Some number)
 Refuses vs by at mark NoMemory = ⊤
 
+-- ---- the rows of a range
+
+-- the least key of the table from a number to `high`, and none where the table has no such key
+abbrev pub IsNextWithin : List (Rid × List Kept) → TableId → ℕ → ℕ → Option ℕ → Type 0
+IsNextWithin records table from high found =
+    MatchOption found
+    ((k : ℕ) → from ≤ k → k ≤ high → IsThere records table k → ⊥)
+    (λ least. (from ≤ least) × (least ≤ high) × ((k : ℕ) → from ≤ k → IsThere records table k → least ≤ k))
+
+-- a row with its key, where there is one
+abbrev pub with_key : ℕ → Option (List ℤ) → List (ℕ × List ℤ)
+with_key key row = option_to_list (option_map (λ values. (key, values)) row)
+
+-- behind the rows that were there now stand those of the range
+pub record Appends (look : ℕ → Image) (low high : ℕ) (old new : List (ℕ × List ℤ)) : Type 0 where
+  pub more : List (ℕ × List ℤ)
+  pub is : new ≡ old ++ more
+  pub rows : AreRows look low high more
+
 -- ---- many records at once
 
 -- each of these records is changed, and no other
@@ -89,6 +111,13 @@ pub record Settles (old new : List Held) (bound : ℕ) : Type 0 where
   pub made : made_in new ≡ made_in old
   pub undone : undone_in new ≡ undone_in old
 
+-- Of one bucket: each record of a table that there may be is cut, and each other one as before. Only the counter of the tables
+-- is another.
+pub record IsSettled (old new : Held) (bound : ℕ) : Type 0 where
+  pub each : (r : Rid) → r.table.0 < MOST_TABLES → versions_of new.records r ≡ cut_at bound (versions_of old.records r)
+  pub others : (r : Rid) → MOST_TABLES ≤ r.table.0 → versions_of new.records r ≡ versions_of old.records r
+  pub counters : new ≡ record old { records = new.records; table = new.table }
+
 -- whether there is a version
 abbrev pub is_any : List Kept → Bool
 is_any [] = false
@@ -109,3 +138,11 @@ pub record AreCounts (buckets : List Held) (totals : Totals) : Type 0 where
   pub rids : List Rid
   pub held : AreHeld buckets rids
   pub left : ((r : Rid) → length (versions_in buckets r) ≤ 1) → totals.left ≡ length rids
+
+-- ---- sums of counts
+
+abbrev pub IsBalance : Totals → Type 0
+IsBalance a = a.made ≡ a.undone + a.group + a.table + a.interval + a.left
+
+abbrev pub both : Totals → Totals → Totals
+both a b = record { made = a.made + b.made; undone = a.undone + b.undone; group = a.group + b.group; table = a.table + b.table; interval = a.interval + b.interval; left = a.left + b.left }

@@ -181,10 +181,7 @@ impl Driver {
         ensures rest { OnOk result (Stays self.old self.new session) }
     {
         let by = self.writer(session);
-        match self
-            .buckets
-            .write(rid, by, image, snapshot.at, self.mark)
-        {
+        match self.buckets.write(rid, by, image, snapshot.at, self.mark) {
             Ok(added) => {
                 if added {
                     self.sessions.add(session, rid)?;
@@ -367,11 +364,7 @@ impl Driver {
     }
 
     /// Answers a statement, and goes on.
-    pub(crate) fn answer(
-        &mut self,
-        session: u32,
-        statement: &Statement,
-    ) -> Result<Reply, NoMemory>
+    pub(crate) fn answer(&mut self, session: u32, statement: &Statement) -> Result<Reply, NoMemory>
         requires first { 1 ≤ session }
         requires session { session < length self.old.sessions }
         requires kept { (p : Past) × IsKept self.old p }

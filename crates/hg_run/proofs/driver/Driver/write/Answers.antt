@@ -17,11 +17,11 @@ returns-after-added-clause-written c p s =
     let kept : IsKept k p = subst (λ (q : Driven). IsKept q p) (sym c.self.view_is) s in
     let opened : (sitting k.sessions c.args.session).opened ≡ Some c.args.snapshot = ap (λ (q : Driven). (sitting q.sessions c.args.session).opened) c.self.view_is ∙ c.requires.opened in
     elim c.if-added.branch [
-      then-added+in_ok-add-in-Ok w ↦
+      | then-added+in_ok-add-in-Ok w ↦
           let l : Driven = record { buckets = c.write.new.self; sessions = w.add.new.self; mark = k.mark } in
           subst (λ (q : Driven). IsKept q (with_entries p c.args.session (Wrote c.args.rid c.args.image ∷ []))) (sym w.self-is)
           (kept_stored k l p c.args.session c.args.rid c.args.image c.args.snapshot c.writer-by.result c.in-Ok.added session by refl opened c.requires.table c.in-Ok.ensures.stored (λ e. w.in_ok-add-in-Ok.ensures) (λ e. absurd (false_true (sym e ∙ w.if-added.true))) kept)
-    | else-added w ↦
+      | else-added w ↦
           let l : Driven = record { buckets = c.write.new.self; sessions = k.sessions; mark = k.mark } in
           subst (λ (q : Driven). IsKept q (with_entries p c.args.session (Wrote c.args.rid c.args.image ∷ []))) (sym w.self-is)
           (kept_stored k l p c.args.session c.args.rid c.args.image c.args.snapshot c.writer-by.result c.in-Ok.added session by refl opened c.requires.table c.in-Ok.ensures.stored (λ e. absurd (false_true (sym w.if-added.false ∙ e))) (λ e. refl) kept)
