@@ -141,8 +141,7 @@ settled h r =
     let V = versions_from 1 h r in
     let none : filter (λ v. not (is_at_most (length h) v)) V ≡ [] = all_at_most (length h) V (below_next h r) in
     let left = survives (find (is_at_most (length h)) V) in
-    let only : cut_at (length h) V ≡ survivor (find (is_at_most (length h)) V) = ap (λ vs. vs ++ survivor (find (is_at_most (length h)) V)) none in
-    (
+    let only : cut_at (length h) V ≡ survivor (find (is_at_most (length h)) V) = ap (λ vs. vs ++ survivor (find (is_at_most (length h)) V)) none in (
       ap is_any only ∙ left.0 ∙ ap (λ (i : Image). is_some i.row) (image_visible h r (length h)),
       subst (λ vs. length vs ≤ 1) (sym only) left.1,
     )

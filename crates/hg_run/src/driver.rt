@@ -21,7 +21,8 @@ ghost use Rattle.hg_run.specs.Answering.{Ends, Goes, Stays, Within, IsAsked, IsW
 use crate::buckets::Buckets;
 use crate::session::Sessions;
 use hg_base::{
-    Answer, Image, NoMemory, Reply, Rid, Row, RowList, Scope, Snapshot, Statement, TableId, Totals, Writer,
+    Answer, Image, NoMemory, Reply, Rid, Row, RowList, Scope, Snapshot, Statement, TableId, Totals,
+    Writer,
 };
 use hg_bucket::WriteRefusal;
 use std::alloc::Global;

@@ -7,8 +7,8 @@ ghost use Rattle.hg_script.specs.Meaning.{refusal_of};
 ghost use Rattle.hg_run.specs.Words.{are_accepted};
 ghost use Rattle.hg_run.specs.Serving.{Answers, Comes, Gives, HasFailed, IsTextFor, IsUnlessNoMemory, RefusesBytes, RefusesSource, WritesAll, change_of, may_write};
 
-use crate::replay::replay;
 use crate::reading::read_all;
+use crate::replay::replay;
 use crate::status::Status;
 use crate::text::text_of;
 use crate::words::are_accepted;

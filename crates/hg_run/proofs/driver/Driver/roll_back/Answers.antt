@@ -15,14 +15,14 @@ loop-session-preserved c =
     let n = c.loop-session.session in
     let inv = c.loop-session.invariant in
     elim c.if-is_some.branch [
-      then-is_some w ↦
+      | then-is_some w ↦
           let opened : IsSome (sitting k.sessions n).opened = ap (λ (q : Driven). is_some (sitting q.sessions n).opened) (sym c.self-in-loop-session.view_is) ∙ ap is_some (sym c.opened.ensures) ∙ sym c.is_some.ensures ∙ w.if-is_some.true in
           record {
             closed = λ p s. subst (λ (q : Driven). IsPartlyClosed q p (n + 1)) (sym w.self-is) (closed_open k w.rollback.new.self p n (inv.closed p s) opened (w.rollback.ensures.undone (closed_past p (inv.closed p s).logs) (inv.closed p s).kept));
             many = ap (λ (q : Driven). length q.sessions) w.self-is ∙ w.rollback.ensures.rest.sessions ∙ inv.many;
             made = ap (λ (q : Driven). made_in q.buckets) w.self-is ∙ w.rollback.ensures.rest.made ∙ inv.made;
           }
-    | else-is_some w ↦
+      | else-is_some w ↦
           let idle : (sitting k.sessions n).opened ≡ None = none_of (sitting k.sessions n).opened (ap (λ (q : Driven). is_some (sitting q.sessions n).opened) (sym c.self-in-loop-session.view_is) ∙ ap is_some (sym c.opened.ensures) ∙ sym c.is_some.ensures ∙ w.if-is_some.false) in
           record {
             closed = λ p s. subst (λ (q : Driven). IsPartlyClosed q p (n + 1)) (sym w.self-is) (closed_idle k p n idle (inv.closed p s));
