@@ -88,72 +88,69 @@ fn length_is_limited(rt: HostRuntime) -> Result<(), Fail> {
     Ok(())
 }
 
-// Scripts, all that is written for them before the totals, and how many versions were made, undone and left.
-const ANSWERS: &[(&str, &str, [u64; 3])] = &[
-    ("", "", [0, 0, 0]),
-    (
-        OWN_WRITE,
-        "1,2,begun,0\n1,3,stored\n1,4,row,7\n1,5,committed,1\n",
-        [1, 0, 1],
-    ),
-    ("table,t,1\n1,get,t,9\n", "1,2,at,0,none\n", [0, 0, 0]),
-    (
-        "table,t,1\n1,begin\n1,put,t,5,1\n1,put,t,5,2\n1,get,t,5\n1,commit\n",
-        "1,2,begun,0\n1,3,stored\n1,4,stored\n1,5,row,2\n1,6,committed,1\n",
-        [1, 0, 1],
-    ),
-    (
-        "table,t,2\n1,put,t,5,1,-2\n1,put,t,5,3,4\n1,get,t,5\n1,begin\n1,commit\n",
-        "1,2,at,0,stored,committed,1\n1,3,at,1,stored,committed,2\n1,4,at,2,row,3,4\n1,5,begun,2\n1,6,ended\n",
-        [2, 0, 1],
-    ),
-    (
-        "table,t,1\ntable,u,1\n1,put,t,5,1\n1,begin\n1,put,t,5,2\n1,put,u,5,2\n1,get,u,6\n",
-        "1,3,at,0,stored,committed,1\n1,4,begun,1\n1,5,stored\n1,6,stored\n1,7,none\n",
-        [3, 2, 1],
-    ),
-    // outside the declared tables, and a call after the refusal
-    (
-        "table,t,1\ntable,u,1\n1,begin,u\n1,get,t,1\n1,get,u,1\n1,commit\n",
-        "1,3,begun,0\n1,4,refused,undeclared,t\n1,5,none\n1,6,ended\n",
-        [0, 0, 0],
-    ),
-    // another's open write, and a retry
-    (
-        "table,t,1\n1,begin\n2,begin\n1,put,t,5,1\n2,put,t,5,2\n1,rollback\n2,put,t,5,2\n2,commit\n",
-        "1,2,begun,0\n2,3,begun,0\n1,4,stored\n2,5,refused,open,1,1\n1,6,undone\n2,7,stored\n2,8,committed,1\n",
-        [2, 1, 1],
-    ),
-    // a deletion that an old writer is refused for
-    (
-        "table,t,1\n2,put,t,5,10\n1,begin\n2,begin\n2,del,t,5\n2,commit\n1,put,t,5,11\n1,get,t,5\n1,rollback\n1,get,t,5\n",
-        "2,2,at,0,stored,committed,1\n1,3,begun,1\n2,4,begun,1\n2,5,gone\n2,6,committed,2\n1,7,refused,newer,2\n1,8,row,10\n1,9,undone\n1,10,at,2,none\n",
-        [2, 0, 0],
-    ),
-    // deletion of an absent key
-    (
-        "table,t,1\n1,begin\n1,del,t,5\n1,commit\n1,del,t,5\n",
-        "1,2,begun,0\n1,3,none\n1,4,ended\n1,5,at,0,none\n",
-        [0, 0, 0],
-    ),
-    // scans at the ends
-    (
-        "table,t,1\n1,put,t,18446744073709551615,-3\n1,scan,t,9,3\n1,scan,t,0,18446744073709551615\n",
-        "1,2,at,0,stored,committed,1\n1,3,at,1,rows,0\n1,4,at,1,rows,1\n1,4,row,18446744073709551615,-3\n",
-        [1, 0, 1],
-    ),
-    // own writes among the rows, which stand in many buckets
-    (
-        "table,t,1\n1,put,t,70,1\n1,put,t,6,2\n1,begin\n1,put,t,7,3\n1,del,t,6\n1,scan,t,1,70\n1,scan,t,7,69\n2,scan,t,0,99\n1,commit\n",
-        "1,2,at,0,stored,committed,1\n1,3,at,1,stored,committed,2\n1,4,begun,2\n1,5,stored\n1,6,gone\n1,7,rows,2\n1,7,row,7,3\n1,7,row,70,1\n1,8,rows,1\n1,8,row,7,3\n2,9,at,2,rows,2\n2,9,row,6,2\n2,9,row,70,1\n1,10,committed,3\n",
-        [4, 0, 2],
-    ),
-];
-
+// Scripts, all that is written for them before the totals, and how many versions were made, undone, cut and left.
 #[test]
 fn scripts_have_their_answers(rt: HostRuntime) -> Result<(), Fail> {
-    for (script, lines, [made, undone, left]) in ANSWERS {
-        let table = made - undone - left;
+    for (script, lines, [made, undone, table, left]) in [
+        ("", "", [0, 0, 0, 0]),
+        (
+            OWN_WRITE,
+            "1,2,begun,0\n1,3,stored\n1,4,row,7\n1,5,committed,1\n",
+            [1, 0, 0, 1],
+        ),
+        ("table,t,1\n1,get,t,9\n", "1,2,at,0,none\n", [0, 0, 0, 0]),
+        (
+            "table,t,1\n1,begin\n1,put,t,5,1\n1,put,t,5,2\n1,get,t,5\n1,commit\n",
+            "1,2,begun,0\n1,3,stored\n1,4,stored\n1,5,row,2\n1,6,committed,1\n",
+            [1, 0, 0, 1],
+        ),
+        (
+            "table,t,2\n1,put,t,5,1,-2\n1,put,t,5,3,4\n1,get,t,5\n1,begin\n1,commit\n",
+            "1,2,at,0,stored,committed,1\n1,3,at,1,stored,committed,2\n1,4,at,2,row,3,4\n1,5,begun,2\n1,6,ended\n",
+            [2, 0, 1, 1],
+        ),
+        (
+            "table,t,1\ntable,u,1\n1,put,t,5,1\n1,begin\n1,put,t,5,2\n1,put,u,5,2\n1,get,u,6\n",
+            "1,3,at,0,stored,committed,1\n1,4,begun,1\n1,5,stored\n1,6,stored\n1,7,none\n",
+            [3, 2, 0, 1],
+        ),
+        // outside the declared tables, and a call after the refusal
+        (
+            "table,t,1\ntable,u,1\n1,begin,u\n1,get,t,1\n1,get,u,1\n1,commit\n",
+            "1,3,begun,0\n1,4,refused,undeclared,t\n1,5,none\n1,6,ended\n",
+            [0, 0, 0, 0],
+        ),
+        // another's open write, and a retry
+        (
+            "table,t,1\n1,begin\n2,begin\n1,put,t,5,1\n2,put,t,5,2\n1,rollback\n2,put,t,5,2\n2,commit\n",
+            "1,2,begun,0\n2,3,begun,0\n1,4,stored\n2,5,refused,open,1,1\n1,6,undone\n2,7,stored\n2,8,committed,1\n",
+            [2, 1, 0, 1],
+        ),
+        // a deletion that an old writer is refused for
+        (
+            "table,t,1\n2,put,t,5,10\n1,begin\n2,begin\n2,del,t,5\n2,commit\n1,put,t,5,11\n1,get,t,5\n1,rollback\n1,get,t,5\n",
+            "2,2,at,0,stored,committed,1\n1,3,begun,1\n2,4,begun,1\n2,5,gone\n2,6,committed,2\n1,7,refused,newer,2\n1,8,row,10\n1,9,undone\n1,10,at,2,none\n",
+            [2, 0, 2, 0],
+        ),
+        // deletion of an absent key
+        (
+            "table,t,1\n1,begin\n1,del,t,5\n1,commit\n1,del,t,5\n",
+            "1,2,begun,0\n1,3,none\n1,4,ended\n1,5,at,0,none\n",
+            [0, 0, 0, 0],
+        ),
+        // scans at the ends
+        (
+            "table,t,1\n1,put,t,18446744073709551615,-3\n1,scan,t,9,3\n1,scan,t,0,18446744073709551615\n",
+            "1,2,at,0,stored,committed,1\n1,3,at,1,rows,0\n1,4,at,1,rows,1\n1,4,row,18446744073709551615,-3\n",
+            [1, 0, 0, 1],
+        ),
+        // own writes among the rows, which stand in many buckets
+        (
+            "table,t,1\n1,put,t,70,1\n1,put,t,6,2\n1,begin\n1,put,t,7,3\n1,del,t,6\n1,scan,t,1,70\n1,scan,t,7,69\n2,scan,t,0,99\n1,commit\n",
+            "1,2,at,0,stored,committed,1\n1,3,at,1,stored,committed,2\n1,4,begun,2\n1,5,stored\n1,6,gone\n1,7,rows,2\n1,7,row,7,3\n1,7,row,70,1\n1,8,rows,1\n1,8,row,7,3\n2,9,at,2,rows,2\n2,9,row,6,2\n2,9,row,70,1\n1,10,committed,3\n",
+            [4, 0, 2, 2],
+        ),
+    ] {
         let want = format!(in rt.alloc();
             "{lines}total,made,{made}\ntotal,undone,{undone}\ntotal,group,0\ntotal,table,{table}\ntotal,interval,0\ntotal,left,{left}\n"
         )?;
