@@ -1,6 +1,6 @@
 //! Records with their versions, and counters of them.
 
-ghost use Rattle.std.specs.Prelude.{◌≡◌, ℕ, ◌+◌, ◌<◌, ◌^◌, length, [], None, IsTrue, IsOk, IfSome, IfErr, OnOk, OnErr, drop, if◌then◌else◌};
+ghost use Rattle.std.specs.Prelude.{◌≡◌, ℕ, ◌+◌, ◌<◌, ◌^◌, length, [], None, not, IsTrue, IsOk, IfOk, IfSome, IfErr, OnOk, OnErr, drop, if◌then◌else◌};
 ghost use Rattle.std.specs.Option.{option_copied};
 ghost use Rattle.hg_base.specs.Lists.{Each};
 ghost use Rattle.hg_base.specs.declared.rid.Rid.{Rid};
@@ -58,7 +58,7 @@ impl Bucket {
     }
 
     /// Writes an image. A transaction's second write of a record replaces its first one. That takes no memory, and it isn't
-    /// counted.
+    /// counted. The answer says whether a version was added.
     pub fn write(
         &mut self,
         rid: Rid,
@@ -66,7 +66,7 @@ impl Bucket {
         image: Image,
         snapshot: u64,
         mark: u64,
-    ) -> Result<(), WriteRefusal>
+    ) -> Result<bool, WriteRefusal>
         requires { self.old.made < 2 ^ 40 }
         ensures open { IfSome (holder by mark (versions_of self.old.records rid)) (λ w. result ≡ Err (Open w)) }
         ensures newer { holder by mark (versions_of self.old.records rid) ≡ None → IfSome (newer snapshot (versions_of self.old.records rid)) (λ n. result ≡ Err (Newer n)) }
@@ -74,12 +74,13 @@ impl Bucket {
         ensures replaced { IsTrue (begins_open by (versions_of self.old.records rid)) → IsOk result }
         ensures stored { OnOk result (versions_of self.new.records rid ≡ installed by image (versions_of self.old.records rid)) }
         ensures others { OthersStay self.old.records self.new.records rid }
+        ensures added { IfOk result (λ added. added ≡ not (begins_open by (versions_of self.old.records rid))) }
         ensures made { OnOk result (self.new ≡ record self.old { records = self.new.records; made = self.old.made + (if begins_open by (versions_of self.old.records rid) then 0 else 1) }) }
         ensures refused { OnErr result (self.new ≡ self.old) }
     {
         let added = self.records.write(rid, by, image, snapshot, mark)?;
         self.made += if added { 1 } else { 0 };
-        Ok(())
+        Ok(added)
     }
 
     /// Removes the transaction's open write of a record. A record that has no other version is dropped.

@@ -35,12 +35,12 @@ returns-in_err-added-clause-replaced c =
 pub returns-clause-open : goal.returns-clause-open
 returns-clause-open c =
     let vs = versions_of c.self.inside.records c.args.rid in
-    rw (← c.self.view_is) (told_open c.args.by c.args.snapshot c.args.mark vs (Ok tt) (told_none (conflict c.args.by c.args.snapshot c.args.mark vs) c.write.result (Ok tt) c.in_ok-added.added c.in_ok-added.was c.write.ensures.refusal))
+    rw (← c.self.view_is) (told_open c.args.by c.args.snapshot c.args.mark vs (Ok c.in_ok-added.added) (told_none (conflict c.args.by c.args.snapshot c.args.mark vs) c.write.result (Ok c.in_ok-added.added) c.in_ok-added.added c.in_ok-added.was c.write.ensures.refusal))
 
 pub returns-clause-newer : goal.returns-clause-newer
 returns-clause-newer c =
     let vs = versions_of c.self.inside.records c.args.rid in
-    rw (← c.self.view_is) (told_newer c.args.by c.args.snapshot c.args.mark vs (Ok tt) (told_none (conflict c.args.by c.args.snapshot c.args.mark vs) c.write.result (Ok tt) c.in_ok-added.added c.in_ok-added.was c.write.ensures.refusal))
+    rw (← c.self.view_is) (told_newer c.args.by c.args.snapshot c.args.mark vs (Ok c.in_ok-added.added) (told_none (conflict c.args.by c.args.snapshot c.args.mark vs) c.write.result (Ok c.in_ok-added.added) c.in_ok-added.added c.in_ok-added.was c.write.ensures.refusal))
 
 pub returns-clause-made : goal.returns-clause-made
 returns-clause-made c =
