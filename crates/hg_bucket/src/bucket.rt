@@ -2,11 +2,14 @@
 
 ghost use Rattle.std.specs.Prelude.{◌≡◌, ℕ, ◌+◌, ◌<◌, ◌^◌, length, [], None, not, IsTrue, IsOk, IfOk, IfSome, IfErr, OnOk, OnErr, drop, if◌then◌else◌};
 ghost use Rattle.std.specs.Option.{option_copied};
+ghost use Rattle.std.specs.List.{IsDistinct};
+ghost use Rattle.std.specs.Map.{keys_of};
+ghost use Rattle.hg_base.specs.History.{same_rid};
 ghost use Rattle.hg_base.specs.Lists.{Each};
 ghost use Rattle.hg_base.specs.declared.rid.Rid.{Rid};
 ghost use Rattle.hg_bucket.specs.declared.refusal.WriteRefusal.TheVariants.{Open, Newer};
 ghost use Rattle.hg_bucket.specs.Conflicts.{holder, newer, IsCause};
-ghost use Rattle.hg_bucket.specs.Held.{versions_of, begins_open, installed, stamped, OthersStay, IsBelow, read_at, record_at, cut_at, left, counts_of, IsNextKey};
+ghost use Rattle.hg_bucket.specs.Held.{versions_of, begins_open, installed, stamped, OthersStay, IsBelow, read_at, record_at, cut_at, left, counts_of, IsBalanced, IsNextKey};
 
 use crate::records::Records;
 use crate::refusal::WriteRefusal;
@@ -139,8 +142,11 @@ impl Bucket {
 
     /// How many versions were made, undone, removed by each collector, and are held.
     pub fn counts(&self) -> Totals
-        ensures { result ≡ counts_of self.now }
+        ensures counts { result ≡ counts_of self.now }
+        ensures balance { IsBalanced self.now }
+        ensures distinct { IsDistinct same_rid (keys_of self.now.records) }
     {
+        self.records.stand_once();
         Totals {
             made: self.made,
             undone: self.undone,

@@ -1,6 +1,9 @@
 //! Records with their versions.
 
 ghost use Rattle.std.specs.Prelude.{◌≡◌, ℕ, ◌+◌, ◌<◌, ◌≤◌, ◌^◌, length, [], not, drop, IsTrue, IsOk, IfOk, IfErr, OnOk, OnErr, IfSome, if◌then◌else◌, None};
+ghost use Rattle.std.specs.List.{IsDistinct};
+ghost use Rattle.std.specs.Map.{keys_of};
+ghost use Rattle.hg_base.specs.History.{same_rid};
 ghost use Rattle.hg_base.specs.Lists.{Each};
 ghost use Rattle.hg_base.specs.declared.rid.Rid.{Rid};
 ghost use Rattle.std.specs.Option.{option_copied};
@@ -73,6 +76,14 @@ impl Records {
         ensures { IsNextKey self.now table from result }
     {
         self.index.next_key(table, from)
+    }
+
+    /// No record stands twice: for the counts, which tell it.
+    pub fn stand_once(&self)
+        ensures { IsDistinct same_rid (keys_of self.now) }
+    {
+        let table = TableId(0);
+        self.index.place(Rid { table, key: 0 });
     }
 
     // Why a write is refused, memory aside.
