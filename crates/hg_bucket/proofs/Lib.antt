@@ -15,3 +15,6 @@ pub mod Shortening
 pub mod Ranging
 pub mod Settling
 pub mod Walking
+pub mod Sweeps
+pub mod Sweeping
+pub mod Costing
