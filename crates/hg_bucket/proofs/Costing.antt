@@ -1,5 +1,5 @@
 -- What a sweep of a table costs.
-use Rattle.std.proofs.Common.{◌≡◌, ℕ, ◌+◌, ◌<◌, ◌≤◌, List, [], ◌∷◌, length, Bool, true, false, Option, Some, None, refl, sym, ap, ◌∙◌, cond, subst, arith}
+use Rattle.std.proofs.Common.{◌≡◌, ℕ, ◌+◌, ◌≤◌, List, [], ◌∷◌, length, Bool, true, false, Option, Some, None, refl, sym, ap, ◌∙◌, cond, arith}
 use Rattle.std.specs.Prelude.{◌&&◌, ◌==◌, nat_le, sum_by, filter, unwrap_or, option_to_list, option_map}
 use Rattle.std.specs.Map.{lookup}
 use Rattle.std.proofs.lemmas.Bool.Decides.{nat_tests}
@@ -8,13 +8,12 @@ use Rattle.hg_base.specs.declared.rid.Rid.{Rid}
 use Rattle.hg_base.specs.declared.rid.TableId.{TableId}
 use Rattle.hg_base.specs.declared.image.Image.{Image}
 use Rattle.hg_base.specs.History.{same_rid}
-use Rattle.hg_base.proofs.ListFacts.{cases}
 use Rattle.hg_chain.specs.declared.version.Stamp.{Stamp}
 use Rattle.hg_chain.specs.declared.version.Stamp.TheVariants.{Written, Numbered}
 use Rattle.hg_chain.specs.declared.version.Version.{Version}
 use Rattle.hg_space.specs.Places.{Oldest}
 use Rattle.hg_bucket.specs.Held.{Kept, versions_of, record_at}
-use Rattle.hg_bucket.specs.Parts.{kept, kept_as, whole, IsNextLong}
+use Rattle.hg_bucket.specs.Parts.{kept_as, whole, IsNextLong}
 use Rattle.hg_bucket.specs.Sweeping.{is_long, is_looked_at, sweep_steps}
 use Rattle.hg_bucket.proofs.Bare.{whole_sum}
 

@@ -1,12 +1,10 @@
 -- What a sweep makes of a record, in the parts.
-use Rattle.std.proofs.Common.{◌≡◌, ℕ, ◌+◌, ◌<◌, ◌≤◌, List, [], ◌∷◌, length, Bool, true, false, Option, Some, None, refl, sym, ap, ◌∙◌, cond, subst, set, not, arith}
+use Rattle.std.proofs.Common.{◌≡◌, ℕ, ◌+◌, ◌<◌, ◌≤◌, List, length, Bool, true, false, Option, Some, None, refl, sym, ap, ◌∙◌, cond, subst, set, not, arith}
 use Rattle.std.specs.Prelude.{IfSome}
 use Rattle.std.specs.Map.{lookup}
 use Rattle.hg_base.specs.History.{same_rid}
 use Rattle.std.specs.Bool.{OnFalse}
 use Rattle.hg_base.specs.declared.rid.Rid.{Rid}
-use Rattle.hg_chain.specs.declared.version.Stamp.{Stamp}
-use Rattle.hg_chain.specs.declared.version.Stamp.TheVariants.{Written, Numbered}
 use Rattle.hg_chain.specs.declared.version.Version.{Version}
 use Rattle.hg_chain.specs.Sweeps as chain
 use Rattle.hg_chain.specs.Sweeps.{goes, MayStay, last_number, swept_away}
@@ -17,7 +15,6 @@ use Rattle.hg_bucket.specs.Sweeping.{swept, IsClean}
 use Rattle.hg_bucket.specs.Parts.{chain_of, whole, records_of, ChainIs, AreWhole, IsRow}
 use Rattle.hg_bucket.proofs.Changing.{versions_there}
 use Rattle.hg_bucket.proofs.Turning.{Turns, turned_here, turned_others, turned_left, turned, filled}
-use Rattle.hg_bucket.proofs.Bare.{whole_sum}
 use Rattle.hg_bucket.proofs.Shortening.{set_turns, kept_turns}
 use Rattle.hg_bucket.proofs.Sweeps.{base_of, less_base, whole_swept, whole_clean, swept_gone, swept_over, some_left}
 

@@ -1,6 +1,6 @@
 -- What a sweep makes of a record's versions.
-use Rattle.std.proofs.Common.{◌≡◌, ℕ, zero, suc, inl, inr, ◌+◌, ◌<◌, ◌≤◌, List, [], ◌∷◌, ◌++◌, length, Bool, true, false, not, ◌||◌, Option, Some, None, refl, ap, sym, ◌∙◌, cond, subst, map, arith}
-use Rattle.std.specs.Prelude.{filter, find, option_map, option_to_list, is_some, nat_le, ⊤, Contains}
+use Rattle.std.proofs.Common.{◌≡◌, ℕ, zero, suc, inl, inr, ◌+◌, ◌<◌, ◌≤◌, List, [], ◌∷◌, length, Bool, true, false, not, ◌||◌, Option, Some, None, refl, ap, sym, ◌∙◌, cond, subst, map, arith}
+use Rattle.std.specs.Prelude.{filter, find, option_map, option_to_list, nat_le, ⊤, Contains}
 use Rattle.std.specs.Option.{option_or}
 use Rattle.std.specs.Bool.{OnFalse}
 use Rattle.std.proofs.lemmas.Bool.Decides.{nat_tests}
@@ -18,7 +18,7 @@ use Rattle.hg_chain.proofs.Sweeps as runs
 use Rattle.hg_chain.proofs.Sweeps.{last_after, last_of_all, swept_sum}
 use Rattle.hg_space.specs.Places.{Oldest}
 use Rattle.hg_bucket.specs.Held.{Kept, is_at_most, is_open_by, read_at}
-use Rattle.hg_bucket.specs.Sweeping.{with_successors, goes_after, swept, IsClean, is_long}
+use Rattle.hg_bucket.specs.Sweeping.{with_successors, goes_after, swept, IsClean}
 use Rattle.hg_bucket.specs.Parts.{kept, kept_as, oldest, whole, some_chain, IsOver, IsSettled}
 use Rattle.hg_bucket.proofs.Bare.{whole_sum}
 use Rattle.hg_bucket.proofs.Naming.{all_over_none}
@@ -32,9 +32,6 @@ first_goes horizon xs up v vs e = ap (λ b. map (λ p. p.1) (cond (not b) ((up, 
 
 pub first_stays : (horizon : ℕ) (xs : List ℕ) (up : Option ℕ) (v : Kept) (vs : List Kept) → goes horizon xs up v.number ≡ false → swept_from horizon xs up (v ∷ vs) ≡ v ∷ swept_from horizon xs v.number vs
 first_stays horizon xs up v vs e = ap (λ b. map (λ p. p.1) (cond (not b) ((up, v) ∷ filter (λ p. not (goes_after horizon xs p)) (with_successors v.number vs)) (filter (λ p. not (goes_after horizon xs p)) (with_successors v.number vs)))) e
-
-none_stays : (horizon : ℕ) (xs : List ℕ) (n : Option ℕ) → goes horizon xs None n ≡ false
-none_stays horizon xs n = refl
 
 open_stays : (horizon : ℕ) (xs : List ℕ) (up : Option ℕ) → goes horizon xs up None ≡ false
 open_stays horizon xs None = refl
@@ -78,11 +75,6 @@ whole_from horizon xs up (v ∷ vs) im =
 pub whole_swept : (horizon : ℕ) (xs : List ℕ) (vs : List Version) (im : Oldest) → swept horizon xs (whole vs im) ≡ whole (chain.swept horizon xs vs) (less_base (goes horizon xs (last_number vs) (base_of im)) im)
 whole_swept horizon xs vs im = whole_from horizon xs None vs im ∙ ap (λ n. whole (chain.swept horizon xs vs) (less_base (goes horizon xs n (base_of im)) im)) (last_of_all vs)
 
--- the oldest image goes only where there is one
-pub base_there : (horizon : ℕ) (xs : List ℕ) (up : Option ℕ) (im : Oldest) → goes horizon xs up (base_of im) ≡ true → is_some im ≡ true
-base_there horizon xs up None e = let k = sym (open_stays horizon xs up) ∙ e in absurd cc
-base_there horizon xs up (Some p) e = refl
-
 -- how many go
 pub base_sum : (horizon : ℕ) (xs : List ℕ) (up : Option ℕ) (im : Oldest) (b : Bool) → b ≡ goes horizon xs up (base_of im) → length (option_to_list (less_base b im)) + cond {A = ℕ} b 1 0 ≡ length (option_to_list im)
 base_sum horizon xs up None true e = let k = e ∙ open_stays horizon xs up in absurd cc
@@ -92,10 +84,6 @@ base_sum horizon xs up (Some p) false e = refl
 
 pub swept_gone : (horizon : ℕ) (xs : List ℕ) (vs : List Version) (im : Oldest) (b : Bool) → b ≡ goes horizon xs (last_number vs) (base_of im) → length (whole (chain.swept horizon xs vs) (less_base b im)) + (swept_away horizon xs vs + cond {A = ℕ} b 1 0) ≡ length (whole vs im)
 swept_gone horizon xs vs im b e = omega (arith, whole_sum (chain.swept horizon xs vs) (less_base b im), whole_sum vs im, swept_sum horizon xs None vs, base_sum horizon xs (last_number vs) im b e)
-
--- the newest version stays
-pub first_is_left : (horizon : ℕ) (xs : List ℕ) (v : Kept) (vs : List Kept) → swept horizon xs (v ∷ vs) ≡ v ∷ swept_from horizon xs v.number vs
-first_is_left horizon xs v vs = refl
 
 pub some_left : (horizon : ℕ) (xs : List ℕ) (vs : List Kept) → 0 < length vs → 0 < length (swept horizon xs vs)
 some_left horizon xs [] h = h

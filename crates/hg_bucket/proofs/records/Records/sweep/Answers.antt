@@ -1,10 +1,9 @@
-use Rattle.std.proofs.Common.{◌≡◌, ℕ, ◌+◌, ◌<◌, ◌≤◌, List, length, true, false, refl, sym, ap, ◌∙◌, cond, subst, Option, Some, None, arith}
+use Rattle.std.proofs.Common.{ℕ, ◌+◌, ◌≤◌, length, sym, ap, ◌∙◌, subst, Option, arith}
 use Rattle.std.specs.Prelude.{◌^◌, option_to_list}
-use Rattle.hg_chain.specs.declared.version.Version.{Version}
 use Rattle.hg_space.specs.Places.{image_at}
-use Rattle.hg_bucket.specs.Held.{Kept, versions_of, OthersStay, left}
-use Rattle.hg_bucket.specs.Sweeping.{swept, IsClean, is_long}
-use Rattle.hg_bucket.specs.Parts.{records_of, chain_of, whole}
+use Rattle.hg_bucket.specs.Held.{versions_of, OthersStay, left}
+use Rattle.hg_bucket.specs.Sweeping.{swept, IsClean}
+use Rattle.hg_bucket.specs.Parts.{records_of, chain_of}
 use Rattle.hg_bucket.proofs.Changing.{versions_there}
 use Rattle.hg_bucket.proofs.Installing.{no_versions}
 use Rattle.hg_bucket.proofs.Sweeping.{says, keeps, drops, long_chains}

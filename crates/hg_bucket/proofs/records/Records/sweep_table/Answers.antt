@@ -1,8 +1,7 @@
-use Rattle.std.proofs.Common.{◌≡◌, ◌+◌, ◌<◌, ◌≤◌, length, refl, sym, ap, subst, arith}
-use Rattle.hg_bucket.specs.Held.{versions_of, record_at}
+use Rattle.std.proofs.Common.{◌+◌, ◌≤◌, length, subst, arith}
 use Rattle.hg_bucket.specs.Sweeping.{sweep_steps}
-use Rattle.hg_bucket.proofs.Walking.{Walks, Swept, swept_keeps, begins, goes, nearer, to_go}
-use Rattle.hg_bucket.proofs.Costing.{cost_of, cost_from, to_pay, one_paid, next_paid, first_paid}
+use Rattle.hg_bucket.proofs.Walking.{Walks, Swept, swept_keeps, begins, goes}
+use Rattle.hg_bucket.proofs.Costing.{cost_of, to_pay, one_paid, next_paid, first_paid}
 use Rattle.hg_bucket.proofs.records.Records.sweep_table.Goals as goal
 
 pub loop-next-init : goal.loop-next-init
