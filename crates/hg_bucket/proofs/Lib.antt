@@ -18,3 +18,4 @@ pub mod Walking
 pub mod Sweeps
 pub mod Sweeping
 pub mod Costing
+pub mod Numbers

@@ -20,3 +20,6 @@ mod refusal;
 
 pub use bucket::Bucket;
 pub use refusal::WriteRefusal;
+
+#[cfg(test)]
+mod tests;
