@@ -5,8 +5,6 @@ use Rattle.std.specs.Map.{lookup, set_value}
 use Rattle.std.specs.BTreeMap.{BTreeMap, get, is_at, WritesThrough, UpdatesBy}
 use Rattle.std.proofs.lemmas.Map.Steps.{set_value_same}
 use Rattle.hg_base.specs.declared.rid.Rid.{Rid}
-use Rattle.hg_base.specs.declared.image.Image.{Image}
-use Rattle.hg_base.specs.declared.writer.Writer.{Writer}
 use Rattle.hg_base.specs.History.{same_rid}
 use Rattle.hg_base.specs.RidOrder.{rid_cmp}
 use Rattle.hg_base.proofs.RidOrder.{at_rid}
@@ -46,9 +44,6 @@ pub unwritten : (m n : BTreeMap Rid (List Version)) (r : Rid) (vs ws : List Vers
 unwritten m n r vs ws same h through = through.0 ∙ ap (set_value (is_at (rid_cmp r)) m.entries) same ∙ set_value_same (is_at (rid_cmp r)) m.entries vs h
 
 -- ---- what it has come to
-
-pub installed_some : (by : Writer) (image : Image) (vs : List Version) → some_chain (chain.installed by image vs) ≡ Some (chain.installed by image vs)
-installed_some by image vs = refl
 
 pub none_newest : (vs : List Version) → is_some (chain.newest vs) ≡ false → vs ≡ []
 none_newest [] h = refl

@@ -71,10 +71,6 @@ pub append_assoc : {X : Type 0} (xs ys zs : List X) → (xs ++ ys) ++ zs ≡ xs 
 append_assoc [] ys zs = refl
 append_assoc (x ∷ xs) ys zs = ap (λ ws. x ∷ ws) (append_assoc xs ys zs)
 
-pub append_nil : {X : Type 0} (xs : List X) → xs ++ [] ≡ xs
-append_nil [] = refl
-append_nil (x ∷ xs) = ap (λ ws. x ∷ ws) (append_nil xs)
-
 -- ---- where it has one, that is the newest at the bound, and the oldest image goes
 
 pub below_goes : (bound n : ℕ) (im : Oldest) (w : Image) → IsTrue (nat_le n bound) → ((p : ℕ × Image) → im ≡ Some p → p.0 < n) → filter (over bound) (behind im) ≡ []

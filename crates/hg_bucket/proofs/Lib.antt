@@ -15,3 +15,7 @@ pub mod Shortening
 pub mod Ranging
 pub mod Settling
 pub mod Walking
+pub mod Sweeps
+pub mod Sweeping
+pub mod Costing
+pub mod Numbers

@@ -1,6 +1,6 @@
 -- What a refusal tells.
 use Rattle.std.proofs.Common.{◌≡◌, ℕ, List, Bool, true, false, Option, Some, None, refl, sym, ap, ◌∙◌, cond, subst, not, [], ◌∷◌}
-use Rattle.std.specs.Prelude.{IsTrue, IsFalse, IfSome, option_map, Result, Ok, Err, IsOk, IfErr, unwrap_or, ◌||◌}
+use Rattle.std.specs.Prelude.{IsTrue, IsFalse, IfSome, option_map, Result, Ok, Err, IsOk, unwrap_or, ◌||◌}
 use Rattle.std.specs.Option.{option_or}
 use Rattle.std.proofs.lemmas.Option.{none-some, same_Some}
 use Rattle.hg_base.specs.declared.image.Image.{Image}
@@ -87,10 +87,6 @@ never_own by snapshot mark vs e cause own = go e cause
     go (Open w) k = none-some w (sym none.0 ∙ k)
     go (Newer n) k = none-some n (sym none.1 ∙ k.1)
     go NoMemory k = let both = sym k.2 ∙ own in absurd cc
-
-pub ok_own : {X : Type 0} (by : Writer) (snapshot mark : ℕ) (vs : List Kept) (r : Result X WriteRefusal) → IfErr r (IsCause by snapshot mark vs) → IsTrue (begins_open by vs) → IsOk r
-ok_own by snapshot mark vs (Ok x) h own = refl
-ok_own by snapshot mark vs (Err e) h own = absurd (never_own by snapshot mark vs e h own)
 
 -- ---- how many versions were added
 

@@ -43,11 +43,9 @@ others_apart es places r p x index has q n k apart = seat_apart places p n x oth
         let both : true ≡ false = sym same ∙ apart in
         absurd cc
 
--- ---- a cut
-
-pub cut_turns : (bound : ℕ) (es : List (Rid × ℕ)) (cs ds : List (Rid × List Version)) (places seats : List Seat) (r : Rid) (p : ℕ) (newest : Oldest) → IsIndex es → AreWhole es cs places → place_of es r ≡ Some p → ChainIs cs ds r (chain.left_by bound (chain_of cs r)) → newest ≡ chain.oldest_at bound (chain_of cs r) → seats ≡ set places p (taken (settled newest (image_at places p))) → Turns es cs ds places seats r p (chain.left_by bound (chain_of cs r)) (settled newest (image_at places p))
-cut_turns bound es cs ds places seats r p newest index old has is at seated =
-    let im = settled newest (image_at places p) in
+-- the chain is now ws, and the place has im
+pub set_turns : (es : List (Rid × ℕ)) (cs ds : List (Rid × List Version)) (places seats : List Seat) (r : Rid) (p : ℕ) (ws : List Version) (im : Oldest) → IsIndex es → AreWhole es cs places → place_of es r ≡ Some p → ChainIs cs ds r ws → seats ≡ set places p (taken im) → Turns es cs ds places seats r p ws im
+set_turns es cs ds places seats r p ws im index old has is seated =
     let here : slice_index_or seats p free ≡ taken im = ap (λ ps. slice_index_or ps p free) seated ∙ set_at places p (taken im) (old.taken r p has) in
     record {
       has = has;
@@ -57,8 +55,17 @@ cut_turns bound es cs ds places seats r p newest index old has is at seated =
       apart = λ q n k apart. ap (λ ps. slice_index_or ps n free) seated ∙ others_apart es places r p (taken im) index has q n k apart;
     }
 
+-- the chain is now ws, and the place has what it had
+pub kept_turns : (es : List (Rid × ℕ)) (cs ds : List (Rid × List Version)) (places : List Seat) (r : Rid) (p : ℕ) (ws : List Version) → AreWhole es cs places → place_of es r ≡ Some p → ChainIs cs ds r ws → Turns es cs ds places places r p ws (image_at places p)
+kept_turns es cs ds places r p ws old has is = record { has = has; chain = is; taken = old.taken r p has; image = refl; apart = λ q n k apart. refl }
+
+-- ---- a cut
+
+pub cut_turns : (bound : ℕ) (es : List (Rid × ℕ)) (cs ds : List (Rid × List Version)) (places seats : List Seat) (r : Rid) (p : ℕ) (newest : Oldest) → IsIndex es → AreWhole es cs places → place_of es r ≡ Some p → ChainIs cs ds r (chain.left_by bound (chain_of cs r)) → newest ≡ chain.oldest_at bound (chain_of cs r) → seats ≡ set places p (taken (settled newest (image_at places p))) → Turns es cs ds places seats r p (chain.left_by bound (chain_of cs r)) (settled newest (image_at places p))
+cut_turns bound es cs ds places seats r p newest index old has is at seated = set_turns es cs ds places seats r p (chain.left_by bound (chain_of cs r)) (settled newest (image_at places p)) index old has is seated
+
 pub stay_turns : (bound : ℕ) (es : List (Rid × ℕ)) (cs ds : List (Rid × List Version)) (places : List Seat) (r : Rid) (p : ℕ) → AreWhole es cs places → place_of es r ≡ Some p → ChainIs cs ds r (chain.left_by bound (chain_of cs r)) → Turns es cs ds places places r p (chain.left_by bound (chain_of cs r)) (image_at places p)
-stay_turns bound es cs ds places r p old has is = record { has = has; chain = is; taken = old.taken r p has; image = refl; apart = λ q n k apart. refl }
+stay_turns bound es cs ds places r p old has is = kept_turns es cs ds places r p (chain.left_by bound (chain_of cs r)) old has is
 
 pub record Cuts (bound : ℕ) (es : List (Rid × ℕ)) (cs ds : List (Rid × List Version)) (places seats : List Seat) (r : Rid) : Type 0 where
   pub bare : MayBeBare r es ds seats

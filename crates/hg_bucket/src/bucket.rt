@@ -1,6 +1,6 @@
 //! Records with their versions, and counters of them.
 
-ghost use Rattle.std.specs.Prelude.{◌≡◌, ℕ, ◌+◌, ◌<◌, ◌^◌, length, [], None, not, IsTrue, IsOk, IfOk, IfSome, IfErr, OnOk, OnErr, drop, if◌then◌else◌};
+ghost use Rattle.std.specs.Prelude.{◌≡◌, ℕ, ◌+◌, ◌<◌, ◌≤◌, ◌^◌, length, [], None, not, IsTrue, IsOk, IfOk, IfSome, IfErr, OnOk, OnErr, drop, if◌then◌else◌};
 ghost use Rattle.std.specs.Option.{option_copied};
 ghost use Rattle.std.specs.List.{IsDistinct};
 ghost use Rattle.std.specs.Map.{keys_of};
@@ -9,13 +9,17 @@ ghost use Rattle.hg_base.specs.Lists.{Each};
 ghost use Rattle.hg_base.specs.declared.rid.Rid.{Rid};
 ghost use Rattle.hg_bucket.specs.declared.refusal.WriteRefusal.TheVariants.{Open, Newer};
 ghost use Rattle.hg_bucket.specs.Conflicts.{holder, newer, IsCause};
+ghost use Rattle.hg_base.specs.declared.writer.Writer.{Writer};
+ghost use Rattle.hg_chain.specs.Sweeps.{Rises, IsProtected};
+ghost use Rattle.hg_bucket.specs.Sweeping.{swept, IsClean, sweep_steps};
 ghost use Rattle.hg_bucket.specs.Held.{versions_of, begins_open, installed, stamped, OthersStay, IsBelow, read_at, record_at, cut_at, left, counts_of, IsBalanced, IsNextKey};
 
 use crate::records::Records;
 use crate::refusal::WriteRefusal;
-use hg_base::{Image, Rid, TableId, Totals, Writer};
+use hg_base::{Image, Rid, Steps, TableId, Totals, Writer};
 use std::alloc::Global;
 use std::marker::Model;
+use std::sync::ledger::Ledger;
 
 /// The records of a bucket, with counters of their versions.
 #[derive(Debug, Drop)]
@@ -130,6 +134,30 @@ impl Bucket {
     {
         let gone = self.records.cut_table(table, bound);
         self.table += gone;
+        gone
+    }
+
+    /// Removes of each record of a table every version that no snapshot sees: its successor is numbered at or below the
+    /// horizon, and none of the ascending snapshots lies in its lifetime. The answer says how many versions went. A record
+    /// that has only its oldest image costs nothing.
+    pub fn sweep<L: Ledger>(
+        &mut self,
+        table: TableId,
+        horizon: u64,
+        snapshots: &[u64],
+        steps: &mut Steps<L>,
+    ) -> u64
+        requires { Rises snapshots.now }
+        ensures each { (k : ℕ) → versions_of self.new.records (record_at table k) ≡ swept horizon snapshots.now (versions_of self.old.records (record_at table k)) }
+        ensures clean { (k : ℕ) → IsClean horizon snapshots.now (versions_of self.new.records (record_at table k)) }
+        ensures seen { (k s : ℕ) (own : Writer) → IsProtected horizon snapshots.now s → read_at own s (versions_of self.new.records (record_at table k)) ≡ read_at own s (versions_of self.old.records (record_at table k)) }
+        ensures others { (q : Rid) → (q.table ≡ table → ⊥) → versions_of self.new.records q ≡ versions_of self.old.records q }
+        ensures gone { left self.new.records + result ≡ left self.old.records }
+        ensures counted { self.new ≡ record self.old { records = self.new.records; interval = self.old.interval + result } }
+        ensures cost { steps.new ≤ steps.old + sweep_steps table snapshots.now self.old.records }
+    {
+        let gone = self.records.sweep_table(table, horizon, snapshots, steps);
+        self.interval += gone;
         gone
     }
 

@@ -1,16 +1,21 @@
 //! The chains of the records that have one: no other record is in the map.
 
-ghost use Rattle.std.specs.Prelude.{◌≡◌, ◌+◌, ◌<◌, ◌^◌, IfSome, [], not, drop, IsTrue, IsSome, IsOk, IfOk, OnOk, OnErr};
+ghost use Rattle.std.specs.Prelude.{◌≡◌, ◌+◌, ◌<◌, ◌≤◌, ◌^◌, length, option_to_list, IfSome, [], not, drop, IsTrue, IsSome, IsOk, IfOk, OnOk, OnErr};
 ghost use Rattle.hg_base.specs.Lists.{Each};
+ghost use Rattle.std.specs.Bool.{OnFalse};
+ghost use Rattle.std.specs.Map.{lookup};
+ghost use Rattle.hg_base.specs.History.{same_rid};
+ghost use Rattle.hg_chain.specs.Sweeps.{Rises, swept, swept_away, goes, last_number, IsClean, MayStay};
 ghost use Rattle.hg_chain.specs.Versions.{newest, number_in, image_by, image_at, is_open_by, installed, stamped, left_by, oldest_at, others_at, IsBelow, NoOther};
 ghost use Rattle.std.specs.Option.{option_copied, option_or};
 ghost use Rattle.hg_bucket.specs.Parts.{chain_of, ChainIs, IsNextChain};
 
-use hg_base::{Image, NoMemory, Rid, TableId, Writer};
-use hg_chain::{Chain, Cut, Stamp};
+use hg_base::{Image, NoMemory, Rid, Steps, TableId, Writer};
+use hg_chain::{Chain, Cut, Stamp, Swept};
 use std::alloc::Global;
 use std::collections::BTreeMap;
 use std::ops::Bound;
+use std::sync::ledger::Ledger;
 
 pub(crate) type Chains = BTreeMap<Rid, Chain>;
 
@@ -135,6 +140,35 @@ pub(crate) fn cut(chains: &mut Chains, rid: Rid, bound: u64) -> Cut
         return cut;
     }
     cut
+}
+
+/// Removes from a record's chain every version that no snapshot sees, as `Chain::sweep` does, and answers what that does.
+/// The newest version stays.
+pub(crate) fn sweep<L: Ledger>(
+    chains: &mut Chains,
+    rid: Rid,
+    base: Option<u64>,
+    horizon: u64,
+    snapshots: &[u64],
+    steps: &mut Steps<L>,
+) -> Swept
+    requires rises { Rises snapshots.now }
+    requires some { IfSome (lookup (same_rid rid) chains.old.entries) (λ vs. 0 < length vs) }
+    ensures here { ChainIs chains.old.entries chains.new.entries rid (swept horizon snapshots.now (chain_of chains.old.entries rid)) }
+    ensures gone { result.gone ≡ swept_away horizon snapshots.now (chain_of chains.old.entries rid) }
+    ensures base_gone { result.base_gone ≡ goes horizon snapshots.now (last_number (chain_of chains.old.entries rid)) base }
+    ensures clean { IsClean horizon snapshots.now (swept horizon snapshots.now (chain_of chains.old.entries rid)) }
+    ensures base_clean { OnFalse result.base_gone (MayStay horizon snapshots.now (last_number (swept horizon snapshots.now (chain_of chains.old.entries rid))) base) }
+    ensures unchained { chain_of chains.old.entries rid ≡ [] → steps.new ≡ steps.old }
+    ensures cost { steps.new ≤ steps.old + length (chain_of chains.old.entries rid) + length (option_to_list base) + length snapshots.now }
+{
+    let Some(chain) = chains.get_mut(&rid) else {
+        return Swept {
+            gone: 0,
+            base_gone: false,
+        };
+    };
+    chain.sweep(base, horizon, snapshots, steps)
 }
 
 /// The least key of a table whose record has a chain.

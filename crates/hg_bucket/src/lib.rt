@@ -9,7 +9,7 @@
 //! memory. Only records with a chain can be shortened: a sweep or a cut of a table goes through the chains alone, and an
 //! oldest image is always a row. A record that loses its last version is dropped, and its place is free again.
 //!
-//! So far there is no sweep. What was made is what was undone, removed by a cut, and is held.
+//! What was made is what was undone, removed by a cut or a sweep, and is held.
 #![tactic(auto)]
 
 mod bucket;
@@ -20,3 +20,6 @@ mod refusal;
 
 pub use bucket::Bucket;
 pub use refusal::WriteRefusal;
+
+#[cfg(test)]
+mod tests;

@@ -1,6 +1,6 @@
 //! The places of records.
 
-ghost use Rattle.std.specs.Prelude.{◌≡◌, ◌+◌, ℕ, is_some, slice_set, IsSome, IsOk, OnOk, OnErr, None, Some, nat_lt, if◌then◌else◌, option_and_then};
+ghost use Rattle.std.specs.Prelude.{◌≡◌, ◌+◌, ℕ, is_some, slice_set, IsSome, IsOk, OnOk, OnErr, None, Some, nat_lt, if◌then◌else◌, option_map, option_and_then};
 ghost use Rattle.std.specs.Option.{option_copied};
 ghost use Rattle.hg_space.specs.Places as seat;
 ghost use Rattle.hg_space.specs.Places.{IsTaken};
@@ -24,6 +24,15 @@ pub(crate) fn read(space: &TableSpace, place: u64, snapshot: u64) -> Option<&Ima
         return None;
     }
     Some(image)
+}
+
+/// The number of a record's oldest image.
+pub(crate) fn number(space: &TableSpace, place: u64) -> Option<u64>
+    requires { IsTaken space.now.places place }
+    ensures { result ≡ option_map (λ oldest. oldest.0) (seat.image_at space.now.places place) }
+{
+    let (number, _) = space.image(place)?;
+    Some(number)
 }
 
 /// Whether a record's oldest image is over the snapshot.

@@ -12,17 +12,20 @@ ghost use Rattle.hg_space.specs.Places.{IsTaken};
 ghost use Rattle.hg_space.specs.Index.{AreTaken, place_of, IsIndex};
 ghost use Rattle.hg_bucket.specs.Parts.{oldest_by, records_of, AreWhole, IsNextLong};
 ghost use Rattle.hg_bucket.specs.Conflicts.{conflict, NoOther, holder, newer, IsCause};
+ghost use Rattle.hg_chain.specs.Sweeps.{Rises};
+ghost use Rattle.hg_bucket.specs.Sweeping.{swept, IsClean, is_long, sweep_steps};
 ghost use Rattle.hg_bucket.specs.Held.{versions_of, begins_open, installed, stamped, OthersStay, IsBelow, read_at, record_at, cut_at, IsNextKey, left};
 
 use crate::chains::{self, Chains};
 use crate::places::{self, drop_bare};
 use crate::refusal::{WriteRefusal, refusal};
-use hg_base::{Image, NoMemory, Rid, TableId, Writer};
+use hg_base::{Image, NoMemory, Rid, Steps, TableId, Writer};
 use hg_chain::Cut;
 use hg_space::{RidIndex, TableSpace};
 use std::alloc::Global;
 use std::collections::BTreeMap;
 use std::marker::Model;
+use std::sync::ledger::Ledger;
 
 /// Records, each with its versions.
 #[derive(Debug, Drop)]
@@ -207,6 +210,59 @@ impl Records {
         let mut next = self.first_long(table);
         while let Some(key) = next {
             gone += self.cut(Rid { table, key }, bound);
+            next = self.long_after(table, key);
+        }
+        gone
+    }
+
+    /// Removes every version of a record that no snapshot sees. The answer says how many went.
+    fn sweep<L: Ledger>(
+        &mut self,
+        rid: Rid,
+        horizon: u64,
+        snapshots: &[u64],
+        steps: &mut Steps<L>,
+    ) -> u64
+        requires rises { Rises snapshots.now }
+        requires few { left self.old ≤ 2 ^ 40 }
+        ensures here { versions_of self.new rid ≡ swept horizon snapshots.now (versions_of self.old rid) }
+        ensures clean { IsClean horizon snapshots.now (versions_of self.new rid) }
+        ensures others { OthersStay self.old self.new rid }
+        ensures left { left self.new + result ≡ left self.old }
+        ensures cost { steps.new ≤ steps.old + (if is_long (versions_of self.old rid) then length (versions_of self.old rid) + length snapshots.now else 0) }
+    {
+        let Some(place) = self.index.place(rid) else {
+            return 0;
+        };
+        let base = places::number(&self.space, place);
+        let swept = chains::sweep(&mut self.chains, rid, base, horizon, snapshots, steps);
+        if !swept.base_gone {
+            return swept.gone;
+        }
+        let _ = self.space.set_image(place, None);
+        swept.gone + 1
+    }
+
+    /// Removes every version of a table's records that no snapshot sees. The answer says how many went.
+    pub fn sweep_table<L: Ledger>(
+        &mut self,
+        table: TableId,
+        horizon: u64,
+        snapshots: &[u64],
+        steps: &mut Steps<L>,
+    ) -> u64
+        requires rises { Rises snapshots.now }
+        requires few { left self.old ≤ 2 ^ 40 }
+        ensures each { (k : ℕ) → versions_of self.new (record_at table k) ≡ swept horizon snapshots.now (versions_of self.old (record_at table k)) }
+        ensures clean { (k : ℕ) → IsClean horizon snapshots.now (versions_of self.new (record_at table k)) }
+        ensures others { (q : Rid) → (q.table ≡ table → ⊥) → versions_of self.new q ≡ versions_of self.old q }
+        ensures left { left self.new + result ≡ left self.old }
+        ensures cost { steps.new ≤ steps.old + sweep_steps table snapshots.now self.old }
+    {
+        let mut gone = 0;
+        let mut next = self.first_long(table);
+        while let Some(key) = next {
+            gone += self.sweep(Rid { table, key }, horizon, snapshots, steps);
             next = self.long_after(table, key);
         }
         gone
