@@ -1,0 +1,2 @@
+//! Snapshots and gathers.
+#![tactic(auto)]
