@@ -1,5 +1,5 @@
 -- A view that is backed agrees with itself.
-use Rattle.std.proofs.Common.{◌≡◌, ℕ, ◌≤◌, ◌<◌, List, [], ◌∷◌, ◌++◌, length, refl, sym, ap, ◌∙◌, subst, arith}
+use Rattle.std.proofs.Common.{◌≡◌, ℕ, ◌≤◌, List, [], ◌∷◌, length, ap, ◌∙◌, subst}
 use Rattle.std.specs.Prelude.{IfSome}
 use Rattle.hg_base.specs.Lists.{Each}
 use Rattle.hg_core.specs.Passes.{PassRecord, found}
@@ -8,7 +8,6 @@ use Rattle.hg_core.specs.Reach.{StandsIn}
 use Rattle.hg_core.specs.State.{CoreState}
 use Rattle.hg_core.specs.Invariant.{IsSteady}
 use Rattle.hg_rule.specs.declared.view.SessionPart.{SessionPart}
-use Rattle.hg_rule.specs.declared.view.PassPart.{PassPart}
 use Rattle.hg_rule.specs.declared.view.Part.{Part}
 use Rattle.hg_rule.specs.declared.view.Part.TheVariants.{OfSession, OfBucket, OfCommit, OfPass}
 use Rattle.hg_rule.specs.declared.view.Sight.{Sight}
@@ -17,11 +16,11 @@ use Rattle.hg_rule.specs.declared.view.Event.{Event}
 use Rattle.hg_rule.specs.declared.view.Event.TheVariants.{Probe, Enter, Fix, GoLive, End, Look, Install, Undo, Stamp, Publish, Mark, Sample, Move, Reclaim, Take}
 use Rattle.hg_rule.specs.declared.view.View.{View}
 use Rattle.hg_rule.specs.declared.view.Sizes.{Sizes}
-use Rattle.hg_rule.specs.Facts.{heard, record_of, HasBegun, Shown, Known, Stands}
+use Rattle.hg_rule.specs.Facts.{heard, HasBegun, Shown, Known, Stands}
 use Rattle.hg_rule.specs.Rules.{IsBacked}
-use Rattle.hg_rule.specs.Views.{number, session, HasPass, HasOnlySession}
+use Rattle.hg_rule.specs.Views.{number, session, HasOnlySession}
 use Rattle.hg_rule.specs.Moves.{put_in, joined}
-use Rattle.hg_rule.specs.Agreed.{EventAgrees, SightAgrees, RecordAgrees, PartAgrees, AgreesWith, AgreesAt, IsMet}
+use Rattle.hg_rule.specs.Agreed.{EventAgrees, SightAgrees, PartAgrees, AgreesWith, AgreesAt, IsMet}
 use Rattle.hg_rule.proofs.Lists.{each_left, each_right, each_map}
 
 event_agrees : (s : CoreState) (j : ℕ) (part : SessionPart) → s.log j ≡ part.log → (e : Event) → Stands s e → EventAgrees j part e
@@ -37,7 +36,7 @@ event_agrees s j part is (Undo k rid) h = tt
 event_agrees s j part is (Stamp k rid n) h = tt
 event_agrees s j part is (Publish k n) h = tt
 event_agrees s j part is (Mark p n) h = tt
-event_agrees s j part is (Move p k n) h = tt
+event_agrees s j part is (Move p k n done) h = tt
 event_agrees s j part is (Reclaim p kind rid n) h = tt
 event_agrees s j part is (Take p n) h = tt
 

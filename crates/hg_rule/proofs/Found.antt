@@ -1,5 +1,5 @@
 -- The state of the rule is the one that is read.
-use Rattle.std.proofs.Common.{◌≡◌, ℕ, zero, suc, ◌+◌, ◌<◌, ◌≤◌, Bool, true, false, eqb, ltb, List, [], ◌∷◌, ◌++◌, length, refl, sym, ap, ◌∙◌, subst, arith, true≢false, eq-eqb}
+use Rattle.std.proofs.Common.{◌≡◌, ℕ, zero, suc, ◌+◌, ◌<◌, ◌≤◌, Bool, true, false, eqb, ltb, List, [], ◌∷◌, length, refl, sym, ap, ◌∙◌, subst, arith, true≢false, eq-eqb}
 use Rattle.std.proofs.lemmas.Bool.{lt-ltb, le-ltb}
 use Rattle.std.specs.Prelude.{max, slice_index, if◌then◌else◌}
 use mathlib.Core.Option.{some}
@@ -20,12 +20,12 @@ use Rattle.hg_rule.specs.declared.view.Part.{Part}
 use Rattle.hg_rule.specs.declared.view.Part.TheVariants.{OfSession, OfBucket, OfCommit, OfPass}
 use Rattle.hg_rule.specs.declared.view.View.{View}
 use Rattle.hg_rule.specs.declared.view.Sizes.{Sizes}
-use Rattle.hg_rule.specs.Keys.{Key, session_key, bucket_key, commit_key, pass_key, key_of, both, same_key, has, one, count, tally, shares, expected}
+use Rattle.hg_rule.specs.Keys.{Key, session_key, bucket_key, commit_key, pass_key, both, same_key, has, one, count, tally, expected}
 use Rattle.hg_rule.specs.Facts.{record_of, Shown, new_part}
 use Rattle.hg_rule.specs.Rules.{IsSized, HasRoom, Rule, IsBacked}
 use Rattle.hg_rule.specs.Views.{session_there, bucket_there, commit_there, pass_there}
 use Rattle.hg_rule.specs.Reading.{chosen, seek, passes_in, state_of, all_parts, registers_in, read, HasAll, AllRest, own_state}
-use Rattle.hg_rule.proofs.Counts.{same_number, key_self, new_key, count_append, expected_small}
+use Rattle.hg_rule.proofs.Counts.{same_number, key_self, new_key, count_append}
 use Rattle.hg_rule.proofs.Lists.{each_append}
 use Rattle.hg_rule.proofs.Registers.{word_back, register_small}
 

@@ -1,5 +1,5 @@
 -- What was seen stays true, since histories and logs only grow.
-use Rattle.std.proofs.Common.{◌≡◌, ◌⊎◌, inl, inr, ℕ, ◌≤◌, List, [], ◌∷◌, ◌++◌, refl, sym, subst, arith}
+use Rattle.std.proofs.Common.{inr, ℕ, ◌≤◌, List, [], ◌∷◌, ◌++◌, sym, subst, arith}
 use Rattle.hg_core.specs.declared.register.Register.{Register}
 use Rattle.hg_core.specs.declared.register.Register.TheVariants as registers
 use Rattle.hg_core.specs.declared.log.LogEntry.{LogEntry}
@@ -38,7 +38,7 @@ stands_on c d g (Undo j rid) h = tt
 stands_on c d g (Stamp j rid n) h = tt
 stands_on c d g (Publish j n) h = tt
 stands_on c d g (Mark p n) h = tt
-stands_on c d g (Move p j n) h = tt
+stands_on c d g (Move p j n done) h = tt
 stands_on c d g (Reclaim p kind rid n) h = tt
 stands_on c d g (Take p n) h = tt
 

@@ -1,6 +1,6 @@
 -- A step that changes the state in its own word and in the parts of its own view alone keeps the rule, and so does a move of
 -- a seat.
-use Rattle.std.proofs.Common.{◌≡◌, ◌≢◌, ℕ, ◌+◌, ◌<◌, ◌≤◌, List, [], ◌∷◌, ◌++◌, set, refl, sym, ap, ◌∙◌, subst, ⊎_elim, arith}
+use Rattle.std.proofs.Common.{◌≡◌, ◌≢◌, ℕ, ◌+◌, ◌≤◌, List, [], ◌∷◌, ◌++◌, set, sym, ap, ◌∙◌, subst, ⊎_elim, arith}
 use mathlib.Core.Option.{some}
 use lib.ListN.{get_elem?}
 use Rattle.hg_base.specs.Lists.{Each}
@@ -13,7 +13,7 @@ use Rattle.hg_rule.specs.declared.view.Sight.{Sight}
 use Rattle.hg_rule.specs.declared.view.Event.{Event}
 use Rattle.hg_rule.specs.declared.view.View.{View}
 use Rattle.hg_rule.specs.declared.view.Sizes.{Sizes}
-use Rattle.hg_rule.specs.Keys.{Key, pass_key, key_of, count, tally, shares, all_shares, whole_share, expected}
+use Rattle.hg_rule.specs.Keys.{Key, pass_key, count, tally, shares, all_shares, whole_share, expected}
 use Rattle.hg_rule.specs.Facts.{Shown, Known, Stands, new_part}
 use Rattle.hg_rule.specs.Rules.{IsSized, ShowsWords, IsTrueOf, Rule, IsBacked}
 use Rattle.hg_rule.specs.Views.{seeing, then_has}

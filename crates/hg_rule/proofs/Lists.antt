@@ -1,5 +1,5 @@
 -- Lists that grow, and a fact of each element.
-use Rattle.std.proofs.Common.{◌≡◌, List, [], ◌∷◌, ◌++◌, refl, sym, ap, ◌∙◌, append_assoc, append-nil}
+use Rattle.std.proofs.Common.{List, [], ◌∷◌, ◌++◌, refl, sym, ap, ◌∙◌, append_assoc, append-nil}
 use Rattle.hg_base.specs.Lists.{Each}
 use Rattle.hg_rule.specs.Facts.{StartsWith, EndsWith}
 

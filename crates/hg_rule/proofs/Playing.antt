@@ -1,6 +1,6 @@
 -- Each kind of step is allowed.
 use Rattle.std.proofs.Common.{◌≡◌, ◌≢◌, ℕ, ◌+◌, ◌<◌, Bool, true, false, eqb, List, [], ◌∷◌, ◌++◌, length, get_or, set, Option, Some, None, refl, sym, ap, ◌∙◌, subst, arith, eq-eqb, ne_eqb, inl, inr, length-append}
-use Rattle.std.specs.Prelude.{if◌then◌else◌, IsSome, IsNone, max, ◌≤◌, ◌==◌, IsTrue, ◌^◌}
+use Rattle.std.specs.Prelude.{if◌then◌else◌, IsSome, IsNone, max, ◌≤◌, ◌==◌, ◌^◌}
 use Rattle.std.proofs.Math.Nat.{pow-le-pow_right}
 use Rattle.std.proofs.lemmas.Bool.Decides.{nat_tests}
 use mathlib.Core.Logic.{dite}
@@ -23,7 +23,7 @@ use Rattle.hg_core.specs.declared.phase.Phase.TheVariants.{Idle, Probed, Entered
 use Rattle.hg_core.specs.declared.log.LogEntry.{LogEntry}
 use Rattle.hg_core.specs.declared.log.LogEntry.TheVariants.{Began, Saw, Refused, Outside, Wrote, Undid, Published, Over}
 use Rattle.hg_core.specs.Words.{IsBelow, IsRegister, number_of, scope_of, word_of, register_of}
-use Rattle.hg_core.specs.Logs.{current, begans, open_in}
+use Rattle.hg_core.specs.Logs.{current, begans, open_in, UpTo}
 use Rattle.hg_core.specs.Phases.{IsSession, snapshot_in}
 use Rattle.hg_core.specs.Passes.{PassRecord, found}
 use Rattle.hg_core.specs.Registers.{Shows}
@@ -42,15 +42,15 @@ use Rattle.hg_rule.specs.declared.view.Sight.TheVariants as sights
 use Rattle.hg_rule.specs.declared.view.Event.TheVariants as events
 use Rattle.hg_rule.specs.declared.view.View.{View}
 use Rattle.hg_rule.specs.declared.view.Sizes.{Sizes}
-use Rattle.hg_rule.specs.Keys.{Key, key_of, one, count, shares}
-use Rattle.hg_rule.specs.Facts.{StartsWith, EndsWith, IsAmong, groups, heard, record_of, HasBegun, Shown, Known, Stands}
+use Rattle.hg_rule.specs.Keys.{key_of, count}
+use Rattle.hg_rule.specs.Facts.{EndsWith, IsAmong, groups, heard, record_of, HasBegun, Shown, Known}
 use Rattle.hg_rule.specs.Rules.{IsSized, HasRoom, ShowsWords, Rule}
 use Rattle.hg_rule.specs.Views.{number, session, pass, others, HasSession, HasPass, then_has}
-use Rattle.hg_rule.specs.Steps.{Within, IsHistoryAt, in_phase, logging, loaded_in, IsMovable, beginning, loading, moving, probed, entered, fixed, went_live, ended, marked, sampled, tried, looked}
+use Rattle.hg_rule.specs.Steps.{Within, IsHistoryAt, in_phase, logging, loaded_in, IsMovable, beginning, loading, moving, after_try, probed, entered, fixed, went_live, ended, marked, sampled, tried, looked}
 use Rattle.hg_rule.proofs.Counts.{another}
 use Rattle.hg_rule.proofs.Lists.{starts_same, ends_same, each_map}
-use Rattle.hg_rule.proofs.Growing.{Grows, among_later}
-use Rattle.hg_rule.proofs.Keeps.{Table, Changes, keep, backs}
+use Rattle.hg_rule.proofs.Growing.{Grows}
+use Rattle.hg_rule.proofs.Keeps.{Table, keep, backs}
 use Rattle.hg_rule.proofs.Registers.{word_back, loaded_words, stored_words, mark_small, register_small}
 
 abbrev Seated : Type 0
@@ -67,18 +67,30 @@ own_pass z t r id v at is = (subst (Each (Shown r.state)) is (r.shown id v at).p
 at_board : (z : Sizes) (s : CoreState) (j : ℕ) → IsSized z s → IsSession z.sessions j → IsSession s.sessions j
 at_board z s j sized inside = subst (λ n. IsSession n j) (sym sized.sessions) inside
 
-within : (s : CoreState) (x : Sight) → Known s x → Within s.history x
-within s (sights.Saw g) k = k
-within s (sights.Heard j log) k = tt
-within s (sights.Took n) k = tt
-within s (sights.Did e) k = tt
+-- the older entries of a log have no higher numbers
+up_to_end : (n : ℕ) (later log : List LogEntry) → UpTo n (later ++ log) → UpTo n log
+up_to_end n [] log h = h
+up_to_end n (Began at scope ∷ later) log h = up_to_end n later log h.1
+up_to_end n (Refused rid answer ∷ later) log h = up_to_end n later log h.1
+up_to_end n (Published m ∷ later) log h = up_to_end n later log h.1
+up_to_end n (Saw t low high b rows ∷ later) log h = up_to_end n later log h
+up_to_end n (Outside t ∷ later) log h = up_to_end n later log h
+up_to_end n (Wrote rid image ∷ later) log h = up_to_end n later log h
+up_to_end n (Undid rid ∷ later) log h = up_to_end n later log h
+up_to_end n (Over ∷ later) log h = up_to_end n later log h
+
+within : (s : CoreState) → IsSteady s → (x : Sight) → Known s x → Within s.history x
+within s h (sights.Saw g) k = k
+within s h (sights.Heard j log) k = up_to_end (length s.history) k.0 log (subst (UpTo (length s.history)) k.1 (h.logs_answer.within j))
+within s h (sights.Took n) k = omega (arith, h.taken_at_most_mark, h.mark_is_length.is_length)
+within s h (sights.Did e) k = tt
 
 -- at a load of the mark the whole history is seen
 history_at : (z : Sizes) (t : Table) (r : Rule z t) (id : ℕ) (v : View) → HasRoom z → get_elem? t.views id ≡ some v → IsHistoryAt v (get_or t.words 0 0) r.state.history
 history_at z t r id v room at = record {
   is_length = sym r.steady.mark_is_length.is_length ∙ sym r.words.mark;
   number = subst (λ n. n < 2 ^ 44) (sym r.words.mark) (mark_small z r.state room r.sized r.steady);
-  within = each_map (Known r.state) (Within r.state.history) (within r.state) v.sights (r.shown id v at).sights;
+  within = each_map (Known r.state) (Within r.state.history) (within r.state r.steady) v.sights (r.shown id v at).sights;
 }
 
 -- ---- steps of a session
@@ -405,17 +417,16 @@ tries z slots id j old new n mask m room is inside few has_it was becomes t r de
         let from : Register = registers.Live n (Declared mask) false in
         let shown : c.register j ≡ from = sym (word_back (c.register j) (register_small z c j room r.sized r.steady)) ∙ (ap register_of (sym (r.words.registers j inside) ∙ (hit ∙ was)) ∙ word_back from few) in
         let own = own_pass z t r id v at is in
-        let k : ℕ = number_of (register_of x) in
         let part : PassPart = moving j (pass v) in
         let d : CoreState = happens c (Move p j) in
         let w = stored_words z c t.words j new (moved (c.register j)) inside (becomes ∙ ap (λ y. word_of (moved y)) (sym shown)) r.words in
         let grows = log_stays c in
-        let after : View = then_has v (OfPass p part ∷ others v) [] (events.Move p j k) in (
+        let after : View = then_has v (OfPass p part ∷ others v) [] (events.Move p j k true) in (
           after,
           keeps,
           tt,
           subst (λ (b : Bool). Rule z record { words = set t.words j (either b new x); homes = t.homes; views = set t.views id after }) (sym (eq-eqb x old hit))
-              (keep z t r id v (OfPass p (pass v) ∷ []) (OfPass p part ∷ []) (others v) [] (events.Move p j k) j new d at is record {
+              (keep z t r id v (OfPass p (pass v) ∷ []) (OfPass p part ∷ []) (others v) [] (events.Move p j k true) j new d at is record {
                 steady = move_kept c p j r.steady (n, mask, record { shown = shown; loaded = ap (λ (y : PassRecord). found j y.loaded) own.0 ∙ has_it });
                 sized = record { sessions = r.sized.sessions; tables = r.sized.tables; buckets = r.sized.buckets; each = r.sized.each };
                 passes = refl;
@@ -428,16 +439,30 @@ tries z slots id j old new n mask m room is inside few has_it was becomes t r de
                 known = tt;
                 stands = tt;
               }),
-          ((λ _. refl), (λ miss. absurd (miss hit)), refl),
+          (λ i. then_has v (after_try (sym (eq-eqb x old hit) i) j v) [] (events.Move p j k (sym (eq-eqb x old hit) i)), refl),
         ))
-    (λ (miss : x ≢ old). (
-      v,
-      keeps,
-      tt,
-      subst (λ (b : Bool). Rule z record { words = set t.words j (either b new x); homes = t.homes; views = set t.views id v }) (sym (ne_eqb x old miss))
-          (subst (λ (p : List ℕ × List View). Rule z record { words = p.0; homes = t.homes; views = p.1 }) (λ u. (sym (set-get_or t.words j 0) u, sym (set_again t.views id v at) u)) r),
-      ((λ e. absurd (miss e)), (λ _. refl), refl),
-    ))
+    (λ (miss : x ≢ old).
+        let after : View = then_has v v.parts [] (events.Move p j k false) in
+        let w = loaded_words z c t.words j r.words in (
+          after,
+          keeps,
+          tt,
+          subst (λ (b : Bool). Rule z record { words = set t.words j (either b new x); homes = t.homes; views = set t.views id after }) (sym (ne_eqb x old miss))
+              (keep z t r id v [] [] v.parts [] (events.Move p j k false) j x c at refl record {
+                steady = r.steady;
+                sized = r.sized;
+                passes = refl;
+                shows = w;
+                grows = log_stays c;
+                only = λ q away h. h;
+                counts = λ k. refl;
+                shared = refl;
+                shown = tt;
+                known = tt;
+                stands = tt;
+              }),
+          (λ i. then_has v (after_try (sym (ne_eqb x old miss) i) j v) [] (events.Move p j k (sym (ne_eqb x old miss) i)), refl),
+        ))
   where
     v : View
     v = m.0
@@ -450,6 +475,9 @@ tries z slots id j old new n mask m room is inside few has_it was becomes t r de
 
     x : ℕ
     x = get_or t.words j 0
+
+    k : ℕ
+    k = number_of (register_of old)
 
 pub looks : (z y : Sizes) (slots id : ℕ) (m : Seated) → y ≡ z → Allows (Rule z) slots id m 0 (λ n. n) (looked y (step slots 0 0 0 none) m)
 looks z y slots id m same = subst (λ (y : Sizes). Allows (Rule z) slots id m 0 (λ n. n) (looked y (step slots 0 0 0 none) m)) (sym same) at_z

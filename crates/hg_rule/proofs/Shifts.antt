@@ -1,5 +1,5 @@
 -- Each move of a seat is allowed.
-use Rattle.std.proofs.Common.{◌≡◌, ℕ, suc, ◌+◌, ◌<◌, Bool, true, false, List, [], ◌∷◌, ◌++◌, length, refl, sym, ap, ◌∙◌, arith}
+use Rattle.std.proofs.Common.{◌≡◌, ℕ, suc, ◌+◌, ◌<◌, List, [], ◌∷◌, ◌++◌, length, refl, sym, ap, ◌∙◌, arith}
 use Rattle.hg_base.specs.Lists.{Each}
 use Rattle.atomic_table.specs.Table.{Splits, Joins}
 use Rattle.hg_core.specs.State.{CoreState}
@@ -14,7 +14,7 @@ use Rattle.hg_rule.specs.Views.{seeing, after_first}
 use Rattle.hg_rule.specs.Moves.{put_in, joined, did, merged, spent, meeting, left_bare, right_given, first_of, second_of, but_second, left_but_second, right_second, left_tail, right_first}
 use Rattle.hg_rule.proofs.Counts.{count_append, shares_append}
 use Rattle.hg_rule.proofs.Lists.{each_append}
-use Rattle.hg_rule.proofs.Keeps.{Cuts, Glues, cut, glue}
+use Rattle.hg_rule.proofs.Keeps.{cut, glue}
 
 -- ---- joins
 

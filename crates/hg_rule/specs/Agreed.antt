@@ -1,5 +1,5 @@
 -- What one view says of a session and what collectors' passes loaded, in whatever state it is.
-use Rattle.std.specs.Prelude.{◌≡◌, ℕ, ◌≤◌, List, [], ◌∷◌, length, IfSome, ⊤}
+use Rattle.std.specs.Prelude.{◌≡◌, ℕ, ◌≤◌, length, IfSome, ⊤}
 use Rattle.hg_base.specs.Lists.{Each}
 use Rattle.hg_core.specs.Passes.{found}
 use Rattle.hg_core.specs.Bounds.{Bounds}

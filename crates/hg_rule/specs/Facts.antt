@@ -19,7 +19,7 @@ use Rattle.hg_rule.specs.declared.view.Part.TheVariants.{OfSession, OfBucket, Of
 use Rattle.hg_rule.specs.declared.view.Sight.{Sight}
 use Rattle.hg_rule.specs.declared.view.Sight.TheVariants.{Saw, Heard, Took, Did}
 use Rattle.hg_rule.specs.declared.view.Event.{Event}
-use Rattle.hg_rule.specs.declared.view.Event.TheVariants.{Probe, Enter, Fix, GoLive, End, Look, Install, Undo, Stamp, Publish, Mark, Sample, Move, Reclaim, Take}
+use Rattle.hg_rule.specs.declared.view.Event.TheVariants.{Sample}
 use Rattle.hg_rule.specs.Keys.{Key, session_key, bucket_key, commit_key, pass_key, first_share}
 
 -- ---- lists that grow

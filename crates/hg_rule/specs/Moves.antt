@@ -6,7 +6,7 @@ use Rattle.hg_rule.specs.declared.view.Sight.TheVariants.{Did}
 use Rattle.hg_rule.specs.declared.view.Event.{Event}
 use Rattle.hg_rule.specs.declared.view.View.{View}
 use Rattle.hg_rule.specs.declared.view.Sizes.{Sizes}
-use Rattle.hg_rule.specs.Keys.{Key, session_key, bucket_key, commit_key, pass_key}
+use Rattle.hg_rule.specs.Keys.{session_key, bucket_key, commit_key, pass_key}
 use Rattle.hg_rule.specs.Facts.{new_part}
 use Rattle.hg_rule.specs.Views.{seeing, after_first}
 

@@ -1,5 +1,5 @@
 -- The rule of the board: its words and views show a state that meets the invariant.
-use Rattle.std.specs.Prelude.{◌≡◌, ℕ, ◌+◌, ◌*◌, ◌^◌, ◌<◌, ◌≤◌, List, [], ◌∷◌, length, slice_index}
+use Rattle.std.specs.Prelude.{◌≡◌, ℕ, ◌+◌, ◌*◌, ◌^◌, ◌≤◌, List, length, slice_index}
 use mathlib.Core.Option.{some}
 use lib.ListN.{get_elem?}
 use Rattle.hg_base.specs.Lists.{Each}
@@ -8,7 +8,6 @@ use Rattle.hg_core.specs.Words.{word_of}
 use Rattle.hg_core.specs.Phases.{IsSession}
 use Rattle.hg_core.specs.State.{CoreState}
 use Rattle.hg_core.specs.Invariant.{IsSteady}
-use Rattle.hg_rule.specs.declared.view.Part.{Part}
 use Rattle.hg_rule.specs.declared.view.View.{View}
 use Rattle.hg_rule.specs.declared.view.Sizes.{Sizes}
 use Rattle.hg_rule.specs.Keys.{Key, pass_key, count, tally, shares, all_shares, whole_share, expected}

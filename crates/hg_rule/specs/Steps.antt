@@ -1,5 +1,5 @@
 -- What each step makes of the view of the pass that makes it.
-use Rattle.std.specs.Prelude.{◌≡◌, ◌≢◌, ℕ, ◌^◌, ◌<◌, true, false, List, [], ◌∷◌, length, ⊤}
+use Rattle.std.specs.Prelude.{◌≡◌, ℕ, ◌^◌, ◌<◌, ◌≤◌, ◌==◌, Bool, true, false, List, [], ◌∷◌, length, ⊤}
 use Rattle.hg_base.specs.declared.scope.Scope.{Scope}
 use Rattle.hg_base.specs.declared.scope.Scope.TheVariants.{All, Declared}
 use Rattle.hg_base.specs.History.{History}
@@ -12,9 +12,11 @@ use Rattle.hg_core.specs.declared.phase.Phase.TheVariants.{Idle, Probed, Entered
 use Rattle.hg_core.specs.declared.log.LogEntry.{LogEntry}
 use Rattle.hg_core.specs.declared.log.LogEntry.TheVariants.{Began, Over}
 use Rattle.hg_core.specs.Words.{IsRegister, number_of, scope_of, register_of}
+use Rattle.hg_core.specs.Logs.{UpTo}
 use Rattle.hg_core.specs.Events.{moved_in}
 use Rattle.hg_rule.specs.declared.view.SessionPart.{SessionPart}
 use Rattle.hg_rule.specs.declared.view.PassPart.{PassPart}
+use Rattle.hg_rule.specs.declared.view.Part.{Part}
 use Rattle.hg_rule.specs.declared.view.Part.TheVariants.{OfSession, OfPass}
 use Rattle.hg_rule.specs.declared.view.Sight.{Sight}
 use Rattle.hg_rule.specs.declared.view.Sight.TheVariants.{Saw, Heard, Took, Did}
@@ -29,11 +31,11 @@ use Rattle.hg_rule.specs.Views.{number, session, pass, others, then_has}
 abbrev pub IsNumber : ℕ → Type 0
 IsNumber n = n < 2 ^ 44
 
--- what was seen of the history is a beginning of this one
+-- What was seen of the history is a beginning of this one, and no number that was heard or taken is over its last.
 abbrev pub Within : History → Sight → Type 0
 Within h (Saw g) = StartsWith h g.list
-Within h (Heard j log) = ⊤
-Within h (Took n) = ⊤
+Within h (Heard j log) = UpTo (length h) log
+Within h (Took n) = n ≤ length h
 Within h (Did e) = ⊤
 
 -- h is the whole history at a load of the mark n, so all that was seen of it before is a beginning
@@ -100,8 +102,13 @@ Marks v n w = (h : History) × (IsHistoryAt v n h × (w ≡ then_has v (OfPass (
 abbrev pub Samples : View → ℕ → Register → View → Type 0
 Samples v j register w = w ≡ then_has v (OfPass (number v) (loading j register (pass v)) ∷ others v) [] (Sample (number v) j register)
 
-abbrev pub Moves : View → ℕ → ℕ → View → Type 0
-Moves v j n w = w ≡ then_has v (OfPass (number v) (moving j (pass v)) ∷ others v) [] (Move (number v) j n)
+-- a try tells whether the register was moved
+abbrev pub after_try : Bool → ℕ → View → List Part
+after_try true j v = OfPass (number v) (moving j (pass v)) ∷ others v
+after_try false j v = v.parts
+
+abbrev pub Moves : View → ℕ → ℕ → Bool → View → Type 0
+Moves v j n moved w = w ≡ then_has v (after_try moved j v) [] (Move (number v) j n moved)
 
 -- a live register, declared and not moved
 abbrev pub IsMovable : Register → Type 0
@@ -137,9 +144,9 @@ marked step m n w = Marks m.0 n w.0 × (w.1 ≡ m.1)
 abbrev pub sampled : Step ℕ → Seated → ℕ → Seated → Type 0
 sampled step m n w = Samples m.0 step.word (register_of n) w.0 × IsRegister (register_of n) × (w.1 ≡ m.1)
 
--- only where the word was the first operand
+-- the register was moved where the word was the first operand, which shows it
 abbrev pub tried : Step ℕ → Seated → ℕ → Seated → Type 0
-tried step m n w = (n ≡ step.first → Moves m.0 step.word (number_of (register_of n)) w.0) × (n ≢ step.first → w.0 ≡ m.0) × (w.1 ≡ m.1)
+tried step m n w = Moves m.0 step.word (number_of (register_of step.first)) (n == step.first) w.0 × (w.1 ≡ m.1)
 
 -- the view stays, and is true
 abbrev pub looked : Sizes → Step ℕ → Seated → ℕ → Seated → Type 0

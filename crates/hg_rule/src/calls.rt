@@ -1,6 +1,6 @@
 //! The steps. Each call is one event of `hg_core`.
 
-ghost use Rattle.std.specs.Prelude.{◌≡◌, ◌<◌, Some, None, IsSome, MatchBool};
+ghost use Rattle.std.specs.Prelude.{◌≡◌, ◌<◌, Some, None, IsSome};
 ghost use Rattle.hg_base.specs.declared.rid.Rid.{Rid};
 ghost use Rattle.hg_core.specs.declared.phase.Phase.TheVariants.{Idle, Probed, Entered, Fixed};
 ghost use Rattle.hg_core.specs.Words.{IsBelow, IsRegister, number_of};
@@ -131,13 +131,13 @@ impl Board {
     }
 
     /// Moves a snapshot that the record has as live, declared and not moved, if its register still shows that. The answer
-    /// says whether it did: then the record's entry is moved too, and else nothing was done.
+    /// says whether it did: then the record's entry is moved too, and else no part has changed.
     pub fn move_one(&self, pass: &mut CollectorPass, j: u32, from: Register) -> bool
         requires own { IsPassOf (table_of self.now) pass.old }
         requires session { IsSession (sizes_of self.now).sessions j }
         requires movable { IsMovable from × IsRegister from }
         requires loaded { found j (own_pass (pass_view pass.old)).loaded ≡ Some from }
-        ensures step { MatchBool result (Moves (pass_view pass.old) j (number_of from) (pass_view pass.new)) (pass_view pass.new ≡ pass_view pass.old) }
+        ensures step { Moves (pass_view pass.old) j (number_of from) result (pass_view pass.new) }
         ensures own { IsPassOf (table_of self.now) pass.new }
     {
         let unmoved = from.word();

@@ -108,11 +108,12 @@ pub enum Event {
         session: u64,
         register: Register,
     },
-    /// The register was live at this number, and the exchange took place.
+    /// Whether the register still was live at this number, and so was moved.
     Move {
         pass: u64,
         session: u64,
         number: u64,
+        moved: bool,
     },
     Reclaim {
         pass: u64,

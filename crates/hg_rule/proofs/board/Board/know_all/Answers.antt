@@ -1,4 +1,4 @@
-use Rattle.std.proofs.Common.{◌≡◌, rules, sym, subst}
+use Rattle.std.proofs.Common.{subst}
 use Rattle.hg_rule.specs.Rules.{IsBacked}
 use Rattle.hg_rule.specs.Seats.{sizes_of, view}
 use Rattle.hg_rule.proofs.Found.{owned}
