@@ -110,11 +110,11 @@ keep z t r id v qs qs' ps more e i x d at is h = record {
 
     own : IsTrueOf d w
     own = let s = true_on c d v (qs' ++ ps) h.grows (each_append (Shown d) qs' ps h.shown (stay c d qs ps h.only (λ k. let b : ℕ = count k v.parts in let q : ℕ = count k qs in let p : ℕ = count k ps in let f : ℕ = tally k t.views in
-          let h2 : b ≡ q + p = parted k in let h3 : b ≤ f = tally_one k t.views id v at in let h4 : f ≤ 1 = small k in omega arith) mine)) (r.shown id v at) in record {
-      parts = s.parts;
-      sights = each_append (Known d) v.sights more s.sights h.known;
-      events = each_append (Stands d) v.events (e ∷ []) s.events (h.stands, tt);
-    }
+        let h2 : b ≡ q + p = parted k in let h3 : b ≤ f = tally_one k t.views id v at in let h4 : f ≤ 1 = small k in omega arith) mine)) (r.shown id v at) in record {
+          parts = s.parts;
+          sights = each_append (Known d) v.sights more s.sights h.known;
+          events = each_append (Stands d) v.events (e ∷ []) s.events (h.stands, tt);
+        }
 
     other : (j : ℕ) (y : View) → j ≢ id → get_elem? t.views j ≡ some y → IsTrueOf d y
     other j y apart at' = true_on c d y y.parts h.grows (stay c d qs y.parts h.only (λ k. let b : ℕ = count k v.parts in let q : ℕ = count k qs in let p : ℕ = count k ps in let m : ℕ = count k y.parts in let f : ℕ = tally k t.views in

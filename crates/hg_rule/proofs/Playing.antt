@@ -414,55 +414,55 @@ pub tries : (z : Sizes) (slots id j old new n mask : ℕ) (m : Seated) → HasRo
     → Allows (Rule z) slots id m j (λ n. either (eqb n old) new n) (tried (step slots j old new none) m)
 tries z slots id j old new n mask m room is inside few has_it was becomes t r deep at small = dite (ℕ_discrete x old)
     (λ (hit : x ≡ old).
-        let from : Register = registers.Live n (Declared mask) false in
-        let shown : c.register j ≡ from = sym (word_back (c.register j) (register_small z c j room r.sized r.steady)) ∙ (ap register_of (sym (r.words.registers j inside) ∙ (hit ∙ was)) ∙ word_back from few) in
-        let own = own_pass z t r id v at is in
-        let part : PassPart = moving j (pass v) in
-        let d : CoreState = happens c (Move p j) in
-        let w = stored_words z c t.words j new (moved (c.register j)) inside (becomes ∙ ap (λ y. word_of (moved y)) (sym shown)) r.words in
-        let grows = log_stays c in
-        let after : View = then_has v (OfPass p part ∷ others v) [] (events.Move p j k true) in (
-          after,
-          keeps,
-          tt,
-          subst (λ (b : Bool). Rule z record { words = set t.words j (either b new x); homes = t.homes; views = set t.views id after }) (sym (eq-eqb x old hit))
-              (keep z t r id v (OfPass p (pass v) ∷ []) (OfPass p part ∷ []) (others v) [] (events.Move p j k true) j new d at is record {
-                steady = move_kept c p j r.steady (n, mask, record { shown = shown; loaded = ap (λ (y : PassRecord). found j y.loaded) own.0 ∙ has_it });
-                sized = record { sessions = r.sized.sessions; tables = r.sized.tables; buckets = r.sized.buckets; each = r.sized.each };
-                passes = refl;
-                shows = record { count = w.count; mark = w.mark; registers = w.registers };
-                grows = record { history = grows.history; logs = grows.logs; taken = grows.taken };
-                only = pass_only c d p (pass v) record { pass = λ q other. put_else c.pass p q _ other; phase = refl; log = refl; bucket = refl; counters = refl; history = refl; stamped = refl; taken = refl; visits = refl };
-                counts = λ k. refl;
-                shared = refl;
-                shown = ((put_here c.pass p _ ∙ (λ i. record (own.0 i) { loaded = moved_in j (own.0 i).loaded }), own.1), tt);
-                known = tt;
-                stands = tt;
-              }),
-          (λ i. then_has v (after_try (sym (eq-eqb x old hit) i) j v) [] (events.Move p j k (sym (eq-eqb x old hit) i)), refl),
-        ))
+    let from : Register = registers.Live n (Declared mask) false in
+    let shown : c.register j ≡ from = sym (word_back (c.register j) (register_small z c j room r.sized r.steady)) ∙ (ap register_of (sym (r.words.registers j inside) ∙ (hit ∙ was)) ∙ word_back from few) in
+    let own = own_pass z t r id v at is in
+    let part : PassPart = moving j (pass v) in
+    let d : CoreState = happens c (Move p j) in
+    let w = stored_words z c t.words j new (moved (c.register j)) inside (becomes ∙ ap (λ y. word_of (moved y)) (sym shown)) r.words in
+    let grows = log_stays c in
+    let after : View = then_has v (OfPass p part ∷ others v) [] (events.Move p j k true) in (
+      after,
+      keeps,
+      tt,
+      subst (λ (b : Bool). Rule z record { words = set t.words j (either b new x); homes = t.homes; views = set t.views id after }) (sym (eq-eqb x old hit))
+          (keep z t r id v (OfPass p (pass v) ∷ []) (OfPass p part ∷ []) (others v) [] (events.Move p j k true) j new d at is record {
+            steady = move_kept c p j r.steady (n, mask, record { shown = shown; loaded = ap (λ (y : PassRecord). found j y.loaded) own.0 ∙ has_it });
+            sized = record { sessions = r.sized.sessions; tables = r.sized.tables; buckets = r.sized.buckets; each = r.sized.each };
+            passes = refl;
+            shows = record { count = w.count; mark = w.mark; registers = w.registers };
+            grows = record { history = grows.history; logs = grows.logs; taken = grows.taken };
+            only = pass_only c d p (pass v) record { pass = λ q other. put_else c.pass p q _ other; phase = refl; log = refl; bucket = refl; counters = refl; history = refl; stamped = refl; taken = refl; visits = refl };
+            counts = λ k. refl;
+            shared = refl;
+            shown = ((put_here c.pass p _ ∙ (λ i. record (own.0 i) { loaded = moved_in j (own.0 i).loaded }), own.1), tt);
+            known = tt;
+            stands = tt;
+          }),
+      (λ i. then_has v (after_try (sym (eq-eqb x old hit) i) j v) [] (events.Move p j k (sym (eq-eqb x old hit) i)), refl),
+    ))
     (λ (miss : x ≢ old).
-        let after : View = then_has v v.parts [] (events.Move p j k false) in
-        let w = loaded_words z c t.words j r.words in (
-          after,
-          keeps,
-          tt,
-          subst (λ (b : Bool). Rule z record { words = set t.words j (either b new x); homes = t.homes; views = set t.views id after }) (sym (ne_eqb x old miss))
-              (keep z t r id v [] [] v.parts [] (events.Move p j k false) j x c at refl record {
-                steady = r.steady;
-                sized = r.sized;
-                passes = refl;
-                shows = w;
-                grows = log_stays c;
-                only = λ q away h. h;
-                counts = λ k. refl;
-                shared = refl;
-                shown = tt;
-                known = tt;
-                stands = tt;
-              }),
-          (λ i. then_has v (after_try (sym (ne_eqb x old miss) i) j v) [] (events.Move p j k (sym (ne_eqb x old miss) i)), refl),
-        ))
+    let after : View = then_has v v.parts [] (events.Move p j k false) in
+    let w = loaded_words z c t.words j r.words in (
+      after,
+      keeps,
+      tt,
+      subst (λ (b : Bool). Rule z record { words = set t.words j (either b new x); homes = t.homes; views = set t.views id after }) (sym (ne_eqb x old miss))
+          (keep z t r id v [] [] v.parts [] (events.Move p j k false) j x c at refl record {
+            steady = r.steady;
+            sized = r.sized;
+            passes = refl;
+            shows = w;
+            grows = log_stays c;
+            only = λ q away h. h;
+            counts = λ k. refl;
+            shared = refl;
+            shown = tt;
+            known = tt;
+            stands = tt;
+          }),
+      (λ i. then_has v (after_try (sym (ne_eqb x old miss) i) j v) [] (events.Move p j k (sym (ne_eqb x old miss) i)), refl),
+    ))
   where
     v : View
     v = m.0

@@ -16,10 +16,9 @@ mod view;
 
 pub use board::Board;
 pub use groups::Groups;
+pub use hg_core::{Ask, Register};
 pub use meets::state_is_read;
 pub use pass::Pass;
 pub use passes::{BucketSeat, CollectorPass, CommitSeat, SessionPass};
 pub use seats::{BucketSeatList, Seats, SessionPassList};
-pub use view::{
-    BucketPart, CommitPart, Event, Part, PassPart, SessionPart, Sight, Sizes, View,
-};
+pub use view::{BucketPart, CommitPart, Event, Part, PassPart, SessionPart, Sight, Sizes, View};
