@@ -28,16 +28,16 @@ pub struct Trackers {
 }
 
 impl Trackers {
-    ghost use Rattle.hg_tracker.specs.Boards.{board_table, board_sizes};
+    ghost use Rattle.hg_tracker.specs.Boards.{board_of, board_table, board_sizes};
 
     pub fn new(board: Board) -> Trackers
-        ensures { result.board ≡ board }
+        ensures { board_of result ≡ board }
     {
         Trackers { board }
     }
 
     pub fn board(&self) -> &Board
-        ensures { result.now ≡ self.now.board }
+        ensures { result.now ≡ board_of self.now }
     {
         &self.board
     }
