@@ -5,3 +5,4 @@ pub mod Gathers
 pub mod Begun
 pub mod Tries
 pub mod Boards
+pub mod Ready

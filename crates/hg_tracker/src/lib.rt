@@ -24,3 +24,6 @@ mod trackers;
 
 pub use gathered::Gathered;
 pub use trackers::Trackers;
+
+#[cfg(test)]
+mod tests;
