@@ -1,5 +1,5 @@
 -- A new board's sessions are at rest.
-use Rattle.std.proofs.Common.{◌≡◌, ℕ, zero, suc, ◌+◌, ◌<◌, ◌≤◌, List, [], ◌∷◌, length, get_or, All, refl, sym, ap, ◌∙◌, subst, arith, Option, None}
+use Rattle.std.proofs.Common.{◌≡◌, ℕ, zero, suc, ◌+◌, ◌<◌, ◌≤◌, List, [], ◌∷◌, length, All, refl, sym, ap, ◌∙◌, subst, arith, None}
 use Rattle.hg_base.specs.declared.rid.Rid.{Rid}
 use Rattle.hg_base.specs.declared.scope.Scope.{Scope}
 use Rattle.hg_core.specs.declared.phase.Phase.TheVariants.{Idle, Live}
@@ -10,7 +10,7 @@ use Rattle.hg_rule.specs.declared.passes.SessionPass.{SessionPass}
 use Rattle.hg_rule.specs.declared.view.View.{View}
 use Rattle.hg_rule.specs.declared.view.Part.{Part}
 use Rattle.hg_rule.specs.declared.view.Sizes.{Sizes}
-use Rattle.hg_rule.specs.Views.{number, session, seeing, HasSession}
+use Rattle.hg_rule.specs.Views.{number, session, seeing, HasSession, HasOnlySession}
 use Rattle.hg_rule.specs.Moves.{session_part}
 use Rattle.hg_rule.specs.Steps.{logging, Ends}
 use Rattle.hg_rule.specs.Seats.{TableId, session_view}
@@ -46,3 +46,11 @@ none_open_yet v w at scope h rid = ap (λ s. open_in rid s.log) (begun_session v
 
 pub ended_session : (v w : View) → Ends v w → session w ≡ logging Over Idle (session v)
 ended_session v w is = ap session is
+
+pub only_session : (t : TableId) (j : ℕ) (p : SessionPass) → IsNewSession t j p → HasOnlySession (session_view p)
+only_session t j p h = subst HasOnlySession (sym (ap (λ m. m.0) h.2.1)) refl
+
+pub all_alone : (t : TableId) (j : ℕ) (ps : List SessionPass) → Row (IsNewSession t) j ps → All (λ p. HasOnlySession (session_view p)) ps
+all_alone t j [] h k d l = absurd (omega arith)
+all_alone t j (p ∷ ps) h zero d l = only_session t j p h.0
+all_alone t j (p ∷ ps) h (suc k) d l = all_alone t (suc j) ps h.1 k d (omega arith)

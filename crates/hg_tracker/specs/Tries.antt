@@ -1,5 +1,5 @@
 -- What moves of long snapshots make of a pass's view.
-use Rattle.std.specs.Prelude.{◌≡◌, ℕ, suc, ◌-◌, ◌&&◌, not, nat_le, if◌then◌else◌, Bool, true, false, List, [], ◌∷◌, ◌++◌, length, filter}
+use Rattle.std.specs.Prelude.{◌≡◌, ℕ, suc, ◌-◌, ◌&&◌, not, nat_le, if◌then◌else◌, Bool, List, [], ◌∷◌, ◌++◌, length, filter}
 use Rattle.hg_base.specs.declared.report.Entry.{Entry}
 use Rattle.hg_base.specs.Freshness.{is_declared}
 use Rattle.hg_core.specs.declared.register.Register.{Register}

@@ -1,9 +1,8 @@
 //! Sessions begin and end in threads of their own while a collector gathers.
 
-ghost use Rattle.std.specs.Prelude.{◌≡◌, ◌≤◌, All};
-ghost use Rattle.hg_core.specs.declared.phase.Phase.TheVariants.{Idle};
-ghost use Rattle.hg_rule.specs.Views.{session};
-ghost use Rattle.hg_rule.specs.Seats.{session_view, IsSessionOf, IsPassOf};
+ghost use Rattle.std.specs.Prelude.{All};
+ghost use Rattle.hg_rule.specs.Views.{HasOnlySession};
+ghost use Rattle.hg_rule.specs.Seats.{session_view, IsPassOf};
 ghost use Rattle.hg_tracker.specs.Gathers.{IsMadeFor};
 ghost use Rattle.hg_tracker.specs.Boards.{board_table, board_sizes};
 ghost use Rattle.hg_tracker.specs.Ready.{IsReady};
@@ -89,5 +88,34 @@ fn four_sessions_beside_a_collector(rt: HostRuntime) -> Result<(), Fail> {
     assert_eq!(rt; gathered.entries().len(), 0);
     assert_eq!(rt; gathered.bound(TableId(0)), 0);
     assert_eq!(rt; gathered.for_table(TableId(0)).len(), 0);
+    Ok(())
+}
+
+// Each session meets the pass of a collector, and then goes to it for good.
+fn finish_all(trackers: &Trackers, sessions: Vec<SessionPass>, collector: &mut CollectorPass)
+    requires sessions { All (λ p. IsReady (board_table trackers.now) (board_sizes trackers.now) 1 p × HasOnlySession (session_view p)) sessions.items }
+    requires own { IsPassOf (board_table trackers.now) collector.old }
+    ensures own { IsPassOf (board_table trackers.now) collector.new }
+{
+    for session in sessions {
+        let mut session = session;
+        collector.meet(trackers.board(), &mut session);
+        session.finish(trackers.board(), collector);
+    }
+}
+
+// A pass takes in another pass and each session. Nobody began a transaction.
+#[test]
+fn one_pass_takes_in_the_others(rt: HostRuntime) -> Result<(), Fail> {
+    let (board, seats) = Board::new(rt.alloc(), 3, 1, 1, 1)?;
+    let mut collector = seats.table;
+    let trackers = Trackers::new(board);
+    collector.join(trackers.board(), seats.interval);
+    finish_all(&trackers, seats.sessions.into_vec(), &mut collector);
+    let mut gathered = Gathered::new(rt.alloc(), 3, 1)?;
+    trackers.gather(&mut collector, &mut gathered);
+    assert_eq!(rt; trackers.move_long(&mut collector, &mut gathered, 1), 0);
+    assert_eq!(rt; trackers.board().look_at(&mut collector), 0);
+    assert_eq!(rt; gathered.entries().len(), 0);
     Ok(())
 }

@@ -1,4 +1,4 @@
-use Rattle.std.proofs.Common.{◌≡◌, ◌≤◌, ◌+◌}
+use Rattle.std.proofs.Common.{◌≡◌, ◌+◌}
 use Rattle.hg_core.specs.declared.phase.Phase.TheVariants.{Idle}
 use Rattle.hg_core.specs.Logs.{begans}
 use Rattle.hg_rule.specs.Views.{session}

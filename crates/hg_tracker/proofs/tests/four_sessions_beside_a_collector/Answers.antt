@@ -1,8 +1,7 @@
-use Rattle.std.proofs.Common.{rules, ◌≡◌, ℕ, ◌+◌, ◌≤◌, length, All, sym, ap, ◌∙◌, subst, arith}
+use Rattle.std.proofs.Common.{rules, ◌≡◌, length, All, sym, ap, subst, arith}
 use Rattle.hg_rule.specs.declared.view.Sizes.{Sizes}
 use Rattle.hg_rule.specs.Seats.{table_of, sizes_of}
-use Rattle.hg_rule.specs.New.{Row, IsNewSession}
-use Rattle.hg_tracker.specs.Boards.{board_of, board_table, board_sizes}
+use Rattle.hg_tracker.specs.Boards.{board_of}
 use Rattle.hg_tracker.specs.Ready.{IsReady}
 use Rattle.hg_tracker.proofs.Readiness.{all_ready}
 use Rattle.hg_tracker.proofs.tests.four_sessions_beside_a_collector.Goals as goal

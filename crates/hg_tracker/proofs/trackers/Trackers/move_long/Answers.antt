@@ -1,5 +1,4 @@
-use Rattle.std.proofs.Common.{rules, ◌≡◌, ℕ, suc, ◌+◌, ◌<◌, ◌≤◌, length, get_or, true, false, sym, ap, ◌∙◌, subst, arith}
-use Rattle.hg_base.specs.declared.report.Entry.{Entry}
+use Rattle.std.proofs.Common.{rules, ◌≡◌, ℕ, ◌<◌, length, get_or, true, false, sym, ap, ◌∙◌, subst, arith}
 use Rattle.hg_rule.specs.Views.{pass}
 use Rattle.hg_rule.specs.Seats.{pass_view}
 use Rattle.hg_rule.specs.Steps.{Moves}

@@ -1,8 +1,4 @@
-use Rattle.std.proofs.Common.{rules, ◌≡◌, false, sym, ap, ◌∙◌, subst}
-use Rattle.hg_base.specs.declared.report.Entry.{Entry}
-use Rattle.hg_core.specs.declared.register.Register.TheVariants.{Live}
-use Rattle.hg_core.specs.Passes.{found}
-use Rattle.std.proofs.Common.{Some}
+use Rattle.std.proofs.Common.{rules, ◌≡◌, subst}
 use Rattle.hg_rule.specs.Views.{pass}
 use Rattle.hg_rule.specs.Seats.{pass_view}
 use Rattle.hg_rule.specs.Steps.{Moves}
