@@ -1,0 +1,10 @@
+pub mod Counts
+pub mod Lists
+pub mod Growing
+pub mod Keeps
+pub mod Registers
+pub mod Playing
+pub mod Shifts
+pub mod Agreements
+pub mod Found
+pub mod Opening
