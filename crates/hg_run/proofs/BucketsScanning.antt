@@ -14,8 +14,8 @@ use Rattle.hg_base.specs.Lists.{Each, Ascends}
 use Rattle.hg_base.specs.History.{nothing, same_rid}
 use Rattle.hg_base.proofs.ListFacts.{cases, each_snoc, each_keeps, any_more}
 use Rattle.hg_core.specs.Contents.{bucket_of}
-use Rattle.hg_bucket.specs.Held.{Held, Kept, versions_of, read_at, record_at, IsThere}
-use Rattle.hg_run.specs.Buckets.{Appends, LeadsOn, HasVersion, IsOwnKey, ArePlaced, records_at, with_key}
+use Rattle.hg_bucket.specs.Held.{Kept, versions_of, read_at, record_at, IsThere}
+use Rattle.hg_run.specs.Buckets.{Appends, LeadsOn, HasVersion, IsOwnKey, with_key}
 
 -- ---- the keys of a bucket
 
@@ -75,27 +75,12 @@ pub leads_weaker : (P Q : ℕ → Type 0) (from high : ℕ) (found : Option ℕ)
 leads_weaker P Q from high None w n = λ k l h q. n k l h (w k q)
 leads_weaker P Q from high (Some next) w n = (n.0, n.1, λ k l q. n.2 k l (w k q))
 
-pub leads_nowhere : (P Q : ℕ → Type 0) (from high : ℕ) → ((k : ℕ) → Q k → P k) → LeadsOn P from high None → LeadsOn Q from high None
-leads_nowhere P Q from high w n = leads_weaker P Q from high None w n
-
-pub leads_further : (P Q : ℕ → Type 0) (from high first : ℕ) (found : Option ℕ) → ((k : ℕ) → Q k → P k) → LeadsOn P from high (Some first) → LeadsOn Q first high found → LeadsOn Q from high found
-leads_further P Q from high first None w a b = λ k l h q. b k (a.2 k l (w k q)) h q
-leads_further P Q from high first (Some next) w a b = (let l = a.0 in let m = b.0 in omega (arith, l, m), b.1, λ k l q. b.2 k (a.2 k l (w k q)) q)
-
-pub leads_here : (Q : ℕ → Type 0) (from high : ℕ) → from ≤ high → LeadsOn Q from high (Some from)
-leads_here Q from high le = (omega arith, le, λ k l q. l)
-
 pub has_there : (records : List (Rid × List Kept)) (table : TableId) (key : ℕ) → HasVersion records table key → IsThere records table key
 has_there records table key has = go (lookup (same_rid (record_at table key)) records) has
   where
     go : (o : Option (List Kept)) → 0 < length (unwrap_or o []) → IsSome o
     go None l = absurd (omega (arith, l))
     go (Some vs) l = refl
-
-pub has_own : (hs : List Held) (b : ℕ) (table : TableId) (key : ℕ) → ArePlaced hs → HasVersion (records_at hs b) table key → IsOwnKey (length hs) b table key
-has_own hs b table key p has = cases (b == bucket_of (length hs) (record_at table key))
-    (λ t. sym ((Decides-eqb b (bucket_of (length hs) (record_at table key))).0 t))
-    (λ f. let none = ap length (p.own b (record_at table key) f) in absurd (omega (arith, has, none)))
 
 -- ---- rows
 
@@ -252,32 +237,3 @@ room high (Some k) = suc high - k
 pub falls : (records : List (Rid × List Kept)) (table : TableId) (k high : ℕ) (next : Option ℕ) → k ≤ high → LeadsOn (HasVersion records table) (k + 1) high next → room high next < room high (Some k)
 falls records table k high None within n = omega (arith, within)
 falls records table k high (Some m) within n = let a = n.0 in let b = n.1 in omega (arith, within, a, b)
-
--- the rows from the first key on are those of the range, which has no earlier one
-pub widened : (records : List (Rid × List Kept)) (table : TableId) (at : ℕ) (by : Writer) (P : ℕ → Type 0) (low high first : ℕ) (old rows : Pairs)
-    → ((k : ℕ) → HasVersion records table k → P k)
-    → LeadsOn P low high (Some first)
-    → Appends (seen_of records table at by) first high old rows
-    → Appends (seen_of records table at by) low high old rows
-widened records table at by P low high first old rows w n a = record {
-  more = a.more;
-  is = a.is;
-  rows = record {
-    ascend = a.rows.ascend;
-    each = each_keeps _ _ (λ p k. (let l = n.0 in let m = k.0 in omega (arith, l, m), k.1, k.2)) a.more a.rows.each;
-    every = λ key l h. cases (nat_lt key first)
-        (λ t. let less : key < first = grind (arith, nat_tests, t) in inr (unseen records table at by key (λ has. let m = n.2 key l (w key has) in absurd (omega (arith, less, m)))))
-        (λ f. let more : first ≤ key = grind (arith, nat_tests, f) in a.rows.every key more h);
-  };
-}
-
--- a range that has no key
-pub nothing_added : (records : List (Rid × List Kept)) (table : TableId) (at : ℕ) (by : Writer) (P : ℕ → Type 0) (low high : ℕ) (old : Pairs)
-    → ((k : ℕ) → HasVersion records table k → P k)
-    → LeadsOn P low high None
-    → Appends (seen_of records table at by) low high old old
-nothing_added records table at by P low high old w n = record {
-  more = [];
-  is = sym (append_none old);
-  rows = record { ascend = tt; each = tt; every = λ key l h. inr (unseen records table at by key (λ has. n key l h (w key has))) };
-}
