@@ -1,5 +1,5 @@
 -- The rows of all buckets, and their order.
-use Rattle.std.proofs.Common.{◌≡◌, ℕ, ℤ, suc, ◌+◌, ◌<◌, ◌≤◌, ◌⊎◌, inl, inr, List, [], ◌∷◌, ◌++◌, length, map, get_or, false, Some, None, sym, ap, ◌∙◌, subst, arith}
+use Rattle.std.proofs.Common.{◌≡◌, ℕ, ℤ, suc, ◌+◌, ◌<◌, ◌≤◌, ◌⊎◌, inl, inr, List, [], ◌∷◌, ◌++◌, length, map, false, Some, None, sym, ap, ◌∙◌, subst, arith}
 use Rattle.std.specs.Prelude.{◌==◌, nat_eq, nat_lt, IsTrue, unwrap_or}
 use Rattle.std.specs.List.{list_any, IsDistinct, All, AllByRecursion}
 use Rattle.std.specs.List.Sorted.{IsPermutation, IsNonDecreasingBy}
@@ -16,9 +16,9 @@ use Rattle.hg_base.specs.declared.writer.Writer.{Writer}
 use Rattle.hg_base.specs.History.{nothing}
 use Rattle.hg_core.specs.Contents.{bucket_of}
 use Rattle.hg_bucket.specs.Held.{Held, versions_of, read_at, record_at}
-use Rattle.hg_run.specs.Buckets.{Appends, ArePlaced, versions_in}
+use Rattle.hg_run.specs.Buckets.{Appends, ArePlaced, records_at, versions_in}
 use Rattle.hg_run.proofs.BucketsScanning.{Pairs, key_of, seen_of, map_append, any_behind}
-use Rattle.hg_run.proofs.BucketsPlaced.{is_apart, differ, each_get, had_there, records_there}
+use Rattle.hg_run.proofs.BucketsPlaced.{is_apart, differ, each_get}
 
 -- the rows of the buckets below i are there
 pub record AreBelow (look : ℕ → Image) (home : ℕ → ℕ) (low high i : ℕ) (rows : Pairs) : Type 0 where
@@ -152,11 +152,9 @@ pub home_within : (n : ℕ) (r : Rid) → 0 < n → bucket_of n r < n
 unfolding bucket_of
 home_within n r some = omega (arith, some)
 
-module _ (hs : List Held) (table : TableId) (at : ℕ) (by : Writer) (i : ℕ) (g : Held) (less : i < length hs) (is : get_or hs i g ≡ g) where
-  pub same_seen : (key : ℕ) → home_in hs table key ≡ i → seen_of g.records table at by key ≡ seen_in hs table at by key
-  same_seen key e = ap (λ vs. unwrap_or (read_at by at vs) nothing) (sym (had_there hs i (record_at table key) g (sym e) less is))
+module _ (hs : List Held) (table : TableId) (at : ℕ) (by : Writer) (i : ℕ) where
+  pub same_seen : (key : ℕ) → home_in hs table key ≡ i → seen_of (records_at hs i) table at by key ≡ seen_in hs table at by key
+  same_seen key e = ap (λ b. unwrap_or (read_at by at (versions_of (records_at hs b) (record_at table key))) nothing) (sym e)
 
-  pub apart_seen : ArePlaced hs → (key : ℕ) → (home_in hs table key ≡ i → ⊥) → (seen_of g.records table at by key).row ≡ None
-  apart_seen p key n =
-      ap (λ vs. (unwrap_or (read_at by at vs) nothing).row)
-      (ap (λ rs. versions_of rs (record_at table key)) (sym (records_there hs i g less ∙ ap (λ x. x.records) is)) ∙ p.own i (record_at table key) (is_apart i (home_in hs table key) (λ e. n (sym e))))
+  pub apart_seen : ArePlaced hs → (key : ℕ) → (home_in hs table key ≡ i → ⊥) → (seen_of (records_at hs i) table at by key).row ≡ None
+  apart_seen p key n = ap (λ vs. (unwrap_or (read_at by at vs) nothing).row) (p.own i (record_at table key) (is_apart i (home_in hs table key) (λ e. n (sym e))))

@@ -1,9 +1,10 @@
 -- The rows of a range: bucket by bucket, and then in order.
-use Rattle.std.proofs.Common.{◌≡◌, ℕ, ℤ, suc, ◌+◌, ◌-◌, ◌<◌, ◌≤◌, ◌⊎◌, inl, inr, List, [], ◌∷◌, ◌++◌, map, Bool, true, false, Option, Some, None, refl, sym, ap, ◌∙◌, subst, arith, append_assoc}
+use Rattle.std.proofs.Common.{◌≡◌, ℕ, ℤ, suc, ◌+◌, ◌-◌, ◌*◌, ◌%◌, ◌<◌, ◌≤◌, ◌⊎◌, inl, inr, List, [], ◌∷◌, ◌++◌, map, length, Bool, true, false, Option, Some, None, refl, sym, ap, ◌∙◌, subst, arith, append_assoc}
 use Rattle.std.specs.Prelude.{◌==◌, ◌||◌, nat_lt, IsTrue, IsSome, unwrap_or, ⊤}
 use Rattle.std.specs.Option.{MatchOption}
 use Rattle.std.specs.List.{list_any}
 use Rattle.std.specs.Map.{lookup}
+use Rattle.std.proofs.Math.Nat.{mod-add-mod, mod-eq_of_lt, mod-eq-sub-mod}
 use Rattle.std.proofs.lemmas.Bool.Decides.{Decides-eqb, nat_tests}
 use Rattle.hg_base.specs.declared.rid.Rid.{Rid}
 use Rattle.hg_base.specs.declared.rid.TableId.{TableId}
@@ -12,8 +13,76 @@ use Rattle.hg_base.specs.declared.writer.Writer.{Writer}
 use Rattle.hg_base.specs.Lists.{Each, Ascends}
 use Rattle.hg_base.specs.History.{nothing, same_rid}
 use Rattle.hg_base.proofs.ListFacts.{cases, each_snoc, each_keeps, any_more}
+use Rattle.hg_core.specs.Contents.{bucket_of}
 use Rattle.hg_bucket.specs.Held.{Kept, versions_of, read_at, record_at, IsThere}
-use Rattle.hg_run.specs.Buckets.{Appends, IsNextWithin, with_key}
+use Rattle.hg_run.specs.Buckets.{Appends, LeadsOn, HasVersion, IsOwnKey, with_key}
+
+-- ---- the keys of a bucket
+
+-- the bucket of a key that is d above another one
+moved : (n : ℕ) (table : TableId) (k d : ℕ) → bucket_of n (record_at table (k + d)) ≡ (bucket_of n (record_at table k) + d) % n
+unfolding bucket_of
+moved n table k d =
+    let c : ℕ = 31 * table.0 in
+    mod-add-mod (k + d) n c
+    ∙ ap (λ x. x % n) (regroup k d c)
+    ∙ sym (mod-add-mod k n (c + d))
+    ∙ ap (λ x. x % n) (sym (joined (k % n) c d))
+    ∙ sym (mod-add-mod (k % n + c) n d)
+  where
+    regroup : (a b c : ℕ) → a + b + c ≡ a + (c + b)
+    regroup a b c = omega arith
+
+    joined : (a b c : ℕ) → a + b + c ≡ a + (b + c)
+    joined a b c = omega arith
+
+-- one round further than a place within the list, or still within it
+turned : (n x : ℕ) → x < n + n → ((x < n) × (x % n ≡ x)) ⊎ ((n ≤ x) × (x % n + n ≡ x))
+turned n x less = cases (nat_lt x n)
+    (λ t. let l : x < n = grind (arith, nat_tests, t) in inl (l, mod-eq_of_lt l))
+    (λ f.
+    let m : n ≤ x = grind (arith, nat_tests, f) in
+    let l : x - n < n = omega (arith, less, m) in
+    let e : x % n ≡ x - n = mod-eq-sub-mod m ∙ mod-eq_of_lt l in
+    inr (m, omega (arith, e, m)))
+
+-- of two ways to a place, the one that is less than a round is the shorter
+shortest : (n h a d : ℕ) → h < n → a < n → (h + a) % n ≡ (h + d) % n → a ≤ d
+shortest n h a d home within e = cases (nat_lt d a)
+    (λ t. let less : d < a = grind (arith, nat_tests, t) in absurd (go less (turned n (h + a) (omega (arith, home, within))) (turned n (h + d) (omega (arith, home, within, less)))))
+    (λ f. grind (arith, nat_tests, f))
+  where
+    go : d < a → ((h + a < n) × ((h + a) % n ≡ h + a)) ⊎ ((n ≤ h + a) × ((h + a) % n + n ≡ h + a)) → ((h + d < n) × ((h + d) % n ≡ h + d)) ⊎ ((n ≤ h + d) × ((h + d) % n + n ≡ h + d)) → ⊥
+    go less (inl x) (inl y) = let p = x.1 in let q = y.1 in omega (arith, e, less, p, q)
+    go less (inl x) (inr y) = let p = x.0 in let q = y.0 in omega (arith, less, p, q)
+    go less (inr x) (inl y) = let p = x.1 in let q = y.1 in omega (arith, e, less, within, p, q)
+    go less (inr x) (inr y) = let p = x.1 in let q = y.1 in omega (arith, e, less, p, q)
+
+-- no key of a bucket is passed over on the way from a record to it
+pub not_before : (n b : ℕ) (table : TableId) (from a k : ℕ) → bucket_of n (record_at table from) < n → a < n → (bucket_of n (record_at table from) + a) % n ≡ b → from ≤ k → IsOwnKey n b table k → from + a ≤ k
+not_before n b table from a k home within there le own =
+    let back : from + (k - from) ≡ k = omega (arith, le) in
+    let same : (bucket_of n (record_at table from) + a) % n ≡ (bucket_of n (record_at table from) + (k - from)) % n = there ∙ sym own ∙ ap (λ x. bucket_of n (record_at table x)) (sym back) ∙ moved n table from (k - from) in
+    let least = shortest n (bucket_of n (record_at table from)) a (k - from) home within same in
+    omega (arith, least, le)
+
+pub least_own : (n b h : ℕ) (r : Rid) (a k : ℕ) → h ≡ bucket_of n r → h < n → a < n → (h + a) % n ≡ b → r.key ≤ k → IsOwnKey n b r.table k → r.key + a ≤ k
+least_own n b h r a k is home within there le own = not_before n b r.table r.key a k (subst (λ x. x < n) is home) within (ap (λ x. (x + a) % n) (sym is) ∙ there) le own
+
+-- ---- searches
+
+pub leads_weaker : (P Q : ℕ → Type 0) (from high : ℕ) (found : Option ℕ) → ((k : ℕ) → Q k → P k) → LeadsOn P from high found → LeadsOn Q from high found
+leads_weaker P Q from high None w n = λ k l h q. n k l h (w k q)
+leads_weaker P Q from high (Some next) w n = (n.0, n.1, λ k l q. n.2 k l (w k q))
+
+pub has_there : (records : List (Rid × List Kept)) (table : TableId) (key : ℕ) → HasVersion records table key → IsThere records table key
+has_there records table key has = go (lookup (same_rid (record_at table key)) records) has
+  where
+    go : (o : Option (List Kept)) → 0 < length (unwrap_or o []) → IsSome o
+    go None l = absurd (omega (arith, l))
+    go (Some vs) l = refl
+
+-- ---- rows
 
 abbrev pub Pairs : Type 0
 Pairs = List (ℕ × List ℤ)
@@ -27,12 +96,12 @@ key_of p = p.0
 abbrev pub seen_of : List (Rid × List Kept) → TableId → ℕ → Writer → ℕ → Image
 seen_of records table at by key = unwrap_or (read_at by at (versions_of records (record_at table key))) nothing
 
-pub unseen : (records : List (Rid × List Kept)) (table : TableId) (at : ℕ) (by : Writer) (key : ℕ) → (IsThere records table key → ⊥) → (seen_of records table at by key).row ≡ None
-unseen records table at by key absent = go (lookup (same_rid (record_at table key)) records) absent
+pub unseen : (records : List (Rid × List Kept)) (table : TableId) (at : ℕ) (by : Writer) (key : ℕ) → (HasVersion records table key → ⊥) → (seen_of records table at by key).row ≡ None
+unseen records table at by key absent = go (versions_of records (record_at table key)) absent
   where
-    go : (o : Option (List Kept)) → (IsSome o → ⊥) → (unwrap_or (read_at by at (unwrap_or o [])) nothing).row ≡ None
-    go None n = refl
-    go (Some vs) n = absurd (n refl)
+    go : (vs : List Kept) → (0 < length vs → ⊥) → (unwrap_or (read_at by at vs) nothing).row ≡ None
+    go [] n = refl
+    go (v ∷ vs) n = absurd (n (omega arith))
 
 -- the key is before the next one
 abbrev pub IsPast : Option ℕ → ℕ → Type 0
@@ -87,10 +156,10 @@ module _ (records : List (Rid × List Kept)) (table : TableId) (at : ℕ) (by : 
   abbrev look : ℕ → Image
   look = seen_of records table at by
 
-  gone : (key : ℕ) → (IsThere records table key → ⊥) → (look key).row ≡ None
+  gone : (key : ℕ) → (HasVersion records table key → ⊥) → (look key).row ≡ None
   gone key absent = unseen records table at by key absent
 
-  pub begins : (next : Option ℕ) → IsNextWithin records table low high next → IsSoFar (seen_of records table at by) low high old old next
+  pub begins : (next : Option ℕ) → LeadsOn (HasVersion records table) low high next → IsSoFar (seen_of records table at by) low high old old next
   begins None n = record { more = []; is = sym (append_none old); ascend = tt; each = tt; every = λ key l h past. inr (gone key (n key l h)); below = tt }
   begins (Some k) n = record {
     more = [];
@@ -135,7 +204,7 @@ module _ (records : List (Rid × List Kept)) (table : TableId) (at : ℕ) (by : 
           more_found key (inl f) = inl (any_more (λ p. p.0 == key) s.more ((k, row) ∷ []) f)
           more_found key (inr n) = inr n
 
-  pub goes_on : (rows : Pairs) (k : ℕ) (next : Option ℕ) → IsUpTo (seen_of records table at by) low high old rows k → IsNextWithin records table (k + 1) high next → IsSoFar (seen_of records table at by) low high old rows next
+  pub goes_on : (rows : Pairs) (k : ℕ) (next : Option ℕ) → IsUpTo (seen_of records table at by) low high old rows k → LeadsOn (HasVersion records table) (k + 1) high next → IsSoFar (seen_of records table at by) low high old rows next
   goes_on rows k None u n = record {
     more = u.more;
     is = u.is;
@@ -165,6 +234,6 @@ abbrev pub room : ℕ → Option ℕ → ℕ
 room high None = 0
 room high (Some k) = suc high - k
 
-pub falls : (records : List (Rid × List Kept)) (table : TableId) (k high : ℕ) (next : Option ℕ) → k ≤ high → IsNextWithin records table (k + 1) high next → room high next < room high (Some k)
+pub falls : (records : List (Rid × List Kept)) (table : TableId) (k high : ℕ) (next : Option ℕ) → k ≤ high → LeadsOn (HasVersion records table) (k + 1) high next → room high next < room high (Some k)
 falls records table k high None within n = omega (arith, within)
 falls records table k high (Some m) within n = let a = n.0 in let b = n.1 in omega (arith, within, a, b)

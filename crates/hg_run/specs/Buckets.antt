@@ -14,7 +14,7 @@ use Rattle.hg_core.specs.Contents.{bucket_of}
 use Rattle.hg_bucket.specs.declared.refusal.WriteRefusal.{WriteRefusal}
 use Rattle.hg_bucket.specs.declared.refusal.WriteRefusal.TheVariants.{Open, Newer, NoMemory}
 use Rattle.hg_bucket.specs.Conflicts.{holder, newer}
-use Rattle.hg_bucket.specs.Held.{Held, Kept, IsThere, versions_of, begins_open, installed, cut_at}
+use Rattle.hg_bucket.specs.Held.{Held, Kept, record_at, versions_of, begins_open, installed, cut_at}
 
 -- the records of bucket b, and none where there is no such bucket
 abbrev pub records_at : List Held → ℕ → List (Rid × List Kept)
@@ -71,12 +71,21 @@ Refuses vs by at mark NoMemory = ⊤
 
 -- ---- the rows of a range
 
--- the least key of the table from a number to `high`, and none where the table has no such key
-abbrev pub IsNextWithin : List (Rid × List Kept) → TableId → ℕ → ℕ → Option ℕ → Type 0
-IsNextWithin records table from high found =
+-- bucket b is the one of the table's record of that key
+abbrev pub IsOwnKey : ℕ → ℕ → TableId → ℕ → Type 0
+IsOwnKey count b table key = bucket_of count (record_at table key) ≡ b
+
+-- the record of that key has a version
+abbrev pub HasVersion : List (Rid × List Kept) → TableId → ℕ → Type 0
+HasVersion records table key = 0 < length (versions_of records (record_at table key))
+
+-- A search from a number to `high` passes over no key that it is for: each one that there is stands at or over what was found,
+-- and where nothing was found there is none.
+abbrev pub LeadsOn : (ℕ → Type 0) → ℕ → ℕ → Option ℕ → Type 0
+LeadsOn Sought from high found =
     MatchOption found
-    ((k : ℕ) → from ≤ k → k ≤ high → IsThere records table k → ⊥)
-    (λ least. (from ≤ least) × (least ≤ high) × ((k : ℕ) → from ≤ k → IsThere records table k → least ≤ k))
+    ((k : ℕ) → from ≤ k → k ≤ high → Sought k → ⊥)
+    (λ next. (from ≤ next) × (next ≤ high) × ((k : ℕ) → from ≤ k → Sought k → next ≤ k))
 
 -- a row with its key, where there is one
 abbrev pub with_key : ℕ → Option (List ℤ) → List (ℕ × List ℤ)

@@ -1,15 +1,15 @@
 //! The versions of all records, in buckets.
 
-ghost use Rattle.std.specs.Prelude.{◌≡◌, ◌+◌, ◌++◌, ◌<◌, ◌≤◌, ◌^◌, length, drop, IsTrue, IfOk, IfErr, OnOk, OnErr, unwrap_or};
+ghost use Rattle.std.specs.Prelude.{◌≡◌, ◌+◌, ◌%◌, ◌++◌, ◌<◌, ◌≤◌, ◌^◌, length, drop, IsTrue, IfOk, IfErr, OnOk, OnErr, unwrap_or};
 ghost use Rattle.std.specs.Option.{option_copied};
 ghost use Rattle.hg_base.specs.declared.rid.Rid.{Rid};
 ghost use Rattle.hg_base.specs.Lists.{Each};
 ghost use Rattle.hg_base.specs.History.{NoneTwice, is_among, nothing};
 ghost use Rattle.hg_base.specs.Replies.{AreRows};
 ghost use Rattle.hg_core.specs.Contents.{bucket_of};
-ghost use Rattle.hg_bucket.specs.Held.{begins_open, stamped, read_at, IsBelow, record_at, versions_of};
+ghost use Rattle.hg_bucket.specs.Held.{begins_open, stamped, read_at, IsBelow, IsThere, record_at, versions_of};
 ghost use Rattle.hg_base.specs.declared.limits.TheConstants.{MOST_TABLES};
-ghost use Rattle.hg_run.specs.Buckets.{Appends, IsSettled, with_key, IsNextWithin, IsBalance, both, Becomes, AreCounts, AreEmpty, ChangesEach, Settles, Refuses, Stores, made_in, undone_in, versions_in};
+ghost use Rattle.hg_run.specs.Buckets.{Appends, IsSettled, with_key, LeadsOn, IsOwnKey, HasVersion, records_at, IsBalance, both, Becomes, AreCounts, AreEmpty, ChangesEach, Settles, Refuses, Stores, made_in, undone_in, versions_in};
 
 use hg_base::{Image, MOST_TABLES, NoMemory, Rid, Row, TableId, Totals, Writer};
 use hg_bucket::{Bucket, WriteRefusal};
@@ -75,11 +75,88 @@ impl Buckets {
         ensures { IfOk result (λ rows. AreRows (λ key. unwrap_or (read_at by at (versions_in self.now (record_at table key))) nothing) low high rows.items) }
     {
         let mut rows = Vec::new(alloc);
-        for bucket in &self.buckets {
-            push_rows(bucket, table, low, high, at, by, &mut rows)?;
+        let from = Rid { table, key: low };
+        let home = self.index_of(from);
+        for place in 0..self.buckets.len() {
+            self.push_bucket(place, home, from, high, at, by, &mut rows)?;
         }
         rows.sort_unstable_by_key(|row| row.0);
         Ok(rows)
+    }
+
+    // Adds the rows that a transaction reads of a bucket from a record to `high`. The record's own bucket is at `home`.
+    fn push_bucket(
+        &self,
+        place: usize,
+        home: usize,
+        from: Rid,
+        high: u64,
+        at: u64,
+        by: Writer,
+        rows: &mut Vec<(u64, Row)>,
+    ) -> Result<(), NoMemory>
+        requires place { place < length self.now }
+        requires home { home ≡ bucket_of (length self.now) from }
+        ensures { OnOk result (Appends (λ key. unwrap_or (read_at by at (versions_of (records_at self.now place) (record_at from.table key))) nothing) from.key high rows.old.items rows.new.items) }
+    {
+        match first_key(place, home, self.buckets.len(), from, high) {
+            Some(first) => self.push_rows(place, from.table, first, high, at, by, rows),
+            None => Ok(()),
+        }
+    }
+
+    // Adds the rows that a transaction reads of a bucket from `first` to `high`.
+    fn push_rows(
+        &self,
+        place: usize,
+        table: TableId,
+        first: u64,
+        high: u64,
+        at: u64,
+        by: Writer,
+        rows: &mut Vec<(u64, Row)>,
+    ) -> Result<(), NoMemory>
+        requires place { place < length self.now }
+        requires within { first ≤ high }
+        ensures { OnOk result (Appends (λ key. unwrap_or (read_at by at (versions_of (records_at self.now place) (record_at table key))) nothing) first high rows.old.items rows.new.items) }
+    {
+        let mut next = self.next_from(place, table, first, high);
+        while let Some(key) = next {
+            push_row(&self.buckets[place], Rid { table, key }, at, by, rows)?;
+            next = self.next_after(place, table, key, high);
+        }
+        Ok(())
+    }
+
+    // The next key to read of a bucket, from `first` on. Where no other key of the bucket is left up to `high`, that is `first`,
+    // which nothing needs to look up.
+    fn next_from(&self, place: usize, table: TableId, first: u64, high: u64) -> Option<u64>
+        requires place { place < length self.now }
+        requires within { first ≤ high }
+        ensures { LeadsOn (HasVersion (records_at self.now place) table) first high result }
+    {
+        if high - first < self.buckets.len() as u64 {
+            Some(first)
+        } else {
+            next_within(&self.buckets[place], table, first, high)
+        }
+    }
+
+    // The next one after a key.
+    fn next_after(&self, place: usize, table: TableId, key: u64, high: u64) -> Option<u64>
+        requires place { place < length self.now }
+        ensures { LeadsOn (HasVersion (records_at self.now place) table) (key + 1) high result }
+    {
+        if key >= high {
+            return None;
+        }
+        let from = Rid {
+            table,
+            key: key + 1,
+        };
+        let home = self.index_of(from);
+        let first = first_key(place, home, self.buckets.len(), from, high)?;
+        self.next_from(place, table, first, high)
     }
 
     /// Writes an image. The answer says whether a version was added.
@@ -206,22 +283,44 @@ fn sum_of(a: Totals, b: Totals) -> Totals
     }
 }
 
-// The least key from `from` to `high` of those that have a version in a bucket.
-fn next_within(bucket: &Bucket, table: TableId, from: u64, high: u64) -> Option<u64>
-    ensures { IsNextWithin bucket.now.records table from high result }
+// How many places it is from `home` on to a place, round a list of so many.
+fn ahead(place: usize, home: usize, count: usize) -> usize
+    requires place { place < count }
+    requires home { home < count }
+    requires many { count < 2 ^ 63 }
+    ensures round { (home + result) % count ≡ place }
+    ensures within { result < count }
 {
-    bucket.next_key(table, from).filter(|key| *key <= high)
+    if home <= place {
+        place - home
+    } else {
+        count - home + place
+    }
 }
 
-// The next one after a key.
-fn next_after(bucket: &Bucket, table: TableId, key: u64, high: u64) -> Option<u64>
-    ensures { IsNextWithin bucket.now.records table (key + 1) high result }
+// The least key from a record to `high` that is of the bucket at `place`, where the record's own is at `home`.
+fn first_key(place: usize, home: usize, count: usize, from: Rid, high: u64) -> Option<u64>
+    requires place { place < count }
+    requires home { home ≡ bucket_of count from }
+    requires many { count < 2 ^ 63 }
+    ensures { LeadsOn (IsOwnKey count place from.table) from.key high result }
 {
-    if key < high {
-        next_within(bucket, table, key + 1, high)
+    if from.key > high {
+        return None;
+    }
+    let ahead = ahead(place, home, count) as u64;
+    if ahead <= high - from.key {
+        Some(from.key + ahead)
     } else {
         None
     }
+}
+
+// The least key from `from` to `high` of those that have a version in a bucket.
+fn next_within(bucket: &Bucket, table: TableId, from: u64, high: u64) -> Option<u64>
+    ensures { LeadsOn (IsThere bucket.now.records table) from high result }
+{
+    bucket.next_key(table, from).filter(|key| *key <= high)
 }
 
 // Adds the row that a transaction reads of a record, if it reads one.
@@ -236,26 +335,6 @@ fn push_row(
 {
     if let Some(Image { row: Some(row) }) = bucket.read(rid, at, by) {
         rows.push((rid.key, row.copy()?))?;
-    }
-    Ok(())
-}
-
-// Adds the rows that a transaction reads of a bucket from `low` to `high`.
-fn push_rows(
-    bucket: &Bucket,
-    table: TableId,
-    low: u64,
-    high: u64,
-    at: u64,
-    by: Writer,
-    rows: &mut Vec<(u64, Row)>,
-) -> Result<(), NoMemory>
-    ensures { OnOk result (Appends (λ key. unwrap_or (read_at by at (versions_of bucket.now.records (record_at table key))) nothing) low high rows.old.items rows.new.items) }
-{
-    let mut next = next_within(bucket, table, low, high);
-    while let Some(key) = next {
-        push_row(bucket, Rid { table, key }, at, by, rows)?;
-        next = next_after(bucket, table, key, high);
     }
     Ok(())
 }

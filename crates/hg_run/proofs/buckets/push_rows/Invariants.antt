@@ -1,8 +1,0 @@
-use Rattle.hg_run.proofs.BucketsScanning.{IsSoFar, seen_of, room}
-use Rattle.hg_run.proofs.buckets.push_rows.Given as goal
-
-abbrev pub invariant-loop-next : goal.invariant-loop-next
-invariant-loop-next l = IsSoFar (seen_of l.bucket.records l.table l.at l.by) l.low l.high l.fn.rows.items l.rows.items l.next
-
-abbrev pub decreases-loop-next : goal.decreases-loop-next
-decreases-loop-next l = room l.high l.next
