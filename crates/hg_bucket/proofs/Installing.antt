@@ -38,6 +38,14 @@ unplaced es cs places r old h = go (lookup (same_rid r) cs) refl
     go None e = refl
     go (Some vs) e = let k = sym (ap is_some h) ∙ (old.chained r vs e).0 in absurd cc
 
+-- a record's versions are those of its chain, with an oldest image behind them or none
+pub chained : (es : List (Rid × ℕ)) (cs : List (Rid × List Version)) (places : List Seat) (r : Rid) → AreWhole es cs places → (im : Oldest) × (versions_of (records_of es cs places) r ≡ whole (chain_of cs r) im)
+chained es cs places r old = go (place_of es r) refl
+  where
+    go : (o : Option ℕ) → place_of es r ≡ o → (im : Oldest) × (versions_of (records_of es cs places) r ≡ whole (chain_of cs r) im)
+    go None e = (None, no_versions es cs places r e ∙ ap (λ o. whole (unwrap_or o []) None) (sym (unplaced es cs places r old e)))
+    go (Some p) e = (image_at places p, versions_there es cs places r p e)
+
 -- ---- conflicts
 
 pub conflict_of_chain : (by : Writer) (snapshot mark : ℕ) (x : Option WriteRefusal) (vs : List Version) (im : Oldest) (stamp : Stamp) → Some stamp ≡ chain.newest vs → ((image : Image) → x ≡ conflict by snapshot mark (kept_as stamp image ∷ [])) → x ≡ conflict by snapshot mark (whole vs im)

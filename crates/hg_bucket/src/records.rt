@@ -62,16 +62,14 @@ impl Records {
         }
     }
 
-    /// What a transaction reads of a record.
+    /// What a transaction reads of a record. A record that is read in its chain isn't looked up in the index.
     pub fn read(&self, rid: Rid, snapshot: u64, own: Writer) -> Option<&Image>
         ensures { option_copied result ≡ read_at own snapshot (versions_of self.now rid) }
     {
-        let place = self.index.place(rid)?;
-        chains::read(&self.chains, rid, snapshot, own).or(places::read(
-            &self.space,
-            place,
-            snapshot,
-        ))
+        match chains::read(&self.chains, rid, snapshot, own) {
+            Some(image) => Some(image),
+            None => places::read(&self.space, self.index.place(rid)?, snapshot),
+        }
     }
 
     /// The least key of a table at or over a number, of those that have a version.
@@ -94,10 +92,9 @@ impl Records {
         ensures refusal { result ≡ conflict by snapshot mark (versions_of self.now rid) }
         ensures free { result ≡ None → NoOther by (versions_of self.now rid) }
     {
-        let place = self.index.place(rid)?;
         match chains::newest(&self.chains, rid) {
             Some(stamp) => refusal(stamp, by, snapshot, mark),
-            None => places::newer(&self.space, place, snapshot),
+            None => places::newer(&self.space, self.index.place(rid)?, snapshot),
         }
     }
 
