@@ -1,6 +1,6 @@
 -- Whose seats they are, and what they have.
 use Rattle.std.specs.Prelude.{◌≡◌, ℕ, []}
-use Rattle.atomic_table.specs.Seated.{TableId}
+pub use Rattle.atomic_table.specs.Seated.{TableId}
 use Rattle.atomic_table.specs.declared.shared.Seat.{Seat}
 use Rattle.hg_core.specs.Logs.{begans}
 use Rattle.hg_core.specs.Phases.{IsSession}

@@ -16,6 +16,7 @@ mod view;
 
 pub use board::Board;
 pub use groups::Groups;
+pub use hg_core::{Ask, Register};
 pub use meets::state_is_read;
 pub use pass::Pass;
 pub use passes::{BucketSeat, CollectorPass, CommitSeat, SessionPass};

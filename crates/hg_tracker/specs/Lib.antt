@@ -1,0 +1,6 @@
+-- What a gather keeps, and of what.
+pub mod Entries
+pub mod Gathers
+-- What each call makes of a view.
+pub mod Begun
+pub mod Boards
