@@ -3,16 +3,20 @@
 
 mod board;
 mod calls;
+mod collecting;
 mod dealt;
 mod groups;
+mod joining;
 mod making;
 mod meets;
 mod moves;
 mod pass;
 mod passes;
+mod picks;
 mod plays;
 mod seats;
 mod view;
+mod writing;
 
 pub use board::Board;
 pub use groups::Groups;
@@ -21,6 +25,4 @@ pub use meets::state_is_read;
 pub use pass::Pass;
 pub use passes::{BucketSeat, CollectorPass, CommitSeat, SessionPass};
 pub use seats::{BucketSeatList, Seats, SessionPassList};
-pub use view::{
-    BucketPart, CommitPart, Event, Part, PassPart, SessionPart, Sight, Sizes, View,
-};
+pub use view::{BucketPart, CommitPart, Event, Part, PassPart, SessionPart, Sight, Sizes, View};
