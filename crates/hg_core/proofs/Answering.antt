@@ -126,14 +126,14 @@ own_before statement reply before e = ap (λ b. own_writes (access_log b stateme
 answer_due : (buckets : ℕ) (h : History) (logs : ℕ → List LogEntry) (j : ℕ) (u : Unprinted) (before : List LogEntry) (now : Said) (statement : Statement) → 0 < buckets → IsFalse (is_gc statement) → AreReplied buckets h logs j (log_after buckets u statement now.reply before) → FitsAnswer buckets u (own_writes before) statement now.reply.answer
     → IfSome (current (begun_log statement now.reply before)) (λ snapshot. (now.at ≡ snapshot.at) × (now.scope ≡ snapshot.scope))
     → (let own = own_writes (begun_log statement now.reply before) in IsAnswer replay (seen h own now.at) (is_written own) now statement)
-answer_due buckets h logs j u before now (Begin scope) some recorded g fits at = fits
-answer_due buckets h logs j u before now (Get r) some recorded g fits at = access_answered buckets h logs j u before now (Get r) some refl g fits at
-answer_due buckets h logs j u before now (Put r row) some recorded g fits at = access_answered buckets h logs j u before now (Put r row) some refl g fits at
-answer_due buckets h logs j u before now (Del r) some recorded g fits at = access_answered buckets h logs j u before now (Del r) some refl g fits at
-answer_due buckets h logs j u before now (Scan table low high) some recorded g fits at = access_answered buckets h logs j u before now (Scan table low high) some refl g fits at
-answer_due buckets h logs j u before now CommitIt some recorded g fits at = subst (λ own. IsCommitted (is_written own) now.reply.answer) (sym (own_before CommitIt now.reply before refl)) fits
-answer_due buckets h logs j u before now Rollback some recorded g fits at = fits.0
-answer_due buckets h logs j u before now (Gc kind) some recorded g fits at = absurd (let z : true ≡ false = recorded in cc)
+answer_due buckets h logs j u before now (Begin scope) some logged g fits at = fits
+answer_due buckets h logs j u before now (Get r) some logged g fits at = access_answered buckets h logs j u before now (Get r) some refl g fits at
+answer_due buckets h logs j u before now (Put r row) some logged g fits at = access_answered buckets h logs j u before now (Put r row) some refl g fits at
+answer_due buckets h logs j u before now (Del r) some logged g fits at = access_answered buckets h logs j u before now (Del r) some refl g fits at
+answer_due buckets h logs j u before now (Scan table low high) some logged g fits at = access_answered buckets h logs j u before now (Scan table low high) some refl g fits at
+answer_due buckets h logs j u before now CommitIt some logged g fits at = subst (λ own. IsCommitted (is_written own) now.reply.answer) (sym (own_before CommitIt now.reply before refl)) fits
+answer_due buckets h logs j u before now Rollback some logged g fits at = fits.0
+answer_due buckets h logs j u before now (Gc kind) some logged g fits at = absurd (let z : true ≡ false = logged in cc)
 
 -- ---- the cause of a refusal
 
@@ -202,7 +202,7 @@ answered s h some j later before u now log fits stands =
     let up : UpTo (length s.history) (log_after s.buckets u now.statement now.reply before) = older_up (length s.history) later _ (subst (UpTo (length s.history)) log (h.logs_answer.within j)) in
     record {
       snapshot = current_up (length s.history) (begun_log now.statement now.reply before) (snapshot_up (length s.history) s.buckets u now.statement now.reply before up);
-      answer = answer_due s.buckets s.history s.log j u before now now.statement some stands.recorded replied fits.answer stands.snapshot;
+      answer = answer_due s.buckets s.history s.log j u before now now.statement some stands.logged replied fits.answer stands.snapshot;
       cause = cause_due s.buckets s.history s.log j u before now now.statement replied stands.snapshot;
       number = subst (λ b. IfSome (number_by b now.statement now.reply) (λ n. Contains (of_session j (group_at s.history n)) (commit_in j (done_log s.buckets u now.statement now.reply before)))) (sym stands.alone)
           (if_some_keeps (number_by (is_alone (current before) now.statement) now.statement now.reply)

@@ -16,7 +16,7 @@ use Rattle.hg_core.specs.Contents.{bucket_of, is_stamped}
 use Rattle.hg_core.specs.State.{opened}
 use Rattle.hg_core.specs.Events.{MayPublish}
 use Rattle.hg_core.specs.Steps.{Run, run}
-use Rattle.hg_core.specs.Worked.{one_rid, two_rid, row, slow_begin, long_snapshot, late_entry, early_sample, low_fix, two_versions, moved_snapshot, open_write, late_snapshot}
+use Rattle.hg_core.specs.Worked.{one_rid, two_rid, row, slow_begin, long_snapshot, late_entry, early_sample, low_fix, two_versions, moved_snapshot, open_write, late_snapshot, swept_visit}
 
 first : IsSession 2 1
 first = record { first = omega arith; last = omega arith }
@@ -535,3 +535,7 @@ late_whole j session = go j session.first session.last
 pub late_snapshot_runs : Run (opened 2 1 1 1 2) late_snapshot
 unfolding bucket_of
 late_snapshot_runs = (record { session = second; rests = refl; room = omega arith }, (refl, (refl, (record { fixed = (0, refl); tables = tt }, ((0, All, record { live = refl; table = refl; there = omega arith; plain = refl; unstamped = refl; room = omega arith; free = tt; newest = tt }), (record { mine = refl; plain = refl }, (publishes _ _ _ _ refl, (record { live = refl; none = λ r. refl }, (record { session = second; rests = refl; room = omega arith }, (refl, (refl, (record { fixed = (1, refl); tables = tt }, ((1, All, record { live = refl; table = refl; there = omega arith; plain = refl; unstamped = refl; room = omega arith; free = omega arith; newest = omega arith }), (record { mine = refl; plain = refl }, (publishes _ _ _ _ refl, (record { live = refl; none = λ r. refl }, (record { session = first; rests = refl; room = omega arith }, (refl, (refl, (record { fixed = (2, refl); tables = tt }, ((λ j. omega arith), (record { session = first; fresh = refl }, (record { session = second; fresh = refl }, (record { pass = omega arith; bucket = omega arith }, tt))))))))))))))))))))))))
+
+pub swept_visit_runs : Run (opened 2 1 1 1 2) swept_visit
+unfolding bucket_of
+swept_visit_runs = (record { session = second; rests = refl; room = omega arith }, (refl, (refl, (record { fixed = (0, refl); tables = tt }, ((0, All, record { live = refl; table = refl; there = omega arith; plain = refl; unstamped = refl; room = omega arith; free = tt; newest = tt }), (record { mine = refl; plain = refl }, (publishes _ _ _ _ refl, (record { live = refl; none = λ r. refl }, (record { session = second; rests = refl; room = omega arith }, (refl, (refl, (record { fixed = (1, refl); tables = tt }, ((1, All, record { live = refl; table = refl; there = omega arith; plain = refl; unstamped = refl; room = omega arith; free = omega arith; newest = omega arith }), (record { mine = refl; plain = refl }, (publishes _ _ _ _ refl, (record { live = refl; none = λ r. refl }, (record { session = first; rests = refl; room = omega arith }, (refl, (refl, (record { fixed = (2, refl); tables = tt }, ((λ j. omega arith), (record { session = first; fresh = refl }, (record { session = second; fresh = refl }, (record { pass = omega arith; bucket = omega arith }, (record { whole = late_whole; here = (refl, refl) }, ((0, (refl, refl)), tt))))))))))))))))))))))))))

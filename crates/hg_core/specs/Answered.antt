@@ -35,7 +35,7 @@ is_gc _ = false
 -- A record with its reply, as the log of session j before it has its transaction. A `gc` stands in none.
 pub record StandsAt (j : ℕ) (before : List LogEntry) (now : Said) : Type 0 where
   pub session : now.session ≡ j
-  pub recorded : IsFalse (is_gc now.statement)
+  pub logged : IsFalse (is_gc now.statement)
   pub alone : now.alone ≡ is_alone (current before) now.statement
   pub snapshot : IfSome (current (begun_log now.statement now.reply before)) (λ snapshot. (now.at ≡ snapshot.at) × (now.scope ≡ snapshot.scope))
 

@@ -12,6 +12,7 @@ use Rattle.hg_base.specs.declared.line.Answer.{Answer}
 use Rattle.hg_base.specs.declared.line.Answer.TheVariants.{Begun, Stored, Committed}
 use Rattle.hg_base.specs.declared.line.Reply.{Reply}
 use Rattle.hg_core.specs.declared.log.LogEntry.{LogEntry}
+use Rattle.hg_core.specs.declared.visit.Removed.{Removed}
 use Rattle.hg_core.specs.Reading.{Unprinted, log_after, Fits}
 
 -- two records of table 0, and a row
@@ -72,6 +73,13 @@ open_write = acts (Probe 1 ∷ Enter 1 0 ∷ Fix 1 0 ∷ GoLive 1 0 All ∷ Prob
 -- both registers, and takes the bucket.
 abbrev pub late_snapshot : List Step
 late_snapshot = acts (commits ++ commits_again row ++ Probe 1 ∷ Enter 1 2 ∷ Fix 1 2 ∷ GoLive 1 2 All ∷ Mark 0 (λ j. 0) ∷ Sample 0 1 ∷ Sample 0 2 ∷ []) ++ Arrive 0 0 ∷ []
+
+-- and the pass sweeps the record, and gives the bucket back
+abbrev pub swept_visit : List Step
+swept_visit = late_snapshot ++ Act (Reclaim 0 Interval one_rid) ∷ Leave 0 ∷ []
+
+abbrev pub one_swept : Removed
+one_swept = record { group = 0; table = 0; interval = 1 }
 
 -- What the log of session 2 says after its commits: a begin that is answered `begun,0`, a put that is answered `stored`, and
 -- a commit that is answered `committed,1`.

@@ -1,6 +1,6 @@
 //! What follows of the laws, in the words of the subject.
 
-ghost use Rattle.std.specs.Prelude.{◌≡◌, ℕ, List, None, length, filter, is_some, if◌then◌else◌, ◌<◌, ◌≤◌, ◌*◌, ◌^◌, ◌++◌, IsTrue};
+ghost use Rattle.std.specs.Prelude.{◌≡◌, ℕ, List, [], ◌∷◌, None, length, filter, map, is_some, if◌then◌else◌, ◌<◌, ◌≤◌, ◌*◌, ◌^◌, ◌++◌, IsTrue};
 ghost use Rattle.hg_base.specs.declared.rid.Rid.{Rid};
 ghost use Rattle.hg_base.specs.declared.rid.TableId.{TableId};
 ghost use Rattle.hg_base.specs.declared.scope.Scope.{Scope};
@@ -28,7 +28,7 @@ ghost use Rattle.hg_core.specs.Replies.{AreReplied};
 ghost use Rattle.hg_core.specs.Steps.{Always, Run, run};
 ghost use Rattle.hg_core.specs.Invariant.{IsSteady};
 ghost use Rattle.hg_core.specs.Missed.{MissesNone};
-ghost use Rattle.hg_core.specs.Worked.{slow_begin, long_snapshot, committed_there, IsReadThere};
+ghost use Rattle.hg_core.specs.Worked.{swept_visit, one_swept, slow_begin, long_snapshot, committed_there, IsReadThere};
 
 use crate::phase::Phase;
 use crate::register::Register;
@@ -124,8 +124,8 @@ pub fn counts_are_bounded()
 {}
 
 /// What settles. Where a record found all registers idle, as those of sessions at rest are, each bound is its mark. Where all
-/// sessions rest, no write is open. And of a record that is cut at the mark, with no open write, the row at the mark is left, if there is one, and nothing else. So a
-/// bucket of such records holds as many versions as records of its own are rows.
+/// sessions rest, no write is open. And of a record that is cut at the mark, with no open write, the row at the mark is left,
+/// if there is one, and nothing else. So a bucket of such records holds as many versions as records of its own are rows.
 pub fn what_is_live_is_left()
     ensures table { (pass : PassRecord) (t : TableId) → Each (λ e. e.1 ≡ Register.Idle) pass.loaded → table_bound t pass ≡ pass.mark }
     ensures group { (pass : PassRecord) → Each (λ e. e.1 ≡ Register.Idle) pass.loaded → group_bound pass ≡ pass.mark }
@@ -142,6 +142,14 @@ pub fn every_event_happens()
     ensures mark { ((run (opened 2 1 1 1 1) slow_begin).pass 0).mark ≡ 1 }
     ensures horizon { horizon ((run (opened 2 1 1 1 1) slow_begin).pass 0) ≡ 0 }
     ensures live { (run (opened 2 1 1 1 1) slow_begin).phase 1 ≡ Phase.Live 0 (Scope.Declared 1) }
+{}
+
+/// A visit counts. In this run a sweep takes one of two versions that were made, and the visit is over.
+pub fn a_visit_counts()
+    ensures run { Run (opened 2 1 1 1 2) swept_visit }
+    ensures bucket { (run (opened 2 1 1 1 2) swept_visit).counters 0 ≡ record { made = 2; undone = 0; removed = one_swept } }
+    ensures held { total ((run (opened 2 1 1 1 2) swept_visit).bucket 0) ≡ 1 }
+    ensures visit { map (λ v. v.removed) ((run (opened 2 1 1 1 2) swept_visit).visits 0) ≡ one_swept ∷ [] }
 {}
 
 /// A word shows one register, and each register of a board has a word.

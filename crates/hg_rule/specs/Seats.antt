@@ -25,6 +25,38 @@ sizes_of b = b.table.shared.key
 abbrev pub view : Seat ℕ View → View
 view s = s.me.0
 
+-- a pass's own seat, a pass with another, and what it says beside
+abbrev pub session_seat : SessionPass → Seat ℕ View
+session_seat p = p.seat
+
+abbrev pub with_session_seat : SessionPass → Seat ℕ View → SessionPass
+with_session_seat p s = record p { seat = s }
+
+abbrev pub session_rest : SessionPass → ℕ × ℕ
+session_rest p = (p.number, p.begun)
+
+abbrev pub pass_seat : CollectorPass → Seat ℕ View
+pass_seat p = p.seat
+
+abbrev pub with_pass_seat : CollectorPass → Seat ℕ View → CollectorPass
+with_pass_seat p s = record p { seat = s }
+
+abbrev pub bucket_seat : BucketSeat → Seat ℕ View
+bucket_seat p = p.seat
+
+abbrev pub with_bucket_seat : BucketSeat → Seat ℕ View → BucketSeat
+with_bucket_seat p s = record p { seat = s }
+
+abbrev pub bucket_rest : BucketSeat → ℕ × ℕ
+bucket_rest p = (p.number, 0)
+
+abbrev pub commit_seat : CommitSeat → Seat ℕ View
+commit_seat p = p.seat
+
+abbrev pub with_commit_seat : CommitSeat → Seat ℕ View → CommitSeat
+with_commit_seat p s = record p { seat = s }
+
+-- what they see
 abbrev pub session_view : SessionPass → View
 session_view p = view p.seat
 

@@ -14,9 +14,7 @@ ghost use Rattle.hg_rule.specs.Seats.{table_of, sizes_of, session_view, pass_vie
 
 use crate::board::Board;
 use crate::passes::{CollectorPass, SessionPass};
-use crate::plays::{
-    Ending, Entering, Fixing, GoingLive, Marking, Moving, Probing, Sampling,
-};
+use crate::plays::{Ending, Entering, Fixing, GoingLive, Marking, Moving, Probing, Sampling};
 use hg_base::Scope;
 use hg_core::Register;
 
@@ -84,11 +82,9 @@ impl Board {
             scope,
             moved: false,
         };
-        self.table.shared.store::<GoingLive>(
-            &mut pass.seat,
-            pass.number as usize,
-            register.word(),
-        );
+        self.table
+            .shared
+            .store::<GoingLive>(&mut pass.seat, pass.number as usize, register.word());
         pass.begun += 1;
     }
 
@@ -141,12 +137,10 @@ impl Board {
         ensures own { IsPassOf (table_of self.now) pass.new }
     {
         let unmoved = from.word();
-        let found = self.table.shared.compare_exchange::<Moving>(
-            &mut pass.seat,
-            j as usize,
-            unmoved,
-            moved(from).word(),
-        );
+        let found = self
+            .table
+            .shared
+            .compare_exchange::<Moving>(&mut pass.seat, j as usize, unmoved, moved(from).word());
         found == unmoved
     }
 }

@@ -4,8 +4,8 @@ ghost use Rattle.std.specs.Prelude.{◌≡◌, ℕ};
 ghost use Rattle.std.specs.Borrow.{sem};
 ghost use Rattle.atomic_table.specs.declared.shared.Seat.{Seat};
 ghost use Rattle.hg_rule.specs.declared.view.View.{View};
-ghost use Rattle.hg_rule.specs.declared.view.Part.{Part};
 ghost use Rattle.hg_rule.specs.Lending.{LendsSeat};
+ghost use Rattle.hg_rule.specs.Seats.{session_seat, with_session_seat, session_rest, pass_seat, with_pass_seat, bucket_seat, with_bucket_seat, bucket_rest, commit_seat, with_commit_seat};
 
 use crate::passes::{BucketSeat, CollectorPass, CommitSeat, SessionPass};
 use crate::view::View;
@@ -30,11 +30,11 @@ pub trait Pass {
 }
 
 impl Pass for SessionPass {
-    ghost seat_of = { λ p. p.seat };
+    ghost seat_of = { session_seat };
 
-    ghost with_seat = { λ p s. record p { seat = s } };
+    ghost with_seat = { with_session_seat };
 
-    ghost rest_of = { λ p. (p.number, p.begun) };
+    ghost rest_of = { session_rest };
 
     fn seat(&mut self) -> &mut Seat<u8, View> {
         &mut self.seat
@@ -42,13 +42,13 @@ impl Pass for SessionPass {
 
     ghost has_it = { λ p s i. s };
 
-    ghost keeps_rest = { λ p s i. (p.number, p.begun) };
+    ghost keeps_rest = { λ p s i. session_rest p };
 }
 
 impl Pass for CollectorPass {
-    ghost seat_of = { λ p. p.seat };
+    ghost seat_of = { pass_seat };
 
-    ghost with_seat = { λ p s. record p { seat = s } };
+    ghost with_seat = { with_pass_seat };
 
     ghost rest_of = { λ p. (0, 0) };
 
@@ -62,11 +62,11 @@ impl Pass for CollectorPass {
 }
 
 impl Pass for BucketSeat {
-    ghost seat_of = { λ p. p.seat };
+    ghost seat_of = { bucket_seat };
 
-    ghost with_seat = { λ p s. record p { seat = s } };
+    ghost with_seat = { with_bucket_seat };
 
-    ghost rest_of = { λ p. (p.number, 0) };
+    ghost rest_of = { bucket_rest };
 
     fn seat(&mut self) -> &mut Seat<u8, View> {
         &mut self.seat
@@ -74,13 +74,13 @@ impl Pass for BucketSeat {
 
     ghost has_it = { λ p s i. s };
 
-    ghost keeps_rest = { λ p s i. (p.number, 0) };
+    ghost keeps_rest = { λ p s i. bucket_rest p };
 }
 
 impl Pass for CommitSeat {
-    ghost seat_of = { λ p. p.seat };
+    ghost seat_of = { commit_seat };
 
-    ghost with_seat = { λ p s. record p { seat = s } };
+    ghost with_seat = { with_commit_seat };
 
     ghost rest_of = { λ p. (0, 0) };
 

@@ -1,5 +1,5 @@
 -- Steps, one after another.
-use Rattle.std.proofs.Common.{◌≡◌, ℕ, zero, suc, ◌+◌, ◌<◌, ◌≤◌, List, [], ◌∷◌, ◌++◌, length, map, take, drop, get_or, Option, None, Some, Bool, true, false, ◌==◌, if◌then◌else◌, refl, sym, ap, ◌∙◌, subst, arith, append_assoc, append-nil, length-append}
+use Rattle.std.proofs.Common.{◌≡◌, ℕ, zero, suc, ◌<◌, ◌≤◌, List, [], ◌∷◌, ◌++◌, length, map, drop, get_or, None, Some, Bool, true, false, ◌==◌, if◌then◌else◌, refl, sym, ap, ◌∙◌, subst, arith, append_assoc, append-nil, length-append}
 use Rattle.std.specs.Prelude.{IsSome}
 use native.Mathlib.Decide.{dec_le}
 use Rattle.std.proofs.lemmas.Bool.Decides.{nat_tests}
@@ -10,22 +10,20 @@ use Rattle.hg_core.specs.declared.register.Register.{Register}
 use Rattle.hg_core.specs.Words.{IsRegister}
 use Rattle.hg_core.specs.Passes.{found, lower, least_entering, IsWhole}
 use Rattle.hg_core.specs.Logs.{UpTo}
-use Rattle.hg_rule.specs.declared.view.PassPart.{PassPart}
 use Rattle.hg_rule.specs.declared.view.Part.{Part}
-use Rattle.hg_rule.specs.declared.view.Part.TheVariants.{OfSession, OfPass}
+use Rattle.hg_rule.specs.declared.view.Part.TheVariants.{OfPass}
 use Rattle.hg_rule.specs.declared.view.Sight.{Sight}
 use Rattle.hg_rule.specs.declared.view.Sight.TheVariants.{Saw, Heard, Took, Did}
-use Rattle.hg_rule.specs.declared.view.Event.{Event}
 use Rattle.hg_rule.specs.declared.view.Event.TheVariants.{Mark, Sample}
 use Rattle.hg_rule.specs.declared.view.View.{View}
-use Rattle.hg_rule.specs.Facts.{StartsWith, record_of}
-use Rattle.hg_rule.specs.Views.{number, session, pass, others, seeing, then_has, HasPass}
+use Rattle.hg_rule.specs.Facts.{record_of}
+use Rattle.hg_rule.specs.Views.{number, pass, others, seeing}
 use Rattle.hg_rule.specs.Steps.{Within, IsHistoryAt, loading, Probes, Enters, Fixes, GoesLive, Marks, Samples}
 use Rattle.hg_rule.proofs.Lists.{each_left, each_map}
 use Rattle.hg_tracker.specs.declared.gathered.Gathered.{Gathered}
 use Rattle.hg_tracker.specs.Entries.{down_from, live_entry, entries_of}
 use Rattle.hg_tracker.specs.Gathers.{IsNotedOf}
-use Rattle.hg_tracker.specs.Begun.{AtMost, HasBegun, samples_of, gathering, HasLoaded, HasGathered}
+use Rattle.hg_tracker.specs.Begun.{AtMost, HasBegun, samples_of, HasLoaded, HasGathered}
 
 within_most : (h : History) (n : ℕ) → length h ≡ n → (x : Sight) → Within h x → AtMost n x
 within_most h n l (Saw g) b = omega (arith, ap length b.1, length-append g.list b.0)
@@ -80,7 +78,7 @@ loads_one v w w' m n loaded r g is has_word = subst (HasLoaded v m (suc n) ((suc
 pub loaded_is : (v w : View) (m n : ℕ) (loaded : List (ℕ × Register)) → HasLoaded v m n loaded w → ((pass w).loaded ≡ loaded) × ((pass w).mark ≡ m)
 loaded_is v w m n loaded g = (ap (λ (ps : List Part). (pass (seeing ps [] [])).loaded) g.parts, ap (λ (ps : List Part). (pass (seeing ps [] [])).mark) g.parts)
 
-first_key : (e : ℕ × Register) (loaded : List (ℕ × Register)) (n : ℕ) → map (λ e. e.0) (e ∷ loaded) ≡ down_from (suc n) → (e.0 ≡ suc n) × (map (λ e. e.0) loaded ≡ down_from n)
+pub first_key : (e : ℕ × Register) (loaded : List (ℕ × Register)) (n : ℕ) → map (λ e. e.0) (e ∷ loaded) ≡ down_from (suc n) → (e.0 ≡ suc n) × (map (λ e. e.0) loaded ≡ down_from n)
 first_key e loaded n keys = (ap (λ ks. get_or ks 0 0) keys, ap (drop 1) keys)
 
 pub keys_length : (loaded : List (ℕ × Register)) (n : ℕ) → map (λ e. e.0) loaded ≡ down_from n → length loaded ≡ n

@@ -1,5 +1,5 @@
 -- What a gather's lists have of a record.
-use Rattle.std.proofs.Common.{◌≡◌, ◌⊎◌, inl, inr, ℕ, zero, suc, ◌+◌, ◌<◌, ◌≤◌, Bool, true, false, List, [], ◌∷◌, ◌++◌, length, map, filter, take, get_or, set, min, ◌==◌, if◌then◌else◌, not, ◌||◌, All, refl, sym, ap, ◌∙◌, subst, arith, length-append, append-nil, Vec}
+use Rattle.std.proofs.Common.{◌≡◌, ◌⊎◌, inl, inr, ℕ, zero, suc, ◌+◌, ◌<◌, ◌≤◌, Bool, true, false, List, [], ◌∷◌, ◌++◌, length, map, filter, get_or, min, ◌==◌, if◌then◌else◌, not, ◌||◌, refl, sym, ap, ◌∙◌, subst, arith, length-append, append-nil, Vec}
 use Rattle.std.specs.declared.alloc.Global.{Global}
 use Rattle.std.specs.Prelude.{IsPermutation}
 use Rattle.std.specs.List.{sum_by}

@@ -7,7 +7,6 @@ use Rattle.hg_core.specs.declared.phase.Phase.TheVariants.{Live}
 use Rattle.hg_core.specs.declared.log.LogEntry.TheVariants.{Began}
 use Rattle.hg_core.specs.Logs.{UpTo}
 use Rattle.hg_core.specs.Words.{IsRegister}
-use Rattle.hg_rule.specs.declared.board.Board.{Board}
 use Rattle.hg_rule.specs.declared.view.PassPart.{PassPart}
 use Rattle.hg_rule.specs.declared.view.Part.TheVariants.{OfSession, OfPass}
 use Rattle.hg_rule.specs.declared.view.Sight.{Sight}

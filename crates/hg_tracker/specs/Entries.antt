@@ -1,5 +1,5 @@
 -- What a record's registers show, as entries by ascending session.
-use Rattle.std.specs.Prelude.{◌≡◌, ℕ, zero, suc, if◌then◌else◌, ◌^◌, ◌/◌, ◌%◌, ◌==◌, ◌||◌, not, Bool, true, min, map, filter, List, [], ◌∷◌, ◌++◌}
+use Rattle.std.specs.Prelude.{ℕ, zero, suc, if◌then◌else◌, ◌^◌, ◌/◌, ◌%◌, ◌==◌, ◌||◌, not, Bool, true, min, map, filter, List, [], ◌∷◌, ◌++◌}
 use Rattle.hg_base.specs.declared.scope.Scope.{Scope}
 use Rattle.hg_base.specs.declared.scope.Scope.TheVariants.{All, Declared}
 use Rattle.hg_base.specs.declared.report.Entry.{Entry}

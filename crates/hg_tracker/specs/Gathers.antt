@@ -1,5 +1,5 @@
 -- What a gather is of a pass's record.
-use Rattle.std.specs.Prelude.{◌≡◌, ℕ, suc, ◌≤◌, List, [], ◌∷◌, map, length, Vec, vec_capacity, All, IsPermutation, ⊤}
+use Rattle.std.specs.Prelude.{◌≡◌, ℕ, suc, ◌<◌, ◌≤◌, slice_index_or, List, [], ◌∷◌, map, length, Vec, vec_capacity, All, IsPermutation, ⊤}
 use Rattle.std.specs.declared.alloc.Global.{Global}
 use Rattle.std.specs.List.Sorted.{IsNonDecreasingBy}
 use Rattle.hg_base.specs.declared.report.Entry.{Entry}
@@ -25,6 +25,14 @@ IsMadeFor sessions tables g =
 abbrev pub IsNotedOf : ℕ → List (ℕ × Register) → Gathered → Type 0
 IsNotedOf mark loaded g = (g.mark ≡ mark) × (g.horizon ≡ least_entering mark loaded) × (g.entries.items ≡ entries_of loaded)
 
+-- a record's registers are those of the first sessions in order, the last one first
+abbrev pub IsLoaded : ℕ → List (ℕ × Register) → Type 0
+IsLoaded sessions loaded = (map (λ e. e.0) loaded ≡ down_from sessions) × Each (λ e. IsRegister e.1) loaded
+
+-- the entry stands at that place of a list
+abbrev pub StandsAt : ℕ → Entry → List Entry → Type 0
+StandsAt place e entries = (place < length entries) × ((other : Entry) → slice_index_or entries place other ≡ e)
+
 -- each is the list of its table, from number t on
 abbrev pub AreListsOf : ℕ → List Entry → List (Vec ℕ Global) → Type 0
 AreListsOf t ranked [] = ⊤
@@ -34,8 +42,7 @@ AreListsOf t ranked (list ∷ lists) = (list.items ≡ numbers_for t ranked) × 
 -- numbers that count for it, ascending.
 pub record IsGatherOf (sessions : ℕ) (part : PassPart) (g : Gathered) : Type 0 where
   pub noted : IsNotedOf part.mark part.loaded g
-  pub keys : map (λ e. e.0) part.loaded ≡ down_from sessions
-  pub registers : Each (λ e. IsRegister e.1) part.loaded
+  pub loaded : IsLoaded sessions part.loaded
   pub shuffled : IsPermutation g.entries.items g.ranked.items
   pub rises : IsNonDecreasingBy (λ (e : Entry). e.number) g.ranked.items
   pub lists : AreListsOf 0 g.ranked.items g.lists.items

@@ -3,4 +3,6 @@ pub mod Entries
 pub mod Gathers
 -- What each call makes of a view.
 pub mod Begun
+pub mod Tries
 pub mod Boards
+pub mod Ready

@@ -1,6 +1,7 @@
 //! Begins, ends and gathers.
 
-ghost use Rattle.std.specs.Prelude.{◌≡◌, ◌<◌, None, IsSome};
+ghost use Rattle.std.specs.Prelude.{◌≡◌, ℕ, ◌+◌, ◌<◌, false, drop, length, None, IsSome, IsTrue};
+ghost use Rattle.hg_base.specs.Freshness.{is_declared};
 ghost use Rattle.hg_base.specs.declared.rid.Rid.{Rid};
 ghost use Rattle.hg_core.specs.declared.phase.Phase.TheVariants.{Idle};
 ghost use Rattle.hg_core.specs.Words.{IsBelow};
@@ -9,13 +10,15 @@ ghost use Rattle.hg_core.specs.Phases.{snapshot_in};
 ghost use Rattle.hg_core.specs.Passes.{IsWhole};
 ghost use Rattle.hg_rule.specs.Facts.{record_of};
 ghost use Rattle.hg_rule.specs.Views.{session, pass as own_pass};
-ghost use Rattle.hg_rule.specs.Steps.{Ends};
+ghost use Rattle.hg_rule.specs.Steps.{Ends, Moves};
 ghost use Rattle.hg_rule.specs.Seats.{session_view, pass_view, IsSessionOf, IsPassOf};
-ghost use Rattle.hg_tracker.specs.Gathers.{IsMadeFor, IsGatherOf};
+ghost use Rattle.hg_tracker.specs.Gathers.{IsMadeFor, IsNotedOf, IsGatherOf, IsLoaded, StandsAt};
 ghost use Rattle.hg_tracker.specs.Begun.{HasBegun, HasGathered};
+ghost use Rattle.hg_tracker.specs.Tries.{is_long, HasMoved};
 
 use crate::gathered::Gathered;
-use hg_base::{Scope, Snapshot};
+use hg_base::{Entry, Scope, Snapshot};
+use hg_core::Register;
 use hg_rule::{Board, CollectorPass, SessionPass};
 
 /// The board, with calls of several steps.
@@ -25,16 +28,16 @@ pub struct Trackers {
 }
 
 impl Trackers {
-    ghost use Rattle.hg_tracker.specs.Boards.{board_table, board_sizes};
+    ghost use Rattle.hg_tracker.specs.Boards.{board_of, board_table, board_sizes};
 
     pub fn new(board: Board) -> Trackers
-        ensures { result.board ≡ board }
+        ensures { board_of result ≡ board }
     {
         Trackers { board }
     }
 
     pub fn board(&self) -> &Board
-        ensures { result.now ≡ self.now.board }
+        ensures { result.now ≡ board_of self.now }
     {
         &self.board
     }
@@ -89,5 +92,82 @@ impl Trackers {
             into.note(j + 1, register);
         }
         into.sum_up();
+    }
+}
+
+/// Whether an entry is declared, not moved, and at least `long` commits older than the mark.
+fn is_long_in_use(entry: &Entry, mark: u64, long: u64) -> bool
+    ensures { result ≡ is_long mark long entry.now }
+{
+    let declared = match entry.scope {
+        Scope::All => false,
+        Scope::Declared(_) => true,
+    };
+    declared && !entry.moved && entry.number <= mark && mark - entry.number >= long
+}
+
+impl Trackers {
+    ghost use Rattle.hg_tracker.specs.Boards.{board_table, board_sizes};
+
+    // Tries to move the entry that stands at a place.
+    fn try_move(
+        &self,
+        pass: &mut CollectorPass,
+        gathered: &mut Gathered,
+        place: usize,
+        entry: Entry,
+    ) -> bool
+        requires own { IsPassOf (board_table self.now) pass.old }
+        requires noted { IsNotedOf (own_pass (pass_view pass.old)).mark (own_pass (pass_view pass.old)).loaded gathered.old }
+        requires loaded { IsLoaded (board_sizes self.now).sessions (own_pass (pass_view pass.old)).loaded }
+        requires place { StandsAt place entry gathered.old.entries.items }
+        requires movable { IsTrue (is_declared entry.scope) × (entry.moved ≡ false) }
+        ensures step { Moves (pass_view pass.old) entry.session entry.number result (pass_view pass.new) }
+        ensures noted { IsNotedOf (own_pass (pass_view pass.new)).mark (own_pass (pass_view pass.new)).loaded gathered.new }
+        ensures loaded { IsLoaded (board_sizes self.now).sessions (own_pass (pass_view pass.new)).loaded }
+        ensures later { (drop (place + 1) gathered.new.entries.items ≡ drop (place + 1) gathered.old.entries.items) × (length gathered.new.entries.items ≡ length gathered.old.entries.items) }
+        ensures made { (sessions tables : ℕ) → IsMadeFor sessions tables gathered.old → IsMadeFor sessions tables gathered.new }
+        ensures own { IsPassOf (board_table self.now) pass.new }
+    {
+        let register = Register::Live {
+            number: entry.number,
+            scope: entry.scope,
+            moved: entry.moved,
+        };
+        let moved = self.board.move_one(pass, entry.session, register);
+        if moved {
+            gathered.entries[place].moved = true;
+        }
+        moved
+    }
+}
+
+impl Trackers {
+    ghost use Rattle.hg_tracker.specs.Boards.{board_table, board_sizes};
+
+    /// Tries once to move each entry of this pass's last gather that is declared, not moved, and at least `long` commits
+    /// older than the mark, and no other. A moved snapshot holds back only the tables that it declared. The answer counts
+    /// those that were moved.
+    pub fn move_long(&self, pass: &mut CollectorPass, gathered: &mut Gathered, long: u64) -> u32
+        requires own { IsPassOf (board_table self.now) pass.old }
+        requires made { IsMadeFor (board_sizes self.now).sessions (board_sizes self.now).tables gathered.old }
+        requires shown { IsGatherOf (board_sizes self.now).sessions (own_pass (pass_view pass.old)) gathered.old }
+        ensures moved { HasMoved (pass_view pass.old) long result (pass_view pass.new) }
+        ensures shown { IsGatherOf (board_sizes self.now).sessions (own_pass (pass_view pass.new)) gathered.new }
+        ensures made { IsMadeFor (board_sizes self.now).sessions (board_sizes self.now).tables gathered.new }
+        ensures own { IsPassOf (board_table self.now) pass.new }
+    {
+        let mut count = 0;
+        for place in 0..gathered.entries.len() {
+            let entry = gathered.entries[place];
+            if is_long_in_use(&entry, gathered.mark, long) {
+                let moved = self.try_move(pass, gathered, place, entry);
+                if moved {
+                    count += 1;
+                }
+            }
+        }
+        gathered.sum_up();
+        count
     }
 }

@@ -44,18 +44,18 @@ dealt_three c = passes_dealt (view c.deal-2.new.maker) (view c.deal_pass-group.n
 pub returns-clause-sessions : goal.returns-clause-sessions
 returns-clause-sessions c =
     let t = c.in_ok-table.table.shared.table_id in
-    let all : Row (λ i (x : SessionPass). ((x.number, x.begun) ≡ (i, 0)) × IsNew t (session_part i) x.seat) 1 c.in_ok-passes.passes.items = c.in_ok-passes.ensures.dealt.1 in
     let e : c.from.result ≡ c.in_ok-passes.passes.items = search rules in
+    let all : Row (λ i (x : SessionPass). ((x.number, x.begun) ≡ (i, 0)) × IsNew t (session_part i) x.seat) 1 c.in_ok-passes.passes.items = c.in_ok-passes.ensures.dealt.1 in
     subst (λ l. (length l ≡ c.args.sessions) × Row (IsNewSession t) 1 l) (sym e)
-        (c.in_ok-passes.ensures.dealt.0, row_map _ (IsNewSession t) (λ i x h. (ap (λ y. y.0) h.0, ap (λ y. y.1) h.0, h.1)) 1 c.in_ok-passes.passes.items all)
+    (c.in_ok-passes.ensures.dealt.0, row_map _ (IsNewSession t) (λ i x h. (ap (λ y. y.0) h.0, ap (λ y. y.1) h.0, h.1)) 1 c.in_ok-passes.passes.items all)
 
 pub returns-clause-buckets : goal.returns-clause-buckets
 returns-clause-buckets c =
     let t = c.in_ok-table.table.shared.table_id in
-    let all : Row (λ i (x : BucketSeat). ((x.number, 0) ≡ (i, 0)) × IsNew t (bucket_part i) x.seat) 0 c.in_ok-seats.seats.items = c.in_ok-seats.ensures.dealt.1 in
     let e : c.from-2.result ≡ c.in_ok-seats.seats.items = search rules in
+    let all : Row (λ i (x : BucketSeat). ((x.number, 0) ≡ (i, 0)) × IsNew t (bucket_part i) x.seat) 0 c.in_ok-seats.seats.items = c.in_ok-seats.ensures.dealt.1 in
     subst (λ l. (length l ≡ c.args.buckets) × Row (IsNewBucket t) 0 l) (sym e)
-        (c.in_ok-seats.ensures.dealt.0, row_map _ (IsNewBucket t) (λ i x h. (ap (λ y. y.0) h.0, h.1)) 0 c.in_ok-seats.seats.items all)
+    (c.in_ok-seats.ensures.dealt.0, row_map _ (IsNewBucket t) (λ i x h. (ap (λ y. y.0) h.0, h.1)) 0 c.in_ok-seats.seats.items all)
 
 pub returns-clause-commit : goal.returns-clause-commit
 returns-clause-commit c =

@@ -1,4 +1,4 @@
-use Rattle.std.proofs.Common.{rules, ◌≡◌, ℕ, suc, ◌+◌, ◌<◌, ◌≤◌, length, arith, sym, ap, ◌∙◌, subst}
+use Rattle.std.proofs.Common.{◌≡◌, ◌+◌, ◌≤◌, length, arith, sym, ap, subst}
 use Rattle.hg_rule.specs.Views.{pass}
 use Rattle.hg_rule.specs.Seats.{pass_view}
 use Rattle.hg_tracker.specs.Entries.{entries_of}
@@ -24,12 +24,12 @@ few c =
     omega (arith, ap length c.loop-j.invariant.1.2, entries_most loaded, keys_length loaded c.loop-j.j c.loop-j.invariant.0.keys)
 
 pub note-requires : goal.note-requires
-note-requires c = record { room = let l = few c in search rules }
+note-requires c = record { room = let made = (c.start.ensures.made _ _ c.requires.made).0 in omega (arith, few c, made, c.loop-j.invariant.2.3, c.loop-j-test.true, c.loop-j.auto.j-end) }
 
 pub loop-j-preserved : goal.loop-j-preserved
 loop-j-preserved c =
     let both = noted_one (pass_view c.args.pass.now) (pass_view c.loop-j.pass) (pass_view c.sample-register.new.pass) c.mark-mark.result c.loop-j.j (c.loop-j.j + 1) c.sample-register.result c.loop-j.into c.note.new.self
-          (omega arith) c.loop-j.invariant.0 c.sample-register.ensures.step c.sample-register.ensures.register c.loop-j.invariant.1 c.note.ensures.mark c.note.ensures.horizon c.note.ensures.entries in
+    (omega arith) c.loop-j.invariant.0 c.sample-register.ensures.step c.sample-register.ensures.register c.loop-j.invariant.1 c.note.ensures.mark c.note.ensures.horizon c.note.ensures.entries in
     (both.0, both.1, c.note.ensures.made _ _ c.loop-j.invariant.2, c.sample-register.ensures.own)
 
 pub sum_up-requires-clause-room : goal.sum_up-requires-clause-room
