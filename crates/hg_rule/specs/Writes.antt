@@ -1,5 +1,5 @@
 -- What each step of a session on contents and on groups makes of its view.
-use Rattle.std.specs.Prelude.{◌≡◌, ℕ, ℤ, suc, ◌+◌, ◌≤◌, true, false, List, [], ◌∷◌, ◌++◌, length, IsTrue, IsFalse}
+use Rattle.std.specs.Prelude.{◌≡◌, ℕ, ℤ, suc, ◌+◌, ◌≤◌, true, false, List, [], ◌∷◌, ◌++◌, length, IsSome, IsTrue, IsFalse, ⊤}
 use Rattle.hg_base.specs.declared.rid.Rid.{Rid}
 use Rattle.hg_base.specs.declared.image.Image.{Image}
 use Rattle.hg_base.specs.declared.writer.Writer.{Writer}
@@ -12,7 +12,7 @@ use Rattle.hg_core.specs.declared.log.LogEntry.{LogEntry}
 use Rattle.hg_core.specs.declared.log.LogEntry.TheVariants as entries
 use Rattle.hg_core.specs.declared.version.Stamp.TheVariants.{Written, Numbered, Oldest}
 use Rattle.hg_core.specs.declared.version.Version.{Version}
-use Rattle.hg_core.specs.Logs.{commit_in}
+use Rattle.hg_core.specs.Logs.{begans, current, commit_in}
 use Rattle.hg_core.specs.Versions.{installed, undone, stamped}
 use Rattle.hg_core.specs.Contents.{bucket_of, look, store}
 use Rattle.hg_core.specs.Counters.{added}
@@ -22,7 +22,8 @@ use Rattle.hg_rule.specs.declared.view.SessionPart.{SessionPart}
 use Rattle.hg_rule.specs.declared.view.BucketPart.{BucketPart}
 use Rattle.hg_rule.specs.declared.view.CommitPart.{CommitPart}
 use Rattle.hg_rule.specs.declared.view.Part.TheVariants.{OfSession, OfBucket, OfCommit}
-use Rattle.hg_rule.specs.declared.view.Sight.TheVariants.{Saw, Heard}
+use Rattle.hg_rule.specs.declared.view.Sight.{Sight}
+use Rattle.hg_rule.specs.declared.view.Sight.TheVariants.{Saw, Heard, Took, Did}
 use Rattle.hg_rule.specs.declared.view.Event.TheVariants.{Look, Install, Undo, Stamp, Publish}
 use Rattle.hg_rule.specs.declared.view.View.{View}
 use Rattle.hg_rule.specs.declared.view.Sizes.{Sizes}
@@ -88,6 +89,13 @@ Installs v rid image w = w ≡ then_has v (OfSession (number v) (with_entry (ent
 abbrev pub Undoes : View → Rid → View → Type 0
 Undoes v rid w = w ≡ then_has v (OfSession (number v) (with_entry (entries.Undid rid) (session v)) ∷ OfBucket (bucket_number v) (undoing rid (bucket v)) ∷ beyond v)
     (Heard (number v) (entries.Undid rid ∷ (session v).log) ∷ []) (Undo (number v) rid)
+
+-- what was heard of a session's log has no end of that transaction: where it is the last one heard, it isn't over
+abbrev pub IsGoing : Writer → Sight → Type 0
+IsGoing owner (Saw h) = ⊤
+IsGoing owner (Heard j log) = (j ≡ owner.session) → begans log ≡ owner.transaction → IsSome (current log)
+IsGoing owner (Took n) = ⊤
+IsGoing owner (Did e) = ⊤
 
 -- ---- a group
 
