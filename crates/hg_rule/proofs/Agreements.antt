@@ -51,8 +51,8 @@ part_agrees s v j part is (OfSession i t) h = tt
 part_agrees s v j part is (OfBucket b t) h = tt
 part_agrees s v j part is (OfCommit t) h = tt
 part_agrees s v j part is (OfPass p r) h = record {
-  known = subst (λ l. heard j r.seen ≤ length l) is.1 (subst (λ (x : PassRecord). x.known j ≤ length (s.log j)) h.0 (v.records_reach_logs.known p j));
-  reaches = subst (λ l. IfSome (found j r.loaded) (λ register. StandsIn (heard j r.seen) register l part.phase)) is.1
+  known = subst (λ l. heard j r.seen ≤ length l) is.1.0 (subst (λ (x : PassRecord). x.known j ≤ length (s.log j)) h.0 (v.records_reach_logs.known p j));
+  reaches = subst (λ l. IfSome (found j r.loaded) (λ register. StandsIn (heard j r.seen) register l part.phase)) is.1.0
       (subst (λ f. IfSome (found j r.loaded) (λ register. StandsIn (heard j r.seen) register (s.log j) f)) is.0
       (subst (λ (x : PassRecord). IfSome (found j x.loaded) (λ register. StandsIn (x.known j) register (s.log j) (s.phase j))) h.0 (v.records_reach_logs.stands p j)));
   bounds = subst (λ f. IfSome (found j r.loaded) (λ register. Bounds r.mark register f)) is.0
@@ -61,8 +61,8 @@ part_agrees s v j part is (OfPass p r) h = record {
 
 agrees_at : (z : Sizes) (n : ℕ) (v : View) (b : IsBacked z n v) (p : Part) → Shown b.state p → AgreesAt v p
 agrees_at z n v b (OfSession j part) is = let s = b.state in record {
-  events = each_map (Stands s) (EventAgrees j part) (event_agrees s j part is.1) v.events b.true_of.events;
-  sights = each_map (Known s) (SightAgrees j part) (sight_agrees s j part is.1) v.sights b.true_of.sights;
+  events = each_map (Stands s) (EventAgrees j part) (event_agrees s j part is.1.0) v.events b.true_of.events;
+  sights = each_map (Known s) (SightAgrees j part) (sight_agrees s j part is.1.0) v.sights b.true_of.sights;
   parts = each_map (Shown s) (PartAgrees j part) (part_agrees s b.steady j part is) v.parts b.true_of.parts;
 }
 agrees_at z n v b (OfBucket i c) is = tt

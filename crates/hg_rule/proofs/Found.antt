@@ -44,7 +44,7 @@ sought s k [] h f = (ap (λ x. same_key x k) (new_key k) ∙ key_self k, f refl)
 sought s k (p ∷ ps) h f = pick s k p (seek k ps) (has k p) refl h.0 (λ e. sought s k ps h.1 (λ z. f (let x : ℕ = one (has k p) in let y : ℕ = count k ps in let e' : x ≡ 0 = ap one e in let z' : y ≡ 0 = z in omega arith)))
 
 session_right : (s : CoreState) (j : ℕ) (p : Part) → Right s (session_key j) p → (s.phase j ≡ (session_there p).phase) × (s.log j ≡ (session_there p).log)
-session_right s j (OfSession i t) h = let e = sym (same_number i j h.0) in (ap s.phase e ∙ h.1.0, ap s.log e ∙ h.1.1)
+session_right s j (OfSession i t) h = let e = sym (same_number i j h.0) in (ap s.phase e ∙ h.1.0, ap s.log e ∙ h.1.1.0)
 session_right s j (OfBucket b t) h = absurd (true≢false (sym h.0))
 session_right s j (OfCommit t) h = absurd (true≢false (sym h.0))
 session_right s j (OfPass p t) h = absurd (true≢false (sym h.0))
@@ -104,7 +104,7 @@ pass_most n (OfPass p r ∷ ps) f =
     let b : p < n = f p (let x : ℕ = one (eqb p p) in let y : ℕ = count (pass_key p) ps in let e : x ≡ 1 = ap one (eq-eqb p p refl) in omega arith) in
     omega arith
 
-ltb_less : (p n : ℕ) → 0 < one (ltb p n) → p < n
+pub ltb_less : (p n : ℕ) → 0 < one (ltb p n) → p < n
 ltb_less p n l = go (dec_le (suc p) n)
   where
     go : Dec (suc p ≤ n) → p < n

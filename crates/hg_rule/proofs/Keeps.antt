@@ -1,6 +1,6 @@
 -- A step that changes the state in its own word and in the parts of its own view alone keeps the rule, and so does a move of
 -- a seat.
-use Rattle.std.proofs.Common.{◌≡◌, ◌≢◌, ℕ, ◌+◌, ◌≤◌, List, [], ◌∷◌, ◌++◌, set, sym, ap, ◌∙◌, subst, ⊎_elim, arith}
+use Rattle.std.proofs.Common.{◌≡◌, ◌≢◌, ℕ, ◌+◌, ◌≤◌, List, [], ◌∷◌, ◌++◌, set, refl, sym, ap, ◌∙◌, subst, ⊎_elim, arith}
 use mathlib.Core.Option.{some}
 use lib.ListN.{get_elem?}
 use Rattle.hg_base.specs.Lists.{Each}
@@ -64,31 +64,42 @@ pub record Changes (z : Sizes) (c d : CoreState) (words : List ℕ) (qs qs' : Li
   pub known : Each (Known d) more
   pub stands : Stands d event
 
-true_on : (c d : CoreState) (v : View) (parts : List Part) → Grows c d → Each (Shown d) parts → IsTrueOf c v → IsTrueOf d (seeing parts v.sights v.events)
+pub true_on : (c d : CoreState) (v : View) (parts : List Part) → Grows c d → Each (Shown d) parts → IsTrueOf c v → IsTrueOf d (seeing parts v.sights v.events)
 true_on c d v parts g shown h = record {
   parts = shown;
   sights = each_map (Known c) (Known d) (known_on c d g) v.sights h.sights;
   events = each_map (Stands c) (Stands d) (stands_on c d g) v.events h.events;
 }
 
-pub keep : (z : Sizes) (t : Table) (r : Rule z t) (id : ℕ) (v : View) (qs qs' ps : List Part) (more : List Sight) (e : Event) (i x : ℕ) (d : CoreState) → get_elem? t.views id ≡ some v → v.parts ≡ qs ++ ps
-    → Changes z r.state d (set t.words i x) qs qs' more e
-    → Rule z record { words = set t.words i x; homes = t.homes; views = set t.views id (then_has v (qs' ++ ps) more e) }
-keep z t r id v qs qs' ps more e i x d at is h = record {
+-- the same of a view that becomes another, in whatever way
+pub record Turns (z : Sizes) (c d : CoreState) (words : List ℕ) (qs qs' : List Part) : Type 0 where
+  pub steady : IsSteady d
+  pub sized : IsSized z d
+  pub passes : d.passes ≡ c.passes
+  pub shows : ShowsWords z d words
+  pub grows : Grows c d
+  pub only : Only c d qs
+  pub counts : (k : Key) → count k qs' ≡ count k qs
+  pub shared : shares qs' ≡ shares qs
+
+pub turn : (z : Sizes) (t : Table) (r : Rule z t) (id : ℕ) (v w : View) (qs qs' ps : List Part) (words : List ℕ) (d : CoreState) → get_elem? t.views id ≡ some v → v.parts ≡ qs ++ ps → w.parts ≡ qs' ++ ps
+    → Turns z r.state d words qs qs' → (Each (Shown d) ps → IsTrueOf d w)
+    → Rule z record { words = words; homes = t.homes; views = set t.views id w }
+turn z t r id v w qs qs' ps words d at is is' h own = record {
   state = d;
   steady = h.steady;
   sized = h.sized;
   words = h.shows;
-  exact = λ k. let a : ℕ = tally k (set t.views id w) in let b : ℕ = count k v.parts in let f : ℕ = tally k t.views in let g : ℕ = count k (qs' ++ ps) in let q : ℕ = count k qs in let q' : ℕ = count k qs' in let p : ℕ = count k ps in
-      let h0 : a + b ≡ f + g = tally_set k t.views id v w at in let h1 : g ≡ q' + p = count_append k qs' ps in let h2 : b ≡ q + p = parted k in let h3 : q' ≡ q = h.counts k in let h4 : a ≡ f = omega arith in
+  exact = λ k. let a : ℕ = tally k (set t.views id w) in let b : ℕ = count k v.parts in let f : ℕ = tally k t.views in let g : ℕ = count k w.parts in let q : ℕ = count k qs in let q' : ℕ = count k qs' in let p : ℕ = count k ps in
+      let h0 : a + b ≡ f + g = tally_set k t.views id v w at in let h1 : g ≡ q' + p = ap (count k) is' ∙ count_append k qs' ps in let h2 : b ≡ q + p = parted k in let h3 : q' ≡ q = h.counts k in let h4 : a ≡ f = omega arith in
       h4 ∙ (r.exact k ∙ ap (λ n. expected z n k) (sym h.passes));
-  shared = let a : ℕ = all_shares (set t.views id w) in let b : ℕ = shares v.parts in let f : ℕ = all_shares t.views in let g : ℕ = shares (qs' ++ ps) in let q : ℕ = shares qs in let q' : ℕ = shares qs' in let p : ℕ = shares ps in
-      let h0 : a + b ≡ f + g = shares_set t.views id v w at in let h1 : g ≡ q' + p = shares_append qs' ps in let h2 : b ≡ q + p = ap shares is ∙ shares_append qs ps in let h3 : q' ≡ q = h.shared in let h4 : a ≡ f = omega arith in h4 ∙ r.shared;
+  shared = let a : ℕ = all_shares (set t.views id w) in let b : ℕ = shares v.parts in let f : ℕ = all_shares t.views in let g : ℕ = shares w.parts in let q : ℕ = shares qs in let q' : ℕ = shares qs' in let p : ℕ = shares ps in
+      let h0 : a + b ≡ f + g = shares_set t.views id v w at in let h1 : g ≡ q' + p = ap shares is' ∙ shares_append qs' ps in let h2 : b ≡ q + p = ap shares is ∙ shares_append qs ps in let h3 : q' ≡ q = h.shared in let h4 : a ≡ f = omega arith in h4 ∙ r.shared;
   outside = λ k none. let none' : expected z c.passes k ≡ 0 = ap (λ n. expected z n k) (sym h.passes) ∙ none in
       h.only (new_part k) (ap (λ k'. count k' qs) (new_key k) ∙ (let b : ℕ = count k v.parts in let q : ℕ = count k qs in let p : ℕ = count k ps in let f : ℕ = tally k t.views in let y : ℕ = expected z c.passes k in
       let h2 : b ≡ q + p = parted k in let h3 : b ≤ f = tally_one k t.views id v at in let h4 : f ≡ y = r.exact k in let h5 : y ≡ 0 = none' in omega arith)) (r.outside k none');
   shown = λ j y at'. ⊎_elim
-      (λ (u : (j ≡ id) × (w ≡ y)). subst (IsTrueOf d) u.1 own)
+      (λ (u : (j ≡ id) × (w ≡ y)). subst (IsTrueOf d) u.1 mine)
       (λ (u : (j ≢ id) × (get_elem? t.views j ≡ some y)). other j y u.0 u.1)
       (at_set t.views id j w y at');
 }
@@ -96,29 +107,30 @@ keep z t r id v qs qs' ps more e i x d at is h = record {
     c : CoreState
     c = r.state
 
-    w : View
-    w = then_has v (qs' ++ ps) more e
-
     parted : (k : Key) → count k v.parts ≡ count k qs + count k ps
     parted k = ap (count k) is ∙ count_append k qs ps
 
     small : (k : Key) → tally k t.views ≤ 1
     small k = subst (λ n. n ≤ 1) (sym (r.exact k)) (expected_small z c.passes k)
 
-    mine : Each (Shown c) ps
-    mine = each_right (Shown c) qs ps (subst (Each (Shown c)) is (r.shown id v at).parts)
-
-    own : IsTrueOf d w
-    own = let s = true_on c d v (qs' ++ ps) h.grows (each_append (Shown d) qs' ps h.shown (stay c d qs ps h.only (λ k. let b : ℕ = count k v.parts in let q : ℕ = count k qs in let p : ℕ = count k ps in let f : ℕ = tally k t.views in
-        let h2 : b ≡ q + p = parted k in let h3 : b ≤ f = tally_one k t.views id v at in let h4 : f ≤ 1 = small k in omega arith) mine)) (r.shown id v at) in record {
-          parts = s.parts;
-          sights = each_append (Known d) v.sights more s.sights h.known;
-          events = each_append (Stands d) v.events (e ∷ []) s.events (h.stands, tt);
-        }
+    mine : IsTrueOf d w
+    mine = own (stay c d qs ps h.only (λ k. let b : ℕ = count k v.parts in let q : ℕ = count k qs in let p : ℕ = count k ps in let f : ℕ = tally k t.views in
+        let h2 : b ≡ q + p = parted k in let h3 : b ≤ f = tally_one k t.views id v at in let h4 : f ≤ 1 = small k in omega arith) (each_right (Shown c) qs ps (subst (Each (Shown c)) is (r.shown id v at).parts)))
 
     other : (j : ℕ) (y : View) → j ≢ id → get_elem? t.views j ≡ some y → IsTrueOf d y
     other j y apart at' = true_on c d y y.parts h.grows (stay c d qs y.parts h.only (λ k. let b : ℕ = count k v.parts in let q : ℕ = count k qs in let p : ℕ = count k ps in let m : ℕ = count k y.parts in let f : ℕ = tally k t.views in
         let h2 : b ≡ q + p = parted k in let h3 : b + m ≤ f = tally_two k t.views id j v y (λ o. apart (sym o)) at at' in let h4 : f ≤ 1 = small k in omega arith) (r.shown j y at').parts) (r.shown j y at')
+
+pub keep : (z : Sizes) (t : Table) (r : Rule z t) (id : ℕ) (v : View) (qs qs' ps : List Part) (more : List Sight) (e : Event) (i x : ℕ) (d : CoreState) → get_elem? t.views id ≡ some v → v.parts ≡ qs ++ ps
+    → Changes z r.state d (set t.words i x) qs qs' more e
+    → Rule z record { words = set t.words i x; homes = t.homes; views = set t.views id (then_has v (qs' ++ ps) more e) }
+keep z t r id v qs qs' ps more e i x d at is h = turn z t r id v (then_has v (qs' ++ ps) more e) qs qs' ps (set t.words i x) d at is refl
+    (record { steady = h.steady; sized = h.sized; passes = h.passes; shows = h.shows; grows = h.grows; only = h.only; counts = h.counts; shared = h.shared })
+    (λ rest. let s = true_on r.state d v (qs' ++ ps) h.grows (each_append (Shown d) qs' ps h.shown rest) (r.shown id v at) in record {
+      parts = s.parts;
+      sights = each_append (Known d) v.sights more s.sights h.known;
+      events = each_append (Stands d) v.events (e ∷ []) s.events (h.stands, tt);
+    })
 
 -- ---- moves of seats
 

@@ -5,6 +5,14 @@ pub mod Keeps
 pub mod Registers
 pub mod Playing
 pub mod Shifts
+pub mod Turning
+pub mod Owned
+pub mod Looks
+pub mod Works
+pub mod Commits
+pub mod Reclaims
+pub mod Holders
+pub mod Unrefused
 pub mod Agreements
 pub mod Found
 pub mod Opening

@@ -114,7 +114,7 @@ opens z = record {
     s = opened z.sessions z.tables z.buckets 3 z.each
 
     new_shown : (k : Key) → Shown s (new_part k)
-    new_shown (session_key j) = (refl, refl)
+    new_shown (session_key j) = (refl, (refl, refl))
     new_shown (bucket_key b) = (refl, refl)
     new_shown commit_key = (refl, (refl, refl))
     new_shown (pass_key p) = (refl, (refl, omega arith))

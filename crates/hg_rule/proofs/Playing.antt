@@ -26,6 +26,7 @@ use Rattle.hg_core.specs.Words.{IsBelow, IsRegister, number_of, scope_of, word_o
 use Rattle.hg_core.specs.Logs.{current, begans, open_in, UpTo}
 use Rattle.hg_core.specs.Phases.{IsSession, snapshot_in}
 use Rattle.hg_core.specs.Passes.{PassRecord, found}
+use Rattle.hg_core.specs.Contents.{has_stamped}
 use Rattle.hg_core.specs.Registers.{Shows}
 use Rattle.hg_core.specs.State.{CoreState}
 use Rattle.hg_core.specs.Events.{put, moved, moved_in, happens, Probe, Enter, Fix, GoLive, End, Mark, Sample, Move}
@@ -44,8 +45,10 @@ use Rattle.hg_rule.specs.declared.view.View.{View}
 use Rattle.hg_rule.specs.declared.view.Sizes.{Sizes}
 use Rattle.hg_rule.specs.Keys.{key_of, count}
 use Rattle.hg_rule.specs.Facts.{EndsWith, IsAmong, groups, heard, record_of, HasBegun, Shown, Known}
-use Rattle.hg_rule.specs.Rules.{IsSized, HasRoom, ShowsWords, Rule}
-use Rattle.hg_rule.specs.Views.{number, session, pass, others, HasSession, HasPass, then_has}
+use Rattle.hg_rule.specs.Rules.{IsSized, HasRoom, ShowsWords, Rule, IsBacked}
+use Rattle.hg_rule.specs.Holding.{beyond, commit}
+use Rattle.hg_rule.specs.Places.{HoldsCommit}
+use Rattle.hg_rule.specs.Views.{first_in, number, session, pass, others, HasSession, HasPass, then_has}
 use Rattle.hg_rule.specs.Steps.{Within, IsHistoryAt, in_phase, logging, loaded_in, IsMovable, beginning, loading, moving, after_try, probed, entered, fixed, went_live, ended, marked, sampled, tried, looked}
 use Rattle.hg_rule.proofs.Counts.{another}
 use Rattle.hg_rule.proofs.Lists.{starts_same, ends_same, each_map}
@@ -58,13 +61,13 @@ Seated = Me ℕ View
 
 -- ---- what the own part says of the state
 
-own_session : (z : Sizes) (t : Table) (r : Rule z t) (id : ℕ) (v : View) → get_elem? t.views id ≡ some v → HasSession v → (r.state.phase (number v) ≡ (session v).phase) × (r.state.log (number v) ≡ (session v).log)
+pub own_session : (z : Sizes) (t : Table) (r : Rule z t) (id : ℕ) (v : View) → get_elem? t.views id ≡ some v → HasSession v → Shown r.state (OfSession (number v) (session v))
 own_session z t r id v at is = (subst (Each (Shown r.state)) is (r.shown id v at).parts).0
 
-own_pass : (z : Sizes) (t : Table) (r : Rule z t) (id : ℕ) (v : View) → get_elem? t.views id ≡ some v → HasPass v → (r.state.pass (number v) ≡ record_of (pass v)) × ((r.state.visits (number v) ≡ (pass v).visits) × (0 < (pass v).share))
+pub own_pass : (z : Sizes) (t : Table) (r : Rule z t) (id : ℕ) (v : View) → get_elem? t.views id ≡ some v → HasPass v → (r.state.pass (number v) ≡ record_of (pass v)) × ((r.state.visits (number v) ≡ (pass v).visits) × (0 < (pass v).share))
 own_pass z t r id v at is = (subst (Each (Shown r.state)) is (r.shown id v at).parts).0
 
-at_board : (z : Sizes) (s : CoreState) (j : ℕ) → IsSized z s → IsSession z.sessions j → IsSession s.sessions j
+pub at_board : (z : Sizes) (s : CoreState) (j : ℕ) → IsSized z s → IsSession z.sessions j → IsSession s.sessions j
 at_board z s j sized inside = subst (λ n. IsSession n j) (sym sized.sessions) inside
 
 -- the older entries of a log have no higher numbers
@@ -79,19 +82,29 @@ up_to_end n (Wrote rid image ∷ later) log h = up_to_end n later log h
 up_to_end n (Undid rid ∷ later) log h = up_to_end n later log h
 up_to_end n (Over ∷ later) log h = up_to_end n later log h
 
-within : (s : CoreState) → IsSteady s → (x : Sight) → Known s x → Within s.history x
+pub within : (s : CoreState) → IsSteady s → (x : Sight) → Known s x → Within s.history x
 within s h (sights.Saw g) k = k
 within s h (sights.Heard j log) k = up_to_end (length s.history) k.0 log (subst (UpTo (length s.history)) k.1 (h.logs_answer.within j))
 within s h (sights.Took n) k = omega (arith, h.taken_at_most_mark, h.mark_is_length.is_length)
 within s h (sights.Did e) k = tt
 
 -- at a load of the mark the whole history is seen
-history_at : (z : Sizes) (t : Table) (r : Rule z t) (id : ℕ) (v : View) → HasRoom z → get_elem? t.views id ≡ some v → IsHistoryAt v (get_or t.words 0 0) r.state.history
+pub history_at : (z : Sizes) (t : Table) (r : Rule z t) (id : ℕ) (v : View) → HasRoom z → get_elem? t.views id ≡ some v → IsHistoryAt v (get_or t.words 0 0) r.state.history
 history_at z t r id v room at = record {
   is_length = sym r.steady.mark_is_length.is_length ∙ sym r.words.mark;
   number = subst (λ n. n < 2 ^ 44) (sym r.words.mark) (mark_small z r.state room r.sized r.steady);
   within = each_map (Known r.state) (Within r.state.history) (within r.state r.steady) v.sights (r.shown id v at).sights;
 }
+
+-- the same of a view that a load backs, which has the committer's part
+pub history_held : (z : Sizes) (n : ℕ) (v : View) → HasRoom z → IsBacked z n v → HoldsCommit v → IsHistoryAt v n (commit v).history.list
+history_held z n v room b holds = let s = b.state in
+    let parts : Each (Shown s) (first_in v.parts ∷ OfCommit (commit v) ∷ beyond v) = subst (Each (Shown s)) (holds.0 ∙ ap (λ (l : List Part). first_in v.parts ∷ l) holds.1) b.true_of.parts in
+    subst (λ h. IsHistoryAt v n h) parts.1.0.0 record {
+      is_length = sym b.steady.mark_is_length.is_length ∙ b.mark_is;
+      number = subst (λ n. n < 2 ^ 44) b.mark_is (mark_small z s room b.sized b.steady);
+      within = each_map (Known s) (Within s.history) (within s b.steady) v.sights b.true_of.sights;
+    }
 
 -- ---- steps of a session
 
@@ -108,16 +121,16 @@ record Sessional (c d : CoreState) (j : ℕ) : Type 0 where
   pub visits : d.visits ≡ c.visits
 
 session_only : (c d : CoreState) (j : ℕ) (old : SessionPart) → Sessional c d j → (p : Part) → count (key_of p) (OfSession j old ∷ []) ≡ 0 → Shown c p → Shown d p
-session_only c d j old h (OfSession k t) away s = let n = another j k away in (h.phase k n ∙ s.0, h.log k n ∙ s.1)
+session_only c d j old h (OfSession k t) away s = let n = another j k away in (h.phase k n ∙ s.0, (h.log k n ∙ s.1.0, ap (has_stamped k) h.stamped ∙ s.1.1))
 session_only c d j old h (OfBucket b t) away s = ((λ i. h.bucket i b) ∙ s.0, (λ i. h.counters i b) ∙ s.1)
 session_only c d j old h (OfCommit t) away s = (h.history ∙ s.0, (h.stamped ∙ s.1.0, h.taken ∙ s.1.1))
 session_only c d j old h (OfPass p t) away s = ((λ i. h.pass i p) ∙ s.0, ((λ i. h.visits i p) ∙ s.1.0, s.1.1))
 
 -- only the phase, or the log too
-log_stays : (c : CoreState) → Grows c c
+pub log_stays : (c : CoreState) → Grows c c
 log_stays c = record { history = starts_same c.history; logs = λ k. ends_same (c.log k); taken = omega arith }
 
-log_grows : (c : CoreState) (j : ℕ) (e : LogEntry) (k : ℕ) → EndsWith (put c.log j (e ∷ c.log j) k) (c.log k)
+pub log_grows : (c : CoreState) (j : ℕ) (e : LogEntry) (k : ℕ) → EndsWith (put c.log j (e ∷ c.log j) k) (c.log k)
 log_grows c j e = by_number j (λ k b. EndsWith (if b then e ∷ c.log j else c.log k) (c.log k)) (e ∷ [], refl) (λ k other. ends_same (c.log k))
 
 pub probes : (z : Sizes) (slots id : ℕ) (m : Seated) → HasRoom z → HasSession m.0 → IsSession z.sessions (number m.0) → (session m.0).phase ≡ Idle → begans (session m.0).log < z.each → Allows (Rule z) slots id m 0 (λ n. n) (probed (step slots 0 0 0 none) m)
@@ -135,7 +148,7 @@ probes z slots id m room is inside rests fewer t r deep at small =
       keeps,
       tt,
       keep z t r id v (OfSession j (session v) ∷ []) (OfSession j new ∷ []) (others v) (sights.Saw (groups c.history) ∷ []) (events.Probe j n) 0 n d at is record {
-        steady = probe_kept c j r.steady record { session = at_board z c j r.sized inside; rests = own.0 ∙ rests; room = omega (arith, fewer, ap begans own.1, r.sized.each) };
+        steady = probe_kept c j r.steady record { session = at_board z c j r.sized inside; rests = own.0 ∙ rests; room = omega (arith, fewer, ap begans own.1.0, r.sized.each) };
         sized = record { sessions = r.sized.sessions; tables = r.sized.tables; buckets = r.sized.buckets; each = r.sized.each };
         passes = refl;
         shows = record { count = w.count; mark = w.mark; registers = w.registers };
@@ -233,7 +246,7 @@ goes_live z slots id f n i x scope m room is inside was few below there value t 
     let d : CoreState = happens c (GoLive j n scope) in
     let own = own_session z t r id v at is in
     let w = stored_words z c t.words j x (registers.Live n scope false) inside value r.words in
-    let log : d.log j ≡ Began g to ∷ (session v).log = put_here c.log j (Began n scope ∷ c.log j) ∙ (λ i. Began (same i) (back i) ∷ own.1 i) in
+    let log : d.log j ≡ Began g to ∷ (session v).log = put_here c.log j (Began n scope ∷ c.log j) ∙ (λ i. Began (same i) (back i) ∷ own.1.0 i) in
     let grows = log_stays c in (
       then_has v (OfSession j new ∷ others v) (sights.Heard j (Began g to ∷ (session v).log) ∷ []) (events.GoLive j g to),
       keeps,
@@ -247,7 +260,7 @@ goes_live z slots id f n i x scope m room is inside was few below there value t 
         only = session_only c d j (session v) record { phase = λ k other. put_else c.phase j k (Live n scope) other; log = λ k other. put_else c.log j k (Began n scope ∷ c.log j) other; bucket = refl; counters = refl; history = refl; stamped = refl; taken = refl; pass = refl; visits = refl };
         counts = λ k. refl;
         shared = refl;
-        shown = ((put_here c.phase j (Live n scope) ∙ (λ i. Live (same i) (back i)), log), tt);
+        shown = ((put_here c.phase j (Live n scope) ∙ (λ i. Live (same i) (back i)), (log, own.1.1)), tt);
         known = (subst (λ l. EndsWith l (Began g to ∷ (session v).log)) (sym log) (ends_same (Began g to ∷ (session v).log)), tt);
         stands = tt;
       },
@@ -264,13 +277,13 @@ ends z slots id i m is inside live none_open there t r deep at small =
     let d : CoreState = happens c (End j) in
     let own = own_session z t r id v at is in
     let w = stored_words z c t.words j 0 registers.Idle inside refl r.words in
-    let log : d.log j ≡ Over ∷ (session v).log = put_here c.log j (Over ∷ c.log j) ∙ ap (λ l. Over ∷ l) own.1 in
+    let log : d.log j ≡ Over ∷ (session v).log = put_here c.log j (Over ∷ c.log j) ∙ ap (λ l. Over ∷ l) own.1.0 in
     let grows = log_stays c in (
       then_has v (OfSession j new ∷ others v) (sights.Heard j (Over ∷ (session v).log) ∷ []) (events.End j),
       keeps,
       tt,
       keep z t r id v (OfSession j (session v) ∷ []) (OfSession j new ∷ []) (others v) (sights.Heard j (Over ∷ (session v).log) ∷ []) (events.End j) i 0 d at is record {
-        steady = end_kept c j r.steady record { live = subst (λ p. IsSome (snapshot_in p)) (sym own.0) live; none = λ rid. ap (open_in rid) own.1 ∙ none_open rid };
+        steady = end_kept c j r.steady record { live = subst (λ p. IsSome (snapshot_in p)) (sym own.0) live; none = λ rid. ap (open_in rid) own.1.0 ∙ none_open rid };
         sized = record { sessions = r.sized.sessions; tables = r.sized.tables; buckets = r.sized.buckets; each = r.sized.each };
         passes = refl;
         shows = subst (λ i. ShowsWords z d (set t.words i 0)) (sym there) (record { count = w.count; mark = w.mark; registers = w.registers });
@@ -278,7 +291,7 @@ ends z slots id i m is inside live none_open there t r deep at small =
         only = session_only c d j (session v) record { phase = λ k other. put_else c.phase j k Idle other; log = λ k other. put_else c.log j k (Over ∷ c.log j) other; bucket = refl; counters = refl; history = refl; stamped = refl; taken = refl; pass = refl; visits = refl };
         counts = λ k. refl;
         shared = refl;
-        shown = ((put_here c.phase j Idle, log), tt);
+        shown = ((put_here c.phase j Idle, (log, own.1.1)), tt);
         known = (subst (λ l. EndsWith l (Over ∷ (session v).log)) (sym log) (ends_same (Over ∷ (session v).log)), tt);
         stands = tt;
       },
@@ -300,7 +313,7 @@ record Collecting (c d : CoreState) (p : ℕ) : Type 0 where
   pub visits : d.visits ≡ c.visits
 
 pass_only : (c d : CoreState) (p : ℕ) (old : PassPart) → Collecting c d p → (q : Part) → count (key_of q) (OfPass p old ∷ []) ≡ 0 → Shown c q → Shown d q
-pass_only c d p old h (OfSession k t) away s = ((λ i. h.phase i k) ∙ s.0, (λ i. h.log i k) ∙ s.1)
+pass_only c d p old h (OfSession k t) away s = ((λ i. h.phase i k) ∙ s.0, ((λ i. h.log i k) ∙ s.1.0, ap (has_stamped k) h.stamped ∙ s.1.1))
 pass_only c d p old h (OfBucket b t) away s = ((λ i. h.bucket i b) ∙ s.0, (λ i. h.counters i b) ∙ s.1)
 pass_only c d p old h (OfCommit t) away s = (h.history ∙ s.0, (h.stamped ∙ s.1.0, h.taken ∙ s.1.1))
 pass_only c d p old h (OfPass q t) away s = (h.pass q (another p q away) ∙ s.0, ((λ i. h.visits i q) ∙ s.1.0, s.1.1))

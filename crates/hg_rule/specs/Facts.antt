@@ -1,5 +1,5 @@
 -- What parts, sights and events say of the state.
-use Rattle.std.specs.Prelude.{◌≡◌, ◌⊎◌, ℕ, ◌<◌, ◌≤◌, max, List, [], ◌∷◌, ◌++◌, length, ◌==◌, if◌then◌else◌, ⊤}
+use Rattle.std.specs.Prelude.{◌≡◌, ◌⊎◌, ℕ, ◌<◌, ◌≤◌, max, List, [], ◌∷◌, ◌++◌, length, ◌==◌, if◌then◌else◌, false, ⊤}
 use Rattle.hg_base.specs.History.{History}
 use Rattle.hg_core.specs.declared.register.Register.{Register}
 use Rattle.hg_core.specs.declared.register.Register.TheVariants as registers
@@ -8,6 +8,7 @@ use Rattle.hg_core.specs.declared.log.LogEntry.{LogEntry}
 use Rattle.hg_core.specs.declared.log.LogEntry.TheVariants.{Began}
 use Rattle.hg_core.specs.Passes.{PassRecord}
 use Rattle.hg_core.specs.Counters.{no_counters}
+use Rattle.hg_core.specs.Contents.{has_stamped}
 use Rattle.hg_core.specs.State.{CoreState}
 use Rattle.hg_rule.specs.declared.groups.Groups.{Groups}
 use Rattle.hg_rule.specs.declared.view.SessionPart.{SessionPart}
@@ -54,14 +55,14 @@ record_of part = record { mark = part.mark; known = λ j. heard j part.seen; loa
 
 -- the part is as it is in the state
 abbrev pub Shown : CoreState → Part → Type 0
-Shown s (OfSession j part) = (s.phase j ≡ part.phase) × (s.log j ≡ part.log)
+Shown s (OfSession j part) = (s.phase j ≡ part.phase) × ((s.log j ≡ part.log) × (has_stamped j s.stamped_list ≡ part.stamped))
 Shown s (OfBucket b part) = (s.bucket b ≡ part.content) × (s.counters b ≡ part.counters)
 Shown s (OfCommit part) = (s.history ≡ part.history.list) × ((s.stamped_list ≡ part.stamped) × (s.taken ≡ part.taken))
 Shown s (OfPass p part) = (s.pass p ≡ record_of part) × ((s.visits p ≡ part.visits) × (0 < part.share))
 
 -- the parts of a new board
 abbrev pub new_session : SessionPart
-new_session = record { phase = phases.Idle; log = [] }
+new_session = record { phase = phases.Idle; log = []; stamped = false }
 
 abbrev pub new_bucket : BucketPart
 new_bucket = record { content = []; counters = no_counters }

@@ -7,6 +7,10 @@ pub mod Rules
 pub mod Views
 pub mod Steps
 pub mod Moves
+pub mod Holding
+pub mod Writes
+pub mod Removes
+pub mod Places
 -- Seats.
 pub mod Lending
 pub mod Seats

@@ -1,5 +1,5 @@
 -- Whose seats they are, and what they have.
-use Rattle.std.specs.Prelude.{◌≡◌, ℕ, []}
+use Rattle.std.specs.Prelude.{◌≡◌, ℕ, [], ◌∷◌}
 pub use Rattle.atomic_table.specs.Seated.{TableId}
 use Rattle.atomic_table.specs.declared.shared.Seat.{Seat}
 use Rattle.hg_core.specs.Logs.{begans}
@@ -9,9 +9,10 @@ use Rattle.hg_rule.specs.declared.passes.SessionPass.{SessionPass}
 use Rattle.hg_rule.specs.declared.passes.CollectorPass.{CollectorPass}
 use Rattle.hg_rule.specs.declared.passes.BucketSeat.{BucketSeat}
 use Rattle.hg_rule.specs.declared.passes.CommitSeat.{CommitSeat}
+use Rattle.hg_rule.specs.declared.view.Part.TheVariants.{OfBucket, OfCommit}
 use Rattle.hg_rule.specs.declared.view.View.{View}
 use Rattle.hg_rule.specs.declared.view.Sizes.{Sizes}
-use Rattle.hg_rule.specs.Views.{number, session, HasSession, HasPass}
+use Rattle.hg_rule.specs.Views.{number, session, first_in, bucket_there, commit_there, HasSession, HasPass}
 
 -- a board's identity and its sizes
 abbrev pub table_of : Board → TableId
@@ -75,6 +76,14 @@ IsSeatOf t s = (s.table_id ≡ t) × (s.me.1 ≡ [])
 -- what a session's pass says of itself is so in its view
 abbrev pub IsTied : SessionPass → Type 0
 IsTied p = (number (session_view p) ≡ p.number) × (p.begun ≡ begans (session (session_view p)).log)
+
+-- a bucket's seat at a board, which has that bucket's part alone
+abbrev pub IsBucketOf : TableId → BucketSeat → Type 0
+IsBucketOf t p = IsSeatOf t p.seat × ((bucket_view p).parts ≡ OfBucket p.number (bucket_there (first_in (bucket_view p).parts)) ∷ [])
+
+-- the committer's seat at a board, which has its part alone
+abbrev pub IsCommitOf : TableId → CommitSeat → Type 0
+IsCommitOf t p = IsSeatOf t p.seat × ((commit_view p).parts ≡ OfCommit (commit_there (first_in (commit_view p).parts)) ∷ [])
 
 -- a session's pass at a board, whose view begins with its session's part
 abbrev pub IsSessionOf : TableId → Sizes → SessionPass → Type 0

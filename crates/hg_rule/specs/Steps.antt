@@ -50,7 +50,7 @@ abbrev pub in_phase : Phase → SessionPart → SessionPart
 in_phase phase part = record part { phase = phase }
 
 abbrev pub logging : LogEntry → Phase → SessionPart → SessionPart
-logging entry phase part = record { phase = phase; log = entry ∷ part.log }
+logging entry phase part = record part { phase = phase; log = entry ∷ part.log }
 
 -- the number that a session in this phase loaded last
 abbrev pub loaded_in : Phase → ℕ
@@ -59,6 +59,14 @@ loaded_in (Probed f) = f
 loaded_in (Entered f) = f
 loaded_in (Fixed f m) = m
 loaded_in (Live at scope) = at
+
+-- the tables that it may name
+abbrev pub tables_in : Phase → Scope
+tables_in Idle = All
+tables_in (Probed f) = All
+tables_in (Entered f) = All
+tables_in (Fixed f m) = All
+tables_in (Live at scope) = scope
 
 -- the number at which a session in this phase entered
 abbrev pub entered_in : Phase → ℕ
@@ -120,7 +128,7 @@ IsMovable (registers.Live n (Declared mask) false) = ⊤
 
 -- ---- the same as a step of the table tells it: of the step, the seat before, the number found or stored, the seat after
 
-abbrev Seated : Type 0
+abbrev pub Seated : Type 0
 Seated = Me ℕ View
 
 abbrev pub probed : Step ℕ → Seated → ℕ → Seated → Type 0

@@ -24,22 +24,36 @@
 //! seen. Nothing of snapshots or versions is proved here again: a step is allowed by its event's law, and by the one lemma
 //! that a step which changes its own word and its own parts alone keeps the rule (`proofs/Keeps.antt`).
 //!
+//! A pass takes a bucket by joining its seat (`join_bucket`), and then reads and changes what it holds by steps of its own:
+//! `look`, `install` and `undo` by a session, `reclaim` by a collector, whose visit lasts until it gives the bucket back
+//! (`split_bucket`). A group is published with the committer's part joined (`join_commit`): nobody else stores the mark
+//! meanwhile. `stamp` gives each open write the next number, a bucket at a time, and `publish` stores it.
+//!
+//!     pass     [ session 2 ]                                        join_commit
+//!              [ session 2 | commit ]                               join_bucket
+//!              [ session 2 | bucket 5 | commit ]   stamp            split_bucket
+//!              [ session 2 | commit ]              publish          split_commit
+//!
 //! A load of the mark can tell more: that a state which meets the rule backs the view (`look_at`). What a meeting tells, and
 //! what a pass knows once all others are joined to it (`know_all`), are lemmas over that one fact.
 #![tactic(auto)]
 
 mod board;
 mod calls;
+mod collecting;
 mod dealt;
 mod groups;
+mod joining;
 mod making;
 mod meets;
 mod moves;
 mod pass;
 mod passes;
+mod picks;
 mod plays;
 mod seats;
 mod view;
+mod writing;
 
 pub use board::Board;
 pub use groups::Groups;

@@ -7,7 +7,8 @@ ghost use Rattle.hg_rule.specs.Seats.{table_of, sizes_of, view, IsSeatOf};
 
 use crate::board::Board;
 use crate::pass::Pass;
-use crate::plays::{Giving, Joining, Looking, Merging, Returning, Sized};
+use crate::picks::Sized;
+use crate::plays::{Giving, Joining, Looking, Merging, Returning};
 use crate::view::View;
 use atomic_table::Seat;
 use std::marker::Brand;

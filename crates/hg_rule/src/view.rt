@@ -4,10 +4,12 @@ use crate::groups::Groups;
 use hg_base::{Image, Kind, Rid, Scope};
 use hg_core::{Ask, Counters, LogEntry, Phase, Register, Version, Visit};
 
-/// A session's part of the state: its phase, and its log, newest entry first.
+/// A session's part of the state: its phase, its log, newest entry first, and whether a write of its open transaction has the
+/// next number.
 pub struct SessionPart {
     pub phase: Phase,
     pub log: [LogEntry; 0],
+    pub stamped: bool,
 }
 
 /// A bucket's: its records with their versions, and its counters.
