@@ -1,9 +1,8 @@
 -- One record's chain changes, and its place stays.
 use Rattle.std.proofs.Common.{◌≡◌, ℕ, ◌+◌, ◌<◌, List, [], ◌∷◌, length, Bool, true, false, Option, Some, None, map, refl, sym, ap, ◌∙◌, cond, subst, arith, length-append, drop}
-use Rattle.std.specs.Prelude.{IsTrue, IsSome, is_some, unwrap_or, option_map, option_to_list, ⊤}
+use Rattle.std.specs.Prelude.{IsTrue, is_some, unwrap_or, option_map, option_to_list, ⊤}
 use Rattle.std.specs.Map.{lookup}
 use Rattle.std.specs.BTreeMap.{BTreeMap, get, WritesThrough}
-use Rattle.std.proofs.lemmas.Option.{none-some, same_Some}
 use Rattle.std.proofs.lemmas.List.{length-map}
 use Rattle.std.proofs.lemmas.List.Sums.{sum_by-cons}
 use Rattle.hg_base.specs.declared.rid.Rid.{Rid}
@@ -19,8 +18,8 @@ use Rattle.hg_base.specs.RidOrder.{rid_cmp}
 use Rattle.hg_space.specs.Index.{place_of}
 use Rattle.hg_space.specs.Places.{Seat, Oldest, image_at}
 use Rattle.hg_base.proofs.RidOrder.{at_rid, rids_equiv}
-use Rattle.hg_bucket.specs.Held.{versions_of, left, begins_open, stamped, IsBelow, OthersStay}
-use Rattle.hg_bucket.specs.Parts.{kept, kept_as, oldest, chain_of, whole, records_of, some_chain, ChainIs, AreWhole, IsOver}
+use Rattle.hg_bucket.specs.Held.{versions_of, left, begins_open, stamped, IsBelow}
+use Rattle.hg_bucket.specs.Parts.{kept, kept_as, oldest, chain_of, whole, records_of, some_chain, ChainIs, IsOver}
 use Rattle.hg_bucket.proofs.Reading.{looked_up, alike, found, open_kept}
 
 pub chain_here : (cs ds : List (Rid × List Version)) (r : Rid) (ws : List Version) → ChainIs cs ds r ws → chain_of ds r ≡ ws
@@ -44,10 +43,6 @@ written m n r vs ws some h through q =
 
 pub versions_there : (es : List (Rid × ℕ)) (cs : List (Rid × List Version)) (places : List Seat) (r : Rid) (p : ℕ) → place_of es r ≡ Some p → versions_of (records_of es cs places) r ≡ whole (chain_of cs r) (image_at places p)
 versions_there es cs places r p h = ap (λ o. unwrap_or o []) (found es cs places r ∙ ap (option_map (λ p. whole (chain_of cs r) (image_at places p))) h)
-
-pub others_stay : (es : List (Rid × ℕ)) (cs ds : List (Rid × List Version)) (places : List Seat) (r : Rid) (ws : List Version) → ChainIs cs ds r ws → OthersStay (records_of es cs places) (records_of es ds places) r
-others_stay es cs ds places r ws h q apart =
-    ap (λ o. unwrap_or o []) (found es ds places q ∙ (λ i. option_map (λ p. whole (unwrap_or (chain_apart cs ds r q ws h apart i) []) (image_at places p)) (place_of es q)) ∙ sym (found es cs places q))
 
 -- a record with an open write has a place, and a chain that begins so
 pub open_chain : (by : Writer) (vs : List Version) (im : Oldest) → begins_open by (whole vs im) ≡ chain.is_open_by by vs
@@ -91,43 +86,6 @@ below_all n (v ∷ vs) im h = let rest = below_all n vs im h.1 in ((one v.stamp 
 pub below_behind : (by : Writer) (n : ℕ) (vs : List Version) (im : Oldest) → IsTrue (chain.is_open_by by vs) → Each (IsBelow n) (drop 1 (whole vs im)) → Each (chain.IsBelow n) (drop 1 vs) × OldestBelow n im
 below_behind by n [] im o h = absurd (let j = o in cc)
 below_behind by n (v ∷ vs) im o h = below_all n vs im h
-
--- ---- what is always so of the parts
-
-pub same_place : (es : List (Rid × ℕ)) (r q : Rid) (p p' : ℕ) → same_rid r q ≡ true → place_of es r ≡ Some p → place_of es q ≡ Some p' → p ≡ p'
-same_place es r q p p' same h k = same_Some p p' (sym h ∙ sym (alike es r q same) ∙ k)
-
-pub changed : (es : List (Rid × ℕ)) (cs ds : List (Rid × List Version)) (places : List Seat) (r : Rid) (p : ℕ) (ws : List Version) → AreWhole es cs places → place_of es r ≡ Some p → ChainIs cs ds r ws → 0 < length (whole ws (image_at places p)) → Each (λ v. IsOver v.stamp (image_at places p)) ws → AreWhole es ds places
-changed es cs ds places r p ws old here is some over =
-    record {
-      taken = old.taken;
-      held = λ q p' h. held q p' h (same_rid r q) refl;
-      chained = λ q us e. chained q us e (same_rid r q) refl;
-      falls = λ q p' h. falls q p' h (same_rid r q) refl;
-      rows = old.rows;
-    }
-  where
-    chain_at : (q : Rid) → same_rid r q ≡ true → chain_of ds q ≡ ws
-    chain_at q same = ap (λ o. unwrap_or o []) (alike ds r q same) ∙ chain_here cs ds r ws is
-
-    stays : (q : Rid) → same_rid r q ≡ false → chain_of ds q ≡ chain_of cs q
-    stays q apart = ap (λ o. unwrap_or o []) (chain_apart cs ds r q ws is apart)
-
-    held : (q : Rid) (p' : ℕ) → place_of es q ≡ Some p' → (b : Bool) → same_rid r q ≡ b → 0 < length (whole (chain_of ds q) (image_at places p'))
-    held q p' h true same = subst (λ vs. 0 < length (whole vs (image_at places p'))) (sym (chain_at q same)) (subst (λ x. 0 < length (whole ws (image_at places x))) (same_place es r q p p' same here h) some)
-    held q p' h false apart = subst (λ vs. 0 < length (whole vs (image_at places p'))) (sym (stays q apart)) (old.held q p' h)
-
-    falls : (q : Rid) (p' : ℕ) → place_of es q ≡ Some p' → (b : Bool) → same_rid r q ≡ b → Each (λ v. IsOver v.stamp (image_at places p')) (chain_of ds q)
-    falls q p' h true same = subst (λ vs. Each (λ v. IsOver v.stamp (image_at places p')) vs) (sym (chain_at q same)) (subst (λ x. Each (λ v. IsOver v.stamp (image_at places x)) ws) (same_place es r q p p' same here h) over)
-    falls q p' h false apart = subst (λ vs. Each (λ v. IsOver v.stamp (image_at places p')) vs) (sym (stays q apart)) (old.falls q p' h)
-
-    long : (ws us : List Version) → some_chain ws ≡ Some us → 0 < length us
-    long [] us e = absurd (none-some us e)
-    long (w ∷ ws) us e = subst (λ vs. 0 < length vs) (same_Some (w ∷ ws) us e) (omega arith)
-
-    chained : (q : Rid) (us : List Version) → lookup (same_rid q) ds ≡ Some us → (b : Bool) → same_rid r q ≡ b → IsSome (place_of es q) × (0 < length us)
-    chained q us e true same = (ap is_some (alike es r q same ∙ here), long ws us (sym (ap (λ b. cond b (some_chain ws) (lookup (same_rid q) cs)) same) ∙ sym (is q) ∙ e))
-    chained q us e false apart = old.chained q us (sym (chain_apart cs ds r q ws is apart) ∙ e)
 
 -- ---- how many versions are held
 

@@ -1,23 +1,19 @@
 -- A record that has lost its last version: it leaves the index, and its place is free.
-use Rattle.std.proofs.Common.{◌≡◌, ℕ, zero, suc, ◌+◌, ◌<◌, List, [], ◌∷◌, length, Bool, true, false, Option, Some, None, refl, sym, ap, ◌∙◌, cond, subst, set, arith}
+use Rattle.std.proofs.Common.{◌≡◌, ℕ, zero, suc, ◌<◌, List, [], ◌∷◌, length, Bool, true, false, Option, Some, None, refl, sym, ap, ◌∙◌, subst, set, arith}
 use Rattle.std.specs.Prelude.{IsFalse, IsSome, unwrap_or, option_map, slice_index_or}
-use Rattle.std.specs.Map.{lookup, keys_of, remove_entry}
-use Rattle.std.specs.List.{IsDistinct, slice_get}
-use Rattle.std.proofs.lemmas.Option.{none-some, same_Some}
-use Rattle.std.proofs.lemmas.Map.{NonePasses}
-use Rattle.std.proofs.lemmas.Map.Keys.{IsDistinct-tail}
-use Rattle.std.proofs.lemmas.Map.Entries.{none_past_head}
+use Rattle.std.specs.Map.{lookup, remove_entry}
+use Rattle.std.proofs.lemmas.Option.{none-some}
 use Rattle.hg_base.specs.declared.rid.Rid.{Rid}
 use Rattle.hg_base.specs.History.{same_rid}
 use Rattle.hg_base.specs.Lists.{Each}
 use Rattle.hg_chain.specs.declared.version.Version.{Version}
-use Rattle.hg_space.specs.Index.{place_of, AreDistinct}
+use Rattle.hg_space.specs.Index.{place_of, AreDistinct, IsIndex}
 use Rattle.hg_space.specs.Places.{Seat, free, image_at, IsTaken}
-use Rattle.hg_base.proofs.RidOrder.{rids_equiv}
 use Rattle.hg_bucket.specs.Held.{versions_of, left, OthersStay}
-use Rattle.hg_bucket.specs.Parts.{chain_of, whole, records_of, AreWhole, IsOver, IsRow}
+use Rattle.hg_bucket.specs.Parts.{chain_of, whole, records_of, AreWhole, IsOver, IsRow, MayBeBare}
 use Rattle.hg_bucket.proofs.Reading.{found, alike}
-use Rattle.hg_bucket.proofs.Sums.{left_step}
+use Rattle.hg_bucket.proofs.Entries.{distinct, each_entry, each_removed, one_removed, sums_alike, left_is, how_many}
+use Rattle.hg_bucket.proofs.Turning.{seat_image}
 
 pub seat_apart : (places : List Seat) (p q : ℕ) (x : Seat) → (q ≡ p → ⊥) → slice_index_or (set places p x) q free ≡ slice_index_or places q free
 seat_apart [] p q x h = refl
@@ -89,33 +85,35 @@ others_keep es fs cs places r p h q apart =
         ∙ ap (λ seat. Some (whole (chain_of cs q) (image_at (seat ∷ []) 0))) (seat_apart places p n free (place_apart es fs r p h q n k))
         ∙ sym (ap (option_map (λ n. whole (chain_of cs q) (image_at places n))) k)
 
--- ---- how many versions are held
-
-pub passes_at : (es : List (Rid × ℕ)) (r : Rid) → NonePasses (same_rid r) es → (i : ℕ) (e : Rid × ℕ) → slice_get es i ≡ Some e → same_rid r e.0 ≡ false
-passes_at [] r h i e k = absurd (none-some e k)
-passes_at (x ∷ es) r h zero e k = let same : x ≡ e = same_Some x e k in ap (λ y. same_rid r y.0) (sym same) ∙ h.0
-passes_at (x ∷ es) r h (suc i) e k = passes_at es r h.1 i e k
-
--- where no entry has the place
-pub left_kept : (es : List (Rid × ℕ)) (cs : List (Rid × List Version)) (places : List Seat) (p : ℕ) → ((i : ℕ) (e : Rid × ℕ) → slice_get es i ≡ Some e → e.1 ≡ p → ⊥) → left (records_of es cs (set places p free)) ≡ left (records_of es cs places)
-left_kept [] cs places p h = refl
-left_kept (e ∷ es) cs places p h =
-    left_step e es cs (set places p free)
-    ∙ (λ i. length (whole (chain_of cs e.0) (image_at (seat_apart places p e.1 free (h 0 e refl) i ∷ []) 0)) + left_kept es cs places p (λ i x k. h (suc i) x k) i)
-    ∙ sym (left_step e es cs places)
+-- it has no version left
+pub bared : (r : Rid) (es : List (Rid × ℕ)) (cs : List (Rid × List Version)) (places : List Seat) → MayBeBare r es cs places → chain_of cs r ≡ [] → AreWholeBut r es cs places
+bared r es cs places h none = record { taken = h.taken; held = h.held; chained = λ q vs k. (apart q vs k, (h.chained q vs k).0, (h.chained q vs k).1); falls = h.falls; rows = h.rows }
+  where
+    apart : (q : Rid) (vs : List Version) → lookup (same_rid q) cs ≡ Some vs → same_rid r q ≡ false
+    apart q vs k = go (same_rid r q) refl
+      where
+        go : (b : Bool) → same_rid r q ≡ b → b ≡ false
+        go false e = refl
+        go true e =
+            let is : vs ≡ [] = sym (ap (λ o. unwrap_or o []) (sym (alike cs r q e) ∙ k)) ∙ none in
+            let some = (h.chained q vs k).1 in
+            absurd (omega (arith, some, ap length is))
 
 -- a record with no version leaves as many as there were
-pub left_dropped : (es : List (Rid × ℕ)) (cs : List (Rid × List Version)) (places : List Seat) (r : Rid) (p : ℕ) → IsDistinct same_rid (keys_of es) → place_of es r ≡ Some p → length (whole (chain_of cs r) (image_at places p)) ≡ 0 → ((i : ℕ) (e : Rid × ℕ) → slice_get es i ≡ Some e → same_rid r e.0 ≡ false → e.1 ≡ p → ⊥) → left (records_of (remove_entry (same_rid r) es) cs (set places p free)) ≡ left (records_of es cs places)
-left_dropped [] cs places r p d h none apart = absurd (none-some p h)
-left_dropped (e ∷ es) cs places r p d h none apart = go (same_rid r e.0) refl h (λ k. left_dropped es cs places r p (IsDistinct-tail same_rid e.0 (keys_of es) d) k none (λ i x j. apart (suc i) x j))
+pub left_dropped : (es fs : List (Rid × ℕ)) (cs : List (Rid × List Version)) (places : List Seat) (r : Rid) (p : ℕ) → IsIndex es → place_of es r ≡ Some p → fs ≡ remove_entry (same_rid r) es → length (whole (chain_of cs r) (image_at places p)) ≡ 0 → left (records_of fs cs (set places p free)) ≡ left (records_of es cs places)
+left_dropped es fs cs places r p index has list none =
+    let d = distinct es index in
+    let seats = set places p free in
+    let rest = remove_entry (same_rid r) es in
+    let gone = one_removed (how_many cs places) es r p has in
+    let stay = sums_alike (how_many cs seats) (how_many cs places) rest (each_removed r (λ e. how_many cs seats e ≡ how_many cs places e) es d (each_entry (λ e. same_rid r e.0 ≡ false → how_many cs seats e ≡ how_many cs places e) es d stays)) in
+    ap (λ gs. left (records_of gs cs seats)) list ∙ omega (arith, left_is rest cs seats, left_is es cs places, gone, stay, none)
   where
-    go : (b : Bool) → same_rid r e.0 ≡ b → cond b (Some e.1) (place_of es r) ≡ Some p → (place_of es r ≡ Some p → left (records_of (remove_entry (same_rid r) es) cs (set places p free)) ≡ left (records_of es cs places)) → left (records_of (cond b es (e ∷ remove_entry (same_rid r) es)) cs (set places p free)) ≡ left (records_of (e ∷ es) cs places)
-    go true same k rest =
-        let at : e.1 ≡ p = same_Some e.1 p k in
-        let zero_here : length (whole (chain_of cs e.0) (image_at places e.1)) ≡ 0 = (λ i. length (whole (unwrap_or (alike cs r e.0 same i) []) (image_at places (at i)))) ∙ none in
-        let tail = left_kept es cs places p (λ i x j. apart (suc i) x j (passes_at es r (none_past_head rids_equiv r e es d same) i x j)) in
-        omega (arith, left_step e es cs places, zero_here, tail)
-    go false other k rest =
-        let more = rest k in
-        let same : length (whole (chain_of cs e.0) (image_at (set places p free) e.1)) ≡ length (whole (chain_of cs e.0) (image_at places e.1)) = ap (λ seat. length (whole (chain_of cs e.0) (image_at (seat ∷ []) 0))) (seat_apart places p e.1 free (apart 0 e refl other)) in
-        omega (arith, left_step e (remove_entry (same_rid r) es) cs (set places p free), left_step e es cs places, more, same)
+    stays : (q : Rid) (n : ℕ) → place_of es q ≡ Some n → same_rid r q ≡ false → how_many cs (set places p free) (q, n) ≡ how_many cs places (q, n)
+    stays q n k apart = ap (λ x. length (whole (chain_of cs q) x)) (seat_image places (set places p free) n (seat_apart places p n free (λ e. other (ap Some e))))
+      where
+        other : Some n ≡ Some p → ⊥
+        other e =
+            let same : same_rid r q ≡ true = index.distinct r q p has (k ∙ e) in
+            let both : true ≡ false = sym same ∙ apart in
+            absurd cc

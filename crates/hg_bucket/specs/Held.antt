@@ -1,5 +1,5 @@
 -- What a bucket holds: each record's versions, and what became of all others.
-use Rattle.std.specs.Prelude.{◌≡◌, ℕ, ◌+◌, ◌<◌, ◌≤◌, not, filter, is_some, IsFalse, List, [], ◌∷◌, ◌++◌, length, sum_by, find, drop, Bool, false, ◌&&◌, ◌==◌, nat_le, if◌then◌else◌, Option, Some, None, IsSome, option_map, unwrap_or}
+use Rattle.std.specs.Prelude.{◌≡◌, ℕ, ◌+◌, ◌<◌, ◌≤◌, ◌^◌, not, filter, is_some, IsFalse, List, [], ◌∷◌, ◌++◌, length, sum_by, find, drop, Bool, false, ◌&&◌, ◌==◌, nat_le, if◌then◌else◌, Option, Some, None, IsSome, option_map, unwrap_or}
 use Rattle.std.specs.Option.{option_or, MatchOption}
 use Rattle.std.specs.Map.{lookup}
 use Rattle.hg_base.specs.declared.rid.Rid.{Rid}
@@ -8,7 +8,6 @@ use Rattle.hg_base.specs.declared.writer.Writer.{Writer}
 use Rattle.hg_base.specs.declared.line.Totals.{Totals}
 use Rattle.hg_base.specs.declared.rid.TableId.{TableId}
 use Rattle.hg_base.specs.History.{same_rid}
-use Rattle.hg_base.specs.Lists.{Each}
 
 -- a version: its number, unless it is an open write; its writer, unless it is the record's oldest image; and its image
 pub record Kept : Type 0 where
@@ -36,6 +35,11 @@ left records = sum_by (λ e. length e.1) records
 -- each version that was made is undone, removed or held
 abbrev pub IsBalanced : Held → Type 0
 IsBalanced h = h.made ≡ h.undone + h.group + h.table + h.interval + left h.records
+
+-- what is always so
+pub record IsSound (h : Held) : Type 0 where
+  pub balance : IsBalanced h
+  pub small : h.made ≤ 2 ^ 40
 
 abbrev pub counts_of : Held → Totals
 counts_of h = record { made = h.made; undone = h.undone; group = h.group; table = h.table; interval = h.interval; left = left h.records }
@@ -76,15 +80,6 @@ IsNextKey records table from found =
 -- each other record has the versions that it had
 abbrev pub OthersStay : List (Rid × List Kept) → List (Rid × List Kept) → Rid → Type 0
 OthersStay old new r = (q : Rid) → IsFalse (same_rid r q) → versions_of new q ≡ versions_of old q
-
--- one record's versions are now these, and all else is as before
-pub record Becomes (old new : List (Rid × List Kept)) (r : Rid) (vs : List Kept) : Type 0 where
-  pub here : versions_of new r ≡ vs
-  pub others : OthersStay old new r
-
--- each record has a version
-abbrev pub NoneIsEmpty : List (Rid × List Kept) → Type 0
-NoneIsEmpty records = Each (λ e. 0 < length e.1) records
 
 abbrev pub open_write : Writer → Image → Kept
 open_write by image = record { number = None; by = Some by; image = image }

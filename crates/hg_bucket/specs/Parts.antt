@@ -1,16 +1,20 @@
 -- What a bucket holds, read from its parts: for the bucket itself.
-use Rattle.std.specs.Prelude.{◌≡◌, ℕ, List, ◌∷◌, [], ◌++◌, map, Option, Some, None, IsSome, unwrap_or, option_map, option_to_list, nat_le, if◌then◌else◌, ◌<◌, ◌≤◌, ◌^◌, length, is_some, IsTrue, ⊤}
+use Rattle.std.specs.Prelude.{◌≡◌, ℕ, List, ◌∷◌, [], ◌++◌, map, Option, Some, None, IsSome, unwrap_or, option_map, option_to_list, nat_le, if◌then◌else◌, ◌<◌, length, is_some, IsTrue, ⊤, ◌≤◌, false, slice_index_or}
 use Rattle.std.specs.Map.{lookup}
+use Rattle.std.specs.Option.{MatchOption}
+use Rattle.std.specs.BTreeMap.{insert_entry}
 use Rattle.hg_base.specs.declared.rid.Rid.{Rid}
+use Rattle.hg_base.specs.declared.rid.TableId.{TableId}
 use Rattle.hg_base.specs.declared.image.Image.{Image}
 use Rattle.hg_base.specs.History.{same_rid}
 use Rattle.hg_base.specs.Lists.{Each}
 use Rattle.hg_chain.specs.declared.version.Stamp.{Stamp}
 use Rattle.hg_chain.specs.declared.version.Stamp.TheVariants.{Written, Numbered}
 use Rattle.hg_chain.specs.declared.version.Version.{Version}
-use Rattle.hg_space.specs.Places.{Seat, Oldest, image_at}
+use Rattle.hg_base.specs.RidOrder.{rid_cmp}
+use Rattle.hg_space.specs.Places.{Seat, Oldest, image_at, IsTaken, free}
 use Rattle.hg_space.specs.Index.{AreTaken, place_of}
-use Rattle.hg_bucket.specs.Held.{Kept, Held, IsBalanced}
+use Rattle.hg_bucket.specs.Held.{Kept, versions_of, record_at}
 
 -- a version of a chain
 abbrev pub kept_as : Stamp → Image → Kept
@@ -70,7 +74,53 @@ pub record AreWhole (index : List (Rid × ℕ)) (chains : List (Rid × List Vers
   pub falls : (r : Rid) (p : ℕ) → place_of index r ≡ Some p → Each (λ v. IsOver v.stamp (image_at places p)) (chain_of chains r)
   pub rows : (r : Rid) (p : ℕ) → place_of index r ≡ Some p → IsRow (image_at places p)
 
-pub record IsSound (index : List (Rid × ℕ)) (chains : List (Rid × List Version)) (places : List Seat) (h : Held) : Type 0 where
-  pub whole : AreWhole index chains places
-  pub balance : IsBalanced h
-  pub small : h.made ≤ 2 ^ 40
+-- what a cut hands out of a chain becomes the oldest image, where it is a row; where nothing is handed out, that stays
+abbrev pub settled : Oldest → Oldest → Oldest
+settled None image = image
+settled (Some p) image = if is_some p.1.row then Some p else None
+
+-- ---- going through a table
+
+-- nothing can be shortened: there is an oldest image alone, which is a row, or nothing
+abbrev pub IsSettled : List Kept → Type 0
+IsSettled [] = ⊤
+IsSettled (v ∷ []) = (v.by ≡ None) × IsSome v.number × IsTrue (is_some v.image.row)
+IsSettled (v ∷ w ∷ vs) = ⊥
+
+-- the least key of a table at or over a number whose record has a chain, and none where no such record has one
+abbrev pub IsNextChain : List (Rid × List Version) → TableId → ℕ → Option ℕ → Type 0
+IsNextChain chains table from found =
+    MatchOption found
+    ((k : ℕ) → from ≤ k → lookup (same_rid (record_at table k)) chains ≡ None)
+    (λ least. (from ≤ least) × ((k : ℕ) → from ≤ k → k < least → lookup (same_rid (record_at table k)) chains ≡ None))
+
+-- below that key nothing can be shortened from the number on
+abbrev pub IsNextLong : List (Rid × List Kept) → TableId → ℕ → Option ℕ → Type 0
+IsNextLong records table from found =
+    MatchOption found
+    ((k : ℕ) → from ≤ k → IsSettled (versions_of records (record_at table k)))
+    (λ least. (from ≤ least) × ((k : ℕ) → from ≤ k → k < least → IsSettled (versions_of records (record_at table k))))
+
+-- ---- changing the parts
+
+-- each place that the index names is as before
+abbrev pub SeatsStay : List (Rid × ℕ) → List Seat → List Seat → Type 0
+SeatsStay es places seats = (q : Rid) (n : ℕ) → place_of es q ≡ Some n → slice_index_or seats n free ≡ slice_index_or places n free
+
+-- the record r now has the place p, where no image is
+pub record Names (es fs : List (Rid × ℕ)) (places seats : List Seat) (r : Rid) (p : ℕ) : Type 0 where
+  pub new : place_of es r ≡ None
+  pub list : fs ≡ insert_entry rid_cmp es r p
+  pub here : place_of fs r ≡ Some p
+  pub others : (q : Rid) → same_rid r q ≡ false → place_of fs q ≡ place_of es q
+  pub taken : IsTaken seats p
+  pub bare : image_at seats p ≡ None
+  pub stay : SeatsStay es places seats
+
+-- what is so of whole parts, where one record may have no version left
+pub record MayBeBare (r : Rid) (index : List (Rid × ℕ)) (chains : List (Rid × List Version)) (places : List Seat) : Type 0 where
+  pub taken : AreTaken index places
+  pub held : (q : Rid) (p : ℕ) → same_rid r q ≡ false → place_of index q ≡ Some p → 0 < length (whole (chain_of chains q) (image_at places p))
+  pub chained : (q : Rid) (vs : List Version) → lookup (same_rid q) chains ≡ Some vs → IsSome (place_of index q) × (0 < length vs)
+  pub falls : (q : Rid) (p : ℕ) → place_of index q ≡ Some p → Each (λ v. IsOver v.stamp (image_at places p)) (chain_of chains q)
+  pub rows : (q : Rid) (p : ℕ) → place_of index q ≡ Some p → IsRow (image_at places p)

@@ -1,29 +1,30 @@
-//! Records with their versions.
+//! Records with their versions, and counters of them.
 
-ghost use Rattle.std.specs.Prelude.{◌≡◌, [], Some, None, IsTrue, drop};
+ghost use Rattle.std.specs.Prelude.{◌≡◌, ℕ, ◌+◌, ◌<◌, ◌≤◌, ◌^◌, length, [], None, not, IsTrue, IsOk, IfOk, IfSome, IfErr, OnOk, OnErr, drop, if◌then◌else◌};
+ghost use Rattle.std.specs.Option.{option_copied};
+ghost use Rattle.std.specs.List.{IsDistinct};
+ghost use Rattle.std.specs.Map.{keys_of};
+ghost use Rattle.hg_base.specs.History.{same_rid};
 ghost use Rattle.hg_base.specs.Lists.{Each};
-ghost use Rattle.hg_chain.specs.Versions as chain;
-ghost use Rattle.std.specs.Option.{option_copied, option_or};
-ghost use Rattle.hg_chain.specs.Versions.{image_by, image_at};
-ghost use Rattle.hg_space.specs.Places as seat;
-ghost use Rattle.hg_space.specs.Places.{IsTaken};
-ghost use Rattle.hg_bucket.specs.Parts.{chain_of, oldest_by, ChainIs};
-ghost use Rattle.hg_bucket.specs.Held.{versions_of, begins_open, stamped, OthersStay, IsBelow, read_at, counts_of, IsNextKey};
+ghost use Rattle.hg_base.specs.declared.rid.Rid.{Rid};
+ghost use Rattle.hg_bucket.specs.declared.refusal.WriteRefusal.TheVariants.{Open, Newer};
+ghost use Rattle.hg_bucket.specs.Conflicts.{holder, newer, IsCause};
+ghost use Rattle.hg_base.specs.declared.writer.Writer.{Writer};
+ghost use Rattle.hg_chain.specs.Sweeps.{Rises, IsProtected};
+ghost use Rattle.hg_bucket.specs.Sweeping.{swept, IsClean, sweep_steps};
+ghost use Rattle.hg_bucket.specs.Held.{versions_of, begins_open, installed, stamped, OthersStay, IsBelow, read_at, record_at, cut_at, left, counts_of, IsBalanced, IsNextKey};
 
-use hg_base::{Image, Rid, TableId, Totals, Writer};
-use hg_chain::Chain;
-use hg_space::{RidIndex, TableSpace};
+use crate::records::Records;
+use crate::refusal::WriteRefusal;
+use hg_base::{Image, Rid, Steps, TableId, Totals, Writer};
 use std::alloc::Global;
-use std::collections::BTreeMap;
 use std::marker::Model;
+use std::sync::ledger::Ledger;
 
 /// The records of a bucket, with counters of their versions.
 #[derive(Debug, Drop)]
 pub struct Bucket {
-    index: RidIndex,
-    space: TableSpace,
-    chains: BTreeMap<Rid, Chain>,
-    alloc: Global,
+    records: Records,
     made: u64,
     undone: u64,
     group: u64,
@@ -32,15 +33,13 @@ pub struct Bucket {
 }
 
 impl Model for Bucket {
-    ghost use Rattle.hg_bucket.specs.Held.{Held};
+    ghost use Rattle.hg_bucket.specs.Held.{Held, IsSound};
 
     ghost Value = { Held };
 
-    ghost use Rattle.hg_bucket.specs.Parts.{records_of, IsSound};
+    ghost view = { λ b. record { records = b.records; made = b.made; undone = b.undone; group = b.group; table = b.table; interval = b.interval } };
 
-    ghost view = { λ b. record { records = records_of b.index b.chains.entries b.space.places; made = b.made; undone = b.undone; group = b.group; table = b.table; interval = b.interval } };
-
-    ghost invariant = { λ b. IsSound b.index b.chains.entries b.space.places record { records = records_of b.index b.chains.entries b.space.places; made = b.made; undone = b.undone; group = b.group; table = b.table; interval = b.interval } };
+    ghost invariant = { λ b. IsSound record { records = b.records; made = b.made; undone = b.undone; group = b.group; table = b.table; interval = b.interval } };
 }
 
 impl Bucket {
@@ -49,10 +48,7 @@ impl Bucket {
         ensures { result ≡ record { records = []; made = 0; undone = 0; group = 0; table = 0; interval = 0 } }
     {
         Bucket {
-            index: RidIndex::new(alloc),
-            space: TableSpace::new(alloc),
-            chains: BTreeMap::new(alloc),
-            alloc,
+            records: Records::new(alloc),
             made: 0,
             undone: 0,
             group: 0,
@@ -65,8 +61,44 @@ impl Bucket {
     pub fn read(&self, rid: Rid, snapshot: u64, own: Writer) -> Option<&Image>
         ensures { option_copied result ≡ read_at own snapshot (versions_of self.now.records rid) }
     {
-        let place = self.index.place(rid)?;
-        in_chain(&self.chains, rid, snapshot, own).or(in_space(&self.space, place, snapshot))
+        self.records.read(rid, snapshot, own)
+    }
+
+    /// Writes an image. A transaction's second write of a record replaces its first one. That takes no memory, and it isn't
+    /// counted. The answer says whether a version was added.
+    pub fn write(
+        &mut self,
+        rid: Rid,
+        by: Writer,
+        image: Image,
+        snapshot: u64,
+        mark: u64,
+    ) -> Result<bool, WriteRefusal>
+        requires { self.old.made < 2 ^ 40 }
+        ensures open { IfSome (holder by mark (versions_of self.old.records rid)) (λ w. result ≡ Err (Open w)) }
+        ensures newer { holder by mark (versions_of self.old.records rid) ≡ None → IfSome (newer snapshot (versions_of self.old.records rid)) (λ n. result ≡ Err (Newer n)) }
+        ensures cause { IfErr result (IsCause by snapshot mark (versions_of self.old.records rid)) }
+        ensures replaced { IsTrue (begins_open by (versions_of self.old.records rid)) → IsOk result }
+        ensures stored { OnOk result (versions_of self.new.records rid ≡ installed by image (versions_of self.old.records rid)) }
+        ensures others { OthersStay self.old.records self.new.records rid }
+        ensures added { IfOk result (λ added. added ≡ not (begins_open by (versions_of self.old.records rid))) }
+        ensures made { OnOk result (self.new ≡ record self.old { records = self.new.records; made = self.old.made + (if begins_open by (versions_of self.old.records rid) then 0 else 1) }) }
+        ensures refused { OnErr result (self.new ≡ self.old) }
+    {
+        let added = self.records.write(rid, by, image, snapshot, mark)?;
+        self.made += if added { 1 } else { 0 };
+        Ok(added)
+    }
+
+    /// Removes the transaction's open write of a record. A record that has no other version is dropped.
+    pub fn undo(&mut self, rid: Rid, by: Writer)
+        requires { IsTrue (begins_open by (versions_of self.old.records rid)) }
+        ensures here { versions_of self.new.records rid ≡ drop 1 (versions_of self.old.records rid) }
+        ensures others { OthersStay self.old.records self.new.records rid }
+        ensures undone { self.new ≡ record self.old { records = self.new.records; undone = self.old.undone + 1 } }
+    {
+        self.records.undo(rid, by);
+        self.undone += 1;
     }
 
     /// Gives the transaction's open write of a record its number.
@@ -77,20 +109,72 @@ impl Bucket {
         ensures others { OthersStay self.old.records self.new.records rid }
         ensures counters { self.new ≡ record self.old { records = self.new.records } }
     {
-        stamp_chain(&mut self.chains, rid, by, number);
+        self.records.stamp(rid, by, number);
+    }
+
+    /// Cuts a record's versions at a bound. The answer says how many went.
+    pub fn cut_record(&mut self, rid: Rid, bound: u64) -> u64
+        ensures here { versions_of self.new.records rid ≡ cut_at bound (versions_of self.old.records rid) }
+        ensures others { OthersStay self.old.records self.new.records rid }
+        ensures gone { length (versions_of self.new.records rid) + result ≡ length (versions_of self.old.records rid) }
+        ensures group { self.new ≡ record self.old { records = self.new.records; group = self.old.group + result } }
+    {
+        let gone = self.records.cut(rid, bound);
+        self.group += gone;
+        gone
+    }
+
+    /// Cuts each record of a table at a bound. The answer says how many versions went. A record that has only its oldest
+    /// image costs nothing.
+    pub fn cut_table(&mut self, table: TableId, bound: u64) -> u64
+        ensures each { (k : ℕ) → versions_of self.new.records (record_at table k) ≡ cut_at bound (versions_of self.old.records (record_at table k)) }
+        ensures others { (q : Rid) → (q.table ≡ table → ⊥) → versions_of self.new.records q ≡ versions_of self.old.records q }
+        ensures gone { left self.new.records + result ≡ left self.old.records }
+        ensures counted { self.new ≡ record self.old { records = self.new.records; table = self.old.table + result } }
+    {
+        let gone = self.records.cut_table(table, bound);
+        self.table += gone;
+        gone
+    }
+
+    /// Removes of each record of a table every version that no snapshot sees: its successor is numbered at or below the
+    /// horizon, and none of the ascending snapshots lies in its lifetime. The answer says how many versions went. A record
+    /// that has only its oldest image costs nothing.
+    pub fn sweep<L: Ledger>(
+        &mut self,
+        table: TableId,
+        horizon: u64,
+        snapshots: &[u64],
+        steps: &mut Steps<L>,
+    ) -> u64
+        requires { Rises snapshots.now }
+        ensures each { (k : ℕ) → versions_of self.new.records (record_at table k) ≡ swept horizon snapshots.now (versions_of self.old.records (record_at table k)) }
+        ensures clean { (k : ℕ) → IsClean horizon snapshots.now (versions_of self.new.records (record_at table k)) }
+        ensures seen { (k s : ℕ) (own : Writer) → IsProtected horizon snapshots.now s → read_at own s (versions_of self.new.records (record_at table k)) ≡ read_at own s (versions_of self.old.records (record_at table k)) }
+        ensures others { (q : Rid) → (q.table ≡ table → ⊥) → versions_of self.new.records q ≡ versions_of self.old.records q }
+        ensures gone { left self.new.records + result ≡ left self.old.records }
+        ensures counted { self.new ≡ record self.old { records = self.new.records; interval = self.old.interval + result } }
+        ensures cost { steps.new ≤ steps.old + sweep_steps table snapshots.now self.old.records }
+    {
+        let gone = self.records.sweep_table(table, horizon, snapshots, steps);
+        self.interval += gone;
+        gone
     }
 
     /// The least key of a table at or over a number, of those that have a version.
     pub fn next_key(&self, table: TableId, from: u64) -> Option<u64>
         ensures { IsNextKey self.now.records table from result }
     {
-        self.index.next_key(table, from)
+        self.records.next_key(table, from)
     }
 
     /// How many versions were made, undone, removed by each collector, and are held.
     pub fn counts(&self) -> Totals
-        ensures { result ≡ counts_of self.now }
+        ensures counts { result ≡ counts_of self.now }
+        ensures balance { IsBalanced self.now }
+        ensures distinct { IsDistinct same_rid (keys_of self.now.records) }
     {
+        self.records.stand_once();
         Totals {
             made: self.made,
             undone: self.undone,
@@ -99,35 +183,5 @@ impl Bucket {
             interval: self.interval,
             left: self.made - self.undone - self.group - self.table - self.interval,
         }
-    }
-}
-
-// What a transaction reads of a record's chain.
-fn in_chain(chains: &BTreeMap<Rid, Chain>, rid: Rid, snapshot: u64, own: Writer) -> Option<&Image>
-    ensures { let vs = chain_of chains.now.entries rid in option_copied result ≡ option_or (image_by own vs) (image_at snapshot vs) }
-{
-    let chain = chains.get(&rid)?;
-    chain.own(own).or(chain.visible(snapshot))
-}
-
-// What a reader sees of a record's oldest image.
-fn in_space(space: &TableSpace, place: u64, snapshot: u64) -> Option<&Image>
-    requires { IsTaken space.now.places place }
-    ensures { option_copied result ≡ oldest_by snapshot (seat.image_at space.now.places place) }
-{
-    let (number, image) = space.image(place)?;
-    if number > snapshot {
-        return None;
-    }
-    Some(image)
-}
-
-fn stamp_chain(chains: &mut BTreeMap<Rid, Chain>, rid: Rid, by: Writer, number: u64)
-    requires open_write { IsTrue (chain.is_open_by by (chain_of chains.old.entries rid)) }
-    requires over { Each (chain.IsBelow number) (drop 1 (chain_of chains.old.entries rid)) }
-    ensures { ChainIs chains.old.entries chains.new.entries rid (chain.stamped by number (chain_of chains.old.entries rid)) }
-{
-    if let Some(chain) = chains.get_mut(&rid) {
-        chain.stamp(by, number);
     }
 }

@@ -9,9 +9,17 @@
 //! memory. Only records with a chain can be shortened: a sweep or a cut of a table goes through the chains alone, and an
 //! oldest image is always a row. A record that loses its last version is dropped, and its place is free again.
 //!
-//! So far a bucket can be read, stamped and counted. What writes, undoes and shortens is to come.
+//! What was made is what was undone, removed by a cut or a sweep, and is held.
 #![tactic(auto)]
 
 mod bucket;
+mod chains;
+mod places;
+mod records;
+mod refusal;
 
 pub use bucket::Bucket;
+pub use refusal::WriteRefusal;
+
+#[cfg(test)]
+mod tests;

@@ -1,5 +1,5 @@
 -- What a cut does to a chain: the versions at the bound are a tail, since numbers fall.
-use Rattle.std.proofs.Common.{◌≡◌, ℕ, ◌+◌, ◌≤◌, List, [], ◌∷◌, ◌++◌, length, take, Bool, true, false, not, Some, None, refl, sym, ap, ◌∙◌, subst, arith}
+use Rattle.std.proofs.Common.{◌≡◌, ℕ, ◌+◌, ◌≤◌, List, [], ◌∷◌, ◌++◌, length, take, drop, Bool, true, false, not, Some, None, refl, sym, ap, ◌∙◌, subst, arith}
 use Rattle.std.specs.Prelude.{filter, find, count_by, cond, IsSome, option_map}
 use Rattle.std.proofs.lemmas.Bool.{leb-true, le-leb}
 use Rattle.std.proofs.lemmas.List.Sums.{length-filter}
@@ -27,6 +27,11 @@ below_is_numbered n (Numbered number by) h = refl
 pub all_numbered : (s : Stamp) (vs : List Version) → FallsTo s vs → Each (λ v. IsSome (number_in v.stamp)) vs
 all_numbered (Written w) vs h = h
 all_numbered (Numbered number by) vs h = each_keeps (IsBelow number) (λ v. IsSome (number_in v.stamp)) (λ v. below_is_numbered number v.stamp) vs h
+
+-- all behind the first have numbers
+pub others_numbered : (vs : List Version) → IsChain vs → Each (λ v. IsSome (number_in v.stamp)) (drop 1 vs)
+others_numbered [] h = tt
+others_numbered (v ∷ vs) h = all_numbered v.stamp vs h.0
 
 pub none_written : (by : Writer) (vs : List Version) → Each (λ v. IsSome (number_in v.stamp)) vs → find (is_written_by by) vs ≡ None
 none_written by [] h = refl

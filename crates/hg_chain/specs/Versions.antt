@@ -72,6 +72,11 @@ abbrev pub is_open_by : Writer → List Version → Bool
 is_open_by by [] = false
 is_open_by by (v ∷ vs) = is_written_by by v
 
+-- the stamp of the newest version
+abbrev pub newest : List Version → Option Stamp
+newest [] = None
+newest (v ∷ vs) = Some v.stamp
+
 -- what a reader at a snapshot sees: the first version numbered at or below it
 abbrev pub image_at : ℕ → List Version → Option Image
 image_at at vs = option_map (λ v. v.image) (find (is_at_most at) vs)

@@ -1,11 +1,11 @@
 //! The versions of one record, with the calls that change them.
 
-ghost use Rattle.std.specs.Prelude.{ℕ, ◌≡◌, [], drop, not, IsTrue, IfOk, IfErr, IsOk, OnOk, OnErr, option_and_then, length, take, ◌<◌, slice_get, None, find, count_by, ◌-◌, ◌+◌, ◌≤◌, option_to_list};
+ghost use Rattle.std.specs.Prelude.{ℕ, ◌≡◌, [], drop, not, IsTrue, IsSome, IfOk, IfErr, IsOk, OnOk, OnErr, option_and_then, length, take, ◌<◌, slice_get, None, find, count_by, ◌-◌, ◌+◌, ◌≤◌, option_to_list};
 ghost use Rattle.std.specs.Bool.{OnFalse};
 ghost use Rattle.std.specs.Option.{option_copied};
 ghost use Rattle.hg_base.specs.Lists.{Each};
 ghost use Rattle.hg_chain.specs.Sweeps.{Rises, swept, swept_away, goes, last_number, IsClean, MayStay, IsProtected};
-ghost use Rattle.hg_chain.specs.Versions.{IsChain, NoOther, IsBelow, is_open_by, image_at, image_by, installed, stamped, left_by, oldest_at, others_at, numbered_image, is_at_most};
+ghost use Rattle.hg_chain.specs.Versions.{IsChain, NoOther, IsBelow, number_in, is_open_by, image_at, image_by, installed, stamped, left_by, newest, oldest_at, others_at, numbered_image, is_at_most};
 
 use crate::merge::Merge;
 use crate::version::{Stamp, Version};
@@ -56,6 +56,14 @@ impl Chain {
         Chain {
             versions: VecDeque::new(alloc),
         }
+    }
+
+    /// Who wrote the newest version, and its number if it has one. All others have one.
+    pub fn newest(&self) -> Option<Stamp>
+        ensures newest { result ≡ newest self.now }
+        ensures others { Each (λ v. IsSome (number_in v.stamp)) (drop 1 self.now) }
+    {
+        Some(self.versions.front()?.stamp)
     }
 
     /// What a reader at the snapshot sees.

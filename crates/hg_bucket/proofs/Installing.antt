@@ -1,0 +1,188 @@
+-- A write: when it is refused, and what it makes of a record.
+use Rattle.std.proofs.Common.{◌≡◌, ℕ, ◌+◌, ◌<◌, List, [], ◌∷◌, length, Bool, true, false, Option, Some, None, refl, sym, ap, ◌∙◌, cond, subst, drop, not, arith}
+use Rattle.std.specs.Prelude.{IsTrue, IsSome, is_some, unwrap_or, option_map, option_and_then, nat_lt, ◌||◌, Result, Err, IsOk}
+use Rattle.std.specs.Map.{lookup}
+use Rattle.std.specs.Option.{option_or}
+use Rattle.std.proofs.lemmas.Option.{none-some, same_Some}
+use Rattle.hg_base.specs.declared.rid.Rid.{Rid}
+use Rattle.hg_base.specs.declared.image.Image.{Image}
+use Rattle.hg_base.specs.declared.writer.Writer.{Writer}
+use Rattle.hg_base.specs.History.{same_rid}
+use Rattle.hg_base.specs.Lists.{Each}
+use Rattle.hg_chain.specs.declared.version.Stamp.{Stamp}
+use Rattle.hg_chain.specs.declared.version.Stamp.TheVariants.{Written, Numbered}
+use Rattle.hg_chain.specs.declared.version.Version.{Version}
+use Rattle.hg_chain.specs.Versions as chain
+use Rattle.hg_space.specs.Index.{place_of, IsIndex}
+use Rattle.hg_space.specs.Places.{Seat, Oldest, image_at}
+use Rattle.hg_bucket.specs.declared.refusal.WriteRefusal.{WriteRefusal}
+use Rattle.hg_bucket.specs.declared.refusal.WriteRefusal.TheVariants.{Open, Newer}
+use Rattle.hg_bucket.specs.Held.{Kept, versions_of, left, begins_open, is_open_by, same_writer, installed, OthersStay}
+use Rattle.hg_bucket.specs.Conflicts.{conflict, NoOther, is_unpublished}
+use Rattle.hg_bucket.specs.Parts.{kept, kept_as, oldest, chain_of, whole, records_of, ChainIs, AreWhole, IsOver, Names}
+use Rattle.hg_bucket.proofs.Reading.{found, open_kept}
+use Rattle.hg_bucket.proofs.Changing.{versions_there, open_chain}
+use Rattle.hg_bucket.proofs.Turning.{Turns, turned_here, turned_others, turned_left, turned, filled}
+use Rattle.hg_bucket.proofs.Naming.{named_here, named_others, named_left, named}
+use Rattle.hg_bucket.proofs.Bare.{whole_sum}
+
+-- ---- a record that has no place
+
+pub no_versions : (es : List (Rid × ℕ)) (cs : List (Rid × List Version)) (places : List Seat) (r : Rid) → place_of es r ≡ None → versions_of (records_of es cs places) r ≡ []
+no_versions es cs places r h = ap (λ o. unwrap_or o []) (found es cs places r ∙ ap (option_map (λ p. whole (chain_of cs r) (image_at places p))) h)
+
+pub unplaced : (es : List (Rid × ℕ)) (cs : List (Rid × List Version)) (places : List Seat) (r : Rid) → AreWhole es cs places → place_of es r ≡ None → lookup (same_rid r) cs ≡ None
+unplaced es cs places r old h = go (lookup (same_rid r) cs) refl
+  where
+    go : (o : Option (List Version)) → lookup (same_rid r) cs ≡ o → o ≡ None
+    go None e = refl
+    go (Some vs) e = let k = sym (ap is_some h) ∙ (old.chained r vs e).0 in absurd cc
+
+-- ---- conflicts
+
+pub conflict_of_chain : (by : Writer) (snapshot mark : ℕ) (x : Option WriteRefusal) (vs : List Version) (im : Oldest) (stamp : Stamp) → Some stamp ≡ chain.newest vs → ((image : Image) → x ≡ conflict by snapshot mark (kept_as stamp image ∷ [])) → x ≡ conflict by snapshot mark (whole vs im)
+conflict_of_chain by snapshot mark x [] im stamp e h = absurd (none-some stamp (sym e))
+conflict_of_chain by snapshot mark x (v ∷ vs) im stamp e h = h v.image ∙ ap (λ s. conflict by snapshot mark (kept_as s v.image ∷ [])) (same_Some stamp v.stamp e)
+
+abbrev pub newer_oldest : ℕ → Oldest → Option WriteRefusal
+newer_oldest snapshot im = option_and_then (λ p. cond (nat_lt snapshot p.0) (Some (Newer p.0)) None) im
+
+pub conflict_of_oldest : (by : Writer) (snapshot mark : ℕ) (vs : List Version) (im : Oldest) → None ≡ chain.newest vs → newer_oldest snapshot im ≡ conflict by snapshot mark (whole vs im)
+conflict_of_oldest by snapshot mark (v ∷ vs) im e = absurd (none-some v.stamp e)
+conflict_of_oldest by snapshot mark [] None e = refl
+conflict_of_oldest by snapshot mark [] (Some p) e = go (is_unpublished by mark (oldest p)) (nat_lt snapshot p.0)
+  where
+    go : (a b : Bool) → cond b (Some (Newer p.0)) None ≡ option_or (option_map Open (cond a None None)) (option_map Newer (cond b (Some p.0) None))
+    go true true = refl
+    go true false = refl
+    go false true = refl
+    go false false = refl
+
+-- where nothing is in conflict, no version is an open write of another
+pub head_free : (by : Writer) (snapshot mark : ℕ) (s : Stamp) (image : Image) (more : List Kept) → conflict by snapshot mark (kept_as s image ∷ more) ≡ None → IsTrue (is_some (kept_as s image).number || is_open_by by (kept_as s image))
+head_free by snapshot mark (Numbered n w) image more h = refl
+head_free by snapshot mark (Written w) image more h = go (same_writer w by) h
+  where
+    go : (b : Bool) → option_or (option_map Open (cond (not b || false) (Some w) None)) None ≡ None → b ≡ true
+    go true k = refl
+    go false k = absurd (none-some (Open w) (sym k))
+
+pub oldest_free : (by : Writer) (im : Oldest) → NoOther by (whole [] im)
+oldest_free by None = tt
+oldest_free by (Some p) = (refl, tt)
+
+pub rest_free : (by : Writer) (vs : List Version) (im : Oldest) → Each (λ v. IsSome (chain.number_in v.stamp)) vs → NoOther by (whole vs im)
+rest_free by [] im h = oldest_free by im
+rest_free by (v ∷ vs) im h = (one v.stamp v.image h.0, rest_free by vs im h.1)
+  where
+    one : (s : Stamp) (image : Image) → IsSome (chain.number_in s) → IsTrue (is_some (kept_as s image).number || is_open_by by (kept_as s image))
+    one (Numbered n w) image k = refl
+    one (Written w) image k = absurd (let j = k in cc)
+
+pub all_free : (by : Writer) (snapshot mark : ℕ) (vs : List Version) (im : Oldest) → Each (λ v. IsSome (chain.number_in v.stamp)) (drop 1 vs) → conflict by snapshot mark (whole vs im) ≡ None → NoOther by (whole vs im)
+all_free by snapshot mark [] im rest h = oldest_free by im
+all_free by snapshot mark (v ∷ vs) im rest h = (head_free by snapshot mark v.stamp v.image (whole vs im) h, rest_free by vs im rest)
+
+pub free_chain : (by : Writer) (vs : List Version) (im : Oldest) → NoOther by (whole vs im) → chain.NoOther by vs
+free_chain by [] im h = tt
+free_chain by (v ∷ vs) im h = (one v.stamp v.image h.0, free_chain by vs im h.1)
+  where
+    one : (s : Stamp) (image : Image) → IsTrue (is_some (kept_as s image).number || is_open_by by (kept_as s image)) → chain.HasNoOther by s
+    one (Numbered n w) image k = tt
+    one (Written w) image k = k
+
+pub free_parts : (by : Writer) (es : List (Rid × ℕ)) (cs : List (Rid × List Version)) (places : List Seat) (r : Rid) → AreWhole es cs places → NoOther by (versions_of (records_of es cs places) r) → chain.NoOther by (chain_of cs r)
+free_parts by es cs places r old h = go (place_of es r) refl
+  where
+    go : (o : Option ℕ) → place_of es r ≡ o → chain.NoOther by (chain_of cs r)
+    go None e = subst (chain.NoOther by) (sym (ap (λ o. unwrap_or o []) (unplaced es cs places r old e))) tt
+    go (Some p) e = free_chain by (chain_of cs r) (image_at places p) (subst (NoOther by) (versions_there es cs places r p e) h)
+
+-- ---- an open write
+
+pub whole_installed : (by : Writer) (image : Image) (vs : List Version) (im : Oldest) → installed by image (whole vs im) ≡ whole (chain.installed by image vs) im
+whole_installed by image [] None = refl
+whole_installed by image [] (Some p) = refl
+whole_installed by image (v ∷ vs) im = go (is_open_by by (kept v)) (chain.is_written_by by v) (open_kept by v.stamp v.image)
+  where
+    go : (a b : Bool) → a ≡ b → record { number = None; by = Some by; image = image } ∷ cond a (whole vs im) (whole (v ∷ vs) im) ≡ whole (chain.open_write by image ∷ cond b vs (v ∷ vs)) im
+    go true true e = refl
+    go false false e = refl
+    go true false e = absurd cc
+    go false true e = absurd cc
+
+pub installed_length : (by : Writer) (image : Image) (vs : List Version) → length (chain.installed by image vs) ≡ length vs + cond (not (chain.is_open_by by vs)) 1 0
+installed_length by image [] = refl
+installed_length by image (v ∷ vs) = go (chain.is_written_by by v)
+  where
+    go : (b : Bool) → length (chain.open_write by image ∷ cond b vs (v ∷ vs)) ≡ length (v ∷ vs) + cond (not b) 1 0
+    go true = omega arith
+    go false = omega arith
+
+pub installed_over : (by : Writer) (image : Image) (vs : List Version) (im : Oldest) → Each (λ v. IsOver v.stamp im) vs → Each (λ v. IsOver v.stamp im) (chain.installed by image vs)
+installed_over by image [] im h = (tt, tt)
+installed_over by image (v ∷ vs) im h = go (chain.is_written_by by v)
+  where
+    go : (b : Bool) → Each (λ v. IsOver v.stamp im) (chain.open_write by image ∷ cond b vs (v ∷ vs))
+    go true = (tt, h.1)
+    go false = (tt, (h.0, h.1))
+
+pub record Installs (es fs : List (Rid × ℕ)) (cs ds : List (Rid × List Version)) (places seats : List Seat) (r : Rid) (by : Writer) (image : Image) : Type 0 where
+  pub whole : AreWhole fs ds seats
+  pub here : versions_of (records_of fs ds seats) r ≡ installed by image (versions_of (records_of es cs places) r)
+  pub others : OthersStay (records_of es cs places) (records_of fs ds seats) r
+  pub left : left (records_of fs ds seats) ≡ left (records_of es cs places) + cond (not (chain.is_open_by by (chain_of cs r))) 1 0
+  pub begins : chain.is_open_by by (chain_of cs r) ≡ begins_open by (versions_of (records_of es cs places) r)
+
+pub installs : (es fs : List (Rid × ℕ)) (cs ds : List (Rid × List Version)) (places seats : List Seat) (r : Rid) (by : Writer) (image : Image) → IsIndex es → AreWhole es cs places → ChainIs cs ds r (chain.installed by image (chain_of cs r)) → (IsSome (place_of es r) → fs ≡ es) → (IsSome (place_of es r) → seats ≡ places) → (place_of es r ≡ None → (p : ℕ) × Names es fs places seats r p) → Installs es fs cs ds places seats r by image
+installs es fs cs ds places seats r by image index old is index_stays places_stay names = go (place_of es r) refl
+  where
+    at_place : (p : ℕ) → place_of es r ≡ Some p → Installs es es cs ds places places r by image
+    at_place p has =
+        let vs = chain_of cs r in
+        let ws = chain.installed by image vs in
+        let im = image_at places p in
+        let there = versions_there es cs places r p has in
+        let turns : Turns es cs ds places places r p ws im = record { has = has; chain = is; taken = old.taken r p has; image = refl; apart = λ q n k apart. refl } in
+        let long = whole_sum ws im in
+        let some : 0 < length ws = omega (arith, installed_length by image vs) in
+        let now = turned_left es cs ds places places r p ws im index turns in
+        record {
+          whole = filled r es ds places (turned es cs ds places places r p ws im old turns (installed_over by image vs im (old.falls r p has)) (old.rows r p has)) (λ n k. subst (λ us. 0 < length us) (sym (turned_here es cs ds places places r p ws im turns) ∙ versions_there es ds places r n k) (omega (arith, long, some)));
+          here = turned_here es cs ds places places r p ws im turns ∙ sym (whole_installed by image vs im) ∙ ap (installed by image) (sym there);
+          others = turned_others es cs ds places places r p ws im turns;
+          left = omega (arith, now, long, whole_sum vs im, installed_length by image vs);
+          begins = sym (open_chain by vs im) ∙ ap (begins_open by) (sym there);
+        }
+
+    no_place : place_of es r ≡ None → (p : ℕ) × Names es fs places seats r p → Installs es fs cs ds places seats r by image
+    no_place none place =
+        let p = place.0 in
+        let ws = chain.open_write by image ∷ [] in
+        let bare : chain_of cs r ≡ [] = ap (λ o. unwrap_or o []) (unplaced es cs places r old none) in
+        let empty = no_versions es cs places r none in
+        let begun : ChainIs cs ds r ws = subst (λ vs. ChainIs cs ds r (chain.installed by image vs)) bare is in
+        record {
+          whole = named es fs cs ds places seats r p (chain.open_write by image) [] old place.1 begun;
+          here = named_here es fs cs ds places seats r p ws place.1 begun ∙ ap (installed by image) (sym empty);
+          others = named_others es fs cs ds places seats r p ws place.1 begun;
+          left = named_left es fs cs ds places seats r p ws index place.1 begun ∙ ap (λ vs. left (records_of es cs places) + cond (not (chain.is_open_by by vs)) 1 0) (sym bare);
+          begins = ap (chain.is_open_by by) bare ∙ ap (begins_open by) (sym empty);
+        }
+
+    go : (o : Option ℕ) → place_of es r ≡ o → Installs es fs cs ds places seats r by image
+    go None e = no_place e (names e)
+    go (Some p) e = subst (λ ps. Installs es fs cs ds places ps r by image) (sym (places_stay (ap is_some e))) (subst (λ gs. Installs es gs cs ds places places r by image) (sym (index_stays (ap is_some e))) (at_place p e))
+
+-- ---- want of memory
+
+pub not_named : {X E : Type 0} (o : Option ℕ) (result : Result X E) {e : E} → result ≡ Err e → (IsSome o → IsOk result) → o ≡ None
+not_named None result is h = refl
+not_named (Some p) result is h = let k = subst IsOk is (h refl) in absurd cc
+
+pub begins_parts : (by : Writer) (es : List (Rid × ℕ)) (cs : List (Rid × List Version)) (places : List Seat) (r : Rid) → AreWhole es cs places → chain.is_open_by by (chain_of cs r) ≡ begins_open by (versions_of (records_of es cs places) r)
+begins_parts by es cs places r old = go (place_of es r) refl
+  where
+    go : (o : Option ℕ) → place_of es r ≡ o → chain.is_open_by by (chain_of cs r) ≡ begins_open by (versions_of (records_of es cs places) r)
+    go None e = ap (λ o. chain.is_open_by by (unwrap_or o [])) (unplaced es cs places r old e) ∙ ap (begins_open by) (sym (no_versions es cs places r e))
+    go (Some p) e = sym (open_chain by (chain_of cs r) (image_at places p)) ∙ ap (begins_open by) (sym (versions_there es cs places r p e))

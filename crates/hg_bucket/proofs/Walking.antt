@@ -1,0 +1,106 @@
+-- A walk through a table, key by key, that changes each record in one way.
+use Rattle.std.proofs.Common.{◌≡◌, ℕ, ◌+◌, ◌-◌, ◌≤◌, ◌<◌, List, Bool, true, false, Option, Some, None, refl, sym, ◌∙◌, subst, arith}
+use Rattle.std.specs.Prelude.{IfSome, ◌^◌, ⊤, nat_lt, ◌==◌}
+use Rattle.std.proofs.lemmas.Bool.Decides.{nat_tests}
+use Rattle.hg_base.specs.declared.rid.Rid.{Rid}
+use Rattle.hg_base.specs.declared.rid.TableId.{TableId}
+use Rattle.hg_base.specs.History.{same_rid}
+use Rattle.hg_bucket.specs.Held.{Kept, versions_of, record_at, cut_at, left, OthersStay}
+use Rattle.hg_bucket.specs.Parts.{IsSettled, IsNextLong}
+use Rattle.hg_bucket.specs.Sweeping.{swept, IsClean}
+use Rattle.hg_bucket.proofs.Settling.{settled_cut}
+use Rattle.hg_bucket.proofs.Sweeps.{settled_swept, settled_clean}
+
+-- before the next key, and from it on
+abbrev pub IsBefore : ℕ → Option ℕ → Type 0
+IsBefore k None = ⊤
+IsBefore k (Some n) = k < n
+
+abbrev pub IsFrom : ℕ → Option ℕ → Type 0
+IsFrom k None = ⊥
+IsFrom k (Some n) = n ≤ k
+
+abbrev pub to_go : Option ℕ → ℕ
+to_go None = 0
+to_go (Some n) = 2 ^ 64 - n
+
+-- Done says what becomes of a record's versions
+pub record Walks (Done : List Kept → List Kept → Type 0) (t : TableId) (old now : List (Rid × List Kept)) (next : Option ℕ) (gone : ℕ) : Type 0 where
+  pub done : (k : ℕ) → IsBefore k next → Done (versions_of old (record_at t k)) (versions_of now (record_at t k))
+  pub rest : (k : ℕ) → IsFrom k next → versions_of now (record_at t k) ≡ versions_of old (record_at t k)
+  pub others : (q : Rid) → (q.table ≡ t → ⊥) → versions_of now q ≡ versions_of old q
+  pub left : left now + gone ≡ left old
+  pub fits : IfSome next (λ k. k < 2 ^ 64)
+
+-- what can't be shortened stays
+abbrev pub KeepsSettled : (List Kept → List Kept → Type 0) → Type 0
+KeepsSettled Done = (vs : List Kept) → IsSettled vs → Done vs vs
+
+pub keys_apart : (t : TableId) (n k : ℕ) → (n ≡ k → ⊥) → same_rid (record_at t n) (record_at t k) ≡ false
+keys_apart t n k h = grind (arith, nat_tests, h)
+
+pub tables_apart : (t : TableId) (n : ℕ) (q : Rid) → (q.table ≡ t → ⊥) → same_rid (record_at t n) q ≡ false
+tables_apart t n q h = go (t.0 == q.table.0) refl
+  where
+    go : (b : Bool) → (t.0 == q.table.0) ≡ b → same_rid (record_at t n) q ≡ false
+    go true e = let same : q.table.0 ≡ t.0 = grind (arith, nat_tests, e) in absurd (h (λ i. record { 0 = same i }))
+    go false e = grind (arith, nat_tests, e)
+
+pub settled_before : (records : List (Rid × List Kept)) (t : TableId) (from : ℕ) (next : Option ℕ) → IsNextLong records t from next → (k : ℕ) → from ≤ k → IsBefore k next → IsSettled (versions_of records (record_at t k))
+settled_before records t from None h k le before = h k le
+settled_before records t from (Some n) h k le before = h.1 k le before
+
+pub begins : (Done : List Kept → List Kept → Type 0) (t : TableId) (old : List (Rid × List Kept)) (next : Option ℕ) → KeepsSettled Done → IsNextLong old t 0 next → IfSome next (λ k. k < 2 ^ 64) → Walks Done t old old next 0
+begins Done t old next keeps h fits =
+    record {
+      done = λ k before. keeps (versions_of old (record_at t k)) (settled_before old t 0 next h k (omega arith) before);
+      rest = λ k from. refl;
+      others = λ q apart. refl;
+      left = omega arith;
+      fits = fits;
+    }
+
+pub over : (records : List (Rid × List Kept)) (t : TableId) (n : ℕ) (next : Option ℕ) → IsNextLong records t (n + 1) next → (k : ℕ) → IsFrom k next → n < k
+over records t n None h k from = absurd from
+over records t n (Some m) h k from = let le : n + 1 ≤ m = h.0 in omega (arith, le, from)
+
+pub goes : (Done : List Kept → List Kept → Type 0) (t : TableId) (old now new : List (Rid × List Kept)) (n : ℕ) (next : Option ℕ) (gone more : ℕ) → KeepsSettled Done → Walks Done t old now (Some n) gone → Done (versions_of now (record_at t n)) (versions_of new (record_at t n)) → OthersStay now new (record_at t n) → left new + more ≡ left now → IsNextLong new t (n + 1) next → IfSome next (λ k. k < 2 ^ 64) → Walks Done t old new next (gone + more)
+goes Done t old now new n next gone more keeps h here others count long fits =
+    record {
+      done = done;
+      rest = λ k from. let less = over new t n next long k from in others (record_at t k) (keys_apart t n k (λ e. omega (arith, less, e))) ∙ h.rest k (omega (arith, less));
+      others = λ q apart. others q (tables_apart t n q apart) ∙ h.others q apart;
+      left = omega (arith, count, h.left);
+      fits = fits;
+    }
+  where
+    done : (k : ℕ) → IsBefore k next → Done (versions_of old (record_at t k)) (versions_of new (record_at t k))
+    done k before = go (nat_lt k n) (nat_lt n k) refl refl
+      where
+        go : (a b : Bool) → nat_lt k n ≡ a → nat_lt n k ≡ b → Done (versions_of old (record_at t k)) (versions_of new (record_at t k))
+        go true b e f = let less : k < n = grind (arith, nat_tests, e) in subst (Done (versions_of old (record_at t k))) (sym (others (record_at t k) (keys_apart t n k (λ e. omega (arith, less, e))))) (h.done k less)
+        go false true e f =
+            let less : n < k = grind (arith, nat_tests, f) in
+            let same = others (record_at t k) (keys_apart t n k (λ e. omega (arith, less, e))) ∙ h.rest k (omega (arith, less)) in
+            subst (λ vs. Done vs (versions_of new (record_at t k))) same (keeps (versions_of new (record_at t k)) (settled_before new t (n + 1) next long k (omega (arith, less)) before))
+        go false false e f =
+            let same : n ≡ k = grind (arith, nat_tests, e, f) in
+            subst (λ x. Done (versions_of old (record_at t x)) (versions_of new (record_at t x))) same (subst (λ vs. Done vs (versions_of new (record_at t n))) (h.rest n (omega arith)) here)
+
+-- ---- what a walk of cuts does, and one of sweeps
+
+abbrev pub Cut : ℕ → List Kept → List Kept → Type 0
+Cut bound vs ws = ws ≡ cut_at bound vs
+
+pub cut_keeps : (bound : ℕ) → KeepsSettled (Cut bound)
+cut_keeps bound vs h = sym (settled_cut bound vs h)
+
+abbrev pub Swept : ℕ → List ℕ → List Kept → List Kept → Type 0
+Swept horizon snapshots vs ws = (ws ≡ swept horizon snapshots vs) × IsClean horizon snapshots ws
+
+pub swept_keeps : (horizon : ℕ) (snapshots : List ℕ) → KeepsSettled (Swept horizon snapshots)
+swept_keeps horizon snapshots vs h = (settled_swept horizon snapshots vs h, settled_clean horizon snapshots vs h)
+
+pub nearer : (records : List (Rid × List Kept)) (t : TableId) (n : ℕ) (next : Option ℕ) → n < 2 ^ 64 → IsNextLong records t (n + 1) next → to_go next < to_go (Some n)
+nearer records t n None fits h = omega (arith, fits)
+nearer records t n (Some m) fits h = let le : n + 1 ≤ m = h.0 in omega (arith, fits, le)

@@ -1,0 +1,9 @@
+use Rattle.std.proofs.Common.{◌+◌, subst}
+use Rattle.hg_bucket.specs.Parts.{IsNextLong}
+use Rattle.hg_bucket.proofs.Settling.{next_long}
+use Rattle.hg_bucket.proofs.records.Records.long_after.Goals as goal
+
+pub returns-clause-next : goal.returns-clause-next
+returns-clause-next c =
+    let b = c.self.inside in
+    subst (λ h. IsNextLong h c.args.table (c.args.key + 1) c.after.result) c.self.view_is (next_long b.index b.chains.entries b.space.places c.args.table (c.args.key + 1) c.after.result c.self.invariant c.after.ensures.next)

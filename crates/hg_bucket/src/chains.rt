@@ -1,0 +1,206 @@
+//! The chains of the records that have one: no other record is in the map.
+
+ghost use Rattle.std.specs.Prelude.{◌≡◌, ◌+◌, ◌<◌, ◌≤◌, ◌^◌, length, option_to_list, IfSome, [], not, drop, IsTrue, IsSome, IsOk, IfOk, OnOk, OnErr};
+ghost use Rattle.hg_base.specs.Lists.{Each};
+ghost use Rattle.std.specs.Bool.{OnFalse};
+ghost use Rattle.std.specs.Map.{lookup};
+ghost use Rattle.hg_base.specs.History.{same_rid};
+ghost use Rattle.hg_chain.specs.Sweeps.{Rises, swept, swept_away, goes, last_number, IsClean, MayStay};
+ghost use Rattle.hg_chain.specs.Versions.{newest, number_in, image_by, image_at, is_open_by, installed, stamped, left_by, oldest_at, others_at, IsBelow, NoOther};
+ghost use Rattle.std.specs.Option.{option_copied, option_or};
+ghost use Rattle.hg_bucket.specs.Parts.{chain_of, ChainIs, IsNextChain};
+
+use hg_base::{Image, NoMemory, Rid, Steps, TableId, Writer};
+use hg_chain::{Chain, Cut, Stamp, Swept};
+use std::alloc::Global;
+use std::collections::BTreeMap;
+use std::ops::Bound;
+use std::sync::ledger::Ledger;
+
+pub(crate) type Chains = BTreeMap<Rid, Chain>;
+
+/// What a transaction reads of a record's chain.
+pub(crate) fn read(chains: &Chains, rid: Rid, snapshot: u64, own: Writer) -> Option<&Image>
+    ensures { let vs = chain_of chains.now.entries rid in option_copied result ≡ option_or (image_by own vs) (image_at snapshot vs) }
+{
+    let chain = chains.get(&rid)?;
+    chain.own(own).or(chain.visible(snapshot))
+}
+
+/// The stamp of a record's newest version. All others have numbers.
+pub(crate) fn newest(chains: &Chains, rid: Rid) -> Option<Stamp>
+    ensures newest { result ≡ newest (chain_of chains.now.entries rid) }
+    ensures others { Each (λ v. IsSome (number_in v.stamp)) (drop 1 (chain_of chains.now.entries rid)) }
+{
+    chains.get(&rid)?.newest()
+}
+
+/// Writes an image. The answer says whether a version was added.
+pub(crate) fn install(
+    chains: &mut Chains,
+    alloc: Global,
+    rid: Rid,
+    by: Writer,
+    image: Image,
+) -> Result<bool, NoMemory>
+    requires { NoOther by (chain_of chains.old.entries rid) }
+    ensures here { OnOk result (ChainIs chains.old.entries chains.new.entries rid (installed by image (chain_of chains.old.entries rid))) }
+    ensures added { IfOk result (λ added. added ≡ not (is_open_by by (chain_of chains.old.entries rid))) }
+    ensures refused { OnErr result (chains.new.entries ≡ chains.old.entries) }
+    ensures replaced { IsTrue (is_open_by by (chain_of chains.old.entries rid)) → IsOk result }
+{
+    match chains.get_mut(&rid) {
+        Some(chain) => add(chain, by, image),
+        None => begin(chains, alloc, rid, by, image),
+    }
+}
+
+fn add(chain: &mut Chain, by: Writer, image: Image) -> Result<bool, NoMemory>
+    requires { NoOther by chain.old }
+    ensures here { OnOk result (chain.new ≡ installed by image chain.old) }
+    ensures added { IfOk result (λ added. added ≡ not (is_open_by by chain.old)) }
+    ensures refused { OnErr result (chain.new ≡ chain.old) }
+    ensures replaced { IsTrue (is_open_by by chain.old) → IsOk result }
+{
+    match chain.install(by, image) {
+        Ok(added) => Ok(added),
+        Err((_, refused)) => Err(refused),
+    }
+}
+
+// Begins the chain of a record that has none.
+fn begin(
+    chains: &mut Chains,
+    alloc: Global,
+    rid: Rid,
+    by: Writer,
+    image: Image,
+) -> Result<bool, NoMemory>
+    requires { chain_of chains.old.entries rid ≡ [] }
+    ensures here { OnOk result (ChainIs chains.old.entries chains.new.entries rid (installed by image [])) }
+    ensures added { IfOk result (λ added. IsTrue added) }
+    ensures refused { OnErr result (chains.new.entries ≡ chains.old.entries) }
+{
+    let mut chain = Chain::new(alloc);
+    match chain.install(by, image) {
+        Ok(_) => {}
+        Err((_, refused)) => return Err(refused),
+    }
+    chains.insert(rid, chain)?;
+    Ok(true)
+}
+
+/// Removes the transaction's open write.
+pub(crate) fn undo(chains: &mut Chains, rid: Rid, by: Writer)
+    requires { IsTrue (is_open_by by (chain_of chains.old.entries rid)) }
+    ensures { ChainIs chains.old.entries chains.new.entries rid (drop 1 (chain_of chains.old.entries rid)) }
+{
+    let Some(chain) = chains.get_mut(&rid) else {
+        return;
+    };
+    chain.undo(by);
+    if chain.newest().is_none() {
+        end(chains, rid);
+    }
+}
+
+// Takes a record's chain out.
+pub(crate) fn end(chains: &mut Chains, rid: Rid)
+    ensures { ChainIs chains.old.entries chains.new.entries rid [] }
+{
+    let _ = chains.remove(&rid);
+}
+
+/// Gives the transaction's open write its number.
+pub(crate) fn stamp(chains: &mut Chains, rid: Rid, by: Writer, number: u64)
+    requires open_write { IsTrue (is_open_by by (chain_of chains.old.entries rid)) }
+    requires over { Each (IsBelow number) (drop 1 (chain_of chains.old.entries rid)) }
+    ensures { ChainIs chains.old.entries chains.new.entries rid (stamped by number (chain_of chains.old.entries rid)) }
+{
+    if let Some(chain) = chains.get_mut(&rid) {
+        chain.stamp(by, number);
+    }
+}
+
+/// Removes every version of a record's chain numbered at or below the bound, and hands out the newest of them.
+pub(crate) fn cut(chains: &mut Chains, rid: Rid, bound: u64) -> Cut
+    ensures here { ChainIs chains.old.entries chains.new.entries rid (left_by bound (chain_of chains.old.entries rid)) }
+    ensures image { result.image ≡ oldest_at bound (chain_of chains.old.entries rid) }
+    ensures gone { result.gone ≡ others_at bound (chain_of chains.old.entries rid) }
+{
+    let Some(chain) = chains.get_mut(&rid) else {
+        return Cut {
+            image: None,
+            gone: 0,
+        };
+    };
+    let cut = chain.cut(bound);
+    if chain.newest().is_none() {
+        end(chains, rid);
+        return cut;
+    }
+    cut
+}
+
+/// Removes from a record's chain every version that no snapshot sees, as `Chain::sweep` does, and answers what that does.
+/// The newest version stays.
+pub(crate) fn sweep<L: Ledger>(
+    chains: &mut Chains,
+    rid: Rid,
+    base: Option<u64>,
+    horizon: u64,
+    snapshots: &[u64],
+    steps: &mut Steps<L>,
+) -> Swept
+    requires rises { Rises snapshots.now }
+    requires some { IfSome (lookup (same_rid rid) chains.old.entries) (λ vs. 0 < length vs) }
+    ensures here { ChainIs chains.old.entries chains.new.entries rid (swept horizon snapshots.now (chain_of chains.old.entries rid)) }
+    ensures gone { result.gone ≡ swept_away horizon snapshots.now (chain_of chains.old.entries rid) }
+    ensures base_gone { result.base_gone ≡ goes horizon snapshots.now (last_number (chain_of chains.old.entries rid)) base }
+    ensures clean { IsClean horizon snapshots.now (swept horizon snapshots.now (chain_of chains.old.entries rid)) }
+    ensures base_clean { OnFalse result.base_gone (MayStay horizon snapshots.now (last_number (swept horizon snapshots.now (chain_of chains.old.entries rid))) base) }
+    ensures unchained { chain_of chains.old.entries rid ≡ [] → steps.new ≡ steps.old }
+    ensures cost { steps.new ≤ steps.old + length (chain_of chains.old.entries rid) + length (option_to_list base) + length snapshots.now }
+{
+    let Some(chain) = chains.get_mut(&rid) else {
+        return Swept {
+            gone: 0,
+            base_gone: false,
+        };
+    };
+    chain.sweep(base, horizon, snapshots, steps)
+}
+
+/// The least key of a table whose record has a chain.
+pub(crate) fn first(chains: &Chains, table: TableId) -> Option<u64>
+    ensures next { IsNextChain chains.now.entries table 0 result }
+    ensures fits { IfSome result (λ key. key < 2 ^ 64) }
+{
+    let (rid, _) = chains.range(Rid { table, key: 0 }..).next()?;
+    if rid.table != table {
+        return None;
+    }
+    fits(rid.key);
+    Some(rid.key)
+}
+
+/// The least key of a table over another whose record has a chain.
+pub(crate) fn after(chains: &Chains, table: TableId, key: u64) -> Option<u64>
+    ensures next { IsNextChain chains.now.entries table (key + 1) result }
+    ensures fits { IfSome result (λ key. key < 2 ^ 64) }
+{
+    let start = Bound::Excluded(Rid { table, key });
+    let (rid, _) = chains.range((start, Bound::Unbounded)).next()?;
+    if rid.table != table {
+        return None;
+    }
+    fits(rid.key);
+    Some(rid.key)
+}
+
+// A fact of every key, for clauses.
+fn fits(key: u64)
+    ensures { key < 2 ^ 64 }
+{
+    let _ = key;
+}

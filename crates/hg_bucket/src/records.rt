@@ -1,0 +1,270 @@
+//! Records with their versions.
+
+ghost use Rattle.std.specs.Prelude.{◌≡◌, ℕ, ◌+◌, ◌<◌, ◌≤◌, ◌^◌, length, [], not, drop, IsTrue, IsOk, IfOk, IfErr, OnOk, OnErr, IfSome, if◌then◌else◌, None};
+ghost use Rattle.std.specs.List.{IsDistinct};
+ghost use Rattle.std.specs.Map.{keys_of};
+ghost use Rattle.hg_base.specs.History.{same_rid};
+ghost use Rattle.hg_base.specs.Lists.{Each};
+ghost use Rattle.hg_base.specs.declared.rid.Rid.{Rid};
+ghost use Rattle.std.specs.Option.{option_copied};
+ghost use Rattle.hg_space.specs.Places as seat;
+ghost use Rattle.hg_space.specs.Places.{IsTaken};
+ghost use Rattle.hg_space.specs.Index.{AreTaken, place_of, IsIndex};
+ghost use Rattle.hg_bucket.specs.Parts.{oldest_by, records_of, AreWhole, IsNextLong};
+ghost use Rattle.hg_bucket.specs.Conflicts.{conflict, NoOther, holder, newer, IsCause};
+ghost use Rattle.hg_chain.specs.Sweeps.{Rises};
+ghost use Rattle.hg_bucket.specs.Sweeping.{swept, IsClean, is_long, sweep_steps};
+ghost use Rattle.hg_bucket.specs.Held.{versions_of, begins_open, installed, stamped, OthersStay, IsBelow, read_at, record_at, cut_at, IsNextKey, left};
+
+use crate::chains::{self, Chains};
+use crate::places::{self, drop_bare};
+use crate::refusal::{WriteRefusal, refusal};
+use hg_base::{Image, NoMemory, Rid, Steps, TableId, Writer};
+use hg_chain::Cut;
+use hg_space::{RidIndex, TableSpace};
+use std::alloc::Global;
+use std::collections::BTreeMap;
+use std::marker::Model;
+use std::sync::ledger::Ledger;
+
+/// Records, each with its versions.
+#[derive(Debug, Drop)]
+pub(crate) struct Records {
+    index: RidIndex,
+    space: TableSpace,
+    chains: Chains,
+    alloc: Global,
+}
+
+impl Model for Records {
+    ghost use Rattle.std.specs.Prelude.{List};
+    ghost use Rattle.hg_base.specs.declared.rid.Rid.{Rid};
+    ghost use Rattle.hg_bucket.specs.Held.{Kept};
+
+    ghost Value = { List (Rid × List Kept) };
+
+    ghost use Rattle.hg_bucket.specs.Parts.{records_of, AreWhole};
+
+    ghost view = { λ s. records_of s.index s.chains.entries s.space.places };
+
+    ghost invariant = { λ s. AreWhole s.index s.chains.entries s.space.places };
+}
+
+impl Records {
+    pub fn new(alloc: Global) -> Records
+        ensures { result ≡ [] }
+    {
+        Records {
+            index: RidIndex::new(alloc),
+            space: TableSpace::new(alloc),
+            chains: BTreeMap::new(alloc),
+            alloc,
+        }
+    }
+
+    /// What a transaction reads of a record.
+    pub fn read(&self, rid: Rid, snapshot: u64, own: Writer) -> Option<&Image>
+        ensures { option_copied result ≡ read_at own snapshot (versions_of self.now rid) }
+    {
+        let place = self.index.place(rid)?;
+        chains::read(&self.chains, rid, snapshot, own).or(places::read(
+            &self.space,
+            place,
+            snapshot,
+        ))
+    }
+
+    /// The least key of a table at or over a number, of those that have a version.
+    pub fn next_key(&self, table: TableId, from: u64) -> Option<u64>
+        ensures { IsNextKey self.now table from result }
+    {
+        self.index.next_key(table, from)
+    }
+
+    /// No record stands twice: for the counts, which tell it.
+    pub fn stand_once(&self)
+        ensures { IsDistinct same_rid (keys_of self.now) }
+    {
+        let table = TableId(0);
+        self.index.place(Rid { table, key: 0 });
+    }
+
+    // Why a write is refused, memory aside.
+    fn conflict(&self, rid: Rid, by: Writer, snapshot: u64, mark: u64) -> Option<WriteRefusal>
+        ensures refusal { result ≡ conflict by snapshot mark (versions_of self.now rid) }
+        ensures free { result ≡ None → NoOther by (versions_of self.now rid) }
+    {
+        let place = self.index.place(rid)?;
+        match chains::newest(&self.chains, rid) {
+            Some(stamp) => refusal(stamp, by, snapshot, mark),
+            None => places::newer(&self.space, place, snapshot),
+        }
+    }
+
+    /// Writes an image. The answer says whether a version was added.
+    pub fn write(
+        &mut self,
+        rid: Rid,
+        by: Writer,
+        image: Image,
+        snapshot: u64,
+        mark: u64,
+    ) -> Result<bool, WriteRefusal>
+        ensures refusal { IfSome (conflict by snapshot mark (versions_of self.old rid)) (λ e. result ≡ Err e) }
+        ensures cause { IfErr result (IsCause by snapshot mark (versions_of self.old rid)) }
+        ensures stored { OnOk result (versions_of self.new rid ≡ installed by image (versions_of self.old rid)) }
+        ensures others { OthersStay self.old self.new rid }
+        ensures added { IfOk result (λ added. added ≡ not (begins_open by (versions_of self.old rid))) }
+        ensures left { IfOk result (λ added. left self.new ≡ left self.old + (if added then 1 else 0)) }
+        ensures refused { OnErr result (self.new ≡ self.old) }
+    {
+        if let Some(refusal) = self.conflict(rid, by, snapshot, mark) {
+            return Err(refusal);
+        }
+        Ok(self.install(rid, by, image)?)
+    }
+
+    // Writes an image, where no version is an open write of another.
+    fn install(&mut self, rid: Rid, by: Writer, image: Image) -> Result<bool, NoMemory>
+        requires { NoOther by (versions_of self.old rid) }
+        ensures stored { OnOk result (versions_of self.new rid ≡ installed by image (versions_of self.old rid)) }
+        ensures others { OthersStay self.old self.new rid }
+        ensures added { IfOk result (λ added. added ≡ not (begins_open by (versions_of self.old rid))) }
+        ensures left { IfOk result (λ added. left self.new ≡ left self.old + (if added then 1 else 0)) }
+        ensures replaced { IsTrue (begins_open by (versions_of self.old rid)) → IsOk result }
+        ensures refused { OnErr result (self.new ≡ self.old) }
+    {
+        let added = chains::install(&mut self.chains, self.alloc, rid, by, image)?;
+        if let Err(refused) = places::name(&mut self.index, &mut self.space, rid) {
+            chains::end(&mut self.chains, rid);
+            return Err(refused);
+        }
+        Ok(added)
+    }
+
+    /// Removes the transaction's open write of a record. A record that has no other version is dropped.
+    pub fn undo(&mut self, rid: Rid, by: Writer)
+        requires { IsTrue (begins_open by (versions_of self.old rid)) }
+        ensures here { versions_of self.new rid ≡ drop 1 (versions_of self.old rid) }
+        ensures others { OthersStay self.old self.new rid }
+        ensures left { left self.new + 1 ≡ left self.old }
+    {
+        chains::undo(&mut self.chains, rid, by);
+        drop_bare(&mut self.index, &mut self.space, &self.chains, rid);
+    }
+
+    /// Gives the transaction's open write of a record its number.
+    pub fn stamp(&mut self, rid: Rid, by: Writer, number: u64)
+        requires open_write { IsTrue (begins_open by (versions_of self.old rid)) }
+        requires over { Each (IsBelow number) (drop 1 (versions_of self.old rid)) }
+        ensures here { versions_of self.new rid ≡ stamped by number (versions_of self.old rid) }
+        ensures others { OthersStay self.old self.new rid }
+        ensures left { left self.new ≡ left self.old }
+    {
+        chains::stamp(&mut self.chains, rid, by, number);
+    }
+
+    /// Cuts a record's versions at a bound. The answer says how many went.
+    pub fn cut(&mut self, rid: Rid, bound: u64) -> u64
+        requires { left self.old ≤ 2 ^ 40 }
+        ensures here { versions_of self.new rid ≡ cut_at bound (versions_of self.old rid) }
+        ensures others { OthersStay self.old self.new rid }
+        ensures gone { length (versions_of self.new rid) + result ≡ length (versions_of self.old rid) }
+        ensures left { left self.new + result ≡ left self.old }
+    {
+        let Some(place) = self.index.place(rid) else {
+            return 0;
+        };
+        let Cut { image, gone } = chains::cut(&mut self.chains, rid, bound);
+        let Some(newest) = image else {
+            return 0;
+        };
+        let gone = gone + places::settle(&mut self.space, place, newest);
+        drop_bare(&mut self.index, &mut self.space, &self.chains, rid);
+        gone
+    }
+
+    // The least key of a table whose record can be shortened: those below it can't.
+    fn first_long(&self, table: TableId) -> Option<u64>
+        ensures next { IsNextLong self.now table 0 result }
+        ensures fits { IfSome result (λ key. key < 2 ^ 64) }
+    {
+        chains::first(&self.chains, table)
+    }
+
+    fn long_after(&self, table: TableId, key: u64) -> Option<u64>
+        ensures next { IsNextLong self.now table (key + 1) result }
+        ensures fits { IfSome result (λ key. key < 2 ^ 64) }
+    {
+        chains::after(&self.chains, table, key)
+    }
+
+    /// Cuts each record of a table at a bound. The answer says how many versions went.
+    pub fn cut_table(&mut self, table: TableId, bound: u64) -> u64
+        requires { left self.old ≤ 2 ^ 40 }
+        ensures each { (k : ℕ) → versions_of self.new (record_at table k) ≡ cut_at bound (versions_of self.old (record_at table k)) }
+        ensures others { (q : Rid) → (q.table ≡ table → ⊥) → versions_of self.new q ≡ versions_of self.old q }
+        ensures left { left self.new + result ≡ left self.old }
+    {
+        let mut gone = 0;
+        let mut next = self.first_long(table);
+        while let Some(key) = next {
+            gone += self.cut(Rid { table, key }, bound);
+            next = self.long_after(table, key);
+        }
+        gone
+    }
+
+    /// Removes every version of a record that no snapshot sees. The answer says how many went.
+    fn sweep<L: Ledger>(
+        &mut self,
+        rid: Rid,
+        horizon: u64,
+        snapshots: &[u64],
+        steps: &mut Steps<L>,
+    ) -> u64
+        requires rises { Rises snapshots.now }
+        requires few { left self.old ≤ 2 ^ 40 }
+        ensures here { versions_of self.new rid ≡ swept horizon snapshots.now (versions_of self.old rid) }
+        ensures clean { IsClean horizon snapshots.now (versions_of self.new rid) }
+        ensures others { OthersStay self.old self.new rid }
+        ensures left { left self.new + result ≡ left self.old }
+        ensures cost { steps.new ≤ steps.old + (if is_long (versions_of self.old rid) then length (versions_of self.old rid) + length snapshots.now else 0) }
+    {
+        let Some(place) = self.index.place(rid) else {
+            return 0;
+        };
+        let base = places::number(&self.space, place);
+        let swept = chains::sweep(&mut self.chains, rid, base, horizon, snapshots, steps);
+        if !swept.base_gone {
+            return swept.gone;
+        }
+        let _ = self.space.set_image(place, None);
+        swept.gone + 1
+    }
+
+    /// Removes every version of a table's records that no snapshot sees. The answer says how many went.
+    pub fn sweep_table<L: Ledger>(
+        &mut self,
+        table: TableId,
+        horizon: u64,
+        snapshots: &[u64],
+        steps: &mut Steps<L>,
+    ) -> u64
+        requires rises { Rises snapshots.now }
+        requires few { left self.old ≤ 2 ^ 40 }
+        ensures each { (k : ℕ) → versions_of self.new (record_at table k) ≡ swept horizon snapshots.now (versions_of self.old (record_at table k)) }
+        ensures clean { (k : ℕ) → IsClean horizon snapshots.now (versions_of self.new (record_at table k)) }
+        ensures others { (q : Rid) → (q.table ≡ table → ⊥) → versions_of self.new q ≡ versions_of self.old q }
+        ensures left { left self.new + result ≡ left self.old }
+        ensures cost { steps.new ≤ steps.old + sweep_steps table snapshots.now self.old }
+    {
+        let mut gone = 0;
+        let mut next = self.first_long(table);
+        while let Some(key) = next {
+            gone += self.sweep(Rid { table, key }, horizon, snapshots, steps);
+            next = self.long_after(table, key);
+        }
+        gone
+    }
+}

@@ -1,0 +1,16 @@
+pub mod Counts
+pub mod Lists
+pub mod Growing
+pub mod Keeps
+pub mod Registers
+pub mod Playing
+pub mod Shifts
+pub mod Turning
+pub mod Owned
+pub mod Looks
+pub mod Works
+pub mod Commits
+pub mod Reclaims
+pub mod Agreements
+pub mod Found
+pub mod Opening

@@ -1,0 +1,241 @@
+-- A look finds what the bucket held shows, and is allowed.
+use Rattle.std.proofs.Common.{◌≡◌, ℕ, ℤ, zero, suc, ◌+◌, ◌-◌, ◌<◌, ◌≤◌, inl, inr, ◌⊎◌, ⊎_elim, Bool, true, false, List, [], ◌∷◌, length, map, get_or, set, ◌==◌, Option, Some, None, refl, sym, ap, ◌∙◌, subst, arith, get_or-set_same}
+use Rattle.std.specs.Prelude.{if◌then◌else◌, IsSome, IsTrue, ◌||◌}
+use Rattle.std.specs.List.{list_any}
+use Rattle.std.proofs.lemmas.Bool.Decides.{nat_tests}
+use mathlib.Core.Option.{some, none}
+use native.Mathlib.Decide.{dec_le}
+use lib.ListN.{get_elem?}
+use Rattle.atomic_table.proofs.Lists.{set_here}
+use Rattle.atomic_table.specs.Table.{step, keeps, Allows}
+use Rattle.hg_base.specs.declared.rid.Rid.{Rid}
+use Rattle.hg_base.specs.declared.rid.TableId.{TableId}
+use Rattle.hg_base.specs.declared.image.Image.{Image}
+use Rattle.hg_base.specs.declared.line.Answer.{Answer}
+use Rattle.hg_base.specs.declared.writer.Writer.{Writer}
+use Rattle.hg_base.specs.History.{same_rid, nothing}
+use Rattle.hg_base.specs.Lists.{Each, Ascends}
+use Rattle.hg_base.specs.Replies.{AreRows}
+use Rattle.hg_base.proofs.HistoryFacts.{same_rid_equal}
+use Rattle.hg_core.specs.declared.ask.Ask.{Ask}
+use Rattle.hg_core.specs.declared.ask.Ask.TheVariants.{Read, Write, Outside}
+use Rattle.hg_core.specs.declared.log.LogEntry.{LogEntry}
+use Rattle.hg_core.specs.declared.log.LogEntry.TheVariants as entries
+use Rattle.hg_core.specs.Logs.{is_plain}
+use Rattle.hg_core.specs.Phases.{snapshot_in}
+use Rattle.hg_core.specs.Contents.{Content, bucket_of, look, versions}
+use Rattle.hg_core.specs.Placed.{IsPlaced}
+use Rattle.hg_core.specs.Replies.{read_by, in_bucket, refusal}
+use Rattle.hg_core.specs.State.{CoreState}
+use Rattle.hg_core.specs.Events.{happens, looked, with_refusal, Look, Asks}
+use Rattle.hg_core.proofs.Indices.{put_here, put_else}
+use Rattle.hg_core.proofs.Looking.{look_kept}
+use Rattle.hg_rule.specs.declared.view.SessionPart.{SessionPart}
+use Rattle.hg_rule.specs.declared.view.Part.TheVariants.{OfSession, OfBucket}
+use Rattle.hg_rule.specs.declared.view.Sight.TheVariants as sights
+use Rattle.hg_rule.specs.declared.view.Event.TheVariants as events
+use Rattle.hg_rule.specs.declared.view.View.{View}
+use Rattle.hg_rule.specs.declared.view.Sizes.{Sizes}
+use Rattle.hg_rule.specs.Facts.{EndsWith, groups, Shown}
+use Rattle.hg_rule.specs.Rules.{HasRoom, Rule}
+use Rattle.hg_rule.specs.Views.{number, session, others, HasSession, then_has}
+use Rattle.hg_rule.specs.Steps.{Seated}
+use Rattle.hg_rule.specs.Holding.{bucket_number, bucket, writer, snapshot, tables, held}
+use Rattle.hg_rule.specs.Writes.{with_log, MayAsk, AreShown, log_asked, asked}
+use Rattle.hg_rule.proofs.Lists.{starts_same, ends_same}
+use Rattle.hg_rule.proofs.Keeps.{Table, keep, backs}
+use Rattle.hg_rule.proofs.Registers.{loaded_words}
+use Rattle.hg_rule.proofs.Owned.{Leaves, leaves_only, not_first, log_put, own_second, held_versions, live_is, writer_is, snapshot_is}
+use Rattle.hg_rule.proofs.Playing.{own_session, history_at}
+use Rattle.hg_rule.proofs.Turning.{in_range}
+
+-- ---- each range has its rows
+
+abbrev consed : ℕ → Option (List ℤ) → List (ℕ × List ℤ) → List (ℕ × List ℤ)
+consed key None rows = rows
+consed key (Some row) rows = (key, row) ∷ rows
+
+-- the rows of so many keys, from one on
+abbrev scanned : (ℕ → Image) → ℕ → ℕ → List (ℕ × List ℤ)
+scanned f low zero = []
+scanned f low (suc n) = consed low (f low).row (scanned f (suc low) n)
+
+record Spans (f : ℕ → Image) (low n : ℕ) (rows : List (ℕ × List ℤ)) : Type 0 where
+  pub ascend : Ascends (map (λ p. p.0) rows)
+  pub each : Each (λ p. (low ≤ p.0) × (p.0 < low + n) × ((f p.0).row ≡ Some p.1)) rows
+  pub every : (key : ℕ) → low ≤ key → key < low + n → IsTrue (list_any (λ p. p.0 == key) rows) ⊎ ((f key).row ≡ None)
+
+lifted : (f : ℕ → Image) (low n : ℕ) (rows : List (ℕ × List ℤ)) → Each (λ p. (suc low ≤ p.0) × (p.0 < suc low + n) × ((f p.0).row ≡ Some p.1)) rows → Each (λ p. (low ≤ p.0) × (p.0 < low + suc n) × ((f p.0).row ≡ Some p.1)) rows
+lifted f low n [] h = tt
+lifted f low n (p ∷ rows) h = let a = h.0.0 in let b = h.0.1 in ((omega arith, omega arith, h.0.2), lifted f low n rows h.1)
+
+ascending : (f : ℕ → Image) (low n : ℕ) (rows : List (ℕ × List ℤ)) → Each (λ p. (suc low ≤ p.0) × (p.0 < suc low + n) × ((f p.0).row ≡ Some p.1)) rows → Ascends (map (λ p. p.0) rows) → Ascends (low ∷ map (λ p. p.0) rows)
+ascending f low n [] h a = tt
+ascending f low n (p ∷ rows) h a = let l = h.0.0 in (omega arith, a)
+
+scan_spans : (f : ℕ → Image) (low n : ℕ) → Spans f low n (scanned f low n)
+scan_spans f low zero = record { ascend = tt; each = tt; every = λ key a b. absurd (omega arith) }
+scan_spans f low (suc n) = go (f low).row refl (scanned f (suc low) n) (scan_spans f (suc low) n)
+  where
+    go : (row : Option (List ℤ)) → (f low).row ≡ row → (rows : List (ℕ × List ℤ)) → Spans f (suc low) n rows → Spans f low (suc n) (consed low row rows)
+    go None is rows h = record {
+      ascend = h.ascend;
+      each = lifted f low n rows h.each;
+      every = λ key a b. ⊎_elim (λ (e : low ≡ key). inr (subst (λ k. (f k).row ≡ None) e is)) (λ (l : suc low ≤ key). h.every key l (omega arith)) (place key a);
+    }
+      where
+        place : (key : ℕ) → low ≤ key → (low ≡ key) ⊎ (suc low ≤ key)
+        place key a = apart (dec_le (suc low) key)
+          where
+            apart : Dec (suc low ≤ key) → (low ≡ key) ⊎ (suc low ≤ key)
+            apart (yes l) = inr l
+            apart (no l) = inl (omega arith)
+    go (Some row) is rows h = record {
+      ascend = ascending f low n rows h.each h.ascend;
+      each = ((omega arith, omega arith, is), lifted f low n rows h.each);
+      every = λ key a b. split key a b (low == key) refl;
+    }
+      where
+        split : (key : ℕ) → low ≤ key → key < low + suc n → (b : Bool) → (low == key) ≡ b → IsTrue (b || list_any (λ p. p.0 == key) rows) ⊎ ((f key).row ≡ None)
+        split key a l true e = inl refl
+        split key a l false e = let n' : low ≡ key → ⊥ = grind (arith, nat_tests) in h.every key (go' (dec_le (suc low) key) n') (omega arith)
+          where
+            go' : Dec (suc low ≤ key) → (low ≡ key → ⊥) → suc low ≤ key
+            go' (yes l) n = l
+            go' (no l) n = absurd (n (omega arith))
+
+some_rows : (f : ℕ → Image) (low high : ℕ) → (rows : List (ℕ × List ℤ)) × AreRows f low high rows
+some_rows f low high = go (dec_le low high)
+  where
+    within : (n : ℕ) → low + n ≡ suc high → (rows : List (ℕ × List ℤ)) → Each (λ p. (low ≤ p.0) × (p.0 < low + n) × ((f p.0).row ≡ Some p.1)) rows → Each (λ p. (low ≤ p.0) × (p.0 ≤ high) × ((f p.0).row ≡ Some p.1)) rows
+    within n e [] h = tt
+    within n e (p ∷ rows) h = let b = h.0.1 in ((h.0.0, omega arith, h.0.2), within n e rows h.1)
+
+    go : Dec (low ≤ high) → (rows : List (ℕ × List ℤ)) × AreRows f low high rows
+    go (no l) = ([], record { ascend = tt; each = tt; every = λ key a b. absurd (l (omega arith)) })
+    go (yes l) =
+        let n : ℕ = suc high - low in
+        let e : low + n ≡ suc high = omega arith in
+        let h = scan_spans f low n in
+        (scanned f low n, record { ascend = h.ascend; each = within n e (scanned f low n) h.each; every = λ key a b. h.every key a (omega arith) })
+
+-- ---- a bucket has its own records alone
+
+look_none : (buckets b : ℕ) (rid : Rid) (content : Content) → Each (λ e. bucket_of buckets e.0 ≡ b) content → (bucket_of buckets rid ≡ b → ⊥) → look rid content ≡ []
+look_none buckets b rid [] h away = refl
+look_none buckets b rid (e ∷ content) h away = go (same_rid rid e.0) refl (look_none buckets b rid content h.1 away)
+  where
+    go : (x : Bool) → same_rid rid e.0 ≡ x → look rid content ≡ [] → (if x then e.1 else look rid content) ≡ []
+    go true t rest = absurd (away (ap (bucket_of buckets) (same_rid_equal rid e.0 t) ∙ h.0))
+    go false t rest = rest
+
+shown_there : (tables buckets b : ℕ) (bucket : ℕ → Content) (content : Content) (w : Writer) (at : ℕ) (table : TableId) (key : ℕ) → bucket b ≡ content → IsPlaced tables buckets b (bucket b)
+    → read_by w at (look (record { table = table; key = key }) content) ≡ in_bucket buckets b table (λ rid. read_by w at (versions buckets bucket rid)) key
+shown_there tables buckets b bucket content w at table key is placed = go (bucket_of buckets rid == b) refl
+  where
+    rid : Rid
+    rid = record { table = table; key = key }
+
+    go : (x : Bool) → (bucket_of buckets rid == b) ≡ x → read_by w at (look rid content) ≡ (if x then read_by w at (versions buckets bucket rid) else nothing)
+    go true e = let same : bucket_of buckets rid ≡ b = grind (arith, nat_tests) in ap (λ c. read_by w at (look rid c)) (sym is) ∙ ap (λ n. read_by w at (look rid (bucket n))) (sym same)
+    go false e = let other : bucket_of buckets rid ≡ b → ⊥ = grind (arith, nat_tests) in ap (λ c. read_by w at (look rid c)) (sym is) ∙ ap (read_by w at) (look_none buckets b rid (bucket b) placed.bucket other)
+
+-- ---- a look
+
+refusal_ends : (rid : Rid) (answer : Option Answer) (log : List LogEntry) → EndsWith (with_refusal rid answer log) log
+refusal_ends rid None log = ends_same log
+refusal_ends rid (Some answer) log = (entries.Refused rid answer ∷ [], refl)
+
+looked_ends : (c : CoreState) (j : ℕ) (ask : Ask) (b : ℕ) (rows : List (ℕ × List ℤ)) → EndsWith (looked c j ask b rows) (c.log j)
+looked_ends c j (Read table low high) b rows = (entries.Saw table low high b rows ∷ [], refl)
+looked_ends c j (Write rid) b rows = refusal_ends rid _ (c.log j)
+looked_ends c j (Outside table) b rows = (entries.Outside table ∷ [], refl)
+
+look_leaves : (c : CoreState) (j : ℕ) (ask : Ask) (b : ℕ) (rows : List (ℕ × List ℤ)) (old : SessionPart) → Leaves c (happens c (Look j ask b rows)) (OfSession j old ∷ [])
+look_leaves c j ask b rows old = record {
+  phase = λ k away. refl;
+  log = λ k away. put_else c.log j k _ (not_first j k 0 away);
+  stamped = λ k away. refl;
+  bucket = λ b away. refl;
+  counters = λ b away. refl;
+  history = λ away. refl;
+  list = λ away. refl;
+  taken = λ away. refl;
+  pass = λ p away. refl;
+  visits = λ p away. refl;
+}
+
+-- what is asked, as the state has it
+record Found (c : CoreState) (v : View) (ask : Ask) (n : ℕ) : Type 0 where
+  pub rows : List (ℕ × List ℤ)
+  pub shown : AreShown v ask rows
+  pub asks : Asks c (number v) (snapshot v) (tables v) ask (bucket_number v) rows
+  pub log : looked c (number v) ask (bucket_number v) rows ≡ log_asked v ask n rows
+
+finds : (z : Sizes) (t : Table) (r : Rule z t) (id : ℕ) (v : View) (ask : Ask) (n : ℕ) → get_elem? t.views id ≡ some v → HasSession v → r.state.mark ≡ n → IsSome (snapshot_in (session v).phase) → MayAsk z.buckets v ask → Found r.state v ask n
+finds z t r id v (Outside table) n at is mark live may = record { rows = []; shown = refl; asks = may; log = ap (λ (l : List LogEntry). entries.Outside table ∷ l) (own_session z t r id v at is).1.0 }
+finds z t r id v (Write rid) n at is mark live may =
+    let c = r.state in
+    let own = own_session z t r id v at is in
+    let there : Shown c (OfBucket (bucket_number v) (bucket v)) = own_second z t r id v at _ _ _ is may.0 in
+    let vs : versions c.buckets c.bucket rid ≡ held v rid = held_versions c 0 z.buckets (bucket_number v) (bucket v).content rid r.sized.buckets may.1.0 there.0 in
+    let w = writer_is c v own.1.0 in
+    let s = snapshot_is c v r.steady own.0 live in
+    record { rows = []; shown = refl; asks = may.1.1; log = λ i. with_refusal rid (refusal (mark i) (w i) (s i) (vs i)) (own.1.0 i) }
+finds z t r id v (Read table low high) n at is mark live may =
+    let c = r.state in
+    let own = own_session z t r id v at is in
+    let there : Shown c (OfBucket (bucket_number v) (bucket v)) = own_second z t r id v at _ _ _ is may.0 in
+    let b : ℕ = bucket_number v in
+    let some_ = some_rows (λ key. read_by (writer v) (snapshot v) (held v record { table = table; key = key })) low high in
+    let same : (key : ℕ) → read_by (writer v) (snapshot v) (held v record { table = table; key = key }) ≡ in_bucket c.buckets b table (λ rid. read_by (writer v) (snapshot v) (versions c.buckets c.bucket rid)) key =
+    λ key. shown_there c.tables c.buckets b c.bucket (bucket v).content (writer v) (snapshot v) table key there.0 (r.steady.contents_are_placed b) in
+    record {
+      rows = some_.0;
+      shown = some_.1;
+      asks = (may.1, subst (λ w. AreRows (in_bucket c.buckets b table (λ rid. read_by w (snapshot v) (versions c.buckets c.bucket rid))) low high some_.0) (sym (writer_is c v own.1.0)) (subst (λ f. AreRows f low high some_.0) (λ i key. same key i) some_.1));
+      log = ap (λ (l : List LogEntry). entries.Saw table low high b some_.0 ∷ l) own.1.0;
+    }
+
+pub asks : (z y : Sizes) (slots id : ℕ) (ask : Ask) (m : Seated) → y ≡ z → HasRoom z → HasSession m.0 → IsSome (snapshot_in (session m.0).phase) → IsTrue (is_plain (session m.0).log) → (session m.0).stamped ≡ false → MayAsk z.buckets m.0 ask
+    → Allows (Rule z) slots id m 0 (λ n. n) (asked y ask (step slots 0 0 0 none) m)
+asks z y slots id ask m same room is live plain unstamped may = subst (λ (y : Sizes). Allows (Rule z) slots id m 0 (λ n. n) (asked y ask (step slots 0 0 0 none) m)) (sym same) at_z
+  where
+    at_z : Allows (Rule z) slots id m 0 (λ n. n) (asked z ask (step slots 0 0 0 none) m)
+    at_z t r deep at small =
+        let v : View = m.0 in
+        let c = r.state in
+        let j : ℕ = number v in
+        let n : ℕ = get_or t.words 0 0 in
+        let own = own_session z t r id v at is in
+        let f = finds z t r id v ask n at is (sym r.words.mark) live may in
+        let log : List LogEntry = log_asked v ask n f.rows in
+        let new : SessionPart = with_log log (session v) in
+        let d : CoreState = happens c (Look j ask (bucket_number v) f.rows) in
+        let w = loaded_words z c t.words 0 r.words in
+        let put_log : d.log j ≡ log = put_here c.log j _ ∙ f.log in
+        let after : View = then_has v (OfSession j new ∷ others v) (sights.Saw (groups c.history) ∷ sights.Heard j log ∷ []) (events.Look j ask n) in
+        let r' = keep z t r id v (OfSession j (session v) ∷ []) (OfSession j new ∷ []) (others v) (sights.Saw (groups c.history) ∷ sights.Heard j log ∷ []) (events.Look j ask n) 0 n d at is record {
+          steady = look_kept c j ask (bucket_number v) f.rows r.steady
+              (snapshot v, tables v, record { live = own.0 ∙ live_is (session v).phase live; plain = subst (λ l. IsTrue (is_plain l)) (sym own.1.0) plain; unstamped = own.1.1 ∙ unstamped; asks = f.asks });
+          sized = record { sessions = r.sized.sessions; tables = r.sized.tables; buckets = r.sized.buckets; each = r.sized.each };
+          passes = refl;
+          shows = record { count = w.count; mark = w.mark; registers = w.registers };
+          grows = record { history = starts_same c.history; logs = log_put c j _ (looked_ends c j ask (bucket_number v) f.rows); taken = omega arith };
+          only = leaves_only c d (OfSession j (session v) ∷ []) (look_leaves c j ask (bucket_number v) f.rows (session v));
+          counts = λ k. refl;
+          shared = refl;
+          shown = ((own.0, (put_log, own.1.1)), tt);
+          known = (starts_same c.history, (subst (λ l. EndsWith l log) (sym put_log) (ends_same log), tt));
+          stands = tt;
+        } in
+        let mark : r'.state.mark ≡ n = sym r'.words.mark ∙ get_or-set_same t.words 0 n 0 (let l : ℕ = length t.words in let e : l ≡ z.sessions + 1 = r.words.count in omega arith) in (
+          after,
+          keeps,
+          tt,
+          r',
+          (
+            record { history = c.history; whole = history_at z t r id v room at; rows = f.rows; shown = f.shown; after = refl },
+            (backs z (record { words = set t.words 0 n; homes = t.homes; views = set t.views id after }) r' id after n (set_here t.views id after (in_range 0 t.views id v at)) mark, refl),
+          ),
+        )

@@ -1,0 +1,60 @@
+-- What one view says of a session and what collectors' passes loaded, in whatever state it is.
+use Rattle.std.specs.Prelude.{◌≡◌, ℕ, ◌≤◌, length, IfSome, ⊤}
+use Rattle.hg_base.specs.Lists.{Each}
+use Rattle.hg_core.specs.Passes.{found}
+use Rattle.hg_core.specs.Bounds.{Bounds}
+use Rattle.hg_core.specs.Reach.{StandsIn}
+use Rattle.hg_rule.specs.declared.view.SessionPart.{SessionPart}
+use Rattle.hg_rule.specs.declared.view.PassPart.{PassPart}
+use Rattle.hg_rule.specs.declared.view.Part.{Part}
+use Rattle.hg_rule.specs.declared.view.Part.TheVariants.{OfSession, OfBucket, OfCommit, OfPass}
+use Rattle.hg_rule.specs.declared.view.Sight.{Sight}
+use Rattle.hg_rule.specs.declared.view.Sight.TheVariants.{Saw, Heard, Took, Did}
+use Rattle.hg_rule.specs.declared.view.Event.{Event}
+use Rattle.hg_rule.specs.declared.view.Event.TheVariants.{Sample}
+use Rattle.hg_rule.specs.declared.view.View.{View}
+use Rattle.hg_rule.specs.declared.view.Sizes.{Sizes}
+use Rattle.hg_rule.specs.Facts.{heard, HasBegun}
+use Rattle.hg_rule.specs.Rules.{IsBacked}
+
+-- a live register that was loaded of session j has its begin in the log
+abbrev pub EventAgrees : ℕ → SessionPart → Event → Type 0
+EventAgrees j session (Sample p i register) = i ≡ j → HasBegun register session.log
+EventAgrees j session _ = ⊤
+
+abbrev pub SightAgrees : ℕ → SessionPart → Sight → Type 0
+SightAgrees j session (Saw h) = ⊤
+SightAgrees j session (Heard i log) = ⊤
+SightAgrees j session (Took n) = ⊤
+SightAgrees j session (Did e) = EventAgrees j session e
+
+-- Where a record has the register of session j, it reaches into the session's log, and bounds what the session reads.
+pub record RecordAgrees (j : ℕ) (session : SessionPart) (record_ : PassPart) : Type 0 where
+  pub known : heard j record_.seen ≤ length session.log
+  pub reaches : IfSome (found j record_.loaded) (λ register. StandsIn (heard j record_.seen) register session.log session.phase)
+  pub bounds : IfSome (found j record_.loaded) (λ register. Bounds record_.mark register session.phase)
+
+abbrev pub PartAgrees : ℕ → SessionPart → Part → Type 0
+PartAgrees j session (OfSession i s) = ⊤
+PartAgrees j session (OfBucket b c) = ⊤
+PartAgrees j session (OfCommit h) = ⊤
+PartAgrees j session (OfPass p r) = RecordAgrees j session r
+
+-- the steps that a view did or knows of, and the records that it has, agree with the log and the phase of session j
+pub record AgreesWith (v : View) (j : ℕ) (session : SessionPart) : Type 0 where
+  pub events : Each (EventAgrees j session) v.events
+  pub sights : Each (SightAgrees j session) v.sights
+  pub parts : Each (PartAgrees j session) v.parts
+
+-- with each session that the view has
+abbrev pub AgreesAt : View → Part → Type 0
+AgreesAt v (OfSession j session) = AgreesWith v j session
+AgreesAt v (OfBucket b c) = ⊤
+AgreesAt v (OfCommit h) = ⊤
+AgreesAt v (OfPass p r) = ⊤
+
+-- A state that meets the rule backs the view, and what the view says agrees.
+pub record IsMet (z : Sizes) (v : View) : Type 0 where
+  pub mark : ℕ
+  pub backed : IsBacked z mark v
+  pub agreed : Each (AgreesAt v) v.parts

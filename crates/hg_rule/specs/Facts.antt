@@ -1,0 +1,99 @@
+-- What parts, sights and events say of the state.
+use Rattle.std.specs.Prelude.{◌≡◌, ◌⊎◌, ℕ, ◌<◌, ◌≤◌, max, List, [], ◌∷◌, ◌++◌, length, ◌==◌, if◌then◌else◌, false, ⊤}
+use Rattle.hg_base.specs.History.{History}
+use Rattle.hg_core.specs.declared.register.Register.{Register}
+use Rattle.hg_core.specs.declared.register.Register.TheVariants as registers
+use Rattle.hg_core.specs.declared.phase.Phase.TheVariants as phases
+use Rattle.hg_core.specs.declared.log.LogEntry.{LogEntry}
+use Rattle.hg_core.specs.declared.log.LogEntry.TheVariants.{Began}
+use Rattle.hg_core.specs.Passes.{PassRecord}
+use Rattle.hg_core.specs.Counters.{no_counters}
+use Rattle.hg_core.specs.Contents.{has_stamped}
+use Rattle.hg_core.specs.State.{CoreState}
+use Rattle.hg_rule.specs.declared.groups.Groups.{Groups}
+use Rattle.hg_rule.specs.declared.view.SessionPart.{SessionPart}
+use Rattle.hg_rule.specs.declared.view.BucketPart.{BucketPart}
+use Rattle.hg_rule.specs.declared.view.CommitPart.{CommitPart}
+use Rattle.hg_rule.specs.declared.view.PassPart.{PassPart}
+use Rattle.hg_rule.specs.declared.view.Part.{Part}
+use Rattle.hg_rule.specs.declared.view.Part.TheVariants.{OfSession, OfBucket, OfCommit, OfPass}
+use Rattle.hg_rule.specs.declared.view.Sight.{Sight}
+use Rattle.hg_rule.specs.declared.view.Sight.TheVariants.{Saw, Heard, Took, Did}
+use Rattle.hg_rule.specs.declared.view.Event.{Event}
+use Rattle.hg_rule.specs.declared.view.Event.TheVariants.{Sample}
+use Rattle.hg_rule.specs.Keys.{Key, session_key, bucket_key, commit_key, pass_key, first_share}
+
+-- ---- lists that grow
+
+-- a list begins with another, or ends with it
+abbrev pub StartsWith : {A : Type 0} → List A → List A → Type 0
+StartsWith {A} xs start = (rest : List A) × (xs ≡ start ++ rest)
+
+abbrev pub EndsWith : {A : Type 0} → List A → List A → Type 0
+EndsWith {A} xs end = (later : List A) × (xs ≡ later ++ end)
+
+abbrev pub IsAmong : {A : Type 0} → A → List A → Type 0
+IsAmong a [] = ⊥
+IsAmong a (x ∷ xs) = (x ≡ a) ⊎ IsAmong a xs
+
+-- ---- parts
+
+abbrev pub groups : History → Groups
+groups h = record { list = h }
+
+-- how many entries of a session's log were seen
+abbrev pub heard : ℕ → List Sight → ℕ
+heard j [] = 0
+heard j (Saw h ∷ sights) = heard j sights
+heard j (Heard k log ∷ sights) = if k == j then max (length log) (heard j sights) else heard j sights
+heard j (Took n ∷ sights) = heard j sights
+heard j (Did e ∷ sights) = heard j sights
+
+-- the record of a pass
+abbrev pub record_of : PassPart → PassRecord
+record_of part = record { mark = part.mark; known = λ j. heard j part.seen; loaded = part.loaded }
+
+-- the part is as it is in the state
+abbrev pub Shown : CoreState → Part → Type 0
+Shown s (OfSession j part) = (s.phase j ≡ part.phase) × ((s.log j ≡ part.log) × (has_stamped j s.stamped_list ≡ part.stamped))
+Shown s (OfBucket b part) = (s.bucket b ≡ part.content) × (s.counters b ≡ part.counters)
+Shown s (OfCommit part) = (s.history ≡ part.history.list) × ((s.stamped_list ≡ part.stamped) × (s.taken ≡ part.taken))
+Shown s (OfPass p part) = (s.pass p ≡ record_of part) × ((s.visits p ≡ part.visits) × (0 < part.share))
+
+-- the parts of a new board
+abbrev pub new_session : SessionPart
+new_session = record { phase = phases.Idle; log = []; stamped = false }
+
+abbrev pub new_bucket : BucketPart
+new_bucket = record { content = []; counters = no_counters }
+
+abbrev pub new_commit : CommitPart
+new_commit = record { history = groups []; stamped = []; taken = 0 }
+
+abbrev pub new_pass : PassPart
+new_pass = record { mark = 0; seen = []; loaded = []; visits = []; share = first_share }
+
+abbrev pub new_part : Key → Part
+new_part (session_key j) = OfSession j new_session
+new_part (bucket_key b) = OfBucket b new_bucket
+new_part commit_key = OfCommit new_commit
+new_part (pass_key p) = OfPass p new_pass
+
+-- ---- events and sights
+
+-- where the register is live, the log has the begin of its transaction, with the same tables
+abbrev pub HasBegun : Register → List LogEntry → Type 0
+HasBegun registers.Idle log = ⊤
+HasBegun (registers.Entering f) log = ⊤
+HasBegun (registers.Live number scope moved) log = IsAmong (Began number scope) log
+
+-- a live register that was loaded has its begin in the log
+abbrev pub Stands : CoreState → Event → Type 0
+Stands s (Sample p j register) = HasBegun register (s.log j)
+Stands s _ = ⊤
+
+abbrev pub Known : CoreState → Sight → Type 0
+Known s (Saw h) = StartsWith s.history h.list
+Known s (Heard j log) = EndsWith (s.log j) log
+Known s (Took n) = n ≤ s.taken
+Known s (Did e) = Stands s e

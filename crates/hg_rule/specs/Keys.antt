@@ -1,0 +1,84 @@
+-- Whose a part is, and how many parts of a key there are.
+use Rattle.std.specs.Prelude.{ℕ, ◌+◌, suc, Bool, true, false, eqb, ltb, List, [], ◌∷◌}
+use Rattle.hg_rule.specs.declared.view.Part.{Part}
+use Rattle.hg_rule.specs.declared.view.Part.TheVariants.{OfSession, OfBucket, OfCommit, OfPass}
+use Rattle.hg_rule.specs.declared.view.View.{View}
+use Rattle.hg_rule.specs.declared.view.Sizes.{Sizes}
+
+-- a session's, a bucket's, the committer's or a collector pass's
+pub data Key : Type 0 where
+  session_key : ℕ → Key
+  bucket_key : ℕ → Key
+  commit_key : Key
+  pass_key : ℕ → Key
+
+abbrev pub key_of : Part → Key
+key_of (OfSession j s) = session_key j
+key_of (OfBucket b c) = bucket_key b
+key_of (OfCommit h) = commit_key
+key_of (OfPass p r) = pass_key p
+
+abbrev pub both : Bool → Bool → Bool
+both true b = b
+both false b = false
+
+-- the kind of a key, and its number
+abbrev pub kind_of : Key → ℕ
+kind_of (session_key j) = 0
+kind_of (bucket_key b) = 1
+kind_of commit_key = 2
+kind_of (pass_key p) = 3
+
+abbrev pub index_of : Key → ℕ
+index_of (session_key j) = j
+index_of (bucket_key b) = b
+index_of commit_key = 0
+index_of (pass_key p) = p
+
+abbrev pub same_key : Key → Key → Bool
+same_key k h = both (eqb (kind_of k) (kind_of h)) (eqb (index_of k) (index_of h))
+
+abbrev pub has : Key → Part → Bool
+has k p = same_key (key_of p) k
+
+abbrev pub one : Bool → ℕ
+one true = 1
+one false = 0
+
+-- how many parts of the key there are, in one list and in all views
+abbrev pub count : Key → List Part → ℕ
+count k [] = 0
+count k (p ∷ ps) = one (has k p) + count k ps
+
+abbrev pub tally : Key → List View → ℕ
+tally k [] = 0
+tally k (v ∷ vs) = count k v.parts + tally k vs
+
+-- the shares of the passes, added up
+abbrev pub share_of : Part → ℕ
+share_of (OfSession j s) = 0
+share_of (OfBucket b c) = 0
+share_of (OfCommit h) = 0
+share_of (OfPass p r) = r.share
+
+abbrev pub shares : List Part → ℕ
+shares [] = 0
+shares (p ∷ ps) = share_of p + shares ps
+
+abbrev pub all_shares : List View → ℕ
+all_shares [] = 0
+all_shares (v ∷ vs) = shares v.parts + all_shares vs
+
+-- what a pass of a new board has of them, and the three together
+abbrev pub first_share : ℕ
+first_share = 4294967296
+
+abbrev pub whole_share : ℕ
+whole_share = 12884901888
+
+-- how many parts of a key there are at a board of these sizes with so many passes: sessions are counted from 1
+abbrev pub expected : Sizes → ℕ → Key → ℕ
+expected z passes (session_key j) = one (both (ltb 0 j) (ltb j (suc z.sessions)))
+expected z passes (bucket_key b) = one (ltb b z.buckets)
+expected z passes commit_key = 1
+expected z passes (pass_key p) = one (ltb p passes)

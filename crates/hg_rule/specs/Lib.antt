@@ -1,0 +1,20 @@
+-- What a seat at the board has and knows, and the rule.
+pub mod Codes
+pub mod Keys
+pub mod Facts
+pub mod Rules
+-- What each step and each move of a seat makes of a view.
+pub mod Views
+pub mod Steps
+pub mod Moves
+pub mod Holding
+pub mod Writes
+pub mod Removes
+pub mod Places
+-- Seats.
+pub mod Lending
+pub mod Seats
+-- What meetings tell, and who has everything.
+pub mod Agreed
+pub mod Reading
+pub mod New

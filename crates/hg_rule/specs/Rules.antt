@@ -1,0 +1,62 @@
+-- The rule of the board: its words and views show a state that meets the invariant.
+use Rattle.std.specs.Prelude.{◌≡◌, ℕ, ◌+◌, ◌*◌, ◌^◌, ◌≤◌, List, length, slice_index}
+use mathlib.Core.Option.{some}
+use lib.ListN.{get_elem?}
+use Rattle.hg_base.specs.Lists.{Each}
+use Rattle.atomic_table.specs.Table.{State}
+use Rattle.hg_core.specs.Words.{word_of}
+use Rattle.hg_core.specs.Phases.{IsSession}
+use Rattle.hg_core.specs.State.{CoreState}
+use Rattle.hg_core.specs.Invariant.{IsSteady}
+use Rattle.hg_rule.specs.declared.view.View.{View}
+use Rattle.hg_rule.specs.declared.view.Sizes.{Sizes}
+use Rattle.hg_rule.specs.Keys.{Key, pass_key, count, tally, shares, all_shares, whole_share, expected}
+use Rattle.hg_rule.specs.Facts.{Shown, Known, Stands, new_part}
+
+-- the state is of a board of these sizes
+pub record IsSized (z : Sizes) (s : CoreState) : Type 0 where
+  pub sessions : s.sessions ≡ z.sessions
+  pub tables : s.tables ≡ z.tables
+  pub buckets : s.buckets ≡ z.buckets
+  pub each : s.each ≡ z.each
+
+-- each register and the mark have a word
+pub record HasRoom (z : Sizes) : Type 0 where
+  pub tables : z.tables ≤ 16
+  pub begins : z.sessions * z.each ≤ 2 ^ 40
+
+-- word 0 is the mark, and word j the register of session j
+pub record ShowsWords (z : Sizes) (s : CoreState) (words : List ℕ) : Type 0 where
+  pub count : length words ≡ z.sessions + 1
+  pub mark : slice_index words 0 ≡ s.mark
+  pub registers : (j : ℕ) → IsSession z.sessions j → slice_index words j ≡ word_of (s.register j)
+
+-- a view tells the truth of the state
+pub record IsTrueOf (s : CoreState) (v : View) : Type 0 where
+  pub parts : Each (Shown s) v.parts
+  pub sights : Each (Known s) v.sights
+  pub events : Each (Stands s) v.events
+
+-- There is a state that words and views show, which meets the invariant. Each part is in exactly one view, once. Where no
+-- view has a part, the state is as that of a new board.
+pub record Rule (z : Sizes) (t : State ℕ View) : Type 0 where
+  pub state : CoreState
+  pub steady : IsSteady state
+  pub sized : IsSized z state
+  pub words : ShowsWords z state t.words
+  pub exact : (k : Key) → tally k t.views ≡ expected z state.passes k
+  pub shared : all_shares t.views ≡ whole_share
+  pub outside : (k : Key) → expected z state.passes k ≡ 0 → Shown state (new_part k)
+  pub shown : (i : ℕ) (v : View) → get_elem? t.views i ≡ some v → IsTrueOf state v
+
+-- What a load of the mark tells of a view: some state that meets the invariant has this mark, and is as the view says. Who
+-- has all shares has all passes.
+pub record IsBacked (z : Sizes) (mark : ℕ) (v : View) : Type 0 where
+  pub state : CoreState
+  pub steady : IsSteady state
+  pub sized : IsSized z state
+  pub mark_is : state.mark ≡ mark
+  pub most : (k : Key) → count k v.parts ≤ expected z state.passes k
+  pub alone : shares v.parts ≡ whole_share → (p : ℕ) → count (pass_key p) v.parts ≡ expected z state.passes (pass_key p)
+  pub outside : (k : Key) → expected z state.passes k ≡ 0 → Shown state (new_part k)
+  pub true_of : IsTrueOf state v

@@ -1,0 +1,161 @@
+-- What each step makes of the view of the pass that makes it.
+use Rattle.std.specs.Prelude.{◌≡◌, ℕ, ◌^◌, ◌<◌, ◌≤◌, ◌==◌, Bool, true, false, List, [], ◌∷◌, length, ⊤}
+use Rattle.hg_base.specs.declared.scope.Scope.{Scope}
+use Rattle.hg_base.specs.declared.scope.Scope.TheVariants.{All, Declared}
+use Rattle.hg_base.specs.History.{History}
+use Rattle.hg_base.specs.Lists.{Each}
+use Rattle.atomic_table.specs.Table.{Me, Step}
+use Rattle.hg_core.specs.declared.register.Register.{Register}
+use Rattle.hg_core.specs.declared.register.Register.TheVariants as registers
+use Rattle.hg_core.specs.declared.phase.Phase.{Phase}
+use Rattle.hg_core.specs.declared.phase.Phase.TheVariants.{Idle, Probed, Entered, Fixed, Live}
+use Rattle.hg_core.specs.declared.log.LogEntry.{LogEntry}
+use Rattle.hg_core.specs.declared.log.LogEntry.TheVariants.{Began, Over}
+use Rattle.hg_core.specs.Words.{IsRegister, number_of, scope_of, register_of}
+use Rattle.hg_core.specs.Logs.{UpTo}
+use Rattle.hg_core.specs.Events.{moved_in}
+use Rattle.hg_rule.specs.declared.view.SessionPart.{SessionPart}
+use Rattle.hg_rule.specs.declared.view.PassPart.{PassPart}
+use Rattle.hg_rule.specs.declared.view.Part.{Part}
+use Rattle.hg_rule.specs.declared.view.Part.TheVariants.{OfSession, OfPass}
+use Rattle.hg_rule.specs.declared.view.Sight.{Sight}
+use Rattle.hg_rule.specs.declared.view.Sight.TheVariants.{Saw, Heard, Took, Did}
+use Rattle.hg_rule.specs.declared.view.Event.TheVariants.{Probe, Enter, Fix, GoLive, End, Mark, Sample, Move}
+use Rattle.hg_rule.specs.declared.view.View.{View}
+use Rattle.hg_rule.specs.declared.view.Sizes.{Sizes}
+use Rattle.hg_rule.specs.Facts.{StartsWith, groups}
+use Rattle.hg_rule.specs.Rules.{IsBacked}
+use Rattle.hg_rule.specs.Views.{number, session, pass, others, then_has}
+
+-- a number that a register can show
+abbrev pub IsNumber : ℕ → Type 0
+IsNumber n = n < 2 ^ 44
+
+-- What was seen of the history is a beginning of this one, and no number that was heard or taken is over its last.
+abbrev pub Within : History → Sight → Type 0
+Within h (Saw g) = StartsWith h g.list
+Within h (Heard j log) = UpTo (length h) log
+Within h (Took n) = n ≤ length h
+Within h (Did e) = ⊤
+
+-- h is the whole history at a load of the mark n, so all that was seen of it before is a beginning
+pub record IsHistoryAt (v : View) (n : ℕ) (h : History) : Type 0 where
+  pub is_length : length h ≡ n
+  pub number : IsNumber n
+  pub within : Each (Within h) v.sights
+
+-- ---- a session's
+
+abbrev pub in_phase : Phase → SessionPart → SessionPart
+in_phase phase part = record part { phase = phase }
+
+abbrev pub logging : LogEntry → Phase → SessionPart → SessionPart
+logging entry phase part = record part { phase = phase; log = entry ∷ part.log }
+
+-- the number that a session in this phase loaded last
+abbrev pub loaded_in : Phase → ℕ
+loaded_in Idle = 0
+loaded_in (Probed f) = f
+loaded_in (Entered f) = f
+loaded_in (Fixed f m) = m
+loaded_in (Live at scope) = at
+
+-- the tables that it may name
+abbrev pub tables_in : Phase → Scope
+tables_in Idle = All
+tables_in (Probed f) = All
+tables_in (Entered f) = All
+tables_in (Fixed f m) = All
+tables_in (Live at scope) = scope
+
+-- the number at which a session in this phase entered
+abbrev pub entered_in : Phase → ℕ
+entered_in Idle = 0
+entered_in (Probed f) = f
+entered_in (Entered f) = f
+entered_in (Fixed f m) = f
+entered_in (Live at scope) = 0
+
+abbrev pub Probes : View → ℕ → View → Type 0
+Probes v n w = (h : History) × (IsHistoryAt v n h × (w ≡ then_has v (OfSession (number v) (in_phase (Probed n) (session v)) ∷ others v) (Saw (groups h) ∷ []) (Probe (number v) n)))
+
+abbrev pub Enters : View → ℕ → View → Type 0
+Enters v f w = w ≡ then_has v (OfSession (number v) (in_phase (Entered f) (session v)) ∷ others v) [] (Enter (number v) f)
+
+abbrev pub Fixes : View → ℕ → View → Type 0
+Fixes v n w = (h : History) × (IsHistoryAt v n h × (w ≡ then_has v (OfSession (number v) (in_phase (Fixed (loaded_in (session v).phase) n) (session v)) ∷ others v) (Saw (groups h) ∷ []) (Fix (number v) n)))
+
+abbrev pub GoesLive : View → ℕ → Scope → View → Type 0
+GoesLive v m scope w = w ≡ then_has v (OfSession (number v) (logging (Began m scope) (Live m scope) (session v)) ∷ others v) (Heard (number v) (Began m scope ∷ (session v).log) ∷ []) (GoLive (number v) m scope)
+
+abbrev pub Ends : View → View → Type 0
+Ends v w = w ≡ then_has v (OfSession (number v) (logging Over Idle (session v)) ∷ others v) (Heard (number v) (Over ∷ (session v).log) ∷ []) (End (number v))
+
+-- ---- a collector pass's
+
+-- a record begins, with what was seen so far
+abbrev pub beginning : ℕ → List Sight → PassPart → PassPart
+beginning mark seen part = record part { mark = mark; seen = seen; loaded = [] }
+
+abbrev pub loading : ℕ → Register → PassPart → PassPart
+loading j register part = record part { loaded = (j, register) ∷ part.loaded }
+
+-- session j's entry is moved
+abbrev pub moving : ℕ → PassPart → PassPart
+moving j part = record part { loaded = moved_in j part.loaded }
+
+abbrev pub Marks : View → ℕ → View → Type 0
+Marks v n w = (h : History) × (IsHistoryAt v n h × (w ≡ then_has v (OfPass (number v) (beginning n v.sights (pass v)) ∷ others v) (Saw (groups h) ∷ []) (Mark (number v) n)))
+
+abbrev pub Samples : View → ℕ → Register → View → Type 0
+Samples v j register w = w ≡ then_has v (OfPass (number v) (loading j register (pass v)) ∷ others v) [] (Sample (number v) j register)
+
+-- a try tells whether the register was moved
+abbrev pub after_try : Bool → ℕ → View → List Part
+after_try true j v = OfPass (number v) (moving j (pass v)) ∷ others v
+after_try false j v = v.parts
+
+abbrev pub Moves : View → ℕ → ℕ → Bool → View → Type 0
+Moves v j n moved w = w ≡ then_has v (after_try moved j v) [] (Move (number v) j n moved)
+
+-- a live register, declared and not moved
+abbrev pub IsMovable : Register → Type 0
+IsMovable registers.Idle = ⊥
+IsMovable (registers.Entering f) = ⊥
+IsMovable (registers.Live n All moved) = ⊥
+IsMovable (registers.Live n (Declared mask) true) = ⊥
+IsMovable (registers.Live n (Declared mask) false) = ⊤
+
+-- ---- the same as a step of the table tells it: of the step, the seat before, the number found or stored, the seat after
+
+abbrev pub Seated : Type 0
+Seated = Me ℕ View
+
+abbrev pub probed : Step ℕ → Seated → ℕ → Seated → Type 0
+probed step m n w = Probes m.0 n w.0 × (w.1 ≡ m.1)
+
+abbrev pub entered : Step ℕ → Seated → ℕ → Seated → Type 0
+entered step m n w = Enters m.0 (loaded_in (session m.0).phase) w.0 × (w.1 ≡ m.1)
+
+abbrev pub fixed : Step ℕ → Seated → ℕ → Seated → Type 0
+fixed step m n w = Fixes m.0 n w.0 × (w.1 ≡ m.1)
+
+abbrev pub went_live : Step ℕ → Seated → ℕ → Seated → Type 0
+went_live step m n w = GoesLive m.0 (loaded_in (session m.0).phase) (scope_of (register_of n)) w.0 × (w.1 ≡ m.1)
+
+abbrev pub ended : Step ℕ → Seated → ℕ → Seated → Type 0
+ended step m n w = Ends m.0 w.0 × (w.1 ≡ m.1)
+
+abbrev pub marked : Step ℕ → Seated → ℕ → Seated → Type 0
+marked step m n w = Marks m.0 n w.0 × (w.1 ≡ m.1)
+
+abbrev pub sampled : Step ℕ → Seated → ℕ → Seated → Type 0
+sampled step m n w = Samples m.0 step.word (register_of n) w.0 × IsRegister (register_of n) × (w.1 ≡ m.1)
+
+-- the register was moved where the word was the first operand, which shows it
+abbrev pub tried : Step ℕ → Seated → ℕ → Seated → Type 0
+tried step m n w = Moves m.0 step.word (number_of (register_of step.first)) (n == step.first) w.0 × (w.1 ≡ m.1)
+
+-- the view stays, and is true
+abbrev pub looked : Sizes → Step ℕ → Seated → ℕ → Seated → Type 0
+looked z step m n w = IsBacked z n w.0 × (w.0 ≡ m.0) × (w.1 ≡ m.1)

@@ -1,0 +1,139 @@
+-- What each step of a session on contents and on groups makes of its view.
+use Rattle.std.specs.Prelude.{◌≡◌, ℕ, ℤ, suc, ◌+◌, ◌≤◌, true, false, List, [], ◌∷◌, ◌++◌, length, IsTrue, IsFalse}
+use Rattle.hg_base.specs.declared.rid.Rid.{Rid}
+use Rattle.hg_base.specs.declared.image.Image.{Image}
+use Rattle.hg_base.specs.declared.writer.Writer.{Writer}
+use Rattle.hg_base.specs.History.{History}
+use Rattle.hg_base.specs.Replies.{AreRows}
+use Rattle.hg_base.specs.Transcript.{has}
+use Rattle.hg_core.specs.declared.ask.Ask.{Ask}
+use Rattle.hg_core.specs.declared.ask.Ask.TheVariants.{Read, Write, Outside}
+use Rattle.hg_core.specs.declared.log.LogEntry.{LogEntry}
+use Rattle.hg_core.specs.declared.log.LogEntry.TheVariants as entries
+use Rattle.hg_core.specs.declared.version.Stamp.TheVariants.{Written, Numbered, Oldest}
+use Rattle.hg_core.specs.declared.version.Version.{Version}
+use Rattle.hg_core.specs.Logs.{commit_in}
+use Rattle.hg_core.specs.Versions.{installed, undone, stamped}
+use Rattle.hg_core.specs.Contents.{bucket_of, look, store}
+use Rattle.hg_core.specs.Counters.{added}
+use Rattle.hg_core.specs.Replies.{read_by, refusal}
+use Rattle.hg_core.specs.Events.{with_refusal}
+use Rattle.hg_rule.specs.declared.view.SessionPart.{SessionPart}
+use Rattle.hg_rule.specs.declared.view.BucketPart.{BucketPart}
+use Rattle.hg_rule.specs.declared.view.CommitPart.{CommitPart}
+use Rattle.hg_rule.specs.declared.view.Part.TheVariants.{OfSession, OfBucket, OfCommit}
+use Rattle.hg_rule.specs.declared.view.Sight.TheVariants.{Saw, Heard}
+use Rattle.hg_rule.specs.declared.view.Event.TheVariants.{Look, Install, Undo, Stamp, Publish}
+use Rattle.hg_rule.specs.declared.view.View.{View}
+use Rattle.hg_rule.specs.declared.view.Sizes.{Sizes}
+use Rattle.hg_rule.specs.Facts.{groups}
+use Rattle.hg_rule.specs.Rules.{IsBacked}
+use Rattle.hg_rule.specs.Views.{number, session, others, then_has}
+use Rattle.hg_rule.specs.Steps.{IsHistoryAt, Seated}
+use Rattle.atomic_table.specs.Table.{Step}
+use Rattle.hg_rule.specs.Holding.{bucket_number, bucket, HasBucket, beyond, commit, commit_behind, farther, held, writer, snapshot, tables}
+
+abbrev pub with_log : List LogEntry → SessionPart → SessionPart
+with_log log part = record part { log = log }
+
+abbrev pub with_entry : LogEntry → SessionPart → SessionPart
+with_entry entry part = record part { log = entry ∷ part.log }
+
+-- ---- a look
+
+-- a read or a write is of the tables of the live scope, in the bucket held; what is outside is of none
+abbrev pub MayAsk : ℕ → View → Ask → Type 0
+MayAsk buckets v (Read table low high) = HasBucket v × IsTrue (has (tables v) table)
+MayAsk buckets v (Write rid) = HasBucket v × ((bucket_of buckets rid ≡ bucket_number v) × IsTrue (has (tables v) rid.table))
+MayAsk buckets v (Outside table) = IsFalse (has (tables v) table)
+
+-- the rows of the range that the transaction sees in the bucket held
+abbrev pub AreShown : View → Ask → List (ℕ × List ℤ) → Type 0
+AreShown v (Read table low high) rows = AreRows (λ key. read_by (writer v) (snapshot v) (held v record { table = table; key = key })) low high rows
+AreShown v (Write rid) rows = rows ≡ []
+AreShown v (Outside table) rows = rows ≡ []
+
+-- the log after it, where the mark is n: a write logs how the content held and that mark refuse it, or nothing
+abbrev pub log_asked : View → Ask → ℕ → List (ℕ × List ℤ) → List LogEntry
+log_asked v (Read table low high) n rows = entries.Saw table low high (bucket_number v) rows ∷ (session v).log
+log_asked v (Write rid) n rows = with_refusal rid (refusal n (writer v) (snapshot v) (held v rid)) (session v).log
+log_asked v (Outside table) n rows = entries.Outside table ∷ (session v).log
+
+pub record Looks (v : View) (ask : Ask) (n : ℕ) (w : View) : Type 0 where
+  pub history : History
+  pub whole : IsHistoryAt v n history
+  pub rows : List (ℕ × List ℤ)
+  pub shown : AreShown v ask rows
+  pub after : w ≡ then_has v (OfSession (number v) (with_log (log_asked v ask n rows) (session v)) ∷ others v) (Saw (groups history) ∷ Heard (number v) (log_asked v ask n rows) ∷ []) (Look (number v) ask n)
+
+-- ---- a write
+
+-- a version is the transaction's own open write, or is numbered at or below its snapshot
+abbrev pub IsOwnOrSeen : Writer → ℕ → Version → Type 0
+IsOwnOrSeen w at version = elim version.stamp [ Written by ↦ by ≡ w | Numbered number by ↦ number ≤ at | Oldest number ↦ number ≤ at ]
+
+abbrev pub installing : Writer → Rid → Image → BucketPart → BucketPart
+installing w rid image part = record {
+  content = store rid (installed w image (look rid part.content)) part.content;
+  counters = record part.counters { made = part.counters.made + added (look rid part.content) };
+}
+
+abbrev pub undoing : Rid → BucketPart → BucketPart
+undoing rid part = record { content = store rid (undone (look rid part.content)) part.content; counters = record part.counters { undone = suc part.counters.undone } }
+
+abbrev pub Installs : View → Rid → Image → View → Type 0
+Installs v rid image w = w ≡ then_has v (OfSession (number v) (with_entry (entries.Wrote rid image) (session v)) ∷ OfBucket (bucket_number v) (installing (writer v) rid image (bucket v)) ∷ beyond v)
+    (Heard (number v) (entries.Wrote rid image ∷ (session v).log) ∷ []) (Install (number v) rid image)
+
+abbrev pub Undoes : View → Rid → View → Type 0
+Undoes v rid w = w ≡ then_has v (OfSession (number v) (with_entry (entries.Undid rid) (session v)) ∷ OfBucket (bucket_number v) (undoing rid (bucket v)) ∷ beyond v)
+    (Heard (number v) (entries.Undid rid ∷ (session v).log) ∷ []) (Undo (number v) rid)
+
+-- ---- a group
+
+abbrev pub stamping : ℕ → Writer → Rid → BucketPart → BucketPart
+stamping number w rid part = record part { content = store rid (stamped number w (look rid part.content)) part.content }
+
+abbrev pub with_stamp : SessionPart → SessionPart
+with_stamp part = record part { stamped = true }
+
+abbrev pub with_published : ℕ → SessionPart → SessionPart
+with_published n part = record part { log = entries.Published n ∷ part.log; stamped = false }
+
+-- one more write has the next number
+abbrev pub listing : ℕ → Rid → CommitPart → CommitPart
+listing j rid part = record part { stamped = (j, rid) ∷ part.stamped }
+
+-- the history with a group more, which is the transaction of this log
+abbrev pub history_with : ℕ → List LogEntry → History → History
+history_with j log h = h ++ (commit_in j log ∷ []) ∷ []
+
+abbrev pub publishing : ℕ → List LogEntry → CommitPart → CommitPart
+publishing j log part = record part { history = groups (history_with j log part.history.list); stamped = [] }
+
+abbrev pub Stamps : View → Rid → ℕ → View → Type 0
+Stamps v rid n w = w ≡ then_has v (OfSession (number v) (with_stamp (session v)) ∷ OfBucket (bucket_number v) (stamping n (writer v) rid (bucket v)) ∷ OfCommit (listing (number v) rid (commit_behind v)) ∷ farther v) []
+    (Stamp (number v) rid n)
+
+-- the history before is the whole one, so n is over all that was seen
+abbrev pub Publishes : View → ℕ → View → Type 0
+Publishes v n w = IsHistoryAt v (length (commit v).history.list) (commit v).history.list × (w ≡ then_has v (OfSession (number v) (with_published n (session v)) ∷ OfCommit (publishing (number v) (session v).log (commit v)) ∷ beyond v)
+    (Saw (groups (history_with (number v) (session v).log (commit v).history.list)) ∷ Heard (number v) (entries.Published n ∷ (session v).log) ∷ []) (Publish (number v) n))
+
+-- ---- the same as a step of the table tells it
+
+-- and the view is true
+abbrev pub asked : Sizes → Ask → Step ℕ → Seated → ℕ → Seated → Type 0
+asked z ask step m n w = Looks m.0 ask n w.0 × (IsBacked z n w.0 × (w.1 ≡ m.1))
+
+abbrev pub wrote : Rid → Image → Step ℕ → Seated → ℕ → Seated → Type 0
+wrote rid image step m n w = Installs m.0 rid image w.0 × (w.1 ≡ m.1)
+
+abbrev pub undid : Rid → Step ℕ → Seated → ℕ → Seated → Type 0
+undid rid step m n w = Undoes m.0 rid w.0 × (w.1 ≡ m.1)
+
+abbrev pub numbered : Rid → Step ℕ → Seated → ℕ → Seated → Type 0
+numbered rid step m n w = Stamps m.0 rid (suc (length (commit_behind m.0).history.list)) w.0 × (w.1 ≡ m.1)
+
+abbrev pub published : Step ℕ → Seated → ℕ → Seated → Type 0
+published step m n w = Publishes m.0 n w.0 × (w.1 ≡ m.1)

@@ -1,0 +1,146 @@
+//! The steps. Each call is one event of `hg_core`.
+
+ghost use Rattle.std.specs.Prelude.{◌≡◌, ◌<◌, Some, None, IsSome};
+ghost use Rattle.hg_base.specs.declared.rid.Rid.{Rid};
+ghost use Rattle.hg_core.specs.declared.phase.Phase.TheVariants.{Idle, Probed, Entered, Fixed};
+ghost use Rattle.hg_core.specs.Words.{IsBelow, IsRegister, number_of};
+ghost use Rattle.hg_core.specs.Logs.{begans, open_in};
+ghost use Rattle.hg_core.specs.Phases.{IsSession, snapshot_in};
+ghost use Rattle.hg_core.specs.Passes.{found};
+ghost use Rattle.hg_core.specs.Events.{moved};
+ghost use Rattle.hg_rule.specs.Views.{session, pass as own_pass};
+ghost use Rattle.hg_rule.specs.Steps.{IsNumber, IsMovable, loaded_in, entered_in, Probes, Enters, Fixes, GoesLive, Ends, Marks, Samples, Moves};
+ghost use Rattle.hg_rule.specs.Seats.{table_of, sizes_of, session_view, pass_view, IsSessionOf, IsPassOf};
+
+use crate::board::Board;
+use crate::passes::{CollectorPass, SessionPass};
+use crate::plays::{Ending, Entering, Fixing, GoingLive, Marking, Moving, Probing, Sampling};
+use hg_base::Scope;
+use hg_core::Register;
+
+fn moved(register: Register) -> Register
+    ensures { result ≡ moved register }
+{
+    match register {
+        Register::Live { number, scope, .. } => Register::Live {
+            number,
+            scope,
+            moved: true,
+        },
+        other => other,
+    }
+}
+
+impl Board {
+    /// Loads the mark, of which nobody knows yet.
+    pub fn probe(&self, pass: &mut SessionPass) -> u64
+        requires own { IsSessionOf (table_of self.now) (sizes_of self.now) pass.old }
+        requires rests { (session (session_view pass.old)).phase ≡ Idle }
+        requires room { begans (session (session_view pass.old)).log < (sizes_of self.now).each }
+        ensures step { Probes (session_view pass.old) result (session_view pass.new) }
+        ensures own { IsSessionOf (table_of self.now) (sizes_of self.now) pass.new }
+    {
+        self.table.shared.load::<Probing>(&mut pass.seat, 0)
+    }
+
+    /// Shows that the session enters at the mark that it loaded.
+    pub fn enter(&self, pass: &mut SessionPass, f: u64)
+        requires own { IsSessionOf (table_of self.now) (sizes_of self.now) pass.old }
+        requires probed { ((session (session_view pass.old)).phase ≡ Probed f) × IsNumber f }
+        ensures step { Enters (session_view pass.old) f (session_view pass.new) }
+        ensures own { IsSessionOf (table_of self.now) (sizes_of self.now) pass.new }
+    {
+        let word = Register::Entering(f).word();
+        self.table
+            .shared
+            .store::<Entering>(&mut pass.seat, pass.number as usize, word);
+    }
+
+    /// Loads the mark again.
+    pub fn fix(&self, pass: &mut SessionPass) -> u64
+        requires own { IsSessionOf (table_of self.now) (sizes_of self.now) pass.old }
+        requires entered { (session (session_view pass.old)).phase ≡ Entered (loaded_in (session (session_view pass.old)).phase) }
+        ensures step { Fixes (session_view pass.old) result (session_view pass.new) }
+        ensures own { IsSessionOf (table_of self.now) (sizes_of self.now) pass.new }
+    {
+        self.table.shared.load::<Fixing>(&mut pass.seat, 0)
+    }
+}
+
+impl Board {
+    /// Shows the second mark as the snapshot, with the tables that the transaction declares. It is logged as begun.
+    pub fn go_live(&self, pass: &mut SessionPass, m: u64, scope: Scope)
+        requires own { IsSessionOf (table_of self.now) (sizes_of self.now) pass.old }
+        requires fixed { ((session (session_view pass.old)).phase ≡ Fixed (entered_in (session (session_view pass.old)).phase) m) × IsNumber m }
+        requires tables { IsBelow (sizes_of self.now).tables scope }
+        requires room { begans (session (session_view pass.old)).log < (sizes_of self.now).each }
+        ensures step { GoesLive (session_view pass.old) m scope (session_view pass.new) }
+        ensures own { IsSessionOf (table_of self.now) (sizes_of self.now) pass.new }
+    {
+        let register = Register::Live {
+            number: m,
+            scope,
+            moved: false,
+        };
+        self.table
+            .shared
+            .store::<GoingLive>(&mut pass.seat, pass.number as usize, register.word());
+        pass.begun += 1;
+    }
+
+    /// Goes to rest. The transaction is logged as over.
+    pub fn end(&self, pass: &mut SessionPass)
+        requires own { IsSessionOf (table_of self.now) (sizes_of self.now) pass.old }
+        requires live { IsSome (snapshot_in (session (session_view pass.old)).phase) }
+        requires none { (rid : Rid) → open_in rid (session (session_view pass.old)).log ≡ None }
+        ensures step { Ends (session_view pass.old) (session_view pass.new) }
+        ensures own { IsSessionOf (table_of self.now) (sizes_of self.now) pass.new }
+    {
+        self.table
+            .shared
+            .store::<Ending>(&mut pass.seat, pass.number as usize, 0);
+    }
+
+    /// Loads the mark, which begins a record with what the pass has seen.
+    pub fn mark(&self, pass: &mut CollectorPass) -> u64
+        requires own { IsPassOf (table_of self.now) pass.old }
+        ensures step { Marks (pass_view pass.old) result (pass_view pass.new) }
+        ensures own { IsPassOf (table_of self.now) pass.new }
+    {
+        self.table.shared.load::<Marking>(&mut pass.seat, 0)
+    }
+
+    /// Loads a session's register into the record, which has none of that session yet.
+    pub fn sample(&self, pass: &mut CollectorPass, j: u32) -> Register
+        requires own { IsPassOf (table_of self.now) pass.old }
+        requires session { IsSession (sizes_of self.now).sessions j }
+        requires fresh { found j (own_pass (pass_view pass.old)).loaded ≡ None }
+        ensures step { Samples (pass_view pass.old) j result (pass_view pass.new) }
+        ensures register { IsRegister result }
+        ensures own { IsPassOf (table_of self.now) pass.new }
+    {
+        let word = self
+            .table
+            .shared
+            .load::<Sampling>(&mut pass.seat, j as usize);
+        Register::from_word(word)
+    }
+
+    /// Moves a snapshot that the record has as live, declared and not moved, if its register still shows that. The answer
+    /// says whether it did: then the record's entry is moved too, and else no part has changed.
+    pub fn move_one(&self, pass: &mut CollectorPass, j: u32, from: Register) -> bool
+        requires own { IsPassOf (table_of self.now) pass.old }
+        requires session { IsSession (sizes_of self.now).sessions j }
+        requires movable { IsMovable from × IsRegister from }
+        requires loaded { found j (own_pass (pass_view pass.old)).loaded ≡ Some from }
+        ensures step { Moves (pass_view pass.old) j (number_of from) result (pass_view pass.new) }
+        ensures own { IsPassOf (table_of self.now) pass.new }
+    {
+        let unmoved = from.word();
+        let found = self
+            .table
+            .shared
+            .compare_exchange::<Moving>(&mut pass.seat, j as usize, unmoved, moved(from).word());
+        found == unmoved
+    }
+}

@@ -1,0 +1,55 @@
+//! The board: one word for the mark and one for each session's register, under one rule.
+//!
+//!     word 0    word 1        word 2               ..   word n
+//!     mark      register 1    register 2                register n
+//!
+//! Threads share the words and nothing else. What else there is of the state of `hg_core` stands in views: plain data that a
+//! seat carries in proofs alone, and that has no bytes.
+//!
+//!     SessionPass      phase and log of its session
+//!     BucketSeat       records and counters of its bucket
+//!     CommitSeat       history, stamped writes, and how many groups were taken
+//!     CollectorPass    record and visits of its pass
+//!
+//! A view is three lists: the parts that the seat has, what it has seen, and the steps that it made. Each part is in exactly
+//! one view. A seat can be joined to another, which then has its parts too, and be split off again. What was seen stays true,
+//! since histories and logs only grow, so two such lists are joined by appending them.
+//!
+//! The rule (`specs/Rules.antt`) says that words and views show a state, and that this state meets the invariant of
+//! `hg_core`. It holds between any two steps, whatever the threads do. The state is no secret: one function reads it from
+//! words and views (`state_is_read`).
+//!
+//! Each call on `Board` is one atomic step, and one event of `hg_core`. Its contract is one equation for the view after: it
+//! answers by the word that it found, appends its event to the seat's list, changes only its own part, and keeps what was
+//! seen. Nothing of snapshots or versions is proved here again: a step is allowed by its event's law, and by the one lemma
+//! that a step which changes its own word and its own parts alone keeps the rule (`proofs/Keeps.antt`).
+//!
+//! A load of the mark can tell more: that a state which meets the rule backs the view (`look_at`). What a meeting tells, and
+//! what a pass knows once all others are joined to it (`know_all`), are lemmas over that one fact.
+#![tactic(auto)]
+
+mod board;
+mod calls;
+mod collecting;
+mod dealt;
+mod groups;
+mod joining;
+mod making;
+mod meets;
+mod moves;
+mod pass;
+mod passes;
+mod picks;
+mod plays;
+mod seats;
+mod view;
+mod writing;
+
+pub use board::Board;
+pub use groups::Groups;
+pub use hg_core::{Ask, Register};
+pub use meets::state_is_read;
+pub use pass::Pass;
+pub use passes::{BucketSeat, CollectorPass, CommitSeat, SessionPass};
+pub use seats::{BucketSeatList, Seats, SessionPassList};
+pub use view::{BucketPart, CommitPart, Event, Part, PassPart, SessionPart, Sight, Sizes, View};

@@ -1,0 +1,146 @@
+//! What a seat at the board has, knows and did. No code makes a value of these types: contracts speak of them.
+
+use crate::groups::Groups;
+use hg_base::{Image, Kind, Rid, Scope};
+use hg_core::{Ask, Counters, LogEntry, Phase, Register, Version, Visit};
+
+/// A session's part of the state: its phase, its log, newest entry first, and whether a write of its open transaction has the
+/// next number.
+pub struct SessionPart {
+    pub phase: Phase,
+    pub log: [LogEntry; 0],
+    pub stamped: bool,
+}
+
+/// A bucket's: its records with their versions, and its counters.
+pub struct BucketPart {
+    pub content: [(Rid, [Version; 0]); 0],
+    pub counters: Counters,
+}
+
+/// The committer's: the history, the writes that have the next number, each with its session, and how many groups were
+/// taken out of its list.
+pub struct CommitPart {
+    pub history: Groups,
+    pub stamped: [(u64, Rid); 0],
+    pub taken: u64,
+}
+
+/// A collector pass's: its record with what it had seen when the record began, the registers that it loaded since, the last
+/// one first, and its visits, newest first. The shares of all passes add up to the same always, and none is 0.
+pub struct PassPart {
+    pub mark: u64,
+    pub seen: [Sight; 0],
+    pub loaded: [(u64, Register); 0],
+    pub visits: [Visit; 0],
+    pub share: u64,
+}
+
+/// A part of the state, with the number of its owner. Exactly one view has each.
+pub enum Part {
+    OfSession(u64, SessionPart),
+    OfBucket(u64, BucketPart),
+    OfCommit(CommitPart),
+    OfPass(u64, PassPart),
+}
+
+/// What was seen, which stays true.
+pub enum Sight {
+    /// The history begins so.
+    Saw(Groups),
+    /// The log of a session ends so, in its oldest entries.
+    Heard(u64, [LogEntry; 0]),
+    /// At least so many groups were taken.
+    Took(u64),
+    /// A step of a pass that was joined to this one.
+    Did(Event),
+}
+
+/// A step, with what its call answered.
+pub enum Event {
+    Probe {
+        session: u64,
+        mark: u64,
+    },
+    Enter {
+        session: u64,
+        number: u64,
+    },
+    Fix {
+        session: u64,
+        mark: u64,
+    },
+    GoLive {
+        session: u64,
+        number: u64,
+        scope: Scope,
+    },
+    End {
+        session: u64,
+    },
+    Look {
+        session: u64,
+        ask: Ask,
+        mark: u64,
+    },
+    Install {
+        session: u64,
+        rid: Rid,
+        image: Image,
+    },
+    Undo {
+        session: u64,
+        rid: Rid,
+    },
+    Stamp {
+        session: u64,
+        rid: Rid,
+        number: u64,
+    },
+    Publish {
+        session: u64,
+        number: u64,
+    },
+    Mark {
+        pass: u64,
+        mark: u64,
+    },
+    Sample {
+        pass: u64,
+        session: u64,
+        register: Register,
+    },
+    /// Whether the register still was live at this number, and so was moved.
+    Move {
+        pass: u64,
+        session: u64,
+        number: u64,
+        moved: bool,
+    },
+    Reclaim {
+        pass: u64,
+        kind: Kind,
+        rid: Rid,
+        removed: u64,
+    },
+    Take {
+        pass: u64,
+        mark: u64,
+    },
+}
+
+/// The parts that a seat has, its own first and then what was joined last; what it has seen; and the steps that it made.
+pub struct View {
+    pub parts: [Part; 0],
+    pub sights: [Sight; 0],
+    pub events: [Event; 0],
+}
+
+/// How many of each a board is made for, and how often each session may begin, and write.
+#[derive(Clone, Copy, Debug, PartialEq, Eq)]
+pub struct Sizes {
+    pub sessions: u32,
+    pub tables: u32,
+    pub buckets: u32,
+    pub each: u64,
+}

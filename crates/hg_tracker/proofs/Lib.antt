@@ -1,0 +1,4 @@
+pub mod Noting
+pub mod After
+pub mod Trying
+pub mod Readiness

@@ -1,0 +1,236 @@
+-- What a gather's lists have of a record.
+use Rattle.std.proofs.Common.{◌≡◌, ◌⊎◌, inl, inr, ℕ, zero, suc, ◌+◌, ◌<◌, ◌≤◌, Bool, true, false, List, [], ◌∷◌, ◌++◌, length, map, filter, get_or, min, ◌==◌, if◌then◌else◌, not, ◌||◌, refl, sym, ap, ◌∙◌, subst, arith, length-append, append-nil, Vec}
+use Rattle.std.specs.declared.alloc.Global.{Global}
+use Rattle.std.specs.Prelude.{IsPermutation}
+use Rattle.std.specs.List.{sum_by}
+use Rattle.std.specs.List.Sorted.{IsNonDecreasing, IsNonDecreasingBy}
+use native.Mathlib.Decide.{dec_le}
+use Rattle.std.proofs.lemmas.Bool.Decides.{nat_tests}
+use Rattle.std.proofs.lemmas.List.Kept.{IsNonDecreasingBy-filter}
+use Rattle.std.proofs.lemmas.List.Sums.{sum_by-cons, sum_by-append}
+use Rattle.std.proofs.lemmas.List.Sorted.{sum_by-IsPermutation}
+use Rattle.hg_base.specs.declared.scope.Scope.{Scope}
+use Rattle.hg_base.specs.declared.scope.Scope.TheVariants.{All as All_tables, Declared}
+use Rattle.hg_base.specs.declared.rid.TableId.{TableId}
+use Rattle.hg_base.specs.declared.report.Entry.{Entry}
+use Rattle.hg_base.specs.Transcript.{has}
+use Rattle.hg_core.specs.declared.register.Register.{Register}
+use Rattle.hg_core.specs.declared.register.Register.TheVariants.{Idle, Entering, Live}
+use Rattle.hg_core.specs.Passes.{live_numbers, if_live, least, horizon, recorded, all_recorded, table_bound, group_bound}
+use Rattle.hg_rule.specs.declared.view.PassPart.{PassPart}
+use Rattle.hg_rule.specs.Facts.{record_of}
+use Rattle.hg_tracker.specs.declared.gathered.Gathered.{Gathered}
+use Rattle.hg_tracker.specs.Entries.{has_number, counts_for, live_entry, entries_of, times, numbers_for, lowest}
+use Rattle.hg_tracker.specs.Gathers.{AreListsOf, IsGatherOf}
+
+-- ---- lengths
+
+picked_most : (b : Bool) (e : Entry) (table : ℕ) (es : List Entry) → length (numbers_for table es) ≤ length es → length (map (λ (x : Entry). x.number) (if b then e ∷ filter (counts_for table) es else filter (counts_for table) es)) ≤ suc (length es)
+picked_most true e table es h = omega arith
+picked_most false e table es h = omega arith
+
+pub numbers_most : (table : ℕ) (es : List Entry) → length (numbers_for table es) ≤ length es
+numbers_most table [] = omega arith
+numbers_most table (e ∷ es) = picked_most (counts_for table e) e table es (numbers_most table es)
+
+live_most : (j : ℕ) (register : Register) → length (live_entry j register) ≤ 1
+live_most j Idle = omega arith
+live_most j (Entering f) = omega arith
+live_most j (Live n scope moved) = omega arith
+
+pub entries_most : (loaded : List (ℕ × Register)) → length (entries_of loaded) ≤ length loaded
+entries_most [] = omega arith
+entries_most (e ∷ loaded) = omega (arith, entries_most loaded, live_most e.0 e.1, length-append (entries_of loaded) (live_entry e.0 e.1))
+
+-- ---- lists of tables
+
+pub lists_snoc : (t : ℕ) (ranked : List Entry) (lists : List (Vec ℕ Global)) (list : Vec ℕ Global) → AreListsOf t ranked lists → list.items ≡ numbers_for (t + length lists) ranked → AreListsOf t ranked (lists ++ list ∷ [])
+lists_snoc t ranked [] list h e = (e ∙ ap (λ n. numbers_for n ranked) (plain t), tt)
+  where
+    plain : (n : ℕ) → n + 0 ≡ n
+    plain n = omega arith
+lists_snoc t ranked (l ∷ lists) list h e = (h.0, lists_snoc (suc t) ranked lists list h.1 (e ∙ ap (λ n. numbers_for n ranked) (shift t (length lists))))
+  where
+    shift : (a n : ℕ) → a + suc n ≡ suc a + n
+    shift a n = omega arith
+
+pub list_at : (t : ℕ) (ranked : List Entry) (lists : List (Vec ℕ Global)) (k : ℕ) (d : Vec ℕ Global) → k < length lists → AreListsOf t ranked lists → (get_or lists k d).items ≡ numbers_for (t + k) ranked
+list_at t ranked [] k d l h = absurd (omega arith)
+list_at t ranked (x ∷ lists) zero d l h = h.0 ∙ ap (λ n. numbers_for n ranked) (plain t)
+  where
+    plain : (n : ℕ) → n ≡ n + 0
+    plain n = omega arith
+list_at t ranked (x ∷ lists) (suc k) d l h = list_at (suc t) ranked lists k d (omega arith) h.1 ∙ ap (λ n. numbers_for n ranked) (shift t k)
+  where
+    shift : (a n : ℕ) → suc a + n ≡ a + suc n
+    shift a n = omega arith
+
+-- ---- how often a number counts
+
+abbrev weight : ℕ → (Entry → Bool) → Entry → ℕ
+weight n test e = if test e then (if e.number == n then 1 else 0) else 0
+
+picked : (n : ℕ) (b : Bool) (m : ℕ) (ms : List ℕ) (w : ℕ) → times n ms ≡ w → times n (if b then m ∷ ms else ms) ≡ (if b then (if m == n then 1 else 0) else 0) + w
+picked n false m ms w e = omega (arith, e)
+picked n true m ms w e = go (m == n)
+  where
+    go : (c : Bool) → (if c then suc (times n ms) else times n ms) ≡ (if c then 1 else 0) + w
+    go true = omega (arith, e)
+    go false = omega (arith, e)
+
+push_in : (b : Bool) (e : Entry) (es : List Entry) → map (λ (x : Entry). x.number) (if b then e ∷ es else es) ≡ (if b then e.number ∷ map (λ (x : Entry). x.number) es else map (λ (x : Entry). x.number) es)
+push_in true e es = refl
+push_in false e es = refl
+
+times_filter : (n : ℕ) (test : Entry → Bool) (es : List Entry) → times n (map (λ (x : Entry). x.number) (filter test es)) ≡ sum_by (weight n test) es
+times_filter n test [] = refl
+times_filter n test (e ∷ es) = ap (times n) (push_in (test e) e (filter test es)) ∙ (picked n (test e) e.number (map (λ (x : Entry). x.number) (filter test es)) (sum_by (weight n test) es) (times_filter n test es) ∙ sym (sum_by-cons (weight n test) e es))
+
+times_append : (n : ℕ) (xs ys : List ℕ) → times n (xs ++ ys) ≡ times n xs + times n ys
+times_append n [] ys = omega arith
+times_append n (x ∷ xs) ys = go (x == n) (times_append n xs ys)
+  where
+    go : (b : Bool) → times n (xs ++ ys) ≡ times n xs + times n ys → (if b then suc (times n (xs ++ ys)) else times n (xs ++ ys)) ≡ (if b then suc (times n xs) else times n xs) + times n ys
+    go true e = omega (arith, e)
+    go false e = omega (arith, e)
+
+-- ---- what a record's registers count
+
+has_is : (scope : Scope) (table : TableId) → has scope table ≡ has_number scope table.0
+has_is All_tables table = refl
+has_is (Declared mask) table = refl
+
+sum_by-snoc : (f : Entry → ℕ) (es : List Entry) (e : Entry) → sum_by f (es ++ e ∷ []) ≡ sum_by f es + f e
+sum_by-snoc f es e = let a : ℕ = sum_by f es in let b : ℕ = sum_by f (e ∷ []) in let c : ℕ = f e in let h : b ≡ c + 0 = sum_by-cons f e [] in let k : sum_by f (es ++ e ∷ []) ≡ a + b = sum_by-append f es (e ∷ []) in k ∙ (let g : a + b ≡ a + c = omega arith in g)
+
+recorded_weight : (n : ℕ) (test : Scope → Bool → Bool) (loaded : List (ℕ × Register)) → times n (live_numbers test loaded) ≡ sum_by (weight n (λ e. test e.scope e.moved)) (entries_of loaded)
+recorded_weight n test [] = refl
+recorded_weight n test (e ∷ loaded) = go e.0 e.1 (recorded_weight n test loaded)
+  where
+    W : Entry → ℕ
+    W = weight n (λ x. test x.scope x.moved)
+
+    es : List Entry
+    es = entries_of loaded
+
+    go : (j : ℕ) (register : Register) → times n (live_numbers test loaded) ≡ sum_by W es → times n (if_live test register (live_numbers test loaded)) ≡ sum_by W (es ++ live_entry j register)
+    go j Idle h = h ∙ ap (sum_by W) (sym (append-nil es))
+    go j (Entering f) h = h ∙ ap (sum_by W) (sym (append-nil es))
+    go j (Live number scope moved) h =
+        let x : Entry = record { session = j; number = number; scope = scope; moved = moved } in
+        picked n (test scope moved) number (live_numbers test loaded) (sum_by W es) h ∙ (turn (W x) (sum_by W es) ∙ sym (sum_by-snoc W es x))
+      where
+        turn : (a b : ℕ) → a + b ≡ b + a
+        turn a b = omega arith
+
+pub recorded_times : (n : ℕ) (table : TableId) (loaded : List (ℕ × Register)) (ranked : List Entry) → IsPermutation (entries_of loaded) ranked → times n (numbers_for table.0 ranked) ≡ times n (live_numbers (λ scope moved. not moved || has scope table) loaded)
+recorded_times n table loaded ranked p =
+    times_filter n (counts_for table.0) ranked
+    ∙ (sum_by-IsPermutation (weight n (counts_for table.0)) (entries_of loaded) ranked p
+    ∙ sym (recorded_weight n (λ scope moved. not moved || has scope table) loaded ∙ (λ i. sum_by (weight n (λ e. not e.moved || has_is e.scope table i)) (entries_of loaded))))
+
+times_numbers : (n : ℕ) (es : List Entry) → times n (map (λ (x : Entry). x.number) es) ≡ sum_by (weight n (λ e. true)) es
+times_numbers n [] = refl
+times_numbers n (e ∷ es) = picked n true e.number (map (λ (x : Entry). x.number) es) (sum_by (weight n (λ x. true)) es) (times_numbers n es) ∙ sym (sum_by-cons (weight n (λ x. true)) e es)
+
+pub all_times : (n : ℕ) (loaded : List (ℕ × Register)) (ranked : List Entry) → IsPermutation (entries_of loaded) ranked → times n (map (λ (x : Entry). x.number) ranked) ≡ times n (live_numbers (λ scope moved. true) loaded)
+all_times n loaded ranked p = times_numbers n ranked ∙ (sum_by-IsPermutation (weight n (λ e. true)) (entries_of loaded) ranked p ∙ sym (recorded_weight n (λ scope moved. true) loaded))
+
+-- ---- the least of a list
+
+least_most : (n : ℕ) (xs : List ℕ) → least n xs ≤ n
+least_most n [] = omega arith
+least_most n (x ∷ xs) = omega (arith, least_most n xs)
+
+least_below : (n m : ℕ) (xs : List ℕ) → 0 < times m xs → least n xs ≤ m
+least_below n m [] l = absurd (omega arith)
+least_below n m (x ∷ xs) l = go (x == m) refl l (least_below n m xs)
+  where
+    go : (b : Bool) → (x == m) ≡ b → 0 < (if b then suc (times m xs) else times m xs) → (0 < times m xs → least n xs ≤ m) → min x (least n xs) ≤ m
+    go true e l f = let same : x ≡ m = grind (arith, nat_tests) in omega arith
+    go false e l f = let k = f l in omega arith
+
+times_self : (x : ℕ) (xs : List ℕ) → 0 < times x (x ∷ xs)
+times_self x xs = let e : (x == x) ≡ true = grind (arith, nat_tests) in subst (λ b. 0 < (if b then suc (times x xs) else times x xs)) (sym e) (omega arith)
+
+times_more : (n x : ℕ) (xs : List ℕ) → 0 < times n xs → 0 < times n (x ∷ xs)
+times_more n x xs l = go (x == n)
+  where
+    go : (b : Bool) → 0 < (if b then suc (times n xs) else times n xs)
+    go true = omega arith
+    go false = l
+
+least_is : (n : ℕ) (xs : List ℕ) → (least n xs ≡ n) ⊎ (0 < times (least n xs) xs)
+least_is n [] = inl refl
+least_is n (x ∷ xs) = go (dec_le x (least n xs)) (least_is n xs)
+  where
+    go : Dec (x ≤ least n xs) → (least n xs ≡ n) ⊎ (0 < times (least n xs) xs) → (min x (least n xs) ≡ n) ⊎ (0 < times (min x (least n xs)) (x ∷ xs))
+    go (yes l) h = let e : min x (least n xs) ≡ x = omega arith in inr (subst (λ k. 0 < times k (x ∷ xs)) (sym e) (times_self x xs))
+    go (no l) (inl e) = inl (omega arith)
+    go (no l) (inr h) = let e : min x (least n xs) ≡ least n xs = omega arith in inr (subst (λ k. 0 < times k (x ∷ xs)) (sym e) (times_more (least n xs) x xs h))
+
+least_over : (n : ℕ) (xs ys : List ℕ) → ((k : ℕ) → times k xs ≡ times k ys) → least n xs ≤ least n ys
+least_over n xs ys same = go (least_is n ys)
+  where
+    go : (least n ys ≡ n) ⊎ (0 < times (least n ys) ys) → least n xs ≤ least n ys
+    go (inl e) = omega (arith, least_most n xs)
+    go (inr h) = least_below n (least n ys) xs (subst (λ k. 0 < k) (sym (same (least n ys))) h)
+
+pub least_same : (n : ℕ) (xs ys : List ℕ) → ((k : ℕ) → times k xs ≡ times k ys) → least n xs ≡ least n ys
+least_same n xs ys same = omega (arith, least_over n xs ys same, least_over n ys xs (λ k. sym (same k)))
+
+above : (n m : ℕ) (xs : List ℕ) → ((k d : ℕ) → k < length xs → m ≤ get_or xs k d) → min n m ≤ least n xs
+above n m [] f = omega arith
+above n m (x ∷ xs) f = omega (arith, f 0 0 (omega arith), above n m xs (λ k d l. f (suc k) d (omega arith)))
+
+-- the first of an ascending list is its least
+pub lowest_least : (n : ℕ) (xs : List ℕ) → IsNonDecreasing xs → lowest n xs ≡ least n xs
+lowest_least n [] h = refl
+lowest_least n (x ∷ xs) h = omega (arith, least_most n xs, above n x xs (λ k d l. h 0 (suc k) d (omega arith) (omega arith)))
+
+-- ---- a gather of a record
+
+mapped_at : (es : List Entry) (k d : ℕ) (x : Entry) → k < length es → get_or (map (λ (e : Entry). e.number) es) k d ≡ (get_or es k x).number
+mapped_at [] k d x l = absurd (omega arith)
+mapped_at (e ∷ es) zero d x l = refl
+mapped_at (e ∷ es) (suc k) d x l = mapped_at es k d x (omega arith)
+
+mapped_length : (es : List Entry) → length (map (λ (e : Entry). e.number) es) ≡ length es
+mapped_length [] = refl
+mapped_length (e ∷ es) = ap suc (mapped_length es)
+
+some_entry : Entry
+some_entry = record { session = 0; number = 0; scope = All_tables; moved = false }
+
+mapped_rises : (es : List Entry) → IsNonDecreasingBy (λ (e : Entry). e.number) es → IsNonDecreasing (map (λ (e : Entry). e.number) es)
+mapped_rises es h i j d le l =
+    let below : j < length es = omega (arith, mapped_length es) in
+    let a : ℕ = (get_or es i some_entry).number in
+    let b : ℕ = (get_or es j some_entry).number in
+    let c : a ≤ b = h i j some_entry le below in
+    omega (arith, mapped_at es i d some_entry (omega arith), mapped_at es j d some_entry below)
+
+pub horizon_is : (sessions : ℕ) (part : PassPart) (g : Gathered) → IsGatherOf sessions part g → g.horizon ≡ horizon (record_of part)
+horizon_is sessions part g h = h.noted.1
+
+shuffled_of : (sessions : ℕ) (part : PassPart) (g : Gathered) → IsGatherOf sessions part g → IsPermutation (entries_of part.loaded) g.ranked.items
+shuffled_of sessions part g h = subst (λ es. IsPermutation es g.ranked.items) h.noted.2 h.shuffled
+
+pub list_numbers : (sessions : ℕ) (part : PassPart) (g : Gathered) (t : TableId) (d : Vec ℕ Global) → IsGatherOf sessions part g → t.0 < length g.lists.items → (n : ℕ) → times n (get_or g.lists.items t.0 d).items ≡ times n (recorded t (record_of part))
+list_numbers sessions part g t d h l n = ap (times n) (list_at 0 g.ranked.items g.lists.items t.0 d l h.lists ∙ ap (λ k. numbers_for k g.ranked.items) (none_less t.0)) ∙ recorded_times n t part.loaded g.ranked.items (shuffled_of sessions part g h)
+  where
+    none_less : (n : ℕ) → 0 + n ≡ n
+    none_less n = omega arith
+
+pub list_rises : (sessions : ℕ) (part : PassPart) (g : Gathered) (t : TableId) (d : Vec ℕ Global) → IsGatherOf sessions part g → t.0 < length g.lists.items → IsNonDecreasing (get_or g.lists.items t.0 d).items
+list_rises sessions part g t d h l = subst IsNonDecreasing (sym (list_at 0 g.ranked.items g.lists.items t.0 d l h.lists)) (mapped_rises (filter (counts_for (0 + t.0)) g.ranked.items) (IsNonDecreasingBy-filter (λ (e : Entry). e.number) (counts_for (0 + t.0)) g.ranked.items h.rises))
+
+pub bound_is : (sessions : ℕ) (part : PassPart) (g : Gathered) (t : TableId) (d : Vec ℕ Global) → IsGatherOf sessions part g → t.0 < length g.lists.items → lowest g.horizon (get_or g.lists.items t.0 d).items ≡ table_bound t (record_of part)
+bound_is sessions part g t d h l =
+    let xs = (get_or g.lists.items t.0 d).items in
+    lowest_least g.horizon xs (list_rises sessions part g t d h l) ∙ (least_same g.horizon xs (recorded t (record_of part)) (list_numbers sessions part g t d h l) ∙ ap (λ n. least n (recorded t (record_of part))) h.noted.1)
+
+pub least_is_bound : (sessions : ℕ) (part : PassPart) (g : Gathered) → IsGatherOf sessions part g → lowest g.horizon (map (λ (e : Entry). e.number) g.ranked.items) ≡ group_bound (record_of part)
+least_is_bound sessions part g h =
+    let xs = map (λ (e : Entry). e.number) g.ranked.items in
+    lowest_least g.horizon xs (mapped_rises g.ranked.items h.rises) ∙ (least_same g.horizon xs (all_recorded (record_of part)) (λ n. all_times n part.loaded g.ranked.items (shuffled_of sessions part g h)) ∙ ap (λ n. least n (all_recorded (record_of part))) h.noted.1)

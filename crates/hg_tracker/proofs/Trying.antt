@@ -1,0 +1,272 @@
+-- A try to move an entry, in the record and in what was gathered.
+use Rattle.std.proofs.Common.{◌≡◌, ◌⊎◌, inl, inr, ℕ, zero, suc, ◌+◌, ◌<◌, ◌≤◌, List, [], ◌∷◌, ◌++◌, length, map, filter, take, drop, get_or, set, Some, Bool, true, false, ◌==◌, if◌then◌else◌, refl, sym, ap, ◌∙◌, subst, arith, append_assoc, append-nil, length-append}
+use native.Mathlib.Decide.{dec_le}
+use Rattle.std.proofs.lemmas.Bool.Decides.{nat_tests}
+use Rattle.std.proofs.lemmas.List.{set-append_left, get_or_append_left}
+use Rattle.std.proofs.Math.Seq.{set-append_seam, get_or-append_seam}
+use Rattle.std.specs.Prelude.{IsTrue}
+use Rattle.std.proofs.lemmas.List.{take_more}
+use Rattle.std.proofs.lemmas.List.Elements.{filter-append}
+use Rattle.hg_base.specs.Lists.{Each}
+use Rattle.hg_base.specs.Freshness.{is_declared}
+use Rattle.hg_base.specs.declared.scope.Scope.{Scope}
+use Rattle.hg_base.specs.declared.scope.Scope.TheVariants.{All, Declared}
+use Rattle.hg_base.specs.declared.report.Entry.{Entry}
+use Rattle.hg_core.specs.declared.register.Register.{Register}
+use Rattle.hg_core.specs.declared.register.Register.TheVariants.{Idle, Entering, Live}
+use Rattle.hg_core.specs.Words.{IsRegister}
+use Rattle.hg_core.specs.Phases.{IsSession}
+use Rattle.hg_core.specs.Passes.{found, lower, least_entering}
+use Rattle.hg_core.specs.Events.{moved, moved_in}
+use Rattle.hg_rule.specs.declared.view.PassPart.{PassPart}
+use Rattle.hg_rule.specs.declared.view.Part.{Part}
+use Rattle.hg_rule.specs.declared.view.Part.TheVariants.{OfPass}
+use Rattle.hg_rule.specs.declared.view.Event.TheVariants.{Move}
+use Rattle.hg_rule.specs.declared.view.View.{View}
+use Rattle.hg_rule.specs.Views.{number, pass, others, seeing, HasPass}
+use Rattle.hg_rule.specs.Steps.{IsMovable, after_try, Moves}
+use Rattle.hg_tracker.specs.declared.gathered.Gathered.{Gathered}
+use Rattle.hg_tracker.specs.Tries.{is_long, tries_of, moved_by, successes, HasTried}
+use Rattle.hg_tracker.specs.Entries.{down_from, live_entry, entries_of}
+use Rattle.hg_tracker.specs.Gathers.{IsNotedOf, IsLoaded, StandsAt}
+use Rattle.hg_tracker.proofs.After.{first_key, none_past}
+
+-- ---- an entry's register
+
+head_is : (x : Entry) (e : Entry) (n : ℕ) → ((d : Entry) → get_or (x ∷ []) n d ≡ e) → n < 1 → x ≡ e
+head_is x e zero at l = at x
+head_is x e (suc n) at l = absurd (omega arith)
+
+-- an entry of a list's end stands before it, or is it
+split_at : (xs : List Entry) (y e : Entry) (i : ℕ) → StandsAt i e (xs ++ y ∷ []) → StandsAt i e xs ⊎ ((i ≡ length xs) × (y ≡ e))
+split_at xs y e i at = go (dec_le (suc i) (length xs))
+  where
+    go : Dec (suc i ≤ length xs) → StandsAt i e xs ⊎ ((i ≡ length xs) × (y ≡ e))
+    go (yes l) = inl (l, λ d. sym (get_or_append_left xs (y ∷ []) d i l) ∙ at.1 d)
+    go (no l) =
+        let m : length (xs ++ y ∷ []) ≡ length xs + 1 = length-append xs (y ∷ []) in
+        let here : i ≡ length xs = omega (arith, at.0) in
+        inr (here, sym (get_or-append_seam xs y [] y) ∙ (ap (λ k. get_or (xs ++ y ∷ []) k y) (sym here) ∙ at.1 y))
+
+other_found : (n : ℕ) (e : ℕ × Register) (loaded : List (ℕ × Register)) (k : ℕ) (r : Register) → map (λ e. e.0) (e ∷ loaded) ≡ down_from (suc n) → found k loaded ≡ Some r → (k == e.0) ≡ false
+other_found n e loaded k r keys f = go (k == e.0) refl
+  where
+    go : (b : Bool) → (k == e.0) ≡ b → b ≡ false
+    go false q = refl
+    go true q = absurd (let same : k ≡ e.0 = grind (arith, nat_tests) in let key = first_key e loaded n keys in let l : n < k = omega (arith, key.0) in let z = none_past n k loaded key.1 l in cc)
+
+pub entry_found : (n : ℕ) (loaded : List (ℕ × Register)) (i : ℕ) (e : Entry) → map (λ e. e.0) loaded ≡ down_from n → StandsAt i e (entries_of loaded) → found e.session loaded ≡ Some (Live e.number e.scope e.moved)
+entry_found n [] i e keys at = absurd (let l = at.0 in omega arith)
+entry_found zero (x ∷ loaded) i e keys at = absurd (let m : suc (length (map (λ e. e.0) loaded)) ≡ 0 = ap length keys in omega arith)
+entry_found (suc n) (x ∷ loaded) i e keys at = go x.1 refl at (λ a. entry_found n loaded i e (first_key x loaded n keys).1 a)
+  where
+    later : found e.session loaded ≡ Some (Live e.number e.scope e.moved) → found e.session (x ∷ loaded) ≡ Some (Live e.number e.scope e.moved)
+    later f = ap (λ b. if b then Some x.1 else found e.session loaded) (other_found n x loaded e.session _ keys f) ∙ f
+
+    go : (r : Register) → x.1 ≡ r → StandsAt i e (entries_of loaded ++ live_entry x.0 r) → (StandsAt i e (entries_of loaded) → found e.session loaded ≡ Some (Live e.number e.scope e.moved)) → found e.session (x ∷ loaded) ≡ Some (Live e.number e.scope e.moved)
+    go Idle q at ih = later (ih (subst (StandsAt i e) (append-nil (entries_of loaded)) at))
+    go (Entering f) q at ih = later (ih (subst (StandsAt i e) (append-nil (entries_of loaded)) at))
+    go (Live number scope was) q at ih = pick (split_at (entries_of loaded) (record { session = x.0; number = number; scope = scope; moved = was }) e i at)
+      where
+        pick : StandsAt i e (entries_of loaded) ⊎ ((i ≡ length (entries_of loaded)) × (record { session = x.0; number = number; scope = scope; moved = was } ≡ e)) → found e.session (x ∷ loaded) ≡ Some (Live e.number e.scope e.moved)
+        pick (inl a) = later (ih a)
+        pick (inr a) =
+            let same : (e.session == x.0) ≡ true = (let k : x.0 ≡ e.session = ap (λ (y : Entry). y.session) a.1 in grind (arith, nat_tests)) in
+            ap (λ b. if b then Some x.1 else found e.session loaded) same ∙ (ap (λ r. Some r) q ∙ ap (λ (y : Entry). Some (Live y.number y.scope y.moved)) a.1)
+
+-- ---- the record with the entry moved
+
+pub horizon_moved : (mark j : ℕ) (loaded : List (ℕ × Register)) → least_entering mark (moved_in j loaded) ≡ least_entering mark loaded
+horizon_moved mark j [] = refl
+horizon_moved mark j (x ∷ loaded) = go (j == x.0) x.1 (horizon_moved mark j loaded)
+  where
+    go : (b : Bool) (r : Register) → least_entering mark (moved_in j loaded) ≡ least_entering mark loaded → least_entering mark (if b then (x.0, moved r) ∷ loaded else (x.0, r) ∷ moved_in j loaded) ≡ lower (least_entering mark loaded) r
+    go true Idle h = refl
+    go true (Entering f) h = refl
+    go true (Live n scope was) h = refl
+    go false r h = ap (λ m. lower m r) h
+
+pub keys_moved : (j : ℕ) (loaded : List (ℕ × Register)) → map (λ e. e.0) (moved_in j loaded) ≡ map (λ e. e.0) loaded
+keys_moved j [] = refl
+keys_moved j (x ∷ loaded) = go (j == x.0) (keys_moved j loaded)
+  where
+    go : (b : Bool) → map (λ e. e.0) (moved_in j loaded) ≡ map (λ e. e.0) loaded → map (λ e. e.0) (if b then (x.0, moved x.1) ∷ loaded else x ∷ moved_in j loaded) ≡ x.0 ∷ map (λ e. e.0) loaded
+    go true h = refl
+    go false h = ap (λ ks. x.0 ∷ ks) h
+
+word_moved : (r : Register) → IsRegister r → IsRegister (moved r)
+word_moved Idle h = h
+word_moved (Entering f) h = h
+word_moved (Live n scope was) h = record { number = h.number; tables = h.tables }
+
+pub registers_moved : (j : ℕ) (loaded : List (ℕ × Register)) → Each (λ e. IsRegister e.1) loaded → Each (λ e. IsRegister e.1) (moved_in j loaded)
+registers_moved j [] h = tt
+registers_moved j (x ∷ loaded) h = go (j == x.0) (registers_moved j loaded h.1)
+  where
+    go : (b : Bool) → Each (λ e. IsRegister e.1) (moved_in j loaded) → Each (λ e. IsRegister e.1) (if b then (x.0, moved x.1) ∷ loaded else x ∷ moved_in j loaded)
+    go true k = (word_moved x.1 h.0, h.1)
+    go false k = (h.0, k)
+
+pub register_word : (k : ℕ) (r : Register) (loaded : List (ℕ × Register)) → Each (λ e. IsRegister e.1) loaded → found k loaded ≡ Some r → IsRegister r
+register_word k r [] h f = cc
+register_word k r (x ∷ loaded) h f = go (k == x.0) f (λ g. register_word k r loaded h.1 g)
+  where
+    go : (b : Bool) → (if b then Some x.1 else found k loaded) ≡ Some r → (found k loaded ≡ Some r → IsRegister r) → IsRegister r
+    go true f ih = let same : x.1 ≡ r = cc in subst IsRegister same h.0
+    go false f ih = ih f
+
+pub found_session : (n k : ℕ) (r : Register) (loaded : List (ℕ × Register)) → map (λ e. e.0) loaded ≡ down_from n → found k loaded ≡ Some r → IsSession n k
+found_session n k r [] keys f = cc
+found_session zero k r (x ∷ loaded) keys f = absurd (let m : suc (length (map (λ e. e.0) loaded)) ≡ 0 = ap length keys in omega arith)
+found_session (suc n) k r (x ∷ loaded) keys f = go (k == x.0) refl f (λ g. found_session n k r loaded (first_key x loaded n keys).1 g)
+  where
+    go : (b : Bool) → (k == x.0) ≡ b → (if b then Some x.1 else found k loaded) ≡ Some r → (found k loaded ≡ Some r → IsSession n k) → IsSession (suc n) k
+    go true q f ih = let same : k ≡ x.0 = grind (arith, nat_tests) in let key = (first_key x loaded n keys).0 in record { first = omega arith; last = omega arith }
+    go false q f ih = let h = ih f in record { first = h.first; last = omega (arith, h.last) }
+
+pub entries_moved : (n : ℕ) (loaded : List (ℕ × Register)) (i : ℕ) (e : Entry) → map (λ e. e.0) loaded ≡ down_from n → StandsAt i e (entries_of loaded) → entries_of (moved_in e.session loaded) ≡ set (entries_of loaded) i (record e { moved = true })
+entries_moved n [] i e keys at = absurd (let l = at.0 in omega arith)
+entries_moved zero (x ∷ loaded) i e keys at = absurd (let m : suc (length (map (λ e. e.0) loaded)) ≡ 0 = ap length keys in omega arith)
+entries_moved (suc n) (x ∷ loaded) i e keys at = go x.1 refl at (λ a. entries_moved n loaded i e (first_key x loaded n keys).1 a)
+  where
+    es : List Entry
+    es = entries_of loaded
+
+    e' : Entry
+    e' = record e { moved = true }
+
+    -- it stands among the later ones
+    later : StandsAt i e es → (entries_of (moved_in e.session loaded) ≡ set es i e') → entries_of (moved_in e.session (x ∷ loaded)) ≡ set (es ++ live_entry x.0 x.1) i e'
+    later a ih =
+        let apart : (e.session == x.0) ≡ false = other_found n x loaded e.session _ keys (entry_found n loaded i e (first_key x loaded n keys).1 a) in
+        ap (λ b. entries_of (if b then (x.0, moved x.1) ∷ loaded else x ∷ moved_in e.session loaded)) apart ∙ (ap (λ l. l ++ live_entry x.0 x.1) ih ∙ sym (set-append_left es (live_entry x.0 x.1) i e' a.0))
+
+    go : (r : Register) → x.1 ≡ r → StandsAt i e (es ++ live_entry x.0 r) → (StandsAt i e es → entries_of (moved_in e.session loaded) ≡ set es i e') → entries_of (moved_in e.session (x ∷ loaded)) ≡ set (es ++ live_entry x.0 x.1) i e'
+    go Idle q at ih = let a = subst (StandsAt i e) (append-nil es) at in later a (ih a)
+    go (Entering f) q at ih = let a = subst (StandsAt i e) (append-nil es) at in later a (ih a)
+    go (Live number scope was) q at ih = pick (split_at es (record { session = x.0; number = number; scope = scope; moved = was }) e i at)
+      where
+        y : Entry
+        y = record { session = x.0; number = number; scope = scope; moved = was }
+
+        pick : StandsAt i e es ⊎ ((i ≡ length es) × (y ≡ e)) → entries_of (moved_in e.session (x ∷ loaded)) ≡ set (es ++ live_entry x.0 x.1) i e'
+        pick (inl a) = later a (ih a)
+        pick (inr a) =
+            let same : (e.session == x.0) ≡ true = (let k : x.0 ≡ e.session = ap (λ (z : Entry). z.session) a.1 in grind (arith, nat_tests)) in
+            ap (λ b. entries_of (if b then (x.0, moved x.1) ∷ loaded else x ∷ moved_in e.session loaded)) same
+            ∙ (ap (λ r. es ++ live_entry x.0 (moved r)) q
+            ∙ (ap (λ (z : Entry). es ++ record z { moved = true } ∷ []) a.1
+            ∙ sym (ap (λ r. set (es ++ live_entry x.0 r) i e') q ∙ (ap (λ k. set (es ++ y ∷ []) k e') a.0 ∙ set-append_seam es y [] e'))))
+
+pub movable_of : (n : ℕ) (scope : Scope) (was : Bool) → IsTrue (is_declared scope) → was ≡ false → IsMovable (Live n scope was)
+movable_of n All was d e = cc
+movable_of n (Declared mask) true d e = cc
+movable_of n (Declared mask) false d e = tt
+
+-- ---- a try
+
+pub moved_pass : (v w : View) (j n : ℕ) → Moves v j n true w → ((pass w).loaded ≡ moved_in j (pass v).loaded) × ((pass w).mark ≡ (pass v).mark)
+moved_pass v w j n is = (ap (λ (u : View). (pass u).loaded) is, ap (λ (u : View). (pass u).mark) is)
+
+pub noted_moved : (n : ℕ) (v w : View) (g : Gathered) (place : ℕ) (e x : Entry) → x ≡ e → IsNotedOf (pass v).mark (pass v).loaded g → map (λ e. e.0) (pass v).loaded ≡ down_from n → StandsAt place e g.entries.items → Moves v e.session e.number true w
+    → (g.mark ≡ (pass w).mark) × (g.horizon ≡ least_entering (pass w).mark (pass w).loaded) × (set g.entries.items place (record x { moved = true }) ≡ entries_of (pass w).loaded)
+noted_moved n v w g place e x same noted keys at is =
+    let after = moved_pass v w e.session e.number is in
+    let at' : StandsAt place e (entries_of (pass v).loaded) = subst (StandsAt place e) noted.2 at in (
+      noted.0 ∙ sym after.1,
+      noted.1 ∙ (sym (horizon_moved (pass v).mark e.session (pass v).loaded) ∙ (λ i. least_entering (sym after.1 i) (sym after.0 i))),
+      (λ i. set (noted.2 i) place (record (same i) { moved = true })) ∙ (sym (entries_moved n (pass v).loaded place e keys at') ∙ ap entries_of (sym after.0)),
+    )
+
+pub loaded_moved : (n : ℕ) (v w : View) (j k : ℕ) → IsLoaded n (pass v).loaded → Moves v j k true w → IsLoaded n (pass w).loaded
+loaded_moved n v w j k h is =
+    let after = moved_pass v w j k is in
+    subst (IsLoaded n) (sym after.0) (keys_moved j (pass v).loaded ∙ h.0, registers_moved j (pass v).loaded h.1)
+
+-- ---- one try after the others
+
+tries_snoc : (p : ℕ) (es : List Entry) (bs : List Bool) (e : Entry) (b : Bool) → length bs ≡ length es → tries_of p (es ++ e ∷ []) (bs ++ b ∷ []) ≡ tries_of p es bs ++ Move p e.session e.number b ∷ []
+tries_snoc p [] [] e b l = refl
+tries_snoc p [] (c ∷ bs) e b l = absurd (omega arith)
+tries_snoc p (x ∷ es) [] e b l = absurd (omega arith)
+tries_snoc p (x ∷ es) (c ∷ bs) e b l = ap (λ ts. Move p x.session x.number c ∷ ts) (tries_snoc p es bs e b (omega arith))
+
+moved_snoc : (es : List Entry) (bs : List Bool) (e : Entry) (b : Bool) (loaded : List (ℕ × Register)) → length bs ≡ length es → moved_by (es ++ e ∷ []) (bs ++ b ∷ []) loaded ≡ (if b then moved_in e.session (moved_by es bs loaded) else moved_by es bs loaded)
+moved_snoc [] [] e b loaded l = refl
+moved_snoc [] (c ∷ bs) e b loaded l = absurd (omega arith)
+moved_snoc (x ∷ es) [] e b loaded l = absurd (omega arith)
+moved_snoc (x ∷ es) (c ∷ bs) e b loaded l = moved_snoc es bs e b (if c then moved_in x.session loaded else loaded) (omega arith)
+
+successes_snoc : (bs : List Bool) (b : Bool) → successes (bs ++ b ∷ []) ≡ (if b then suc (successes bs) else successes bs)
+successes_snoc [] b = refl
+successes_snoc (true ∷ bs) true = ap suc (successes_snoc bs true)
+successes_snoc (true ∷ bs) false = ap suc (successes_snoc bs false)
+successes_snoc (false ∷ bs) b = successes_snoc bs b
+
+parts_tried : (b : Bool) (j : ℕ) (w : View) (n : ℕ) (r : PassPart) (ps : List Part) → w.parts ≡ OfPass n r ∷ ps → after_try b j w ≡ OfPass n (record r { loaded = if b then moved_in j r.loaded else r.loaded }) ∷ ps
+parts_tried true j w n r ps e = ap (λ (qs : List Part). after_try true j (seeing qs [] [])) e
+parts_tried false j w n r ps e = e
+
+pub tried_one : (v w w' : View) (es : List Entry) (c : ℕ) (e : Entry) (b : Bool) → HasTried v es c w → Moves w e.session e.number b w' → HasTried v (es ++ e ∷ []) (if b then suc c else c) w'
+tried_one v w w' es c e b h is = subst (HasTried v (es ++ e ∷ []) (if b then suc c else c)) (sym is) record {
+  outcomes = h.outcomes ++ b ∷ [];
+  each = let a = length-append h.outcomes (b ∷ []) in let d = length-append es (e ∷ []) in omega (arith, h.each, a, d);
+  count_is = ap (λ n. if b then suc n else n) h.count_is ∙ sym (successes_snoc h.outcomes b);
+  parts = parts_tried b e.session w (number v) (record (pass v) { loaded = moved_by es h.outcomes (pass v).loaded }) (others v) h.parts ∙ ap (λ l. OfPass (number v) (record (pass v) { loaded = l }) ∷ others v) (sym (moved_snoc es h.outcomes e b (pass v).loaded h.each));
+  sights = append-nil w.sights ∙ h.sights;
+  events = (λ i. h.events i ++ Move (same i) e.session e.number b ∷ []) ∙ (append_assoc v.events (tries_of (number v) es h.outcomes) (Move (number v) e.session e.number b ∷ []) ∙ ap (λ ts. v.events ++ ts) (sym (tries_snoc (number v) es h.outcomes e b h.each)));
+}
+  where
+    same : number w ≡ number v
+    same = ap (λ (ps : List Part). number (seeing ps [] [])) h.parts
+
+pub tried_none : (v : View) → HasPass v → HasTried v [] 0 v
+tried_none v is = record { outcomes = []; each = refl; count_is = refl; parts = is; sights = refl; events = sym (append-nil v.events) }
+
+pub mark_tried : (v w : View) (es : List Entry) (c : ℕ) → HasTried v es c w → (pass w).mark ≡ (pass v).mark
+mark_tried v w es c h = ap (λ (ps : List Part). (pass (seeing ps [] [])).mark) h.parts
+
+-- the next entry comes in where it is long
+long_snoc : (p : Entry → Bool) (es : List Entry) (e : Entry) (b : Bool) → p e ≡ b → filter p (es ++ e ∷ []) ≡ (if b then filter p es ++ e ∷ [] else filter p es)
+long_snoc p es e true q = filter-append p es (e ∷ []) ∙ ap (λ (c : Bool). filter p es ++ (if c then e ∷ [] else [])) q
+long_snoc p es e false q = filter-append p es (e ∷ []) ∙ (ap (λ (c : Bool). filter p es ++ (if c then e ∷ [] else [])) q ∙ append-nil (filter p es))
+
+pub long_more : (p : Entry → Bool) (es : List Entry) (k : ℕ) (e : Entry) (b : Bool) → k < length es → get_or es k e ≡ e → p e ≡ b → filter p (take (k + 1) es) ≡ (if b then filter p (take k es) ++ e ∷ [] else filter p (take k es))
+long_more p es k e b l at q = ap (filter p) (take_more es k e l ∙ ap (λ x. take k es ++ x ∷ []) at) ∙ long_snoc p (take k es) e b q
+
+-- two lists with the same end have the same element there
+pub drop_at : (k : ℕ) (xs ys : List Entry) (d : Entry) → drop k xs ≡ drop k ys → get_or xs k d ≡ get_or ys k d
+drop_at k xs ys d e = head k xs ∙ (ap (λ zs. get_or zs 0 d) e ∙ sym (head k ys))
+  where
+    head : (k : ℕ) (zs : List Entry) → get_or zs k d ≡ get_or (drop k zs) 0 d
+    head zero zs = refl
+    head (suc k) [] = refl
+    head (suc k) (z ∷ zs) = head k zs
+
+pub drop_more : (k : ℕ) (xs ys : List Entry) → drop k xs ≡ drop k ys → drop (k + 1) xs ≡ drop (k + 1) ys
+drop_more k xs ys e = one k xs ∙ (ap (drop 1) e ∙ sym (one k ys))
+  where
+    up : (k : ℕ) → k + 1 ≡ suc k
+    up k = omega arith
+
+    next : (k : ℕ) (zs : List Entry) → drop (suc k) zs ≡ drop 1 (drop k zs)
+    next zero zs = refl
+    next (suc k) [] = refl
+    next (suc k) (z ∷ zs) = next k zs
+
+    one : (k : ℕ) (zs : List Entry) → drop (k + 1) zs ≡ drop 1 (drop k zs)
+    one k zs = ap (λ n. drop n zs) (up k) ∙ next k zs
+
+pub next_tried : (v w w' : View) (mark long k count count' : ℕ) (es : List Entry) (e : Entry) (b : Bool) → mark ≡ (pass w).mark → k < length es → get_or es k e ≡ e → HasTried v (filter (is_long (pass v).mark long) (take k es)) count w
+    → is_long mark long e ≡ true → Moves w e.session e.number b w' → count' ≡ (if b then suc count else count) → HasTried v (filter (is_long (pass v).mark long) (take (k + 1) es)) count' w'
+next_tried v w w' mark long k count count' es e b same l at h long_is is counted =
+    let test : is_long (pass v).mark long e ≡ true = ap (λ m. is_long m long e) (sym (same ∙ mark_tried v w _ count h)) ∙ long_is in
+    let done : HasTried v (filter (is_long (pass v).mark long) (take k es) ++ e ∷ []) (if b then suc count else count) w' = tried_one v w w' _ count e b h is in
+    subst (λ n. HasTried v (filter (is_long (pass v).mark long) (take (k + 1) es)) n w') (sym counted)
+    (subst (λ l. HasTried v l (if b then suc count else count) w') (sym (long_more (is_long (pass v).mark long) es k e true l at test)) done)
+
+pub skip_tried : (v w : View) (mark long k count : ℕ) (es : List Entry) (e : Entry) → mark ≡ (pass w).mark → k < length es → get_or es k e ≡ e → HasTried v (filter (is_long (pass v).mark long) (take k es)) count w
+    → is_long mark long e ≡ false → HasTried v (filter (is_long (pass v).mark long) (take (k + 1) es)) count w
+skip_tried v w mark long k count es e same l at h long_is =
+    let test : is_long (pass v).mark long e ≡ false = ap (λ m. is_long m long e) (sym (same ∙ mark_tried v w _ count h)) ∙ long_is in
+    subst (λ l. HasTried v l count w) (sym (long_more (is_long (pass v).mark long) es k e false l at test)) h

@@ -1,0 +1,53 @@
+use Rattle.std.proofs.Common.{◌≡◌, ◌+◌, ◌≤◌, length, arith, sym, ap, subst}
+use Rattle.hg_rule.specs.Views.{pass}
+use Rattle.hg_rule.specs.Seats.{pass_view}
+use Rattle.hg_tracker.specs.Entries.{entries_of}
+use Rattle.hg_tracker.specs.Gathers.{IsNotedOf}
+use Rattle.hg_tracker.specs.Begun.{HasLoaded}
+use Rattle.hg_tracker.specs.Boards.{board_sizes}
+use Rattle.hg_tracker.proofs.Noting.{entries_most}
+use Rattle.hg_tracker.proofs.After.{loads_none, keys_length, none_past, gathered_of, whole_of, noted_one}
+use Rattle.hg_tracker.proofs.trackers.Trackers.gather.Goals as goal
+
+pub sample-register-requires-clause-fresh : goal.sample-register-requires-clause-fresh
+sample-register-requires-clause-fresh c = none_past c.loop-j.j (c.loop-j.j + 1) (pass (pass_view c.loop-j.pass)).loaded c.loop-j.invariant.0.keys (omega arith)
+
+pub loop-j-init : goal.loop-j-init
+loop-j-init c =
+    let none = loads_none (pass_view c.args.pass.now) (pass_view c.mark-mark.new.pass) c.mark-mark.result c.mark-mark.ensures.step in
+    (none.0, subst (λ l. IsNotedOf c.mark-mark.result l c.start.new.self) (sym none.1) c.start.ensures.noted, c.start.ensures.made _ _ c.requires.made, c.mark-mark.ensures.own)
+
+-- the entries are at most as many as the registers
+few : (c : goal.After-note-arg-1) → length c.loop-j.into.entries.items ≤ c.loop-j.j
+few c =
+    let loaded = (pass (pass_view c.loop-j.pass)).loaded in
+    omega (arith, ap length c.loop-j.invariant.1.2, entries_most loaded, keys_length loaded c.loop-j.j c.loop-j.invariant.0.keys)
+
+pub note-requires : goal.note-requires
+note-requires c = record { room = let made = (c.start.ensures.made _ _ c.requires.made).0 in omega (arith, few c, made, c.loop-j.invariant.2.3, c.loop-j-test.true, c.loop-j.auto.j-end) }
+
+pub loop-j-preserved : goal.loop-j-preserved
+loop-j-preserved c =
+    let both = noted_one (pass_view c.args.pass.now) (pass_view c.loop-j.pass) (pass_view c.sample-register.new.pass) c.mark-mark.result c.loop-j.j (c.loop-j.j + 1) c.sample-register.result c.loop-j.into c.note.new.self
+    (omega arith) c.loop-j.invariant.0 c.sample-register.ensures.step c.sample-register.ensures.register c.loop-j.invariant.1 c.note.ensures.mark c.note.ensures.horizon c.note.ensures.entries in
+    (both.0, both.1, c.note.ensures.made _ _ c.loop-j.invariant.2, c.sample-register.ensures.own)
+
+pub sum_up-requires-clause-room : goal.sum_up-requires-clause-room
+sum_up-requires-clause-room c =
+    let loaded = (pass (pass_view c.loop-j.pass)).loaded in
+    let l = entries_most loaded in
+    let k = keys_length loaded c.loop-j.j c.loop-j.invariant.0.keys in
+    let e : length c.loop-j.into.entries.items ≡ length (entries_of loaded) = ap length c.loop-j.invariant.1.2 in
+    omega (arith, (c.start.ensures.made _ _ c.requires.made).0, c.loop-j.invariant.2.0, c.loop-j.auto.j-end)
+
+all_loaded : (c : goal.After-sum_up) → HasLoaded (pass_view c.args.pass.now) c.mark-mark.result (board_sizes c.args.self.now).sessions (pass (pass_view c.loop-j.pass)).loaded (pass_view c.loop-j.pass)
+all_loaded c =
+    let made = (c.start.ensures.made _ _ c.requires.made).0 in
+    let end : c.loop-j.j ≡ (board_sizes c.args.self.now).sessions = omega (arith, made, c.loop-j.auto.j-end, c.loop-j-test.false) in
+    subst (λ n. HasLoaded (pass_view c.args.pass.now) c.mark-mark.result n (pass (pass_view c.loop-j.pass)).loaded (pass_view c.loop-j.pass)) end c.loop-j.invariant.0
+
+pub returns-clause-gathered : goal.returns-clause-gathered
+returns-clause-gathered c = gathered_of (pass_view c.args.pass.now) (pass_view c.loop-j.pass) c.mark-mark.result (board_sizes c.args.self.now).sessions (all_loaded c)
+
+pub returns-clause-whole : goal.returns-clause-whole
+returns-clause-whole c = whole_of (pass_view c.args.pass.now) (pass_view c.loop-j.pass) c.mark-mark.result (board_sizes c.args.self.now).sessions (all_loaded c)

@@ -1,0 +1,38 @@
+use Rattle.std.proofs.Common.{rules, ◌≡◌, subst}
+use Rattle.hg_rule.specs.Views.{pass}
+use Rattle.hg_rule.specs.Seats.{pass_view}
+use Rattle.hg_rule.specs.Steps.{Moves}
+use Rattle.hg_tracker.specs.Gathers.{StandsAt}
+use Rattle.hg_tracker.specs.Boards.{board_sizes}
+use Rattle.hg_tracker.proofs.Trying.{entry_found, found_session, register_word, movable_of, noted_moved, loaded_moved}
+use Rattle.hg_tracker.proofs.trackers.Trackers.try_move.Goals as goal
+
+pub move_one-moved-requires-clause-loaded : goal.move_one-moved-requires-clause-loaded
+move_one-moved-requires-clause-loaded c =
+    let loaded = (pass (pass_view c.args.pass.now)).loaded in
+    entry_found (board_sizes c.args.self.now).sessions loaded c.args.place c.args.entry c.requires.loaded.0 (subst (StandsAt c.args.place c.args.entry) c.requires.noted.2 c.requires.place)
+
+pub move_one-moved-requires-clause-session : goal.move_one-moved-requires-clause-session
+move_one-moved-requires-clause-session c = found_session (board_sizes c.args.self.now).sessions c.args.entry.session _ (pass (pass_view c.args.pass.now)).loaded c.requires.loaded.0 (move_one-moved-requires-clause-loaded c)
+
+pub move_one-moved-requires-clause-movable : goal.move_one-moved-requires-clause-movable
+move_one-moved-requires-clause-movable c = (
+  movable_of c.args.entry.number c.args.entry.scope c.args.entry.moved c.requires.movable.0 c.requires.movable.1,
+  register_word c.args.entry.session _ (pass (pass_view c.args.pass.now)).loaded c.requires.loaded.1 (move_one-moved-requires-clause-loaded c),
+)
+
+pub returns-then-moved-clause-noted : goal.returns-then-moved-clause-noted
+returns-then-moved-clause-noted c =
+    let v = pass_view c.args.pass.now in
+    let w = pass_view c.move_one-moved.new.pass in
+    let e = c.args.entry in
+    let is : Moves v e.session e.number _ w = subst (λ b. Moves v e.session e.number b w) c.if-moved.true c.move_one-moved.ensures.step in
+    let same : c.index_mut.result.now ≡ e = search rules in
+    noted_moved (board_sizes c.args.self.now).sessions v w c.args.gathered.now c.args.place e c.index_mut.result.now same c.requires.noted c.requires.loaded.0 c.requires.place is
+
+pub returns-then-moved-clause-loaded : goal.returns-then-moved-clause-loaded
+returns-then-moved-clause-loaded c =
+    let v = pass_view c.args.pass.now in
+    let w = pass_view c.move_one-moved.new.pass in
+    let e = c.args.entry in
+    loaded_moved (board_sizes c.args.self.now).sessions v w e.session e.number c.requires.loaded (subst (λ b. Moves v e.session e.number b w) c.if-moved.true c.move_one-moved.ensures.step)

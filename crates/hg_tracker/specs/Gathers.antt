@@ -1,0 +1,48 @@
+-- What a gather is of a pass's record.
+use Rattle.std.specs.Prelude.{◌≡◌, ℕ, suc, ◌<◌, ◌≤◌, slice_index_or, List, [], ◌∷◌, map, length, Vec, vec_capacity, All, IsPermutation, ⊤}
+use Rattle.std.specs.declared.alloc.Global.{Global}
+use Rattle.std.specs.List.Sorted.{IsNonDecreasingBy}
+use Rattle.hg_base.specs.declared.report.Entry.{Entry}
+use Rattle.hg_base.specs.Lists.{Each}
+use Rattle.hg_core.specs.declared.register.Register.{Register}
+use Rattle.hg_core.specs.Words.{IsRegister}
+use Rattle.hg_core.specs.Passes.{least_entering}
+use Rattle.hg_rule.specs.declared.view.PassPart.{PassPart}
+use Rattle.hg_tracker.specs.declared.gathered.Gathered.{Gathered}
+use Rattle.hg_tracker.specs.Entries.{numbers_for, entries_of, down_from}
+
+-- how many tables it is made for
+abbrev pub tables_in : Gathered → ℕ
+tables_in g = length g.lists.items
+
+-- it has room for so many sessions, and a list for each of so many tables
+abbrev pub IsMadeFor : ℕ → ℕ → Gathered → Type 0
+IsMadeFor sessions tables g =
+    (g.sessions ≡ sessions) × (tables_in g ≡ tables) × (tables ≤ 16)
+    × (sessions ≤ vec_capacity g.entries) × (sessions ≤ vec_capacity g.ranked) × All (λ list. sessions ≤ vec_capacity list) g.lists.items
+
+-- the mark, the horizon and the entries are those of a record so far
+abbrev pub IsNotedOf : ℕ → List (ℕ × Register) → Gathered → Type 0
+IsNotedOf mark loaded g = (g.mark ≡ mark) × (g.horizon ≡ least_entering mark loaded) × (g.entries.items ≡ entries_of loaded)
+
+-- a record's registers are those of the first sessions in order, the last one first
+abbrev pub IsLoaded : ℕ → List (ℕ × Register) → Type 0
+IsLoaded sessions loaded = (map (λ e. e.0) loaded ≡ down_from sessions) × Each (λ e. IsRegister e.1) loaded
+
+-- the entry stands at that place of a list
+abbrev pub StandsAt : ℕ → Entry → List Entry → Type 0
+StandsAt place e entries = (place < length entries) × ((other : Entry) → slice_index_or entries place other ≡ e)
+
+-- each is the list of its table, from number t on
+abbrev pub AreListsOf : ℕ → List Entry → List (Vec ℕ Global) → Type 0
+AreListsOf t ranked [] = ⊤
+AreListsOf t ranked (list ∷ lists) = (list.items ≡ numbers_for t ranked) × AreListsOf (suc t) ranked lists
+
+-- The gather is the record of a pass that loaded each register: the mark, the horizon, the entries, and of each table the
+-- numbers that count for it, ascending.
+pub record IsGatherOf (sessions : ℕ) (part : PassPart) (g : Gathered) : Type 0 where
+  pub noted : IsNotedOf part.mark part.loaded g
+  pub loaded : IsLoaded sessions part.loaded
+  pub shuffled : IsPermutation g.entries.items g.ranked.items
+  pub rises : IsNonDecreasingBy (λ (e : Entry). e.number) g.ranked.items
+  pub lists : AreListsOf 0 g.ranked.items g.lists.items

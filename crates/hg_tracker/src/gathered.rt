@@ -1,0 +1,231 @@
+//! What a pass gathered.
+
+ghost use Rattle.std.specs.Prelude.{◌≡◌, ℕ, ◌<◌, ◌≤◌, [], ◌++◌, length, map, vec_capacity, All, IsPermutation, IfOk};
+ghost use Rattle.std.specs.List.Sorted.{IsNonDecreasing, IsNonDecreasingBy};
+ghost use Rattle.hg_core.specs.Passes.{lower, horizon, recorded, table_bound, group_bound};
+ghost use Rattle.hg_rule.specs.declared.view.PassPart.{PassPart};
+ghost use Rattle.hg_rule.specs.Facts.{record_of};
+ghost use Rattle.hg_base.specs.declared.report.Entry.{Entry};
+ghost use Rattle.hg_tracker.specs.Gathers.{AreListsOf};
+ghost use Rattle.hg_tracker.specs.Entries.{has_number, counts_for, numbers_for, live_entry, entries_of, lowest, times};
+
+use hg_base::{Entry, NoMemory, Scope, TableId};
+use hg_core::Register;
+use std::alloc::Global;
+
+/// The mark that a pass loaded, and what the registers show that it loaded after it. It is made once for the numbers of
+/// sessions and tables, and each gather fills it again.
+#[derive(Drop)]
+pub struct Gathered {
+    pub(crate) sessions: u32,
+    pub(crate) mark: u64,
+    pub(crate) horizon: u64,
+    /// Live registers, by ascending session.
+    pub(crate) entries: Vec<Entry>,
+    /// The same by ascending number.
+    pub(crate) ranked: Vec<Entry>,
+    /// Of each table, the numbers of those that count for it, ascending.
+    pub(crate) lists: Vec<Vec<u64>>,
+}
+
+fn has(scope: Scope, table: u8) -> bool
+    requires { table < 16 }
+    ensures { result ≡ has_number scope table }
+{
+    match scope {
+        Scope::All => true,
+        Scope::Declared(mask) => (mask >> table) % 2 == 1,
+    }
+}
+
+// Whether a live register counts for a table.
+fn counts(entry: &Entry, table: u8) -> bool
+    requires { table < 16 }
+    ensures { result ≡ counts_for table entry.now }
+{
+    !entry.moved || has(entry.scope, table)
+}
+
+fn fill(list: &mut Vec<u64>, table: u8, ranked: &[Entry])
+    requires table { table < 16 }
+    requires room { length ranked.now ≤ vec_capacity list.old }
+    ensures items { list.new.items ≡ numbers_for table ranked.now }
+    ensures room { vec_capacity list.old ≤ vec_capacity list.new }
+{
+    list.clear();
+    for entry in ranked {
+        if counts(entry, table) && list.push(entry.number).is_err() {
+            unreachable!();
+        }
+    }
+}
+
+// Each table's list. None needs more room than for so many sessions.
+fn fill_all(lists: &mut [Vec<u64>], ranked: &[Entry], _sessions: u32)
+    requires tables { length lists.old ≤ 16 }
+    requires room { (length ranked.now ≤ _sessions) × All (λ list. _sessions ≤ vec_capacity list) lists.old }
+    ensures lists { AreListsOf 0 ranked.now lists.new }
+    ensures room { (length lists.new ≡ length lists.old) × All (λ list. _sessions ≤ vec_capacity list) lists.new }
+{
+    for table in 0..lists.len() {
+        fill(&mut lists[table], table as u8, ranked);
+    }
+}
+
+// The entries by ascending number.
+fn rank(ranked: &mut Vec<Entry>, entries: &[Entry])
+    requires room { length entries.now ≤ vec_capacity ranked.old }
+    ensures shuffled { IsPermutation entries.now ranked.new.items }
+    ensures rises { IsNonDecreasingBy (λ (e : Entry). e.number) ranked.new.items }
+    ensures room { vec_capacity ranked.old ≤ vec_capacity ranked.new }
+{
+    ranked.clear();
+    if ranked.extend_from_slice(entries).is_err() {
+        unreachable!();
+    }
+    ranked.sort_unstable_by_key(|entry| entry.number);
+}
+
+fn lowest_of(horizon: u64, numbers: &[u64]) -> u64
+    ensures { result ≡ lowest horizon numbers.now }
+{
+    match numbers.first() {
+        Some(number) => horizon.min(*number),
+        None => horizon,
+    }
+}
+
+fn lowest_entry(horizon: u64, ranked: &[Entry]) -> u64
+    ensures { result ≡ lowest horizon (map (λ (e : Entry). e.number) ranked.now) }
+{
+    match ranked.first() {
+        Some(entry) => horizon.min(entry.number),
+        None => horizon,
+    }
+}
+
+impl Gathered {
+    ghost use Rattle.hg_tracker.specs.Gathers.{tables_in, IsMadeFor, IsGatherOf};
+
+    /// Takes all the memory that gathers of a board with so many sessions and tables need.
+    pub fn new(alloc: Global, sessions: u32, tables: u32) -> Result<Gathered, NoMemory>
+        requires { tables ≤ 16 }
+        ensures { IfOk result (λ g. IsMadeFor sessions tables g) }
+    {
+        let mut lists = Vec::with_capacity(alloc, tables as usize)?;
+        for _ in 0..tables {
+            let list: Vec<u64> = Vec::with_capacity(alloc, sessions as usize)?;
+            lists.push(list)?;
+        }
+        Ok(Gathered {
+            sessions,
+            mark: 0,
+            horizon: 0,
+            entries: Vec::with_capacity(alloc, sessions as usize)?,
+            ranked: Vec::with_capacity(alloc, sessions as usize)?,
+            lists,
+        })
+    }
+
+    /// The mark that the pass loaded.
+    pub fn mark(&self) -> u64
+        ensures { (sessions : ℕ) (part : PassPart) → IsGatherOf sessions part self.now → result ≡ part.mark }
+    {
+        self.mark
+    }
+
+    /// The least of the mark and the numbers of all registers that enter.
+    pub fn horizon(&self) -> u64
+        ensures { (sessions : ℕ) (part : PassPart) → IsGatherOf sessions part self.now → result ≡ horizon (record_of part) }
+    {
+        self.horizon
+    }
+
+    /// The bound of the group collector: the least of the horizon and all snapshots.
+    pub fn least(&self) -> u64
+        ensures { (sessions : ℕ) (part : PassPart) → IsGatherOf sessions part self.now → result ≡ group_bound (record_of part) }
+    {
+        lowest_entry(self.horizon, &self.ranked)
+    }
+
+    /// The bound of a table: the least of the horizon and the snapshots that count for it.
+    pub fn bound(&self, t: TableId) -> u64
+        requires there { t.0 < tables_in self.now }
+        ensures { (sessions : ℕ) (part : PassPart) → IsGatherOf sessions part self.now → result ≡ table_bound t (record_of part) }
+    {
+        lowest_of(self.horizon, &self.lists[t.0 as usize])
+    }
+
+    /// The snapshots that count for a table: those that were not moved, and those that were and declared it.
+    pub fn for_table(&self, t: TableId) -> &[u64]
+        requires there { t.0 < tables_in self.now }
+        ensures rises { (sessions : ℕ) (part : PassPart) → IsGatherOf sessions part self.now → IsNonDecreasing result.now }
+        ensures numbers { (sessions : ℕ) (part : PassPart) → IsGatherOf sessions part self.now → (n : ℕ) → times n result.now ≡ times n (recorded t (record_of part)) }
+    {
+        &self.lists[t.0 as usize]
+    }
+
+    /// The live registers, by ascending session.
+    pub fn entries(&self) -> &[Entry]
+        ensures { (sessions : ℕ) (part : PassPart) → IsGatherOf sessions part self.now → result.now ≡ entries_of part.loaded }
+    {
+        &self.entries
+    }
+}
+
+impl Gathered {
+    ghost use Rattle.hg_tracker.specs.Gathers.{tables_in, IsMadeFor, IsNotedOf, IsGatherOf};
+
+    // A record begins at this mark.
+    pub(crate) fn start(&mut self, mark: u64)
+        ensures noted { IsNotedOf mark [] self.new }
+        ensures made { (sessions tables : ℕ) → IsMadeFor sessions tables self.old → IsMadeFor sessions tables self.new }
+    {
+        self.mark = mark;
+        self.horizon = mark;
+        self.entries.clear();
+    }
+
+    // A session's register comes into the record.
+    pub(crate) fn note(&mut self, session: u32, register: Register)
+        requires room { length self.old.entries.items < vec_capacity self.old.entries }
+        ensures mark { self.new.mark ≡ self.old.mark }
+        ensures horizon { self.new.horizon ≡ lower self.old.horizon register }
+        ensures entries { self.new.entries.items ≡ self.old.entries.items ++ live_entry session register }
+        ensures made { (sessions tables : ℕ) → IsMadeFor sessions tables self.old → IsMadeFor sessions tables self.new }
+    {
+        match register {
+            Register::Idle => {}
+            Register::Entering(number) => self.horizon = self.horizon.min(number),
+            Register::Live {
+                number,
+                scope,
+                moved,
+            } => {
+                let entry = Entry {
+                    session,
+                    number,
+                    scope,
+                    moved,
+                };
+                if self.entries.push(entry).is_err() {
+                    unreachable!();
+                }
+            }
+        }
+    }
+
+    // The entries are those of the record: ranks them, and makes the list of each table.
+    pub(crate) fn sum_up(&mut self)
+        requires made { IsMadeFor self.old.sessions (tables_in self.old) self.old }
+        requires room { length self.old.entries.items ≤ self.old.sessions }
+        ensures noted { (self.new.mark ≡ self.old.mark) × (self.new.horizon ≡ self.old.horizon) × (self.new.entries.items ≡ self.old.entries.items) }
+        ensures shuffled { IsPermutation self.new.entries.items self.new.ranked.items }
+        ensures rises { IsNonDecreasingBy (λ (e : Entry). e.number) self.new.ranked.items }
+        ensures lists { AreListsOf 0 self.new.ranked.items self.new.lists.items }
+        ensures made { IsMadeFor self.old.sessions (tables_in self.old) self.new }
+    {
+        rank(&mut self.ranked, &self.entries);
+        fill_all(self.lists.as_mut_slice(), &self.ranked, self.sessions);
+    }
+}
