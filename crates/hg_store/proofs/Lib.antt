@@ -1,0 +1,12 @@
+pub mod Seeing
+pub mod Refusing
+pub mod Changing
+pub mod Ending
+pub mod Backing
+pub mod Keeping
+pub mod Bounding
+pub mod Holding
+pub mod Stepping
+pub mod Filling
+pub mod Deciding
+pub mod Storing

@@ -1,0 +1,12 @@
+use Rattle.std.proofs.Common.{ap, ◌∙◌}
+use Rattle.std.specs.Prelude.{unwrap_or}
+use Rattle.hg_base.specs.History.{nothing}
+use Rattle.hg_bucket.specs.Held.{read_at}
+use Rattle.hg_rule.specs.Holding.{held}
+use Rattle.hg_store.proofs.Seeing.{read_kept}
+use Rattle.hg_store.proofs.held.Held.read.Goals as goal
+
+pub returns : goal.returns
+returns c v hold =
+    let a = c.args in
+    ap (λ o. unwrap_or o nothing) (c.read.ensures ∙ ap (read_at a.own a.snapshot) (hold.keeps.versions a.rid)) ∙ read_kept (hold.ordered a.rid).0 a.own a.snapshot (held v a.rid) (hold.ordered a.rid).1

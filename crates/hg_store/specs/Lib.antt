@@ -1,0 +1,8 @@
+-- What a bucket keeps of a content.
+pub mod Kept
+-- What is known of the transaction that a refused write met.
+pub mod Ends
+-- Locked buckets, and one that is held.
+pub mod Places
+pub mod Stores
+pub mod Writing

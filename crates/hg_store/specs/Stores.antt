@@ -1,0 +1,45 @@
+-- What a clause says of a store, and of a bucket that is held.
+use Rattle.std.specs.Prelude.{◌≡◌, ℕ, List, [], ◌∷◌}
+use Rattle.hg_lock.specs.Locks.{tag_of, count_of}
+use Rattle.hg_bucket.specs.Held.{Held as Records}
+use Rattle.hg_rule.specs.declared.view.BucketPart.{BucketPart}
+use Rattle.hg_rule.specs.declared.view.Part.TheVariants.{OfBucket}
+use Rattle.hg_rule.specs.declared.view.Sight.{Sight}
+use Rattle.hg_rule.specs.declared.view.View.{View}
+use Rattle.hg_rule.specs.Views.{seeing}
+use Rattle.hg_rule.specs.Holding.{bucket}
+use Rattle.hg_rule.specs.Places.{HoldsBucket, with_bucket}
+use Rattle.hg_rule.specs.Seats.{TableId}
+use Rattle.hg_store.specs.declared.store.Store.{Store}
+use Rattle.hg_store.specs.declared.held.Held.{Held}
+use Rattle.hg_store.specs.Kept.{Keeps, AreOrdered}
+use Rattle.hg_store.specs.Places.{seat_table}
+
+-- the board of a store, and how many buckets it has
+abbrev pub store_table : Store → TableId
+store_table s = seat_table (tag_of s.locks).value
+
+abbrev pub store_buckets : Store → ℕ
+store_buckets s = count_of s.locks
+
+-- the board of a bucket that is held, its number, and what it keeps
+abbrev pub held_table : Held → TableId
+held_table h = seat_table (tag_of h.locks.now).value
+
+abbrev pub held_number : Held → ℕ
+held_number h = h.number
+
+abbrev pub held_records : Held → Records
+held_records h = h.bucket
+
+-- The view has this bucket, joined last, whose versions are in order; and the bucket keeps what the view shows.
+pub record Holds (v : View) (h : Held) : Type 0 where
+  pub has : HoldsBucket (held_number h) v
+  pub keeps : Keeps (held_records h) (bucket v)
+  pub ordered : AreOrdered (bucket v).content
+
+-- w is v with bucket b, which comes with what was seen by those who held it before
+pub record Takes (v : View) (b : ℕ) (w : View) : Type 0 where
+  pub part : BucketPart
+  pub seen : List Sight
+  pub after : w ≡ with_bucket v (seeing (OfBucket b part ∷ []) seen [])

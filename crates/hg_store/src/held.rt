@@ -1,0 +1,44 @@
+//! A bucket that is held.
+
+ghost use Rattle.std.specs.Prelude.{◌≡◌};
+ghost use Rattle.hg_lock.specs.Locks.{IsLoanOf, place_of};
+
+use crate::store::Place;
+use hg_bucket::Bucket;
+use hg_lock::{Loan, Locks};
+use hg_rule::{Board, BucketSeat, Pass};
+use std::snapshot::Snapshot;
+
+/// A bucket whose lock was taken. It has no `Drop`: it ends in `give`.
+pub struct Held<'a> {
+    pub(crate) locks: &'a Locks<Place>,
+    pub(crate) loan: Loan<Place, Snapshot<BucketSeat>>,
+    pub(crate) bucket: Bucket,
+    pub(crate) number: u32,
+    ghost lent: { IsLoanOf locks.now loan },
+    ghost place: { place_of loan ≡ number },
+}
+
+impl<'a> Held<'a> {
+    ghost use Rattle.hg_rule.specs.Places.{without_bucket};
+    ghost use Rattle.hg_rule.specs.Seats.{table_of, view, IsSeatOf};
+    ghost use Rattle.hg_store.specs.Stores.{held_table, Holds};
+
+    /// The bucket's part of the state leaves the pass, and the lock is free. It waits for nobody.
+    pub fn give<P: Pass>(self, board: &Board, pass: &mut P)
+        requires table { held_table self ≡ table_of board.now }
+        requires own { IsSeatOf (table_of board.now) (P.seat_of pass.old) }
+        requires holds { Holds (view (P.seat_of pass.old)) self }
+        ensures view { view (P.seat_of pass.new) ≡ without_bucket (view (P.seat_of pass.old)) }
+        ensures own { IsSeatOf (table_of board.now) (P.seat_of pass.new) × (P.rest_of pass.new ≡ P.rest_of pass.old) }
+    {
+        let Held {
+            locks,
+            loan,
+            bucket,
+            number,
+        } = self;
+        let seat = board.split_bucket(pass, number);
+        locks.give(Place { bucket, seat }, loan);
+    }
+}

@@ -1,0 +1,97 @@
+//! Buckets under locks.
+
+ghost use Rattle.std.specs.Prelude.{◌≡◌, ℕ, ◌<◌, ◌^◌, length, IfOk};
+ghost use Rattle.hg_lock.specs.Locks.{count_of};
+
+use crate::held::Held;
+use hg_base::NoMemory;
+use hg_bucket::Bucket;
+use hg_lock::{Fits, Locks};
+use hg_rule::{Board, BucketSeat, BucketSeatList, Pass};
+use std::alloc::Global;
+use std::snapshot::Snapshot;
+use std::sync::Wait;
+
+/// What lies under a bucket's lock: the bucket, and the seat that shows its content.
+#[derive(Drop)]
+pub struct Place {
+    pub(crate) bucket: Bucket,
+    pub(crate) seat: BucketSeat,
+}
+
+impl Fits for Place {
+    ghost use Rattle.hg_store.specs.Places.{PlaceFits};
+
+    type Tag = Snapshot<BucketSeat>;
+
+    ghost fits = { PlaceFits };
+}
+
+/// The buckets of a board, each under a lock of its own.
+#[derive(Drop)]
+pub struct Store {
+    pub(crate) locks: Locks<Place>,
+    ghost few: { count_of locks < 2 ^ 32 },
+}
+
+impl Store {
+    ghost use Rattle.hg_rule.specs.Rules.{IsBacked};
+    ghost use Rattle.hg_rule.specs.New.{Row, IsNewBucket};
+    ghost use Rattle.hg_rule.specs.Places.{HasFirst};
+    ghost use Rattle.hg_rule.specs.Seats.{TableId, table_of, sizes_of, view, IsSeatOf};
+    ghost use Rattle.hg_store.specs.Stores.{store_table, store_buckets, held_table, held_number, Holds, Takes};
+
+    /// An empty bucket for each seat. The seats are all those of one new board, in order.
+    pub fn new(alloc: Global, seats: BucketSeatList) -> Result<Store, NoMemory>
+        requires some { (0 < length seats) × (length seats < 2 ^ 32) }
+        requires seats { (t : TableId) × Row (IsNewBucket t) 0 seats }
+        ensures table { (t : TableId) → Row (IsNewBucket t) 0 seats → IfOk result (λ store. store_table store ≡ t) }
+        ensures count { IfOk result (λ store. store_buckets store ≡ length seats) }
+    {
+        let seats = seats.into_vec();
+        let tag = Snapshot::of(&seats[0]);
+        let mut places = Vec::with_capacity(alloc, seats.len())?;
+        for seat in seats {
+            let bucket = Bucket::new(alloc);
+            places.push(Place { bucket, seat })?;
+        }
+        let locks = Locks::new(alloc, places, &tag)?;
+        Ok(Store { locks })
+    }
+
+    /// How many there are.
+    pub fn buckets(&self) -> u32
+        ensures { result ≡ store_buckets self.now }
+    {
+        self.locks.count() as u32
+    }
+
+    /// Waits for the bucket's lock. The bucket's part of the state comes to the pass, which then knows what the rule says of
+    /// it: each protected snapshot finds there what a table shows that never reclaims.
+    pub fn take<P: Pass, R: Wait>(
+        &self,
+        rt: &R,
+        board: &Board,
+        bucket: u32,
+        pass: &mut P,
+    ) -> Held<'_>
+        requires table { store_table self.now ≡ table_of board.now }
+        requires own { IsSeatOf (table_of board.now) (P.seat_of pass.old) × HasFirst (view (P.seat_of pass.old)) }
+        requires bucket { bucket < store_buckets self.now }
+        ensures held { (held_table result ≡ table_of board.now) × (held_number result ≡ bucket) }
+        ensures view { Takes (view (P.seat_of pass.old)) bucket (view (P.seat_of pass.new)) }
+        ensures holds { Holds (view (P.seat_of pass.new)) result }
+        ensures told { (mark : ℕ) × IsBacked (sizes_of board.now) mark (view (P.seat_of pass.new)) }
+        ensures own { IsSeatOf (table_of board.now) (P.seat_of pass.new) × (P.rest_of pass.new ≡ P.rest_of pass.old) }
+    {
+        let (place, loan) = self.locks.take(rt, bucket as usize);
+        let Place { bucket: data, seat } = place;
+        board.join_bucket(pass, seat);
+        Held {
+            locks: &self.locks,
+            loan,
+            bucket: data,
+            number: bucket,
+        }
+    }
+}

@@ -1,0 +1,117 @@
+//! What a session does in a bucket that it holds. Each call makes its step in the same call.
+
+ghost use Rattle.std.specs.Prelude.{◌≡◌, ℕ, suc, ◌<◌, length, IsSome, IsTrue, false};
+ghost use Rattle.hg_base.specs.Transcript.{has};
+ghost use Rattle.hg_core.specs.declared.ask.Ask.TheVariants.{Read};
+ghost use Rattle.hg_core.specs.Logs.{wrotes, is_plain};
+ghost use Rattle.hg_core.specs.Phases.{snapshot_in};
+ghost use Rattle.hg_core.specs.Versions.{IsOpenBy};
+ghost use Rattle.hg_core.specs.Contents.{bucket_of};
+ghost use Rattle.hg_rule.specs.Views.{session};
+ghost use Rattle.hg_rule.specs.Holding.{HasBoth, commit_behind, held, tables, writer as writer_of, snapshot as snapshot_of};
+ghost use Rattle.hg_rule.specs.Writes.{Looks, Undoes, Stamps};
+ghost use Rattle.hg_rule.specs.Seats.{table_of, sizes_of, session_view, IsSessionOf};
+ghost use Rattle.hg_store.specs.Stores.{held_table, held_number, Holds};
+ghost use Rattle.hg_store.specs.Writing.{Writes};
+
+use crate::held::Held;
+use hg_base::{Image, Rid, TableId, Writer};
+use hg_bucket::WriteRefusal;
+use hg_rule::{Ask, Board, SessionPass};
+
+impl<'a> Held<'a> {
+    /// One look: the rows of the range in this bucket are logged.
+    pub fn see(&self, board: &Board, pass: &mut SessionPass, table: TableId, low: u64, high: u64)
+        requires own { IsSessionOf (table_of board.now) (sizes_of board.now) pass.old }
+        requires live { IsSome (snapshot_in (session (session_view pass.old)).phase) }
+        requires plain { IsTrue (is_plain (session (session_view pass.old)).log) }
+        requires unstamped { (session (session_view pass.old)).stamped ≡ false }
+        requires holds { Holds (session_view pass.old) self.now }
+        requires table { IsTrue (has (tables (session_view pass.old)) table) }
+        ensures step { (mark : ℕ) × Looks (session_view pass.old) (Read table low high) mark (session_view pass.new) }
+        ensures holds { Holds (session_view pass.new) self.now }
+        ensures own { IsSessionOf (table_of board.now) (sizes_of board.now) pass.new }
+    {
+        board.look(pass, &Ask::Read { table, low, high });
+    }
+
+    /// Takes the transaction's open write of a record back.
+    pub fn undo(&mut self, board: &Board, pass: &mut SessionPass, rid: Rid, by: Writer)
+        requires own { IsSessionOf (table_of board.now) (sizes_of board.now) pass.old }
+        requires unstamped { (session (session_view pass.old)).stamped ≡ false }
+        requires holds { Holds (session_view pass.old) self.old }
+        requires here { bucket_of (sizes_of board.now).buckets rid ≡ held_number self.old }
+        requires by { by ≡ writer_of (session_view pass.old) }
+        requires mine { IsOpenBy (writer_of (session_view pass.old)) (held (session_view pass.old) rid) }
+        ensures step { Undoes (session_view pass.old) rid (session_view pass.new) }
+        ensures holds { Holds (session_view pass.new) self.new }
+        ensures held { (held_table self.new ≡ held_table self.old) × (held_number self.new ≡ held_number self.old) }
+        ensures own { IsSessionOf (table_of board.now) (sizes_of board.now) pass.new }
+    {
+        self.bucket.undo(rid, by);
+        board.undo(pass, rid);
+    }
+
+    /// Gives the transaction's open write of a record the number that the mark will have next. The committer's part was
+    /// joined before the bucket's.
+    pub fn stamp(
+        &mut self,
+        board: &Board,
+        pass: &mut SessionPass,
+        rid: Rid,
+        by: Writer,
+        number: u64,
+    )
+        requires own { IsSessionOf (table_of board.now) (sizes_of board.now) pass.old }
+        requires plain { IsTrue (is_plain (session (session_view pass.old)).log) }
+        requires holds { Holds (session_view pass.old) self.old }
+        requires here { bucket_of (sizes_of board.now).buckets rid ≡ held_number self.old }
+        requires both { HasBoth (session_view pass.old) }
+        requires next { number ≡ suc (length (commit_behind (session_view pass.old)).history.list) }
+        requires by { by ≡ writer_of (session_view pass.old) }
+        requires mine { IsOpenBy (writer_of (session_view pass.old)) (held (session_view pass.old) rid) }
+        ensures step { Stamps (session_view pass.old) rid number (session_view pass.new) }
+        ensures holds { Holds (session_view pass.new) self.new }
+        ensures held { (held_table self.new ≡ held_table self.old) × (held_number self.new ≡ held_number self.old) }
+        ensures own { IsSessionOf (table_of board.now) (sizes_of board.now) pass.new }
+    {
+        board.look_at(pass);
+        self.bucket.stamp(rid, by, number);
+        board.stamp(pass, rid, number);
+    }
+
+    /// Writes an image for the session's open transaction. One look loads the mark, and where the answer is Ok, one install
+    /// follows.
+    pub fn write(
+        &mut self,
+        board: &Board,
+        pass: &mut SessionPass,
+        rid: Rid,
+        image: Image,
+        snapshot: u64,
+        by: Writer,
+    ) -> Result<(), WriteRefusal>
+        requires own { IsSessionOf (table_of board.now) (sizes_of board.now) pass.old }
+        requires live { IsSome (snapshot_in (session (session_view pass.old)).phase) }
+        requires plain { IsTrue (is_plain (session (session_view pass.old)).log) }
+        requires unstamped { (session (session_view pass.old)).stamped ≡ false }
+        requires holds { Holds (session_view pass.old) self.old }
+        requires here { bucket_of (sizes_of board.now).buckets rid ≡ held_number self.old }
+        requires table { IsTrue (has (tables (session_view pass.old)) rid.table) × (rid.table.0 < (sizes_of board.now).tables) }
+        requires room { wrotes (session (session_view pass.old)).log < (sizes_of board.now).each }
+        requires by { by ≡ writer_of (session_view pass.old) }
+        requires snapshot { snapshot ≡ snapshot_of (session_view pass.old) }
+        ensures step { Writes (session_view pass.old) rid image result (session_view pass.new) }
+        ensures holds { Holds (session_view pass.new) self.new }
+        ensures held { (held_table self.new ≡ held_table self.old) × (held_number self.new ≡ held_number self.old) }
+        ensures own { IsSessionOf (table_of board.now) (sizes_of board.now) pass.new }
+    {
+        let mark = board.look(pass, &Ask::Write(rid));
+        self.bucket.write(rid, by, image, snapshot, mark)?;
+        match self.bucket.read(rid, snapshot, by) {
+            Some(image) => board.install(pass, rid, image),
+            None => unreachable!(),
+        }
+        Ok(())
+    }
+}
