@@ -152,7 +152,7 @@ same_cause z n v h r NoMemory hold d k = (
 )
 
 -- who has it open
-opened_by : (n : ℕ) (w o : Writer) (at : ℕ) (vs : List Version) → option_and_then refusal_of (refusal n w at vs) ≡ Some (Open o) → (image : Image) × (unpublished n vs ≡ Some (o, image))
+pub opened_by : (n : ℕ) (w o : Writer) (at : ℕ) (vs : List Version) → option_and_then refusal_of (refusal n w at vs) ≡ Some (Open o) → (image : Image) × (unpublished n vs ≡ Some (o, image))
 opened_by n w o at vs e = go (unpublished n vs) refl e
   where
     none : (p : Option (ℕ × Image)) → option_and_then refusal_of (refused_over at p) ≡ Some (Open o) → ⊥

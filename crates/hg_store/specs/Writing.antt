@@ -1,5 +1,5 @@
 -- What a write to a bucket that is held answers, and what it makes of the view.
-use Rattle.std.specs.Prelude.{◌≡◌, ℕ, List, Option, None, Some, option_and_then, Result, Err, OnOk, OnErr, IfErr, IfSome, ⊤}
+use Rattle.std.specs.Prelude.{◌≡◌, ℕ, List, Option, None, Some, option_and_then, Result, Err, OnOk, OnErr, IfErr, IfSome, IsFalse, ◌==◌, ⊤}
 use Rattle.hg_base.specs.declared.rid.Rid.{Rid}
 use Rattle.hg_base.specs.declared.image.Image.{Image}
 use Rattle.hg_base.specs.Lists.{Each}
@@ -9,6 +9,8 @@ use Rattle.hg_core.specs.Replies.{refusal}
 use Rattle.hg_bucket.specs.declared.refusal.WriteRefusal.{WriteRefusal}
 use Rattle.hg_bucket.specs.declared.refusal.WriteRefusal.TheVariants.{Open, Newer, NoMemory}
 use Rattle.hg_rule.specs.declared.view.Sight.{Sight}
+use Rattle.hg_core.specs.Phases.{IsSession}
+use Rattle.hg_rule.specs.declared.view.Sizes.{Sizes}
 use Rattle.hg_rule.specs.declared.view.View.{View}
 use Rattle.hg_rule.specs.Holding.{held, writer, snapshot}
 use Rattle.hg_rule.specs.Writes.{Looks, Installs}
@@ -30,6 +32,12 @@ abbrev pub OwnerGoesOn : List Sight → WriteRefusal → Type 0
 OwnerGoesOn sights (Open w) = Each (HasNoEnd w) sights
 OwnerGoesOn sights (Newer n) = ⊤
 OwnerGoesOn sights NoMemory = ⊤
+
+-- who has the record open is another session of the board
+abbrev pub IsAnothers : Sizes → ℕ → WriteRefusal → Type 0
+IsAnothers z j (Open w) = IsSession z.sessions w.session × IsFalse (w.session == j)
+IsAnothers z j (Newer n) = ⊤
+IsAnothers z j NoMemory = ⊤
 
 -- One look, whose mark decides with the content held; and where the answer is Ok, one install.
 pub record Writes {T : Type 0} (v : View) (rid : Rid) (image : Image) (answer : Result T WriteRefusal) (w : View) : Type 0 where

@@ -1,18 +1,18 @@
 //! What a session does in a bucket that it holds. Each call makes its step in the same call.
 
-ghost use Rattle.std.specs.Prelude.{◌≡◌, ℕ, suc, ◌<◌, length, IsSome, IsTrue, false};
+ghost use Rattle.std.specs.Prelude.{◌≡◌, ℕ, suc, ◌<◌, length, not, is_some, IsSome, IsTrue, IfOk, IfErr, false};
 ghost use Rattle.hg_base.specs.Transcript.{has};
 ghost use Rattle.hg_core.specs.declared.ask.Ask.TheVariants.{Read};
-ghost use Rattle.hg_core.specs.Logs.{wrotes, is_plain};
+ghost use Rattle.hg_core.specs.Logs.{wrotes, is_plain, open_in};
 ghost use Rattle.hg_core.specs.Phases.{snapshot_in};
 ghost use Rattle.hg_core.specs.Versions.{IsOpenBy};
 ghost use Rattle.hg_core.specs.Contents.{bucket_of};
-ghost use Rattle.hg_rule.specs.Views.{session};
+ghost use Rattle.hg_rule.specs.Views.{number, session};
 ghost use Rattle.hg_rule.specs.Holding.{HasBoth, commit_behind, held, tables, writer as writer_of, snapshot as snapshot_of};
 ghost use Rattle.hg_rule.specs.Writes.{Looks, Undoes, Stamps};
 ghost use Rattle.hg_rule.specs.Seats.{table_of, sizes_of, session_view, IsSessionOf};
 ghost use Rattle.hg_store.specs.Stores.{held_table, held_number, Holds};
-ghost use Rattle.hg_store.specs.Writing.{Writes};
+ghost use Rattle.hg_store.specs.Writing.{Writes, IsAnothers};
 
 use crate::held::Held;
 use hg_base::{Image, Rid, TableId, Writer};
@@ -81,7 +81,7 @@ impl<'a> Held<'a> {
     }
 
     /// Writes an image for the session's open transaction. One look loads the mark, and where the answer is Ok, one install
-    /// follows.
+    /// follows. The answer says whether a version was added: none is where the transaction wrote the record before.
     pub fn write(
         &mut self,
         board: &Board,
@@ -90,7 +90,7 @@ impl<'a> Held<'a> {
         image: Image,
         snapshot: u64,
         by: Writer,
-    ) -> Result<(), WriteRefusal>
+    ) -> Result<bool, WriteRefusal>
         requires own { IsSessionOf (table_of board.now) (sizes_of board.now) pass.old }
         requires live { IsSome (snapshot_in (session (session_view pass.old)).phase) }
         requires plain { IsTrue (is_plain (session (session_view pass.old)).log) }
@@ -102,16 +102,18 @@ impl<'a> Held<'a> {
         requires by { by ≡ writer_of (session_view pass.old) }
         requires snapshot { snapshot ≡ snapshot_of (session_view pass.old) }
         ensures step { Writes (session_view pass.old) rid image result (session_view pass.new) }
+        ensures added { IfOk result (λ added. added ≡ not (is_some (open_in rid (session (session_view pass.old)).log))) }
+        ensures owner { IfErr result (IsAnothers (sizes_of board.now) (number (session_view pass.old))) }
         ensures holds { Holds (session_view pass.new) self.new }
         ensures held { (held_table self.new ≡ held_table self.old) × (held_number self.new ≡ held_number self.old) }
         ensures own { IsSessionOf (table_of board.now) (sizes_of board.now) pass.new }
     {
         let mark = board.look(pass, &Ask::Write(rid));
-        self.bucket.write(rid, by, image, snapshot, mark)?;
+        let added = self.bucket.write(rid, by, image, snapshot, mark)?;
         match self.bucket.read(rid, snapshot, by) {
             Some(image) => board.install(pass, rid, image),
             None => unreachable!(),
         }
-        Ok(())
+        Ok(added)
     }
 }

@@ -1,5 +1,5 @@
 -- Steps, one after another.
-use Rattle.std.proofs.Common.{◌≡◌, ℕ, zero, suc, ◌<◌, ◌≤◌, List, [], ◌∷◌, ◌++◌, length, map, drop, get_or, None, Some, Bool, true, false, ◌==◌, if◌then◌else◌, refl, sym, ap, ◌∙◌, subst, arith, append_assoc, append-nil, length-append}
+use Rattle.std.proofs.Common.{◌≡◌, ℕ, zero, suc, ◌<◌, ◌≤◌, List, [], ◌∷◌, ◌++◌, length, map, drop, get_or, None, Some, Bool, true, false, ◌==◌, if◌then◌else◌, refl, sym, ap, ◌∙◌, subst, arith, append_assoc, append-nil, length-append, inl}
 use Rattle.std.specs.Prelude.{IsSome}
 use native.Mathlib.Decide.{dec_le}
 use Rattle.std.proofs.lemmas.Bool.Decides.{nat_tests}
@@ -19,7 +19,10 @@ use Rattle.hg_rule.specs.declared.view.View.{View}
 use Rattle.hg_rule.specs.Facts.{record_of}
 use Rattle.hg_rule.specs.Views.{number, pass, others, seeing}
 use Rattle.hg_rule.specs.Steps.{Within, IsHistoryAt, loading, Probes, Enters, Fixes, GoesLive, Marks, Samples}
+use Rattle.hg_core.specs.declared.log.LogEntry.TheVariants.{Began}
+use Rattle.hg_rule.specs.Views.{session}
 use Rattle.hg_rule.proofs.Lists.{each_left, each_map}
+use Rattle.hg_rule.proofs.Growing.{among_later}
 use Rattle.hg_tracker.specs.declared.gathered.Gathered.{Gathered}
 use Rattle.hg_tracker.specs.Entries.{down_from, live_entry, entries_of}
 use Rattle.hg_tracker.specs.Gathers.{IsNotedOf}
@@ -48,6 +51,7 @@ begins_all v v1 v2 v3 w f m scope p en fi li = subst (λ (v1 : View). Enters v1 
       parts = refl;
       most = each_left (AtMost m) v.sights _ (each_left (AtMost m) (v.sights ++ _) _ (most _ m fi.0 fi.1.0));
       kept = (_, three v.sights _ _ _ _);
+      heard = among_later _ _ (Heard (number v) (Began m scope ∷ (session v).log) ∷ []) (inl refl);
       from = f;
       events = four v.events _ _ _ _;
     }) li) fi) en

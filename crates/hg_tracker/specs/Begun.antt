@@ -14,7 +14,7 @@ use Rattle.hg_rule.specs.declared.view.Sight.TheVariants.{Saw, Heard, Took, Did}
 use Rattle.hg_rule.specs.declared.view.Event.{Event}
 use Rattle.hg_rule.specs.declared.view.Event.TheVariants.{Probe, Enter, Fix, GoLive, Mark, Sample}
 use Rattle.hg_rule.specs.declared.view.View.{View}
-use Rattle.hg_rule.specs.Facts.{StartsWith}
+use Rattle.hg_rule.specs.Facts.{StartsWith, IsAmong}
 use Rattle.hg_rule.specs.Views.{number, session, pass, others}
 use Rattle.hg_rule.specs.Steps.{logging}
 use Rattle.hg_tracker.specs.Entries.{down_from}
@@ -26,11 +26,12 @@ AtMost n (Heard j log) = UpTo n log
 AtMost n (Took m) = m ≤ n
 AtMost n (Did e) = ⊤
 
--- a session began at a snapshot that is at or over everything that it had seen
+-- a session began at a snapshot that is at or over everything that it had seen, and has heard its own log with the begin
 pub record HasBegun (v : View) (at : ℕ) (scope : Scope) (w : View) : Type 0 where
   pub parts : w.parts ≡ OfSession (number v) (logging (Began at scope) (Live at scope) (session v)) ∷ others v
   pub most : Each (AtMost at) v.sights
   pub kept : StartsWith w.sights v.sights
+  pub heard : IsAmong (Heard (number v) (Began at scope ∷ (session v).log)) w.sights
   pub from : ℕ
   pub events : w.events ≡ v.events ++ Probe (number v) from ∷ Enter (number v) from ∷ Fix (number v) at ∷ GoLive (number v) at scope ∷ []
 

@@ -1,5 +1,5 @@
 use Rattle.std.proofs.Common.{◌≡◌, ◌+◌, Err, None, refl, sym, ap, ◌∙◌, subst, arith, rules}
-use Rattle.std.specs.Prelude.{IfErr, IfSome, OnOk, OnErr, if◌then◌else◌}
+use Rattle.std.specs.Prelude.{not, IfOk, IfErr, IfSome, OnOk, OnErr, if◌then◌else◌}
 use Rattle.std.specs.Option.{option_copied}
 use Rattle.std.proofs.lemmas.Option.{same_Some}
 use Rattle.hg_base.specs.declared.writer.Writer.{Writer}
@@ -15,6 +15,7 @@ use Rattle.hg_store.proofs.Refusing.{free_of}
 use Rattle.hg_store.proofs.Deciding.{decided}
 use Rattle.hg_store.proofs.Storing.{same_holds, refusal_told, refused_writes, free_at, seen_after, install_holds, read_own, writer_same_after, content_after}
 use Rattle.hg_store.proofs.Stepping.{look_holds}
+use Rattle.hg_store.proofs.Owning.{open_logged, owner_told}
 use Rattle.hg_store.proofs.held.Held.write.Goals as goal
 
 pub write-requires : goal.write-requires
@@ -22,26 +23,26 @@ write-requires c =
     let d = decided (sizes_of c.args.board.now) c.look-mark.result (session_view c.args.pass.now) (session_view c.look-mark.new.pass) c.args.self.now c.args.rid c.requires.holds c.look-mark.ensures.step c.look-mark.ensures.told c.requires.here c.requires.unstamped c.requires.live in
     omega (arith, d.made c.requires.own.2 c.requires.room, c.requires.holds.keeps.made, c.args.board.now.room.begins)
 
-pub returns-in_err-write-clause-step : goal.returns-in_err-write-clause-step
-returns-in_err-write-clause-step c =
+pub returns-in_err-added-clause-step : goal.returns-in_err-added-clause-step
+returns-in_err-added-clause-step c =
     let n = c.look-mark.result in
     let v = session_view c.args.pass.now in
     let w = session_view c.look-mark.new.pass in
     let r = c.args.rid in
     let ks = versions_of c.args.self.now.bucket.records r in
     let d = decided (sizes_of c.args.board.now) n v w c.args.self.now r c.requires.holds c.look-mark.ensures.step c.look-mark.ensures.told c.requires.here c.requires.unstamped c.requires.live in
-    let same : c.from_residual.result ≡ Err c.in_err-write.field-0.0 = search rules in
+    let same : c.from_residual.result ≡ Err c.in_err-added.field-0.0 = search rules in
     let told = refusal_told (sizes_of c.args.board.now) n v c.args.self.now r c.write.result c.requires.holds d
     (subst (λ (b : Writer). IfSome (holder b n ks) (λ x. c.write.result ≡ Err (Open x))) c.requires.by c.write.ensures.open)
     (subst (λ (b : Writer). holder b n ks ≡ None → IfSome (newer (snapshot v) ks) (λ m. c.write.result ≡ Err (Newer m))) c.requires.by (subst (λ s. holder c.args.by n ks ≡ None → IfSome (newer s ks) (λ m. c.write.result ≡ Err (Newer m))) c.requires.snapshot c.write.ensures.newer)) in
-    refused_writes (sizes_of c.args.board.now) n v w c.args.self.now r c.args.image c.write.result c.from_residual.result c.in_err-write.field-0.0 c.requires.holds d c.look-mark.ensures.step c.in_err-write.was same told
+    refused_writes (sizes_of c.args.board.now) n v w c.args.self.now r c.args.image c.write.result c.from_residual.result c.in_err-added.field-0.0 c.requires.holds d c.look-mark.ensures.step c.in_err-added.was same told
     (subst (λ (b : Writer). IfErr c.write.result (IsCause b (snapshot v) n ks)) c.requires.by (subst (λ s. IfErr c.write.result (IsCause c.args.by s n ks)) c.requires.snapshot c.write.ensures.cause))
 
-pub returns-in_err-write-clause-holds : goal.returns-in_err-write-clause-holds
-returns-in_err-write-clause-holds c =
+pub returns-in_err-added-clause-holds : goal.returns-in_err-added-clause-holds
+returns-in_err-added-clause-holds c =
     let w = session_view c.look-mark.new.pass in
     let hold = look_holds (session_view c.args.pass.now) w c.args.self.now _ c.look-mark.result c.requires.holds c.look-mark.ensures.step in
-    same_holds w c.args.self.now _ hold refl (subst (λ o. OnErr o (c.write.new.self ≡ c.args.self.now.bucket)) c.in_err-write.was c.write.ensures.refused)
+    same_holds w c.args.self.now _ hold refl (subst (λ o. OnErr o (c.write.new.self ≡ c.args.self.now.bucket)) c.in_err-added.was c.write.ensures.refused)
 
 pub install-requires-clause-free : goal.install-requires-clause-free
 install-requires-clause-free c =
@@ -54,7 +55,7 @@ install-requires-clause-free c =
     let told = refusal_told (sizes_of c.args.board.now) n v c.args.self.now r c.write.result c.requires.holds d
     (subst (λ (b : Writer). IfSome (holder b n ks) (λ x. c.write.result ≡ Err (Open x))) c.requires.by c.write.ensures.open)
     (subst (λ (b : Writer). holder b n ks ≡ None → IfSome (newer (snapshot v) ks) (λ m. c.write.result ≡ Err (Newer m))) c.requires.by (subst (λ s. holder c.args.by n ks ≡ None → IfSome (newer s ks) (λ m. c.write.result ≡ Err (Newer m))) c.requires.snapshot c.write.ensures.newer)) in
-    seen_after (sizes_of c.args.board.now) n v w r d c.look-mark.ensures.step (free_at n v r c.write.result _ c.in_ok-write.was told)
+    seen_after (sizes_of c.args.board.now) n v w r d c.look-mark.ensures.step (free_at n v r c.write.result _ c.in_ok-added.was told)
 
 pub returns-clause-holds : goal.returns-clause-holds
 returns-clause-holds c =
@@ -69,10 +70,10 @@ returns-clause-holds c =
     let told = refusal_told (sizes_of c.args.board.now) n v c.args.self.now r c.write.result c.requires.holds d
     (subst (λ (b : Writer). IfSome (holder b n ks) (λ x. c.write.result ≡ Err (Open x))) c.requires.by c.write.ensures.open)
     (subst (λ (b : Writer). holder b n ks ≡ None → IfSome (newer (snapshot v) ks) (λ m. c.write.result ≡ Err (Newer m))) c.requires.by (subst (λ s. holder c.args.by n ks ≡ None → IfSome (newer s ks) (λ m. c.write.result ≡ Err (Newer m))) c.requires.snapshot c.write.ensures.newer)) in
-    let free = free_at n v r c.write.result _ c.in_ok-write.was told in
+    let free = free_at n v r c.write.result _ c.in_ok-added.was told in
     let by = c.requires.by ∙ sym (writer_same_after n v w r c.look-mark.ensures.step) in
-    let stored = subst (λ o. OnOk o (versions_of new.records r ≡ installed c.args.by c.args.image ks)) c.in_ok-write.was c.write.ensures.stored in
-    let made = subst (λ o. OnOk o (new ≡ record old { records = new.records; made = old.made + (if begins_open c.args.by ks then 0 else 1) })) c.in_ok-write.was c.write.ensures.made in
+    let stored = subst (λ o. OnOk o (versions_of new.records r ≡ installed c.args.by c.args.image ks)) c.in_ok-added.was c.write.ensures.stored in
+    let made = subst (λ o. OnOk o (new ≡ record old { records = new.records; made = old.made + (if begins_open c.args.by ks then 0 else 1) })) c.in_ok-added.was c.write.ensures.made in
     let shown = ap option_copied (sym c.in-Some.is) ∙ c.read.ensures ∙ ap (read_at c.args.by c.args.snapshot) stored ∙ read_own c.args.by c.args.snapshot c.args.image ks in
     let image : c.in-Some.image.now ≡ c.args.image = same_Some c.in-Some.image.now c.args.image shown in
     let hold = look_holds v w c.args.self.now _ n c.requires.holds c.look-mark.ensures.step in
@@ -83,3 +84,24 @@ returns-clause-holds c =
     (subst (λ (b : Writer). versions_of new.records r ≡ installed b c.args.image ks) by stored)
     c.write.ensures.others
     (subst (λ (b : Writer). new ≡ record old { records = new.records; made = old.made + (if begins_open b ks then 0 else 1) }) by made)
+
+pub returns-in_err-added-clause-owner : goal.returns-in_err-added-clause-owner
+returns-in_err-added-clause-owner c =
+    let n = c.look-mark.result in
+    let v = session_view c.args.pass.now in
+    let w = session_view c.look-mark.new.pass in
+    let r = c.args.rid in
+    let ks = versions_of c.args.self.now.bucket.records r in
+    let d = decided (sizes_of c.args.board.now) n v w c.args.self.now r c.requires.holds c.look-mark.ensures.step c.look-mark.ensures.told c.requires.here c.requires.unstamped c.requires.live in
+    let same : c.from_residual.result ≡ Err c.in_err-added.field-0.0 = search rules in
+    owner_told (sizes_of c.args.board.now) n v w c.args.self.now r c.requires.holds c.look-mark.ensures.step c.look-mark.ensures.told c.look-mark.ensures.own.3 c.requires.here c.write.result c.from_residual.result c.in_err-added.field-0.0 d c.in_err-added.was same
+    (subst (λ (b : Writer). IfErr c.write.result (IsCause b (snapshot v) n ks)) c.requires.by (subst (λ s. IfErr c.write.result (IsCause c.args.by s n ks)) c.requires.snapshot c.write.ensures.cause))
+
+pub returns-clause-added : goal.returns-clause-added
+returns-clause-added c =
+    let v = session_view c.args.pass.now in
+    let w = session_view c.look-mark.new.pass in
+    let r = c.args.rid in
+    let ks = versions_of c.args.self.now.bucket.records r in
+    let told = subst (λ o. IfOk o (λ added. added ≡ not (begins_open c.args.by ks))) c.in_ok-added.was c.write.ensures.added in
+    told ∙ ap not (ap (λ b. begins_open b ks) c.requires.by ∙ open_logged (sizes_of c.args.board.now) c.look-mark.result v w c.args.self.now r c.requires.holds c.look-mark.ensures.step c.look-mark.ensures.told c.look-mark.ensures.own.3 c.requires.here c.requires.unstamped)

@@ -1,0 +1,4 @@
+pub mod Tying
+pub mod Trips
+pub mod Seeing
+pub mod Settling

@@ -1,0 +1,146 @@
+-- A session that takes a bucket, works in it and gives it back.
+use Rattle.std.proofs.Common.{◌≡◌, ℕ, List, [], ◌∷◌, ◌++◌, Some, refl, sym, ap, ◌∙◌, subst, inl, inr, append_assoc, append-nil}
+use Rattle.hg_base.specs.declared.rid.Rid.{Rid}
+use Rattle.hg_base.specs.declared.image.Image.{Image}
+use Rattle.hg_core.specs.declared.ask.Ask.{Ask}
+use Rattle.hg_core.specs.declared.log.LogEntry.{LogEntry}
+use Rattle.hg_core.specs.declared.log.LogEntry.TheVariants.{Wrote, Undid, Over}
+use Rattle.hg_core.specs.declared.phase.Phase.TheVariants.{Idle}
+use Rattle.hg_rule.specs.declared.passes.SessionPass.{SessionPass}
+use Rattle.hg_rule.specs.declared.view.SessionPart.{SessionPart}
+use Rattle.hg_rule.specs.declared.view.BucketPart.{BucketPart}
+use Rattle.hg_rule.specs.declared.view.Part.{Part}
+use Rattle.hg_rule.specs.declared.view.Part.TheVariants.{OfSession, OfBucket}
+use Rattle.hg_rule.specs.declared.view.Sight.{Sight}
+use Rattle.hg_rule.specs.declared.view.Sight.TheVariants.{Heard}
+use Rattle.hg_rule.specs.declared.view.View.{View}
+use Rattle.hg_rule.specs.declared.view.Sizes.{Sizes}
+use Rattle.hg_rule.specs.Facts.{StartsWith, IsAmong}
+use Rattle.hg_rule.specs.Views.{number, number_in, session, session_there, others, first_in, after_first, bucket_there, seeing, HasSession, HasOnlySession}
+use Rattle.hg_rule.specs.Steps.{logging, Ends}
+use Rattle.hg_rule.specs.Holding.{bucket_number, bucket, beyond, writer}
+use Rattle.hg_rule.specs.Writes.{with_log, with_entry, log_asked, Looks, Installs, Undoes, installing, undoing}
+use Rattle.hg_rule.specs.Places.{without_bucket, with_bucket}
+use Rattle.hg_rule.specs.Seats.{TableId, session_view, session_rest, IsSeatOf, IsSessionOf}
+use Rattle.hg_rule.proofs.Growing.{among_later}
+use Rattle.hg_rule.proofs.Holders.{still_session, session_arrives, session_departs}
+use Rattle.hg_store.specs.Stores.{Takes}
+
+-- a view that has a session's part and a bucket's, and has seen what was seen before
+pub record Beside (j : ℕ) (part : SessionPart) (b : ℕ) (old : List Sight) (v : View) : Type 0 where
+  pub holds : BucketPart
+  pub parts : v.parts ≡ OfSession j part ∷ OfBucket b holds ∷ []
+  pub kept : StartsWith v.sights old
+
+-- one that has a session's part alone
+pub record Alone (j : ℕ) (part : SessionPart) (old : List Sight) (v : View) : Type 0 where
+  pub parts : v.parts ≡ OfSession j part ∷ []
+  pub kept : StartsWith v.sights old
+
+only_others : (v : View) → HasOnlySession v → others v ≡ []
+only_others v only = ap after_first only
+
+pub only_session : (v : View) → HasOnlySession v → HasSession v
+only_session v only = only ∙ (λ i. OfSession (number v) (session v) ∷ sym (only_others v only) i)
+
+-- what the first part is
+pub first_number : (v : View) (j : ℕ) (part : SessionPart) (os : List Part) → v.parts ≡ OfSession j part ∷ os → number v ≡ j
+first_number v j part os e = ap number_in e
+
+pub first_session : (v : View) (j : ℕ) (part : SessionPart) (os : List Part) → v.parts ≡ OfSession j part ∷ os → session v ≡ part
+first_session v j part os e = ap (λ (ps : List Part). session_there (first_in ps)) e
+
+pub alone_only : (v : View) (j : ℕ) (part : SessionPart) (old : List Sight) → Alone j part old v → HasOnlySession v
+alone_only v j part old a = a.parts ∙ (λ i. OfSession (sym (first_number v j part [] a.parts) i) (sym (first_session v j part [] a.parts) i) ∷ [])
+
+-- ---- a bucket is taken, and given back
+
+pub arrived : (v u : View) (b : ℕ) → HasOnlySession v → Takes v b u → Beside (number v) (session v) b v.sights u
+arrived v u b only t = record {
+  holds = t.part;
+  parts = session_arrives v (seeing (OfBucket b t.part ∷ []) t.seen []) u b t.part (only_session v only) refl t.after ∙ (λ i. OfSession (number v) (session v) ∷ OfBucket b t.part ∷ only_others v only i);
+  kept = (t.seen, ap (λ (x : View). x.sights) t.after);
+}
+
+pub departed : (j : ℕ) (part : SessionPart) (b : ℕ) (old : List Sight) (u w : View) → Beside j part b old u → w ≡ without_bucket u → Alone j part old w
+departed j part b old u w h e = record {
+  parts =
+    let n = first_number u j part _ h.parts in
+    let s = first_session u j part _ h.parts in
+    let o : beyond u ≡ [] = ap (λ (ps : List Part). after_first (after_first ps)) h.parts in
+    let has : HasSession u = h.parts ∙ (λ i. OfSession (sym n i) (sym s i) ∷ sym (ap after_first h.parts) i) in
+    session_departs u w has e ∙ (λ i. OfSession (n i) (s i) ∷ o i);
+  kept = (h.kept.0, ap (λ (x : View). x.sights) e ∙ h.kept.1);
+}
+
+-- ---- what is done between
+
+more_seen : (old sights xs : List Sight) → StartsWith sights old → StartsWith (sights ++ xs) old
+more_seen old sights xs k = (k.0 ++ xs, ap (λ l. l ++ xs) k.1 ∙ append_assoc old k.0 xs)
+
+pub looked : (j : ℕ) (part : SessionPart) (b n : ℕ) (old : List Sight) (ask : Ask) (u w : View) → Beside j part b old u → (k : Looks u ask n w) → Beside j (with_log (log_asked u ask n k.rows) part) b old w × IsAmong (Heard j (log_asked u ask n k.rows)) w.sights
+looked j part b n old ask u w h k =
+    let e = first_number u j part _ h.parts in
+    let s = first_session u j part _ h.parts in
+    let o : others u ≡ OfBucket b h.holds ∷ [] = ap after_first h.parts in (
+      record {
+        holds = h.holds;
+        parts = ap (λ (x : View). x.parts) k.after ∙ (λ i. OfSession (e i) (with_log (log_asked u ask n k.rows) (s i)) ∷ o i);
+        kept = subst (λ l. StartsWith l old) (sym (ap (λ (x : View). x.sights) k.after)) (more_seen old u.sights _ h.kept);
+      },
+      subst (IsAmong (Heard j (log_asked u ask n k.rows))) (sym (ap (λ (x : View). x.sights) k.after)) (among_later _ u.sights _ (inr (inl (ap (λ i. Heard i (log_asked u ask n k.rows)) e)))),
+    )
+
+pub installed : (j : ℕ) (part : SessionPart) (b : ℕ) (old : List Sight) (r : Rid) (image : Image) (u w : View) → Beside j part b old u → Installs u r image w → Beside j (with_entry (Wrote r image) part) b old w × IsAmong (Heard j (Wrote r image ∷ part.log)) w.sights
+installed j part b old r image u w h k =
+    let e = first_number u j part _ h.parts in
+    let s = first_session u j part _ h.parts in
+    let m : bucket_number u ≡ b = ap (λ (ps : List Part). number_in (after_first ps)) h.parts in
+    let o : beyond u ≡ [] = ap (λ (ps : List Part). after_first (after_first ps)) h.parts in (
+      record {
+        holds = installing (writer u) r image (bucket u);
+        parts = ap (λ (x : View). x.parts) k ∙ (λ i. OfSession (e i) (with_entry (Wrote r image) (s i)) ∷ OfBucket (m i) (installing (writer u) r image (bucket u)) ∷ o i);
+        kept = subst (λ l. StartsWith l old) (sym (ap (λ (x : View). x.sights) k)) (more_seen old u.sights _ h.kept);
+      },
+      subst (IsAmong (Heard j (Wrote r image ∷ part.log))) (sym (ap (λ (x : View). x.sights) k)) (among_later _ u.sights _ (inl (λ i. Heard (e i) (Wrote r image ∷ (s i).log)))),
+    )
+
+pub undone : (j : ℕ) (part : SessionPart) (b : ℕ) (old : List Sight) (r : Rid) (u w : View) → Beside j part b old u → Undoes u r w → Beside j (with_entry (Undid r) part) b old w × IsAmong (Heard j (Undid r ∷ part.log)) w.sights
+undone j part b old r u w h k =
+    let e = first_number u j part _ h.parts in
+    let s = first_session u j part _ h.parts in
+    let m : bucket_number u ≡ b = ap (λ (ps : List Part). number_in (after_first ps)) h.parts in
+    let o : beyond u ≡ [] = ap (λ (ps : List Part). after_first (after_first ps)) h.parts in (
+      record {
+        holds = undoing r (bucket u);
+        parts = ap (λ (x : View). x.parts) k ∙ (λ i. OfSession (e i) (with_entry (Undid r) (s i)) ∷ OfBucket (m i) (undoing r (bucket u)) ∷ o i);
+        kept = subst (λ l. StartsWith l old) (sym (ap (λ (x : View). x.sights) k)) (more_seen old u.sights _ h.kept);
+      },
+      subst (IsAmong (Heard j (Undid r ∷ part.log))) (sym (ap (λ (x : View). x.sights) k)) (among_later _ u.sights _ (inl (λ i. Heard (e i) (Undid r ∷ (s i).log)))),
+    )
+
+-- ---- with nothing held
+
+pub looked_alone : (v w : View) (n : ℕ) (ask : Ask) → HasOnlySession v → (k : Looks v ask n w) → Alone (number v) (with_log (log_asked v ask n k.rows) (session v)) v.sights w × IsAmong (Heard (number v) (log_asked v ask n k.rows)) w.sights
+looked_alone v w n ask only k = (
+  record {
+    parts = ap (λ (x : View). x.parts) k.after ∙ (λ i. OfSession (number v) (with_log (log_asked v ask n k.rows) (session v)) ∷ only_others v only i);
+    kept = (_, ap (λ (x : View). x.sights) k.after);
+  },
+  subst (IsAmong (Heard (number v) (log_asked v ask n k.rows))) (sym (ap (λ (x : View). x.sights) k.after)) (among_later _ v.sights _ (inr (inl refl))),
+)
+
+pub ended : (v w : View) → HasOnlySession v → Ends v w → Alone (number v) (logging Over Idle (session v)) v.sights w × IsAmong (Heard (number v) (Over ∷ (session v).log)) w.sights
+ended v w only k = (
+  record {
+    parts = ap (λ (x : View). x.parts) k ∙ (λ i. OfSession (number v) (logging Over Idle (session v)) ∷ only_others v only i);
+    kept = (_, ap (λ (x : View). x.sights) k);
+  },
+  subst (IsAmong (Heard (number v) (Over ∷ (session v).log))) (sym (ap (λ (x : View). x.sights) k)) (among_later _ v.sights _ (inl refl)),
+)
+
+-- ---- the pass
+
+-- a pass of this board with a bucket is one still
+pub beside_pass : (t : TableId) (z : Sizes) (p q : SessionPass) (b : ℕ) (old : List Sight) → IsSessionOf t z p → IsSeatOf t q.seat → session_rest q ≡ session_rest p → Beside (number (session_view p)) (session (session_view p)) b old (session_view q) → IsSessionOf t z q
+beside_pass t z p q b old own seat rest h = still_session t z p q _ own seat rest h.parts

@@ -1,0 +1,22 @@
+-- What a clause says of an engine.
+use Rattle.std.specs.Prelude.{ℕ}
+use Rattle.hg_rule.specs.declared.board.Board.{Board}
+use Rattle.hg_rule.specs.declared.view.Sizes.{Sizes}
+use Rattle.hg_rule.specs.Seats.{TableId, table_of, sizes_of}
+use Rattle.hg_tracker.specs.Boards.{board_of}
+use Rattle.hg_store.specs.declared.store.Store.{Store}
+use Rattle.hg_session.specs.declared.engine.Engine.{Engine}
+
+-- its board, the board's identity, and for how many of each it was opened
+abbrev pub engine_board : Engine → Board
+engine_board e = board_of e.trackers
+
+abbrev pub engine_table : Engine → TableId
+engine_table e = table_of (engine_board e)
+
+abbrev pub engine_sizes : Engine → Sizes
+engine_sizes e = sizes_of (engine_board e)
+
+-- its buckets
+abbrev pub engine_store : Engine → Store
+engine_store e = e.store

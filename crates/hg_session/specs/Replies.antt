@@ -1,0 +1,106 @@
+-- How the calls of a session reply.
+use Rattle.std.specs.Prelude.{◌≡◌, ℕ, suc, ◌≤◌, ◌<◌, List, ℤ, Bool, true, false, ◌==◌, Option, Some, None, option_map, Result, Ok, Err, IsFalse, IfSome, ⊤}
+use Rattle.hg_base.specs.declared.statement.Statement.{Statement}
+use Rattle.hg_base.specs.declared.line.Answer.{Answer}
+use Rattle.hg_base.specs.declared.line.Answer.TheVariants.{Begun, Stored, Found, Nothing, Gone, Rows, Committed, Ended as NothingWritten, Undone, Newer, OpenBy, Undeclared}
+use Rattle.hg_base.specs.declared.line.Reply.{Reply}
+use Rattle.hg_base.specs.declared.fault.NoMemory.{NoMemory}
+use Rattle.hg_base.specs.Lists.{Each}
+use Rattle.hg_core.specs.Phases.{IsSession}
+use Rattle.hg_core.specs.Reading.{Unprinted, Fits, log_after}
+use Rattle.hg_rule.specs.declared.view.Sizes.{Sizes}
+use Rattle.hg_rule.specs.declared.view.Sight.{Sight}
+use Rattle.hg_rule.specs.declared.view.View.{View}
+use Rattle.hg_rule.specs.Facts.{StartsWith}
+use Rattle.hg_rule.specs.Views.{number, session}
+use Rattle.hg_tracker.specs.Begun.{AtMost}
+use Rattle.hg_store.specs.Ends.{HasNoEnd}
+use Rattle.hg_headline.specs.Timely.{snapshot_in, newer_in, commit_in}
+use Rattle.hg_session.specs.declared.answers.Read.{Read}
+use Rattle.hg_session.specs.declared.answers.Scanned.{Scanned}
+use Rattle.hg_session.specs.declared.answers.Written.{Written}
+use Rattle.hg_session.specs.declared.answers.Deleted.{Deleted}
+use Rattle.hg_session.specs.declared.answers.GetRefusal.{GetRefusal}
+use Rattle.hg_session.specs.declared.answers.GetRefusal.TheVariants as get
+use Rattle.hg_session.specs.declared.answers.PutRefusal.{PutRefusal}
+use Rattle.hg_session.specs.declared.answers.PutRefusal.TheVariants as put
+
+-- ---- the reply of each call, and none where memory was wanting
+
+-- a reply in a transaction
+abbrev pub inside : Answer → Reply
+inside answer = record { at = None; answer = answer; number = None }
+
+-- the snapshot of a statement is printed where it is a transaction of its own
+abbrev pub shown : Bool → ℕ → Option ℕ
+shown true at = Some at
+shown false at = None
+
+abbrev pub reading : Bool → ℕ → Answer → Reply
+reading alone at answer = record { at = shown alone at; answer = answer; number = None }
+
+abbrev pub writing : Bool → ℕ → Answer → Option ℕ → Reply
+writing alone at answer number = record { at = shown alone at; answer = answer; number = number }
+
+abbrev pub row_answer : Option (List ℤ) → Answer
+row_answer None = Nothing
+row_answer (Some row) = Found row
+
+abbrev pub get_reply : Bool → Result Read GetRefusal → Option Reply
+get_reply alone (Ok read) = Some (reading alone read.at (row_answer read.row))
+get_reply alone (Err (get.Undeclared table)) = Some (inside (Undeclared table))
+get_reply alone (Err get.NoMemory) = None
+
+abbrev pub scan_reply : Bool → Result Scanned GetRefusal → Option Reply
+scan_reply alone (Ok scanned) = Some (reading alone scanned.at (Rows scanned.rows))
+scan_reply alone (Err (get.Undeclared table)) = Some (inside (Undeclared table))
+scan_reply alone (Err get.NoMemory) = None
+
+abbrev pub refused_reply : Bool → PutRefusal → Option Reply
+refused_reply alone (put.Undeclared table) = Some (inside (Undeclared table))
+refused_reply alone (put.Open at session transaction) = Some (reading alone at (OpenBy (record { session = session; transaction = transaction })))
+refused_reply alone (put.Newer at number) = Some (reading alone at (Newer number))
+refused_reply alone put.NoMemory = None
+
+abbrev pub put_reply : Bool → Result Written PutRefusal → Option Reply
+put_reply alone (Ok written) = Some (writing alone written.at Stored written.number)
+put_reply alone (Err refusal) = refused_reply alone refusal
+
+abbrev pub gone_answer : Bool → Answer
+gone_answer true = Gone
+gone_answer false = Nothing
+
+abbrev pub del_reply : Bool → Result Deleted PutRefusal → Option Reply
+del_reply alone (Ok deleted) = Some (writing alone deleted.at (gone_answer deleted.there) deleted.number)
+del_reply alone (Err refusal) = refused_reply alone refusal
+
+abbrev pub commit_answer : Option ℕ → Answer
+commit_answer None = NothingWritten
+commit_answer (Some number) = Committed number
+
+-- ---- what a reply says
+
+-- a commit number is over all that was seen, and over the transaction's own snapshot, where that is printed
+pub record IsNext (sights : List Sight) (at : Option ℕ) (c : ℕ) : Type 0 where
+  pub before : ℕ
+  pub next : c ≡ suc before
+  pub over : Each (AtMost before) sights
+  pub begun : IfSome at (λ n. n ≤ before)
+
+-- a transaction that has a record open is another session's, and goes on, by all that was seen
+abbrev pub GoesOn : Sizes → View → Answer → Type 0
+GoesOn z v (OpenBy writer) = IsSession z.sessions writer.session × (IsFalse (writer.session == number v) × Each (HasNoEnd writer) v.sights)
+GoesOn z v _ = ⊤
+
+-- A statement with its reply: the log has gained the statement's entries, once; a snapshot is at or over all that was seen; and
+-- a number that is newer than the snapshot is no first one.
+pub record Answers (z : Sizes) (old : View) (statement : Statement) (reply : Reply) (new : View) : Type 0 where
+  pub u : Unprinted
+  pub fits : Fits z.buckets u (session old).log statement reply
+  pub log : (session new).log ≡ log_after z.buckets u statement reply (session old).log
+  pub number_is : number new ≡ number old
+  pub kept : StartsWith new.sights old.sights
+  pub snapshot : IfSome (snapshot_in reply) (λ at. Each (AtMost at) old.sights)
+  pub commit : IfSome (commit_in statement reply) (IsNext old.sights (snapshot_in reply))
+  pub newer : IfSome (newer_in reply) (λ c. 0 < c)
+  pub goes_on : GoesOn z old reply.answer

@@ -1,0 +1,58 @@
+-- What a clause says of a session.
+use Rattle.std.specs.Prelude.{ℕ, List, Option, is_none, Bool}
+use Rattle.hg_base.specs.declared.rid.Rid.{Rid}
+use Rattle.hg_base.specs.declared.scope.Snapshot.{Snapshot}
+use Rattle.hg_core.specs.declared.log.LogEntry.{LogEntry}
+use Rattle.hg_core.specs.Logs.{current}
+use Rattle.hg_rule.specs.declared.passes.SessionPass.{SessionPass}
+use Rattle.hg_rule.specs.declared.view.Sight.{Sight}
+use Rattle.hg_rule.specs.declared.view.View.{View}
+use Rattle.hg_rule.specs.Views.{number, session, HasOnlySession}
+use Rattle.hg_rule.specs.Seats.{session_view, IsSessionOf}
+use Rattle.hg_session.specs.declared.engine.Engine.{Engine}
+use Rattle.hg_session.specs.declared.session.Session.{Session}
+use Rattle.hg_session.specs.Engines.{engine_table, engine_sizes}
+use Rattle.hg_session.specs.Ties.{Ties, IsHeard}
+
+-- its pass, what that sees, its number, its log and what it has seen
+abbrev pub pass_of : Session → SessionPass
+pass_of s = s.pass
+
+abbrev pub view_of : Session → View
+view_of s = session_view s.pass
+
+abbrev pub number_of : Session → ℕ
+number_of s = number (view_of s)
+
+abbrev pub log_of : Session → List LogEntry
+log_of s = (session (view_of s)).log
+
+abbrev pub seen_by : Session → List Sight
+seen_by s = (view_of s).sights
+
+-- the snapshot of its open transaction, whether none is open, and how many statements it may still run
+abbrev pub open_of : Session → Option Snapshot
+open_of s = current (log_of s)
+
+abbrev pub is_alone : Session → Bool
+is_alone s = is_none (open_of s)
+
+abbrev pub left_of : Session → ℕ
+left_of s = s.left
+
+abbrev pub opened_of : Session → Option Snapshot
+opened_of s = s.opened
+
+abbrev pub written_of : Session → List Rid
+written_of s = s.written.items
+
+-- The session is one of the engine and holds nothing of it, and what it keeps is what its part of the state says. It has
+-- heard its own log.
+pub record IsIn (e : Engine) (begins writes : ℕ) (s : Session) : Type 0 where
+  pub pass : IsSessionOf (engine_table e) (engine_sizes e) (pass_of s)
+  pub only : HasOnlySession (view_of s)
+  pub ties : Ties (engine_sizes e).each (opened_of s) (written_of s) (left_of s) begins writes (session (view_of s))
+  pub heard : IsHeard (number_of s) (log_of s) (seen_by s)
+
+abbrev pub IsOf : Engine → Session → Type 0
+IsOf e s = IsIn e 0 0 s

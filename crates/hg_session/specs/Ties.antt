@@ -1,0 +1,39 @@
+-- What a session keeps of its part of the state.
+use Rattle.std.specs.Prelude.{◌≡◌, ◌⊎◌, ℕ, ◌+◌, ◌≤◌, List, [], false, Option, Some, None, is_some, IsTrue}
+use Rattle.hg_base.specs.declared.rid.Rid.{Rid}
+use Rattle.hg_base.specs.declared.scope.Snapshot.{Snapshot}
+use Rattle.hg_base.specs.History.{is_among, NoneTwice}
+use Rattle.hg_core.specs.declared.phase.Phase.{Phase}
+use Rattle.hg_core.specs.declared.phase.Phase.TheVariants.{Idle, Live}
+use Rattle.hg_core.specs.declared.log.LogEntry.{LogEntry}
+use Rattle.hg_core.specs.Logs.{current, begans, wrotes, is_plain, open_in}
+use Rattle.hg_rule.specs.declared.view.SessionPart.{SessionPart}
+use Rattle.hg_rule.specs.declared.view.Sight.{Sight}
+use Rattle.hg_rule.specs.declared.view.Sight.TheVariants.{Heard}
+use Rattle.hg_rule.specs.Facts.{IsAmong}
+
+-- the phase of a session whose open transaction reads at a snapshot
+abbrev pub phase_at : Option Snapshot → Phase
+phase_at None = Idle
+phase_at (Some snapshot) = Live snapshot.at snapshot.scope
+
+-- each record that the open transaction wrote, once
+pub record AreWritten (rids : List Rid) (log : List LogEntry) : Type 0 where
+  pub once : NoneTwice rids
+  pub each : (r : Rid) → is_among r rids ≡ is_some (open_in r log)
+
+-- The session shows the snapshot of its open transaction, of which nothing was undone or published, and lists what it wrote.
+-- It may begin `begins` transactions, and write `writes` records, beyond those that it counts in `left`.
+pub record Ties (each : ℕ) (opened : Option Snapshot) (written : List Rid) (left : ℕ) (begins writes : ℕ) (part : SessionPart) : Type 0 where
+  pub phase : part.phase ≡ phase_at opened
+  pub unstamped : part.stamped ≡ false
+  pub opens : current part.log ≡ opened
+  pub plain : IsTrue (is_plain part.log)
+  pub written_is : AreWritten written part.log
+  pub rests : opened ≡ None → written ≡ []
+  pub begun : begans part.log + left + begins ≤ each
+  pub wrote : wrotes part.log + left + writes ≤ each
+
+-- the whole log of session j was heard
+abbrev pub IsHeard : ℕ → List LogEntry → List Sight → Type 0
+IsHeard j log sights = (log ≡ []) ⊎ IsAmong (Heard j log) sights

@@ -1,0 +1,20 @@
+//! The engine that all sessions share.
+
+ghost use Rattle.std.specs.Prelude.{◌≡◌, ◌<◌};
+ghost use Rattle.hg_rule.specs.Seats.{table_of, sizes_of};
+ghost use Rattle.hg_tracker.specs.Boards.{board_of};
+ghost use Rattle.hg_store.specs.Stores.{store_table, store_buckets};
+
+use hg_rule::Board;
+use hg_store::Store;
+use hg_tracker::Trackers;
+
+/// The words of a board, its buckets, and its list of groups.
+#[derive(Drop)]
+pub struct Engine {
+    pub(crate) trackers: Trackers,
+    pub(crate) store: Store,
+    ghost store_is: { store_table store ≡ table_of (board_of trackers) },
+    ghost buckets_are: { store_buckets store ≡ (sizes_of (board_of trackers)).buckets },
+    ghost some: { 0 < store_buckets store },
+}
