@@ -2,3 +2,4 @@ pub mod Tying
 pub mod Trips
 pub mod Seeing
 pub mod Settling
+pub mod Storing

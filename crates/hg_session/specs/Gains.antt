@@ -1,10 +1,20 @@
 -- What a call leaves of a session's view.
-use Rattle.std.specs.Prelude.{◌≡◌, ℕ, ℤ, List, [], ◌∷◌, ◌++◌, Option, Some, None}
+use Rattle.std.specs.Prelude.{◌≡◌, ℕ, ℤ, ◌<◌, ◌==◌, List, [], ◌∷◌, ◌++◌, Option, Some, None, Result, Ok, Err, IsFalse, ⊤}
+use Rattle.hg_base.specs.declared.rid.Rid.{Rid}
+use Rattle.hg_base.specs.declared.image.Image.{Image}
+use Rattle.hg_base.specs.declared.line.Answer.TheVariants as answers
+use Rattle.hg_base.specs.Lists.{Each}
 use Rattle.hg_core.specs.declared.log.LogEntry.{LogEntry}
+use Rattle.hg_core.specs.declared.log.LogEntry.TheVariants.{Refused, Wrote}
 use Rattle.hg_core.specs.Logs.{current, own_writes}
+use Rattle.hg_core.specs.Phases.{IsSession}
+use Rattle.hg_bucket.specs.declared.refusal.WriteRefusal.{WriteRefusal}
+use Rattle.hg_bucket.specs.declared.refusal.WriteRefusal.TheVariants.{Open, Newer, NoMemory}
+use Rattle.hg_rule.specs.declared.view.Sizes.{Sizes}
 use Rattle.hg_rule.specs.declared.view.View.{View}
 use Rattle.hg_rule.specs.Facts.{StartsWith, EndsWith}
 use Rattle.hg_rule.specs.Views.{number, session}
+use Rattle.hg_store.specs.Ends.{HasNoEnd}
 
 -- the log has these entries more, and what was seen is kept
 pub record Gains (old : View) (entries : List LogEntry) (new : View) : Type 0 where
@@ -24,3 +34,17 @@ pub record Stays (old : View) (new : View) : Type 0 where
 abbrev pub rows_at : ℕ → Option (List ℤ) → List (ℕ × List ℤ)
 rows_at key None = []
 rows_at key (Some row) = (key, row) ∷ []
+
+-- what a write leaves in the log, newest first, by its answer
+abbrev pub entries_of : {T : Type 0} → Rid → Image → Result T WriteRefusal → List LogEntry
+entries_of rid image (Ok t) = Wrote rid image ∷ []
+entries_of rid image (Err (Open writer)) = Refused rid (answers.OpenBy writer) ∷ []
+entries_of rid image (Err (Newer number)) = Refused rid (answers.Newer number) ∷ []
+entries_of rid image (Err NoMemory) = []
+
+-- Who refuses a write: another session of the board, whose transaction goes on, by all that was seen; or a group over the
+-- snapshot.
+abbrev pub IsRefusedBy : Sizes → View → ℕ → WriteRefusal → Type 0
+IsRefusedBy z v at (Open writer) = IsSession z.sessions writer.session × (IsFalse (writer.session == number v) × Each (HasNoEnd writer) v.sights)
+IsRefusedBy z v at (Newer number) = at < number
+IsRefusedBy z v at NoMemory = ⊤

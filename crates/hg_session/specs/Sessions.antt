@@ -44,7 +44,7 @@ abbrev pub opened_of : Session → Option Snapshot
 opened_of s = s.opened
 
 abbrev pub written_of : Session → List Rid
-written_of s = s.written.items
+written_of s = s.written.list
 
 -- The session is one of the engine and holds nothing of it, and what it keeps is what its part of the state says. It has
 -- heard its own log.

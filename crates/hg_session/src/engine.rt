@@ -3,9 +3,10 @@
 ghost use Rattle.std.specs.Prelude.{◌≡◌, ◌<◌};
 ghost use Rattle.hg_rule.specs.Seats.{table_of, sizes_of};
 ghost use Rattle.hg_tracker.specs.Boards.{board_of};
+ghost use Rattle.hg_group.specs.Lists.{groups_table};
 ghost use Rattle.hg_store.specs.Stores.{store_table, store_buckets};
 
-use hg_rule::Board;
+use hg_group::GroupList;
 use hg_store::Store;
 use hg_tracker::Trackers;
 
@@ -14,7 +15,9 @@ use hg_tracker::Trackers;
 pub struct Engine {
     pub(crate) trackers: Trackers,
     pub(crate) store: Store,
+    pub(crate) groups: GroupList,
     ghost store_is: { store_table store ≡ table_of (board_of trackers) },
+    ghost groups_are: { groups_table groups ≡ table_of (board_of trackers) },
     ghost buckets_are: { store_buckets store ≡ (sizes_of (board_of trackers)).buckets },
     ghost some: { 0 < store_buckets store },
 }

@@ -23,6 +23,7 @@ mod engine;
 mod parts;
 mod reading;
 mod session;
+mod writing;
 
 pub use answers::{Deleted, Ended, GetRefusal, PutRefusal, Read, Scanned, Written};
 pub use engine::Engine;

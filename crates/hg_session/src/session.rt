@@ -10,7 +10,8 @@ ghost use Rattle.hg_session.specs.Sessions.{IsIn, view_of, seen_by, open_of, lef
 ghost use Rattle.hg_session.specs.Gains.{Gains};
 
 use crate::engine::Engine;
-use hg_base::{Rid, Scope, Snapshot};
+use hg_base::{Scope, Snapshot};
+use hg_group::RidList;
 use hg_rule::SessionPass;
 use std::alloc::Global;
 
@@ -20,7 +21,7 @@ pub struct Session {
     pub(crate) pass: SessionPass,
     // The snapshot of the open transaction, and the records that this one wrote.
     pub(crate) opened: Option<Snapshot>,
-    pub(crate) written: Vec<Rid>,
+    pub(crate) written: RidList,
     pub(crate) left: u64,
     pub(crate) alloc: Global,
 }
