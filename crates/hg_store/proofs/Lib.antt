@@ -3,6 +3,7 @@ pub mod Refusing
 pub mod Changing
 pub mod Ending
 pub mod Backing
+pub mod Mine
 pub mod Keeping
 pub mod Bounding
 pub mod Holding
