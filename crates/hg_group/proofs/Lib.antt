@@ -1,0 +1,4 @@
+pub mod Recording
+pub mod Numbering
+pub mod Contexts
+pub mod Committing

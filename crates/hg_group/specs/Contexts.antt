@@ -1,0 +1,27 @@
+-- What a group's context says of the group.
+use Rattle.std.specs.Prelude.{◌≡◌, ℕ, suc, ◌+◌, List, [], ◌∷◌, length, drop, is_some, ⊤}
+use Rattle.hg_base.specs.declared.rid.Rid.{Rid}
+use Rattle.hg_base.specs.History.{Group, History, NoneTwice, is_among, group_image}
+use Rattle.hg_group.specs.declared.context.GroupContext.{GroupContext}
+
+-- it has the group's number, and exactly the records that the group writes, each once
+pub record IsContextOf (number : ℕ) (group : Group) (context : GroupContext) : Type 0 where
+  pub number_is : context.number ≡ number
+  pub once : NoneTwice context.records.list
+  pub exact : (r : Rid) → is_among r context.records.list ≡ is_some (group_image r group)
+
+-- as many contexts as groups, in order, the first group having number n
+abbrev pub EachContextOf : ℕ → List Group → List GroupContext → Type 0
+EachContextOf n [] [] = ⊤
+EachContextOf n [] (c ∷ contexts) = ⊥
+EachContextOf n (group ∷ groups) [] = ⊥
+EachContextOf n (group ∷ groups) (c ∷ contexts) = IsContextOf n group c × EachContextOf (suc n) groups contexts
+
+-- those of the groups that were not taken out
+abbrev pub AreContexts : History → ℕ → List GroupContext → Type 0
+AreContexts h taken contexts = EachContextOf (suc taken) (drop taken h) contexts
+
+-- how many commits the groups have
+abbrev pub commits_in : History → ℕ
+commits_in [] = 0
+commits_in (group ∷ groups) = length group + commits_in groups

@@ -1,0 +1,12 @@
+-- A list of records, as clauses see it.
+use Rattle.std.specs.Prelude.{ℕ, List, []}
+use Rattle.hg_base.specs.declared.rid.Rid.{Rid}
+
+-- the records, and how many more there is room for
+pub record Rids : Type 0 where
+  pub list : List Rid
+  pub room : ℕ
+
+-- what no memory was taken for
+abbrev pub no_rids : Rids
+no_rids = record { list = []; room = 0 }

@@ -1,0 +1,12 @@
+//! Open transactions.
+
+use crate::rid_list::RidList;
+use hg_base::{Snapshot, Writer};
+
+/// What a session keeps of its open transaction: who writes, what it reads, and the records that it wrote, each once.
+#[derive(Debug, Drop)]
+pub struct OpenTx {
+    pub writer: Writer,
+    pub snapshot: Snapshot,
+    pub records: RidList,
+}
