@@ -30,3 +30,6 @@ pub use group_list::GroupList;
 pub use open_tx::OpenTx;
 pub use receipt::Receipt;
 pub use rid_list::RidList;
+
+#[cfg(test)]
+mod tests;
