@@ -18,3 +18,4 @@ pub mod Seats
 pub mod Agreed
 pub mod Reading
 pub mod New
+pub mod Resting
