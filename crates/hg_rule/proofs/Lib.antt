@@ -16,3 +16,4 @@ pub mod Unrefused
 pub mod Agreements
 pub mod Found
 pub mod Opening
+pub mod Resting

@@ -18,3 +18,5 @@ pub mod Seats
 pub mod Agreed
 pub mod Reading
 pub mod New
+-- What seats are between two commits of a test.
+pub mod Resting

@@ -63,3 +63,6 @@ pub use pass::Pass;
 pub use passes::{BucketSeat, CollectorPass, CommitSeat, SessionPass};
 pub use seats::{BucketSeatList, Seats, SessionPassList};
 pub use view::{BucketPart, CommitPart, Event, Part, PassPart, SessionPart, Sight, Sizes, View};
+
+#[cfg(test)]
+mod tests;
