@@ -28,3 +28,4 @@ pub mod Running
 pub mod Rounds
 pub mod OverBuckets
 pub mod Quiet
+pub mod Following
