@@ -29,3 +29,4 @@ pub mod Rounds
 pub mod OverBuckets
 pub mod Quiet
 pub mod Following
+pub mod OpenWrites
