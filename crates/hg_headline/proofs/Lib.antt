@@ -30,3 +30,4 @@ pub mod OverBuckets
 pub mod Quiet
 pub mod Following
 pub mod OpenWrites
+pub mod Closing
