@@ -1,18 +1,16 @@
 -- What a replay knows of the logs of its sessions, one record further, and what that is at its end.
-use Rattle.std.proofs.Common.{◌≡◌, ℕ, suc, ◌+◌, ◌<◌, ◌≤◌, inl, inr, List, [], ◌∷◌, ◌++◌, map, length, Bool, true, false, Option, Some, None, refl, sym, ap, ◌∙◌, subst, arith}
-use Rattle.std.specs.Prelude.{◌==◌, ◌||◌, ◌&&◌, if◌then◌else◌, cond, max, sum_by, unwrap_or, is_some, IsTrue, IsFalse, IsSome, IfSome, ⊤}
+use Rattle.std.proofs.Common.{◌≡◌, ℕ, suc, ◌<◌, ◌≤◌, List, [], ◌∷◌, ◌++◌, length, Bool, true, false, Option, Some, None, refl, sym, ap, ◌∙◌, subst, arith}
+use Rattle.std.specs.Prelude.{◌&&◌, max, unwrap_or, is_some, IsTrue, IfSome}
 use Rattle.std.specs.List.{cons_option}
-use Rattle.std.specs.Option.{option_or, option_map, option_map_or}
-use Rattle.std.proofs.lemmas.Bool.Decides.{Decides-eqb}
-use Rattle.std.proofs.lemmas.List.Sums.{sum_by-cons}
-use Rattle.hg_base.specs.declared.rid.Rid.{Rid}
-use Rattle.hg_base.specs.declared.writer.Writer.{Writer}
+use Rattle.std.specs.Option.{option_or}
+use Rattle.hg_base.specs.declared.scope.Scope.{Scope}
 use Rattle.hg_base.specs.declared.scope.Snapshot.{Snapshot}
+use Rattle.hg_base.specs.declared.report.Kind.{Kind}
 use Rattle.hg_base.specs.declared.statement.Statement.{Statement}
 use Rattle.hg_base.specs.declared.statement.Statement.TheVariants.{Begin, Get, Put, Del, Scan, Commit as CommitIt, Rollback, Gc}
 use Rattle.hg_base.specs.declared.statement.Record.{Record}
 use Rattle.hg_base.specs.declared.line.Answer.{Answer}
-use Rattle.hg_base.specs.declared.line.Answer.TheVariants.{Begun, Committed, Ended, Undone, OpenBy, Swept, Beside}
+use Rattle.hg_base.specs.declared.line.Answer.TheVariants.{Begun, Committed, Ended, Undone, Swept, Beside}
 use Rattle.hg_base.specs.declared.line.Reply.{Reply}
 use Rattle.hg_base.specs.declared.line.Line.{Line}
 use Rattle.hg_base.specs.Lists.{Each, greatest, present}
@@ -24,20 +22,19 @@ use Rattle.hg_core.specs.declared.log.LogEntry.{LogEntry}
 use Rattle.hg_core.specs.declared.log.LogEntry.TheVariants.{Began, Saw, Refused, Outside, Wrote, Undid, Published, Over}
 use Rattle.hg_core.specs.Logs.{current, own_writes, UpTo}
 use Rattle.hg_core.specs.Events.{put}
-use Rattle.hg_core.specs.Reading.{Unprinted, Fits, FitsAnswer, IsGcAnswer, own_entries, is_access, is_alone, close, log_with, log_after}
+use Rattle.hg_core.specs.Reading.{Unprinted, Fits, FitsAnswer, IsGcAnswer, own_entries, is_access, is_alone, log_with, log_after}
 use Rattle.hg_core.proofs.Indices.{put_here, put_else, at_index}
 use Rattle.hg_headline.specs.Timely.{snapshot_in, mark_in, newer_in, commit_in, reads_in, IsTimely}
 use Rattle.hg_headline.specs.Met.{IsMet, IsMetAnswer}
 use Rattle.hg_headline.specs.Logged.{Logged}
 use Rattle.hg_headline.specs.Replayed.{HasReplayed}
-use Rattle.hg_headline.specs.Following.{AreUpTo, IsKnownIn, IsFollowing, HasFollowed, IsFreshIn, top_after}
-use Rattle.hg_headline.proofs.Words.{none_of_no, true_false, each_cons}
+use Rattle.hg_headline.specs.Following.{AreUpTo, IsKnownIn, IsFollowing, IsFreshIn, top_after}
+use Rattle.hg_headline.proofs.Words.{none_of_no, each_cons}
 use Rattle.hg_headline.proofs.Adds.{adds_access, access_answer, access_commits, access_snapshot, access_newer}
 use Rattle.hg_headline.proofs.Entries.{close_known}
 use Rattle.hg_headline.proofs.Commits.{greatest_within}
 use Rattle.hg_headline.proofs.Whole.{OfBeginnings, log_first}
 use Rattle.hg_headline.proofs.Loops.{follows_snoc, rises_snoc, shape_snoc, line_of}
-use Rattle.hg_base.specs.Shape.{report_of}
 
 -- ---- logs grow
 
@@ -105,7 +102,7 @@ access_printed buckets u l s at a number n true e fat fnumber f k =
       commit = none_commits n s a number (access_commits s a e) (of_head (λ m. m ≤ n) number closed.1);
     }
 
-pub begin_printed : (buckets : ℕ) (u : Unprinted) (l : List LogEntry) (scope : _) (at : Option ℕ) (a : Answer) (number : Option ℕ) (n : ℕ) → at ≡ None → number ≡ None → IsBegun a → UpTo n (own_entries buckets u (Begin scope) a ++ l) → ArePrinted n (Begin scope) (reply_with at a number)
+pub begin_printed : (buckets : ℕ) (u : Unprinted) (l : List LogEntry) (scope : Scope) (at : Option ℕ) (a : Answer) (number : Option ℕ) (n : ℕ) → at ≡ None → number ≡ None → IsBegun a → UpTo n (own_entries buckets u (Begin scope) a ++ l) → ArePrinted n (Begin scope) (reply_with at a number)
 begin_printed buckets u l scope at (Begun m) number n no_at no_number f k = record { snapshot = k.0; newer = tt; commit = none_commits n (Begin scope) (Begun m) number refl (subst (λ o. IfSome o (λ c. c ≤ n)) (sym no_number) tt) }
 begin_printed buckets u l scope at _ number n no_at no_number f k = absurd f
 
@@ -130,7 +127,7 @@ rollback_printed at Undone number n no_at no_number f = record {
 }
 rollback_printed at _ number n no_at no_number f = absurd f
 
-pub gc_printed : (kind : _) (at : Option ℕ) (a : Answer) (number : Option ℕ) (n : ℕ) → at ≡ None → number ≡ None → IsGcAnswer a → ArePrinted n (Gc kind) (reply_with at a number)
+pub gc_printed : (kind : Kind) (at : Option ℕ) (a : Answer) (number : Option ℕ) (n : ℕ) → at ≡ None → number ≡ None → IsGcAnswer a → ArePrinted n (Gc kind) (reply_with at a number)
 gc_printed kind at (Swept sweep) number n no_at no_number f = record {
   snapshot = subst (λ o. IfSome o (λ m. m ≤ n)) (sym no_at) tt;
   newer = tt;
@@ -248,11 +245,11 @@ following_more buckets sessions logs top rs lines r line u g some most session p
   follows = follows_snoc buckets (IsMet sessions) (λ j. []) logs rs lines r line u g.follows met fits;
   rises = rises_snoc 0 top (top_after top r.statement line.reply) rs lines r line g.rises (fresh_timely logs top r.statement line.reply g.known fresh);
   known = λ n k.
-    let before : AreUpTo n logs = up_to_before buckets logs r.session u r.statement line.reply n k in
-    let after : List LogEntry = log_after buckets u r.statement line.reply (logs r.session) in
-    after_within n top r.statement line.reply (g.known n before)
-    (printed_known buckets u (logs r.session) r.statement line.reply n fits (subst (UpTo n) (put_here logs r.session after) (k r.session)))
-    (if_some_keeps (mark_in line.reply) (λ m. AreUpTo m logs × IsKnownIn logs m) (λ m. m ≤ n) (λ m q. q.1 n before) fresh.mark);
+      let before : AreUpTo n logs = up_to_before buckets logs r.session u r.statement line.reply n k in
+      let after : List LogEntry = log_after buckets u r.statement line.reply (logs r.session) in
+      after_within n top r.statement line.reply (g.known n before)
+      (printed_known buckets u (logs r.session) r.statement line.reply n fits (subst (UpTo n) (put_here logs r.session after) (k r.session)))
+      (if_some_keeps (mark_in line.reply) (λ m. AreUpTo m logs × IsKnownIn logs m) (λ m. m ≤ n) (λ m q. q.1 n before) fresh.mark);
 }
 
 -- ---- at the end

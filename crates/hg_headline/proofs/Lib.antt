@@ -30,4 +30,5 @@ pub mod OverBuckets
 pub mod Quiet
 pub mod Following
 pub mod OpenWrites
+pub mod Before
 pub mod Closing

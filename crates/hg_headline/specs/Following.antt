@@ -1,5 +1,5 @@
 -- What a replay knows after each record from the logs of its sessions alone: the history is known only at its end.
-use Rattle.std.specs.Prelude.{◌≡◌, ℕ, suc, ◌+◌, ◌<◌, ◌≤◌, List, [], ◌∷◌, length, Bool, false, ◌||◌, ◌==◌, IfSome, IsFalse, None, ⊤}
+use Rattle.std.specs.Prelude.{◌≡◌, ℕ, suc, ◌+◌, ◌<◌, ◌≤◌, List, [], ◌∷◌, length, Bool, false, ◌||◌, ◌==◌, IfSome, IsFalse, ⊤}
 use Rattle.std.specs.List.{cons_option}
 use Rattle.hg_base.specs.declared.writer.Writer.{Writer}
 use Rattle.hg_base.specs.declared.statement.Statement.{Statement}
@@ -12,7 +12,7 @@ use Rattle.hg_base.specs.declared.line.Totals.{Totals}
 use Rattle.hg_base.specs.Lists.{Each, greatest}
 use Rattle.hg_base.specs.History.{History}
 use Rattle.hg_base.specs.Counts.{live}
-use Rattle.hg_base.specs.Shape.{HasShape, report_of}
+use Rattle.hg_base.specs.Shape.{HasShape}
 use Rattle.hg_core.specs.declared.log.LogEntry.{LogEntry}
 use Rattle.hg_core.specs.declared.log.LogEntry.TheVariants.{Published, Over}
 use Rattle.hg_core.specs.Logs.{begans, UpTo}
@@ -41,12 +41,6 @@ pub record IsFollowing (buckets : ℕ) (sessions : ℕ) (logs : ℕ → List Log
   pub follows : Follows buckets (IsMet sessions) (λ j. []) records lines logs
   pub rises : Rises 0 records lines top
   pub known : IsKnownIn logs top
-
--- and none of the lines reports
-pub record HasFollowed (buckets : ℕ) (sessions : ℕ) (logs : ℕ → List LogEntry) (records : List Record) (lines : List Line) : Type 0 where
-  pub top : ℕ
-  pub following : IsFollowing buckets sessions logs top records lines
-  pub quiet : Each (λ (line : Line). report_of line.reply ≡ None) lines
 
 -- What a reply prints, beside the logs as they stand before it. A snapshot and a mark are at or over every number there, and a
 -- mark is over none but those. A commit number is the next after one that is at or over every number there and in its own line.
@@ -88,7 +82,7 @@ IsMetIfGc sessions logs _ answer = ⊤
 
 -- ---- the end
 
--- the totals over the logs as they are closed, where no collector reports
+-- The totals over the logs as they are closed, where no `gc` is asked for: the group and the interval collector removed nothing.
 pub record AreQuietTotals (sessions : ℕ) (h : History) (closed : ℕ → List LogEntry) (totals : Totals) : Type 0 where
   pub made : totals.made ≡ made_in sessions closed
   pub undone : totals.undone ≡ undone_in sessions closed
