@@ -30,5 +30,6 @@ pub mod OverBuckets
 pub mod Quiet
 pub mod Following
 pub mod OpenWrites
+pub mod Fresh
 pub mod Before
 pub mod Closing
