@@ -28,7 +28,7 @@ use Rattle.hg_headline.specs.Timely.{snapshot_in, mark_in, newer_in, commit_in, 
 use Rattle.hg_headline.specs.Met.{IsMet, IsMetAnswer}
 use Rattle.hg_headline.specs.Logged.{Logged}
 use Rattle.hg_headline.specs.Replayed.{HasReplayed}
-use Rattle.hg_headline.specs.Following.{AreUpTo, IsKnownIn, IsFollowing, IsFreshIn, top_after}
+use Rattle.hg_headline.specs.Following.{AreUpTo, IsOver, IsFollowing, IsFreshIn, top_after}
 use Rattle.hg_headline.proofs.Words.{none_of_no, each_cons}
 use Rattle.hg_headline.proofs.Adds.{adds_access, access_answer, access_commits, access_snapshot, access_newer}
 use Rattle.hg_headline.proofs.Entries.{close_known}
@@ -182,7 +182,7 @@ each_greatest (x ∷ xs) n k =
     max_right : (a b n : ℕ) → max a b ≤ n → b ≤ n
     max_right a b n k = grind (arith, k)
 
-pub following_opened : (buckets sessions : ℕ) → IsFollowing buckets sessions (λ j. []) 0 [] []
+pub following_opened : (buckets sessions : ℕ) → IsFollowing buckets sessions (λ j. []) 0 0 [] []
 following_opened buckets sessions = record { within = tt; shape = tt; follows = λ j. refl; rises = omega arith; known = λ n k. omega arith }
 
 pub each_from_option : (P : ℕ → Type 0) (o : Option ℕ) (xs : List ℕ) → Each P (cons_option o xs) → IfSome o P × Each P xs
@@ -211,16 +211,16 @@ after_within n top s reply up p mark =
     reads a b c ka kb kc = front a (b ∷ c ∷ []) ka (front b (c ∷ []) kb (front c [] kc tt))
 
 -- a reply that is fresh in the logs is timely
-pub fresh_timely : (logs : ℕ → List LogEntry) (top : ℕ) (s : Statement) (reply : Reply) → IsKnownIn logs top → IsFreshIn logs s reply → IsTimely top (top_after top s reply) s reply
-fresh_timely logs top s reply known f =
+pub fresh_timely : (logs : ℕ → List LogEntry) (seen later top : ℕ) (s : Statement) (reply : Reply) → ((n : ℕ) → IsOver logs seen n → top ≤ n) → IsFreshIn logs seen later s reply → IsTimely top (top_after top s reply) s reply
+fresh_timely logs seen later top s reply known f =
     let next : ℕ = top_after top s reply in
     let covers = after_covers top s reply in
-    let Next : ℕ → Type 0 = λ c. (n : ℕ) × (c ≡ suc n) × AreUpTo n logs × Each (λ m. m ≤ n) (reads_in reply) in
+    let Next : ℕ → Type 0 = λ c. (n : ℕ) × (c ≡ suc n) × IsOver logs seen n × Each (λ m. m ≤ n) (reads_in reply) in
     record {
       grows = covers.0;
       reads = covers.2;
-      snapshot = if_some_keeps (snapshot_in reply) (λ at. AreUpTo at logs) (λ at. top ≤ at) (λ at k. known at k) f.snapshot;
-      mark = if_some_keeps (mark_in reply) (λ m. AreUpTo m logs × IsKnownIn logs m) (λ m. top ≤ m) (λ m k. known m k.0) f.mark;
+      snapshot = if_some_keeps (snapshot_in reply) (λ at. IsOver logs seen at) (λ at. top ≤ at) (λ at k. known at k) f.snapshot;
+      mark = if_some_keeps (mark_in reply) (λ m. IsOver logs seen m × (m ≤ later)) (λ m. top ≤ m) (λ m k. known m k.0) f.mark;
       newer = f.newer;
       commit = if_some_both (commit_in s reply) Next (λ c. c ≤ next) (λ c. (top < c) × (c ≤ next) × Each (λ m. m < c) (reads_in reply))
           (λ c k up. (over c k.0 k.1 (known k.0 k.2), up, each_keeps (λ m. m ≤ k.0) (λ m. m < c) (λ m q. over c k.0 k.1 q) (reads_in reply) k.3)) f.commit covers.1;
@@ -235,32 +235,35 @@ fresh_timely logs top s reply known f =
 
 -- After the next record, where its line shows what is open in the logs as they stand before it. Only the log of the record's
 -- session has gone on.
-pub following_more : (buckets sessions : ℕ) (logs : ℕ → List LogEntry) (top : ℕ) (rs : List Record) (lines : List Line) (r : Record) (line : Line) (u : Unprinted) → IsFollowing buckets sessions logs top rs lines →
+pub following_more : (buckets sessions : ℕ) (logs : ℕ → List LogEntry) (seen later top : ℕ) (rs : List Record) (lines : List Line) (r : Record) (line : Line) (u : Unprinted) → IsFollowing buckets sessions logs seen top rs lines →
     1 ≤ r.session → r.session ≤ sessions → line.session ≡ r.session → line.place ≡ r.place →
-    Fits buckets u (logs r.session) r.statement line.reply → IsMetAnswer sessions logs r.statement line.reply.answer → IsFreshIn logs r.statement line.reply →
-    IsFollowing buckets sessions (put logs r.session (log_after buckets u r.statement line.reply (logs r.session))) (top_after top r.statement line.reply) (rs ++ r ∷ []) (lines ++ line ∷ [])
-following_more buckets sessions logs top rs lines r line u g some most session place fits met fresh = record {
+    Fits buckets u (logs r.session) r.statement line.reply → IsMetAnswer sessions logs r.statement line.reply.answer → IsFreshIn logs seen later r.statement line.reply →
+    IsFollowing buckets sessions (put logs r.session (log_after buckets u r.statement line.reply (logs r.session))) later (top_after top r.statement line.reply) (rs ++ r ∷ []) (lines ++ line ∷ [])
+following_more buckets sessions logs seen later top rs lines r line u g some most session place fits met fresh = record {
   within = each_snoc (λ (r : Record). (1 ≤ r.session) × (r.session ≤ sessions)) rs r g.within (some, most);
   shape = shape_snoc rs lines r line g.shape (line_of r line some session place);
   follows = follows_snoc buckets (IsMet sessions) (λ j. []) logs rs lines r line u g.follows met fits;
-  rises = rises_snoc 0 top (top_after top r.statement line.reply) rs lines r line g.rises (fresh_timely logs top r.statement line.reply g.known fresh);
+  rises = rises_snoc 0 top (top_after top r.statement line.reply) rs lines r line g.rises (fresh_timely logs seen later top r.statement line.reply g.known fresh);
   known = λ n k.
-      let before : AreUpTo n logs = up_to_before buckets logs r.session u r.statement line.reply n k in
+      let before : IsOver logs seen n = record { entries = up_to_before buckets logs r.session u r.statement line.reply n k.entries; groups = below n fresh.grows k.groups } in
       let after : List LogEntry = log_after buckets u r.statement line.reply (logs r.session) in
       after_within n top r.statement line.reply (g.known n before)
-      (printed_known buckets u (logs r.session) r.statement line.reply n fits (subst (UpTo n) (put_here logs r.session after) (k r.session)))
-      (if_some_keeps (mark_in line.reply) (λ m. AreUpTo m logs × IsKnownIn logs m) (λ m. m ≤ n) (λ m q. q.1 n before) fresh.mark);
+      (printed_known buckets u (logs r.session) r.statement line.reply n fits (subst (UpTo n) (put_here logs r.session after) (k.entries r.session)))
+      (if_some_keeps (mark_in line.reply) (λ m. IsOver logs seen m × (m ≤ later)) (λ m. m ≤ n) (λ m q. below n q.1 k.groups) fresh.mark);
 }
+  where
+    below : (n : ℕ) {a b : ℕ} → a ≤ b → b ≤ n → a ≤ n
+    below n p q = omega (arith, p, q)
 
 -- ---- at the end
 
 -- where the history is known at last
-pub following_ends : (buckets sessions : ℕ) (h : History) (logs : ℕ → List LogEntry) (top : ℕ) (rs : List Record) (lines : List Line) → IsFollowing buckets sessions logs top rs lines → Logged buckets h logs → HasReplayed buckets sessions h logs top rs lines
-following_ends buckets sessions h logs top rs lines g logged = record {
+pub following_ends : (buckets sessions : ℕ) (h : History) (logs : ℕ → List LogEntry) (seen top : ℕ) (rs : List Record) (lines : List Line) → IsFollowing buckets sessions logs seen top rs lines → Logged buckets h logs → seen ≤ length h → HasReplayed buckets sessions h logs top rs lines
+following_ends buckets sessions h logs seen top rs lines g logged saw = record {
   logged = logged;
   within = g.within;
   shape = g.shape;
   follows = g.follows;
   rises = g.rises;
-  below = g.known (length h) logged.within;
+  below = g.known (length h) (record { entries = logged.within; groups = saw });
 }

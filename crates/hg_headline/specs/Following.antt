@@ -27,28 +27,31 @@ use Rattle.hg_headline.specs.Counted.{made_in, undone_in}
 abbrev pub AreUpTo : ℕ → (ℕ → List LogEntry) → Type 0
 AreUpTo n logs = (j : ℕ) → UpTo n (logs j)
 
--- n is at or below the greatest number in the logs
-abbrev pub IsKnownIn : (ℕ → List LogEntry) → ℕ → Type 0
-IsKnownIn logs n = (m : ℕ) → AreUpTo m logs → n ≤ m
+-- n is at or over each number in the logs, and over each group that was seen of the history
+pub record IsOver (logs : ℕ → List LogEntry) (seen : ℕ) (n : ℕ) : Type 0 where
+  pub entries : AreUpTo n logs
+  pub groups : seen ≤ n
 
 -- ---- record by record
 
--- Of the records so far with their lines, over the logs as they stand: the lines are the replies that the logs give, each shows
--- what is open there, and no number that they print is over top, which is at or below the greatest number in the logs.
-pub record IsFollowing (buckets : ℕ) (sessions : ℕ) (logs : ℕ → List LogEntry) (top : ℕ) (records : List Record) (lines : List Line) : Type 0 where
+-- Of the records so far with their lines, over the logs as they stand, where at least `seen` groups are in the history: the lines
+-- are the replies that the logs give, each shows what is open there, and no number that they print is over top, which is at or
+-- below the greatest of what is in the logs and was seen.
+pub record IsFollowing (buckets : ℕ) (sessions : ℕ) (logs : ℕ → List LogEntry) (seen : ℕ) (top : ℕ) (records : List Record) (lines : List Line) : Type 0 where
   pub within : Each (λ (r : Record). (1 ≤ r.session) × (r.session ≤ sessions)) records
   pub shape : HasShape records lines
   pub follows : Follows buckets (IsMet sessions) (λ j. []) records lines logs
   pub rises : Rises 0 records lines top
-  pub known : IsKnownIn logs top
+  pub known : (n : ℕ) → IsOver logs seen n → top ≤ n
 
--- What a reply prints, beside the logs as they stand before it. A snapshot and a mark are at or over every number there, and a
--- mark is over none but those. A commit number is the next after one that is at or over every number there and in its own line.
-pub record IsFreshIn (logs : ℕ → List LogEntry) (statement : Statement) (reply : Reply) : Type 0 where
-  pub snapshot : IfSome (snapshot_in reply) (λ at. AreUpTo at logs)
-  pub mark : IfSome (mark_in reply) (λ m. AreUpTo m logs × IsKnownIn logs m)
+-- What a reply prints, beside the logs as they stand before it. A snapshot and a mark are at or over all that is there, and a
+-- mark is seen from then on. A commit number is the next after one that is at or over all that is there and in its own line.
+pub record IsFreshIn (logs : ℕ → List LogEntry) (seen : ℕ) (later : ℕ) (statement : Statement) (reply : Reply) : Type 0 where
+  pub grows : seen ≤ later
+  pub snapshot : IfSome (snapshot_in reply) (λ at. IsOver logs seen at)
+  pub mark : IfSome (mark_in reply) (λ m. IsOver logs seen m × (m ≤ later))
   pub newer : IfSome (newer_in reply) (λ c. 0 < c)
-  pub commit : IfSome (commit_in statement reply) (λ c. (n : ℕ) × (c ≡ suc n) × AreUpTo n logs × Each (λ m. m ≤ n) (reads_in reply))
+  pub commit : IfSome (commit_in statement reply) (λ c. (n : ℕ) × (c ≡ suc n) × IsOver logs seen n × Each (λ m. m ≤ n) (reads_in reply))
 
 -- the greatest number that is printed, where top was it before
 abbrev pub top_after : ℕ → Statement → Reply → ℕ
