@@ -28,3 +28,8 @@ pub mod Running
 pub mod Rounds
 pub mod OverBuckets
 pub mod Quiet
+pub mod Following
+pub mod OpenWrites
+pub mod Fresh
+pub mod Before
+pub mod Closing

@@ -11,5 +11,7 @@ pub mod Ran
 -- The totals of both.
 pub mod Counted
 pub mod Boards
+-- A replay whose history is known at its end alone.
+pub mod Following
 -- A replay and a run that meet all this.
 pub mod Worked
