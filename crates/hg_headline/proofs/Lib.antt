@@ -27,4 +27,5 @@ pub mod Worked
 pub mod Running
 pub mod Rounds
 pub mod OverBuckets
+pub mod Totalling
 pub mod Quiet

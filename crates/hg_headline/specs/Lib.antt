@@ -11,5 +11,6 @@ pub mod Ran
 -- The totals of both.
 pub mod Counted
 pub mod Boards
+pub mod Totalled
 -- A replay and a run that meet all this.
 pub mod Worked
