@@ -1,0 +1,97 @@
+-- What a pass knows that counts one bucket after the other.
+use Rattle.std.proofs.Common.{◌≡◌, inl, inr, ℕ, zero, suc, ◌+◌, ◌<◌, ◌≤◌, Bool, true, false, eqb, List, [], ◌∷◌, ◌++◌, length, refl, sym, ap, ◌∙◌, subst, arith}
+use Rattle.std.specs.Prelude.{◌==◌, if◌then◌else◌}
+use Rattle.hg_base.specs.declared.report.Kind.{Kind}
+use Rattle.hg_base.specs.declared.report.Kind.TheVariants.{Group, Table, Interval}
+use Rattle.hg_base.specs.declared.line.Totals.{Totals}
+use Rattle.hg_base.specs.History.{History}
+use Rattle.hg_base.specs.Lists.{Each}
+use Rattle.hg_core.specs.declared.log.LogEntry.{LogEntry}
+use Rattle.hg_core.specs.declared.visit.Counters.{Counters}
+use Rattle.hg_core.specs.declared.visit.Visit.{Visit}
+use Rattle.hg_core.specs.Contents.{Content}
+use Rattle.hg_core.specs.Counters.{none_removed, removed_by, removed_in}
+use Rattle.hg_core.specs.Phases.{IsSession}
+use Rattle.hg_core.specs.Sums.{sum_below}
+use Rattle.hg_core.proofs.Sums.{below_same}
+use Rattle.hg_rule.specs.declared.view.BucketPart.{BucketPart}
+use Rattle.hg_rule.specs.declared.view.PassPart.{PassPart}
+use Rattle.hg_rule.specs.declared.view.Part.{Part}
+use Rattle.hg_rule.specs.declared.view.Part.TheVariants.{OfBucket, OfPass}
+use Rattle.hg_rule.specs.declared.view.View.{View}
+use Rattle.hg_rule.specs.declared.view.Sizes.{Sizes}
+use Rattle.hg_rule.specs.Keys.{session_key, commit_key, pass_key, has, count, shares, whole_share}
+use Rattle.hg_rule.specs.Facts.{Shown}
+use Rattle.hg_rule.specs.Rules.{IsBacked}
+use Rattle.hg_rule.specs.Views.{number, pass, others, session_there, pass_there, commit_there, bucket_there, first_in, after_first, HasPass}
+use Rattle.hg_rule.specs.Moves.{put_in}
+use Rattle.hg_rule.specs.Holding.{bucket}
+use Rattle.hg_rule.specs.Places.{arrive_first, arriving, depart}
+use Rattle.hg_rule.specs.Reading.{chosen, seek, passes_in}
+use Rattle.hg_rule.proofs.Lists.{starts_same, starts_on}
+use Rattle.hg_store.specs.Kept.{AreCountsOf}
+use Rattle.hg_headline.specs.Totalled.{HasCut, WasLeftCut, AreCounts, BucketTells}
+use Rattle.hg_headline.proofs.Totalling.{tells_same}
+use Rattle.hg_session.specs.Ended.{logs_in, visits_in, history_in, IsEnded}
+use Rattle.hg_session.specs.Visited.{Counts, empty_visit, empty_visits, HasVisited}
+use Rattle.hg_session.proofs.Ending.{bucket_told}
+
+-- ---- a bucket comes behind the pass's own part, which has other visits
+
+module _ (v x : View) (m b : ℕ) (r : PassPart) (visits : List Visit) (part : BucketPart) (os : List Part) (before : v.parts ≡ OfPass m r ∷ os) (now : x.parts ≡ OfPass m (record r { visits = visits }) ∷ OfBucket b part ∷ os) where
+  pub ended_now : (z : Sizes) → IsEnded z v → IsEnded z x
+  ended_now z e = record {
+    sessions = λ j is. subst (λ ps. 0 < count (session_key j) ps) (sym now) (one_more _ (subst (λ ps. 0 < count (session_key j) ps) before (e.sessions j is)));
+    passes = ap shares now ∙ same r.share (shares os) ∙ sym (ap shares before) ∙ e.passes;
+    rest = λ j. ap (λ ps. (session_there (seek (session_key j) ps)).phase) now ∙ sym (ap (λ ps. (session_there (seek (session_key j) ps)).phase) before) ∙ e.rest j;
+  }
+    where
+      one_more : (n : ℕ) → 0 < 0 + n → 0 < 0 + (0 + n)
+      one_more n l = omega arith
+
+      same : (n k : ℕ) → n + (0 + k) ≡ n + k
+      same n k = omega arith
+
+  pub committed_now : 0 < count commit_key v.parts → 0 < count commit_key x.parts
+  committed_now l = subst (λ ps. 0 < count commit_key ps) (sym now) (one_more _ (subst (λ ps. 0 < count commit_key ps) before l))
+    where
+      one_more : (n : ℕ) → 0 < 0 + n → 0 < 0 + (0 + n)
+      one_more n l = omega arith
+
+  pub logs_now : logs_in x ≡ logs_in v
+  logs_now = (λ i j. (session_there (seek (session_key j) (now i))).log) ∙ sym (λ i j. (session_there (seek (session_key j) (before i))).log)
+
+  pub history_now : history_in x ≡ history_in v
+  history_now = ap (λ ps. (commit_there (seek commit_key ps)).history.list) now ∙ sym (ap (λ ps. (commit_there (seek commit_key ps)).history.list) before)
+
+  pub passes_now : passes_in x.parts ≡ passes_in v.parts
+  passes_now = ap passes_in now ∙ sym (ap passes_in before)
+
+  -- the visits of each pass
+  pub each_visit : (P : List Visit → List Visit → Type 0) → P r.visits visits → ((vs : List Visit) → P vs vs) → (p : ℕ) → P (visits_in v p) (visits_in x p)
+  each_visit P own other p =
+      subst (λ ps. P (pass_there (seek (pass_key p) ps)).visits (visits_in x p)) (sym before)
+      (subst (λ ps. P (pass_there (seek (pass_key p) (OfPass m r ∷ os))).visits (pass_there (seek (pass_key p) ps)).visits) (sym now) (go (has (pass_key p) (OfPass m r))))
+    where
+      go : (t : Bool) → P (pass_there (chosen t (OfPass m r) (seek (pass_key p) os))).visits (pass_there (chosen t (OfPass m (record r { visits = visits })) (seek (pass_key p) os))).visits
+      go true = own
+      go false = other _
+
+-- ---- visits that removed nothing
+
+removed_none : (kind : Kind) → removed_by kind none_removed ≡ 0
+removed_none Group = refl
+removed_none Table = refl
+removed_none Interval = refl
+
+nothing_more : (kind : Kind) (t : Bool) (n : ℕ) → (if t then removed_by kind none_removed else 0) + n ≡ n
+nothing_more kind true n = omega (arith, removed_none kind)
+nothing_more kind false n = omega arith
+
+empties_removed : (kind : Kind) (b mark : ℕ) (contents : List Content) (vs : List Visit) → removed_in kind b (empty_visits mark contents ++ vs) ≡ removed_in kind b vs
+empties_removed kind b mark [] vs = refl
+empties_removed kind b mark (content ∷ contents) vs = nothing_more kind (length contents == b) (removed_in kind b (empty_visits mark contents ++ vs)) ∙ empties_removed kind b mark contents vs
+
+cut_before : (buckets n b mark : ℕ) (contents : List Content) (vs : List Visit) → HasCut buckets n b vs → HasCut buckets n b (empty_visits mark contents ++ vs)
+cut_before buckets n b mark [] vs c = c
+cut_before buckets n b mark (content ∷ contents) vs c = inr (cut_before buckets n b mark contents vs c)

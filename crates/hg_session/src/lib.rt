@@ -1,0 +1,2 @@
+//! Sessions on the shared engine. So far what a pass counts that all others were joined to.
+#![tactic(auto)]
