@@ -1,5 +1,5 @@
 -- What a pass knows that counts one bucket after the other.
-use Rattle.std.proofs.Common.{◌≡◌, inl, inr, ℕ, zero, suc, ◌+◌, ◌<◌, ◌≤◌, Bool, true, false, eqb, List, [], ◌∷◌, ◌++◌, length, refl, sym, ap, ◌∙◌, subst, arith}
+use Rattle.std.proofs.Common.{◌≡◌, inl, inr, None, ℕ, zero, suc, ◌+◌, ◌<◌, ◌≤◌, Bool, true, false, eqb, List, [], ◌∷◌, ◌++◌, length, refl, sym, ap, ◌∙◌, subst, arith}
 use Rattle.std.specs.Prelude.{◌==◌, if◌then◌else◌}
 use Rattle.hg_base.specs.declared.report.Kind.{Kind}
 use Rattle.hg_base.specs.declared.report.Kind.TheVariants.{Group, Table, Interval}
@@ -13,6 +13,7 @@ use Rattle.hg_core.specs.Contents.{Content}
 use Rattle.hg_core.specs.Counters.{none_removed, removed_by, removed_in}
 use Rattle.hg_core.specs.Phases.{IsSession}
 use Rattle.hg_core.specs.Sums.{sum_below}
+use Rattle.hg_core.specs.State.{CoreState}
 use Rattle.hg_core.proofs.Sums.{below_same}
 use Rattle.hg_rule.specs.declared.view.BucketPart.{BucketPart}
 use Rattle.hg_rule.specs.declared.view.PassPart.{PassPart}
@@ -21,15 +22,16 @@ use Rattle.hg_rule.specs.declared.view.Part.TheVariants.{OfBucket, OfPass}
 use Rattle.hg_rule.specs.declared.view.View.{View}
 use Rattle.hg_rule.specs.declared.view.Sizes.{Sizes}
 use Rattle.hg_rule.specs.Keys.{session_key, commit_key, pass_key, has, count, shares, whole_share}
-use Rattle.hg_rule.specs.Facts.{Shown}
+use Rattle.hg_rule.specs.Facts.{StartsWith, Shown}
 use Rattle.hg_rule.specs.Rules.{IsBacked}
 use Rattle.hg_rule.specs.Views.{number, pass, others, session_there, pass_there, commit_there, bucket_there, first_in, after_first, HasPass}
 use Rattle.hg_rule.specs.Moves.{put_in}
 use Rattle.hg_rule.specs.Holding.{bucket}
-use Rattle.hg_rule.specs.Places.{arrive_first, arriving, depart}
+use Rattle.hg_rule.specs.Places.{arrive_first, depart, without_bucket}
 use Rattle.hg_rule.specs.Reading.{chosen, seek, passes_in}
 use Rattle.hg_rule.proofs.Lists.{starts_same, starts_on}
 use Rattle.hg_store.specs.Kept.{AreCountsOf}
+use Rattle.hg_store.specs.Stores.{Takes}
 use Rattle.hg_headline.specs.Totalled.{HasCut, WasLeftCut, AreCounts, BucketTells}
 use Rattle.hg_headline.proofs.Totalling.{tells_same}
 use Rattle.hg_session.specs.Ended.{logs_in, visits_in, history_in, IsEnded}
@@ -95,3 +97,63 @@ empties_removed kind b mark (content ∷ contents) vs = nothing_more kind (lengt
 cut_before : (buckets n b mark : ℕ) (contents : List Content) (vs : List Visit) → HasCut buckets n b vs → HasCut buckets n b (empty_visits mark contents ++ vs)
 cut_before buckets n b mark [] vs c = c
 cut_before buckets n b mark (content ∷ contents) vs c = inr (cut_before buckets n b mark contents vs c)
+
+-- ---- one bucket more
+
+module _ (v u x : View) (n : ℕ) (own : HasPass v) (h : HasVisited v n u) (takes : Takes u n x) where
+  abbrev contents : List Content
+  contents = h.contents
+
+  abbrev part : BucketPart
+  part = takes.part
+
+  abbrev visits : List Visit
+  visits = record { bucket = n; mark = (pass v).mark; removed = none_removed; given = None } ∷ (empty_visits (pass v).mark contents ++ (pass v).visits)
+
+  parts_now : x.parts ≡ OfPass (number v) (record (pass v) { visits = visits }) ∷ OfBucket n part ∷ others v
+  parts_now = ap (λ (y : View). y.parts) takes.after ∙ (λ i. put_in (arrive_first n (h.parts i)) (OfBucket n part ∷ []))
+
+  bucket_now : bucket x ≡ part
+  bucket_now = ap (λ ps. bucket_there (first_in (after_first ps))) parts_now
+
+  counters_are : (s : CoreState) (counts : Totals) → Each (Shown s) x.parts → AreCountsOf (bucket x).counters counts → AreCounts (s.counters n) counts
+  counters_are s counts shown are =
+      let same : s.counters n ≡ (bucket x).counters = (subst (Each (Shown s)) parts_now shown).1.0.1 ∙ sym (ap (λ (c : BucketPart). c.counters) bucket_now) in
+      record {
+        made = are.made ∙ sym (ap (λ (c : Counters). c.made) same);
+        undone = are.undone ∙ sym (ap (λ (c : Counters). c.undone) same);
+        group = are.group ∙ sym (ap (λ (c : Counters). c.removed.group) same);
+        table = are.table ∙ sym (ap (λ (c : Counters). c.removed.table) same);
+        interval = are.interval ∙ sym (ap (λ (c : Counters). c.removed.interval) same);
+        balance = are.left;
+      }
+
+  removed_now : (kind : Kind) → removed_in kind n visits ≡ removed_in kind n (pass v).visits
+  removed_now kind = nothing_more kind (n == n) _ ∙ empties_removed kind n (pass v).mark contents (pass v).visits
+
+  -- the counts tell what they would with the visits from before
+  pub taken_tells : (z : Sizes) (counts : Totals) (mark : ℕ) → IsEnded z v → 0 < count commit_key v.parts → IsBacked z mark x → AreCountsOf (bucket x).counters counts → BucketTells z.sessions z.buckets (passes_in v.parts) (logs_in v) (visits_in v) (history_in v) n counts
+  taken_tells z counts mark ended committed told are =
+      tells_same z.sessions z.buckets (passes_in v.parts) (logs_in v) (visits_in x) (visits_in v) (history_in v) n counts
+      (subst (λ k. BucketTells z.sessions z.buckets (passes_in v.parts) (logs_in v) (visits_in x) k n counts) (history_now v x (number v) n (pass v) visits part (others v) own parts_now)
+      (subst (λ l. BucketTells z.sessions z.buckets (passes_in v.parts) l (visits_in x) (history_in x) n counts) (logs_now v x (number v) n (pass v) visits part (others v) own parts_now)
+      (subst (λ k. BucketTells z.sessions z.buckets k (logs_in x) (visits_in x) (history_in x) n counts) (passes_now v x (number v) n (pass v) visits part (others v) own parts_now)
+      (bucket_told z mark x told (ended_now v x (number v) n (pass v) visits part (others v) own parts_now z ended) (committed_now v x (number v) n (pass v) visits part (others v) own parts_now committed) n counts (counters_are told.state counts told.true_of.parts are)))))
+      (λ kind. below_same (passes_in v.parts) (λ p. removed_in kind n (visits_in v p)) (λ p. removed_in kind n (visits_in x p)) (λ p le. each_visit v x (number v) n (pass v) visits part (others v) own parts_now (λ before now. removed_in kind n now ≡ removed_in kind n before) (removed_now kind) (λ vs. refl) p))
+      (λ cut. (cut.0, (cut.1.0, each_visit v x (number v) n (pass v) visits part (others v) own parts_now (λ before now. HasCut z.buckets (length (history_in v)) n before → HasCut z.buckets (length (history_in v)) n now)
+      (λ c. inr (cut_before z.buckets (length (history_in v)) n (pass v).mark contents (pass v).visits c)) (λ vs c. c) cut.0 cut.1.1)))
+
+  -- and the pass has visited it
+  pub visited_more : (w : View) → w ≡ without_bucket x → HasVisited v (suc n) w
+  visited_more w after = record {
+    contents = part.content ∷ contents;
+    each = ap suc h.each;
+    parts = ap (λ (y : View). y.parts) after ∙ (λ i. depart (bucket_there (first_in (after_first (parts_now i)))).content (first_in (parts_now i)) ∷ after_first (after_first (parts_now i)))
+        ∙ (λ i. OfPass (number v) (record (pass v) { visits = empty_visit (pass v).mark (sym h.each i) part.content ∷ (empty_visits (pass v).mark contents ++ (pass v).visits) }) ∷ others v);
+    kept = subst (λ l. StartsWith l v.sights) (sym (ap (λ (y : View). y.sights) after ∙ ap (λ (y : View). y.sights) takes.after)) (starts_on _ u.sights v.sights h.kept (takes.seen, refl));
+    events = ap (λ (y : View). y.events) after ∙ ap (λ (y : View). y.events) takes.after ∙ h.events;
+  }
+
+-- none yet
+pub none_visited : (v : View) → HasPass v → HasVisited v 0 v
+none_visited v own = record { contents = []; each = refl; parts = own; kept = starts_same v.sights; events = refl }
