@@ -1,5 +1,5 @@
 -- What a pass knows that counts one bucket after the other.
-use Rattle.std.proofs.Common.{◌≡◌, inl, inr, None, ℕ, zero, suc, ◌+◌, ◌<◌, ◌≤◌, Bool, true, false, eqb, List, [], ◌∷◌, ◌++◌, length, refl, sym, ap, ◌∙◌, subst, arith}
+use Rattle.std.proofs.Common.{◌≡◌, inl, inr, None, ℕ, zero, suc, ◌+◌, ◌^◌, ◌<◌, ◌≤◌, Bool, true, false, eqb, List, [], ◌∷◌, ◌++◌, length, refl, sym, ap, ◌∙◌, subst, arith}
 use Rattle.std.specs.Prelude.{◌==◌, if◌then◌else◌}
 use Rattle.hg_base.specs.declared.report.Kind.{Kind}
 use Rattle.hg_base.specs.declared.report.Kind.TheVariants.{Group, Table, Interval}
@@ -11,32 +11,33 @@ use Rattle.hg_core.specs.declared.visit.Counters.{Counters}
 use Rattle.hg_core.specs.declared.visit.Visit.{Visit}
 use Rattle.hg_core.specs.Contents.{Content}
 use Rattle.hg_core.specs.Counters.{none_removed, removed_by, removed_in}
-use Rattle.hg_core.specs.Phases.{IsSession}
+use Rattle.hg_core.specs.Logs.{newest_of}
 use Rattle.hg_core.specs.Sums.{sum_below}
 use Rattle.hg_core.specs.State.{CoreState}
 use Rattle.hg_core.proofs.Sums.{below_same}
 use Rattle.hg_rule.specs.declared.view.BucketPart.{BucketPart}
 use Rattle.hg_rule.specs.declared.view.PassPart.{PassPart}
 use Rattle.hg_rule.specs.declared.view.Part.{Part}
-use Rattle.hg_rule.specs.declared.view.Part.TheVariants.{OfBucket, OfPass}
+use Rattle.hg_rule.specs.declared.view.Part.TheVariants.{OfBucket, OfCommit, OfPass}
 use Rattle.hg_rule.specs.declared.view.View.{View}
 use Rattle.hg_rule.specs.declared.view.Sizes.{Sizes}
 use Rattle.hg_rule.specs.Keys.{session_key, commit_key, pass_key, has, count, shares, whole_share}
 use Rattle.hg_rule.specs.Facts.{StartsWith, Shown}
-use Rattle.hg_rule.specs.Rules.{IsBacked}
+use Rattle.hg_rule.specs.Rules.{HasRoom, IsBacked}
 use Rattle.hg_rule.specs.Views.{number, pass, others, session_there, pass_there, commit_there, bucket_there, first_in, after_first, HasPass}
 use Rattle.hg_rule.specs.Moves.{put_in}
-use Rattle.hg_rule.specs.Holding.{bucket}
-use Rattle.hg_rule.specs.Places.{arrive_first, depart, without_bucket}
+use Rattle.hg_rule.specs.Holding.{bucket, commit, beyond}
+use Rattle.hg_rule.specs.Places.{arrive_first, depart, without_bucket, HoldsCommit}
 use Rattle.hg_rule.specs.Reading.{chosen, seek, passes_in}
 use Rattle.hg_rule.proofs.Lists.{starts_same, starts_on}
 use Rattle.hg_store.specs.Kept.{AreCountsOf}
 use Rattle.hg_store.specs.Stores.{Takes}
-use Rattle.hg_headline.specs.Totalled.{HasCut, WasLeftCut, AreCounts, BucketTells}
-use Rattle.hg_headline.proofs.Totalling.{tells_same}
+use Rattle.hg_headline.specs.Logged.{Logged}
+use Rattle.hg_headline.specs.Totalled.{HasCut, WasLeftCut, AreCounts, BucketTells, SumTells, TotalsTell, plus}
+use Rattle.hg_headline.proofs.Totalling.{tells_same, more_tells, totals_tell, made_few, Fits, fits}
 use Rattle.hg_session.specs.Ended.{logs_in, visits_in, history_in, IsEnded}
 use Rattle.hg_session.specs.Visited.{Counts, empty_visit, empty_visits, HasVisited}
-use Rattle.hg_session.proofs.Ending.{bucket_told}
+use Rattle.hg_session.proofs.Ending.{bucket_told, few, within, logged, newest_is}
 
 -- ---- a bucket comes behind the pass's own part, which has other visits
 
@@ -140,8 +141,14 @@ module _ (v u x : View) (n : ℕ) (own : HasPass v) (h : HasVisited v n u) (take
       (subst (λ k. BucketTells z.sessions z.buckets k (logs_in x) (visits_in x) (history_in x) n counts) (passes_now v x (number v) n (pass v) visits part (others v) own parts_now)
       (bucket_told z mark x told (ended_now v x (number v) n (pass v) visits part (others v) own parts_now z ended) (committed_now v x (number v) n (pass v) visits part (others v) own parts_now committed) n counts (counters_are told.state counts told.true_of.parts are)))))
       (λ kind. below_same (passes_in v.parts) (λ p. removed_in kind n (visits_in v p)) (λ p. removed_in kind n (visits_in x p)) (λ p le. each_visit v x (number v) n (pass v) visits part (others v) own parts_now (λ before now. removed_in kind n now ≡ removed_in kind n before) (removed_now kind) (λ vs. refl) p))
-      (λ cut. (cut.0, (cut.1.0, each_visit v x (number v) n (pass v) visits part (others v) own parts_now (λ before now. HasCut z.buckets (length (history_in v)) n before → HasCut z.buckets (length (history_in v)) n now)
-      (λ c. inr (cut_before z.buckets (length (history_in v)) n (pass v).mark contents (pass v).visits c)) (λ vs c. c) cut.0 cut.1.1)))
+      (λ cut. (
+        cut.0,
+        (
+          cut.1.0,
+          each_visit v x (number v) n (pass v) visits part (others v) own parts_now (λ before now. HasCut z.buckets (length (history_in v)) n before → HasCut z.buckets (length (history_in v)) n now)
+              (λ c. inr (cut_before z.buckets (length (history_in v)) n (pass v).mark contents (pass v).visits c)) (λ vs c. c) cut.0 cut.1.1,
+        ),
+      ))
 
   -- and the pass has visited it
   pub visited_more : (w : View) → w ≡ without_bucket x → HasVisited v (suc n) w
@@ -157,3 +164,60 @@ module _ (v u x : View) (n : ℕ) (own : HasPass v) (h : HasVisited v n u) (take
 -- none yet
 pub none_visited : (v : View) → HasPass v → HasVisited v 0 v
 none_visited v own = record { contents = []; each = refl; parts = own; kept = starts_same v.sights; events = refl }
+
+-- ---- the loop
+
+-- the sums of the first n buckets, as they are told of a view
+abbrev pub SumsTell : Sizes → View → ℕ → Totals → Type 0
+SumsTell z v n sums = SumTells z.sessions z.buckets (passes_in v.parts) (logs_in v) (visits_in v) (history_in v) n sums
+
+module _ (z : Sizes) (v : View) (own : HasPass v) (holds : HoldsCommit v) where
+  parts_before : v.parts ≡ OfPass (number v) (pass v) ∷ OfCommit (commit v) ∷ beyond v
+  parts_before = own ∙ ap (λ ps. OfPass (number v) (pass v) ∷ ps) holds.1
+
+  pub committed : 0 < count commit_key v.parts
+  committed = subst (λ ps. 0 < count commit_key ps) (sym parts_before) (one_there (count commit_key (beyond v)))
+    where
+      one_there : (n : ℕ) → 0 < 0 + (1 + n)
+      one_there n = omega arith
+
+  pub history_there : history_in v ≡ (commit v).history.list
+  history_there = ap (λ ps. (commit_there (seek commit_key ps)).history.list) parts_before
+
+  -- the committer's part is behind it still, and what else it has is the same
+  module _ (n : ℕ) (w : View) (h : HasVisited v n w) where
+    pub commit_still : HoldsCommit w × (commit w ≡ commit v)
+    commit_still =
+        let os : others w ≡ OfCommit (commit v) ∷ beyond v = ap after_first h.parts ∙ holds.1 in
+        let c : commit w ≡ commit v = ap (λ ps. commit_there (first_in ps)) os in
+        let first : first_in w.parts ≡ OfPass (number v) (record (pass v) { visits = empty_visits (pass v).mark h.contents ++ (pass v).visits }) = ap first_in h.parts in
+        ((h.parts ∙ (λ i. sym first i ∷ sym (ap after_first h.parts) i), os ∙ (λ i. OfCommit (sym c i) ∷ sym (ap after_first os) i)), c)
+
+    pub logs_still : logs_in w ≡ logs_in v
+    logs_still = (λ i j. (session_there (seek (session_key j) (h.parts i))).log) ∙ sym (λ i j. (session_there (seek (session_key j) (own i))).log)
+
+    pub passes_still : passes_in w.parts ≡ passes_in v.parts
+    passes_still = ap passes_in h.parts ∙ sym (ap passes_in own)
+
+  -- one bucket's counts more
+  module _ (u w : View) (n mark : ℕ) (sums counts : Totals) (ended : IsEnded z v) (h : HasVisited v n u) (s : SumsTell z v n sums) (c : Counts z u n counts w) where
+    tells : BucketTells z.sessions z.buckets (passes_in v.parts) (logs_in v) (visits_in v) (history_in v) n counts
+    tells = taken_tells v u c.held n own h c.takes z counts c.mark ended committed c.told c.counts_are
+
+    pub sums_more : SumsTell z v (suc n) (plus sums counts)
+    sums_more = more_tells z.sessions z.buckets (passes_in v.parts) (logs_in v) (visits_in v) (history_in v) n sums counts s tells
+
+    pub visited_next : HasVisited v (suc n) w
+    visited_next = visited_more v u c.held n own h c.takes w c.after
+
+    pub sums_fit : HasRoom z → n < z.buckets → IsBacked z mark v → Fits (2 ^ 40) sums counts
+    sums_fit room less told = fits z.sessions z.buckets (passes_in v.parts) (logs_in v) (visits_in v) (history_in v) n sums counts (2 ^ 40) less (omega (arith, made_few z.sessions z.each (logs_in v) (few z mark v told ended committed), room.begins)) s tells
+
+  pub sums_all : (mark : ℕ) (sums : Totals) → 0 < z.buckets → IsEnded z v → IsBacked z mark v → SumsTell z v z.buckets sums → TotalsTell z.sessions z.buckets (passes_in v.parts) (logs_in v) (visits_in v) (commit v).history.list sums
+  sums_all mark sums some ended told s = subst (λ k. TotalsTell z.sessions z.buckets (passes_in v.parts) (logs_in v) (visits_in v) k sums) history_there (totals_tell z.sessions z.buckets (passes_in v.parts) (logs_in v) (visits_in v) (history_in v) sums some (within z mark v told ended committed) s)
+
+  pub logs_told : (mark : ℕ) → 0 < z.buckets → IsEnded z v → IsBacked z mark v → Logged z.buckets (commit v).history.list (logs_in v)
+  logs_told mark some ended told = subst (λ k. Logged z.buckets k (logs_in v)) history_there (logged z mark v told ended committed some)
+
+  pub newest_told : (mark : ℕ) → IsEnded z v → IsBacked z mark v → length (commit v).history.list ≡ newest_of z.sessions (logs_in v)
+  newest_told mark ended told = sym (ap length history_there) ∙ newest_is z mark v told ended committed

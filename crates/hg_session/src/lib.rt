@@ -1,2 +1,4 @@
 //! Sessions on the shared engine. So far what a pass counts that all others were joined to.
 #![tactic(auto)]
+
+mod totals;
