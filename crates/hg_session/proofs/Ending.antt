@@ -6,7 +6,6 @@ use native.Mathlib.Decide.{dec_le}
 use Rattle.std.specs.Prelude.{max}
 use Rattle.hg_base.specs.declared.line.Totals.{Totals}
 use Rattle.hg_base.specs.Lists.{Each}
-use Rattle.hg_core.specs.declared.log.LogEntry.{LogEntry}
 use Rattle.hg_core.specs.declared.visit.Visit.{Visit}
 use Rattle.hg_core.specs.Phases.{IsSession, snapshot_in}
 use Rattle.hg_core.specs.Logs.{current, wrotes, newest_of}
@@ -18,7 +17,7 @@ use Rattle.hg_rule.specs.declared.view.Sizes.{Sizes}
 use Rattle.hg_rule.specs.Keys.{Key, session_key, bucket_key, commit_key, pass_key, both, has, one, count, expected}
 use Rattle.hg_rule.specs.Facts.{Shown, new_part}
 use Rattle.hg_rule.specs.Rules.{IsBacked}
-use Rattle.hg_rule.specs.Views.{session_there, commit_there, pass_there}
+use Rattle.hg_rule.specs.Views.{session_there, bucket_there, commit_there, pass_there}
 use Rattle.hg_rule.specs.Reading.{chosen, seek, passes_in, state_of}
 use Rattle.hg_rule.proofs.Counts.{count_append}
 use Rattle.hg_rule.proofs.Found.{ltb_less, state_is}
@@ -108,6 +107,17 @@ seek_same : (k : Key) (ps qs : List Part) → seek k qs ≡ new_part k → seek 
 seek_same k [] qs e = e
 seek_same k (p ∷ ps) qs e = ap (chosen (has k p) p) (seek_same k ps qs e)
 
+seek_there : (k : Key) (ps qs : List Part) → 0 < count k ps → seek k (ps ++ qs) ≡ seek k ps
+seek_there k [] qs l = absurd (omega arith)
+seek_there k (p ∷ ps) qs l = go (has k p) l (seek_there k ps qs)
+  where
+    go : (t : Bool) → 0 < one t + count k ps → (0 < count k ps → seek k (ps ++ qs) ≡ seek k ps) → chosen t p (seek k (ps ++ qs)) ≡ chosen t p (seek k ps)
+    go true l ih = refl
+    go false l ih = ih (none_before _ l)
+      where
+        none_before : (n : ℕ) → 0 < 0 + n → 0 < n
+        none_before n l = omega arith
+
 passes_same : (ps qs : List Part) → passes_in qs ≡ 0 → passes_in (ps ++ qs) ≡ passes_in ps
 passes_same [] qs e = e
 passes_same (OfSession j t ∷ ps) qs e = passes_same ps qs e
@@ -177,6 +187,11 @@ module _ (z : Sizes) (n : ℕ) (v : View) (k : IsBacked z n v) (ended : IsEnded 
 
   pub history_is : s.history ≡ history_in v
   history_is = ap (λ (c : CoreState). c.history) state_read ∙ (λ i. (commit_there (seek_same commit_key v.parts more buckets.commit.1 i)).history.list)
+
+  pub bucket_is : (b : ℕ) → 0 < count (bucket_key b) v.parts → (s.bucket b ≡ (bucket_there (seek (bucket_key b) v.parts)).content) × (s.counters b ≡ (bucket_there (seek (bucket_key b) v.parts)).counters)
+  bucket_is b l =
+      let same = seek_there (bucket_key b) v.parts more l in
+      (ap (λ (c : CoreState). c.bucket b) state_read ∙ ap (λ p. (bucket_there p).content) same, ap (λ (c : CoreState). c.counters b) state_read ∙ ap (λ p. (bucket_there p).counters) same)
 
   pub passes_are : s.passes ≡ passes_in v.parts
   passes_are = ap (λ (c : CoreState). c.passes) state_read ∙ passes_same v.parts more buckets.none

@@ -1,18 +1,15 @@
 -- What a pass knows that counts one bucket after the other.
-use Rattle.std.proofs.Common.{◌≡◌, inl, inr, None, ℕ, zero, suc, ◌+◌, ◌^◌, ◌<◌, ◌≤◌, Bool, true, false, eqb, List, [], ◌∷◌, ◌++◌, length, refl, sym, ap, ◌∙◌, subst, arith}
+use Rattle.std.proofs.Common.{◌≡◌, inr, None, ℕ, suc, ◌+◌, ◌^◌, ◌<◌, Bool, true, false, List, [], ◌∷◌, ◌++◌, length, refl, sym, ap, ◌∙◌, subst, arith}
 use Rattle.std.specs.Prelude.{◌==◌, if◌then◌else◌}
 use Rattle.hg_base.specs.declared.report.Kind.{Kind}
 use Rattle.hg_base.specs.declared.report.Kind.TheVariants.{Group, Table, Interval}
 use Rattle.hg_base.specs.declared.line.Totals.{Totals}
-use Rattle.hg_base.specs.History.{History}
 use Rattle.hg_base.specs.Lists.{Each}
-use Rattle.hg_core.specs.declared.log.LogEntry.{LogEntry}
 use Rattle.hg_core.specs.declared.visit.Counters.{Counters}
 use Rattle.hg_core.specs.declared.visit.Visit.{Visit}
 use Rattle.hg_core.specs.Contents.{Content}
 use Rattle.hg_core.specs.Counters.{none_removed, removed_by, removed_in}
 use Rattle.hg_core.specs.Logs.{newest_of}
-use Rattle.hg_core.specs.Sums.{sum_below}
 use Rattle.hg_core.specs.State.{CoreState}
 use Rattle.hg_core.proofs.Sums.{below_same}
 use Rattle.hg_rule.specs.declared.view.BucketPart.{BucketPart}
@@ -21,7 +18,7 @@ use Rattle.hg_rule.specs.declared.view.Part.{Part}
 use Rattle.hg_rule.specs.declared.view.Part.TheVariants.{OfBucket, OfCommit, OfPass}
 use Rattle.hg_rule.specs.declared.view.View.{View}
 use Rattle.hg_rule.specs.declared.view.Sizes.{Sizes}
-use Rattle.hg_rule.specs.Keys.{session_key, commit_key, pass_key, has, count, shares, whole_share}
+use Rattle.hg_rule.specs.Keys.{session_key, commit_key, pass_key, has, count, shares}
 use Rattle.hg_rule.specs.Facts.{StartsWith, Shown}
 use Rattle.hg_rule.specs.Rules.{HasRoom, IsBacked}
 use Rattle.hg_rule.specs.Views.{number, pass, others, session_there, pass_there, commit_there, bucket_there, first_in, after_first, HasPass}
@@ -33,7 +30,8 @@ use Rattle.hg_rule.proofs.Lists.{starts_same, starts_on}
 use Rattle.hg_store.specs.Kept.{AreCountsOf}
 use Rattle.hg_store.specs.Stores.{Takes}
 use Rattle.hg_headline.specs.Logged.{Logged}
-use Rattle.hg_headline.specs.Totalled.{HasCut, WasLeftCut, AreCounts, BucketTells, SumTells, TotalsTell, plus}
+use Rattle.hg_headline.specs.Counted.{removed_all}
+use Rattle.hg_headline.specs.Totalled.{HasCut, AreCounts, BucketTells, SumTells, TotalsTell, plus}
 use Rattle.hg_headline.proofs.Totalling.{tells_same, more_tells, totals_tell, made_few, Fits, fits}
 use Rattle.hg_session.specs.Ended.{logs_in, visits_in, history_in, IsEnded}
 use Rattle.hg_session.specs.Visited.{Counts, empty_visit, empty_visits, HasVisited}
@@ -94,6 +92,10 @@ nothing_more kind false n = omega arith
 empties_removed : (kind : Kind) (b mark : ℕ) (contents : List Content) (vs : List Visit) → removed_in kind b (empty_visits mark contents ++ vs) ≡ removed_in kind b vs
 empties_removed kind b mark [] vs = refl
 empties_removed kind b mark (content ∷ contents) vs = nothing_more kind (length contents == b) (removed_in kind b (empty_visits mark contents ++ vs)) ∙ empties_removed kind b mark contents vs
+
+none_of_all : (kind : Kind) (mark : ℕ) (contents : List Content) (vs : List Visit) → removed_all kind (empty_visits mark contents ++ vs) ≡ removed_all kind vs
+none_of_all kind mark [] vs = refl
+none_of_all kind mark (content ∷ contents) vs = omega (arith, removed_none kind, none_of_all kind mark contents vs)
 
 cut_before : (buckets n b mark : ℕ) (contents : List Content) (vs : List Visit) → HasCut buckets n b vs → HasCut buckets n b (empty_visits mark contents ++ vs)
 cut_before buckets n b mark [] vs c = c
@@ -165,6 +167,25 @@ module _ (v u x : View) (n : ℕ) (own : HasPass v) (h : HasVisited v n u) (take
 pub none_visited : (v : View) → HasPass v → HasVisited v 0 v
 none_visited v own = record { contents = []; each = refl; parts = own; kept = starts_same v.sights; events = refl }
 
+-- ---- what stays of a view whose pass visited buckets
+
+module _ (v w : View) (n : ℕ) (own : HasPass v) (h : HasVisited v n w) where
+  pub logs_still : logs_in w ≡ logs_in v
+  logs_still = (λ i j. (session_there (seek (session_key j) (h.parts i))).log) ∙ sym (λ i j. (session_there (seek (session_key j) (own i))).log)
+
+  pub passes_still : passes_in w.parts ≡ passes_in v.parts
+  passes_still = ap passes_in h.parts ∙ sym (ap passes_in own)
+
+  pub removed_still : (kind : Kind) (p : ℕ) → removed_all kind (visits_in w p) ≡ removed_all kind (visits_in v p)
+  removed_still kind p =
+      subst (λ ps. removed_all kind (pass_there (seek (pass_key p) ps)).visits ≡ removed_all kind (visits_in v p)) (sym h.parts)
+      (subst (λ ps. removed_all kind (pass_there (seek (pass_key p) (OfPass (number v) (record (pass v) { visits = empty_visits (pass v).mark h.contents ++ (pass v).visits }) ∷ others v))).visits ≡ removed_all kind (pass_there (seek (pass_key p) ps)).visits) (sym own)
+      (go (has (pass_key p) (OfPass (number v) (pass v)))))
+    where
+      go : (t : Bool) → removed_all kind (pass_there (chosen t (OfPass (number v) (record (pass v) { visits = empty_visits (pass v).mark h.contents ++ (pass v).visits })) (seek (pass_key p) (others v)))).visits ≡ removed_all kind (pass_there (chosen t (OfPass (number v) (pass v)) (seek (pass_key p) (others v)))).visits
+      go true = none_of_all kind (pass v).mark h.contents (pass v).visits
+      go false = refl
+
 -- ---- the loop
 
 -- the sums of the first n buckets, as they are told of a view
@@ -184,20 +205,13 @@ module _ (z : Sizes) (v : View) (own : HasPass v) (holds : HoldsCommit v) where
   pub history_there : history_in v ≡ (commit v).history.list
   history_there = ap (λ ps. (commit_there (seek commit_key ps)).history.list) parts_before
 
-  -- the committer's part is behind it still, and what else it has is the same
-  module _ (n : ℕ) (w : View) (h : HasVisited v n w) where
-    pub commit_still : HoldsCommit w × (commit w ≡ commit v)
-    commit_still =
-        let os : others w ≡ OfCommit (commit v) ∷ beyond v = ap after_first h.parts ∙ holds.1 in
-        let c : commit w ≡ commit v = ap (λ ps. commit_there (first_in ps)) os in
-        let first : first_in w.parts ≡ OfPass (number v) (record (pass v) { visits = empty_visits (pass v).mark h.contents ++ (pass v).visits }) = ap first_in h.parts in
-        ((h.parts ∙ (λ i. sym first i ∷ sym (ap after_first h.parts) i), os ∙ (λ i. OfCommit (sym c i) ∷ sym (ap after_first os) i)), c)
-
-    pub logs_still : logs_in w ≡ logs_in v
-    logs_still = (λ i j. (session_there (seek (session_key j) (h.parts i))).log) ∙ sym (λ i j. (session_there (seek (session_key j) (own i))).log)
-
-    pub passes_still : passes_in w.parts ≡ passes_in v.parts
-    passes_still = ap passes_in h.parts ∙ sym (ap passes_in own)
+  -- the committer's part is behind it still
+  pub commit_still : (n : ℕ) (w : View) → HasVisited v n w → HoldsCommit w × (commit w ≡ commit v)
+  commit_still n w h =
+      let os : others w ≡ OfCommit (commit v) ∷ beyond v = ap after_first h.parts ∙ holds.1 in
+      let c : commit w ≡ commit v = ap (λ ps. commit_there (first_in ps)) os in
+      let first : first_in w.parts ≡ OfPass (number v) (record (pass v) { visits = empty_visits (pass v).mark h.contents ++ (pass v).visits }) = ap first_in h.parts in
+      ((h.parts ∙ (λ i. sym first i ∷ sym (ap after_first h.parts) i), os ∙ (λ i. OfCommit (sym c i) ∷ sym (ap after_first os) i)), c)
 
   -- one bucket's counts more
   module _ (u w : View) (n mark : ℕ) (sums counts : Totals) (ended : IsEnded z v) (h : HasVisited v n u) (s : SumsTell z v n sums) (c : Counts z u n counts w) where

@@ -4,11 +4,14 @@ use Rattle.hg_base.specs.History.{History}
 use Rattle.hg_core.specs.declared.log.LogEntry.{LogEntry}
 use Rattle.hg_core.specs.declared.visit.Visit.{Visit}
 use Rattle.hg_core.specs.Phases.{IsSession}
+use Rattle.hg_rule.specs.declared.passes.CommitSeat.{CommitSeat}
+use Rattle.hg_rule.specs.declared.view.CommitPart.{CommitPart}
 use Rattle.hg_rule.specs.declared.view.View.{View}
 use Rattle.hg_rule.specs.declared.view.Sizes.{Sizes}
 use Rattle.hg_rule.specs.Keys.{session_key, commit_key, pass_key, count, shares, whole_share}
-use Rattle.hg_rule.specs.Views.{session_there, commit_there, pass_there}
+use Rattle.hg_rule.specs.Views.{session_there, commit_there, pass_there, first_in}
 use Rattle.hg_rule.specs.Reading.{seek, AllRest}
+use Rattle.hg_rule.specs.Seats.{commit_view}
 
 -- the log of each session, the visits of each pass, and the history
 abbrev pub logs_in : View → ℕ → List LogEntry
@@ -33,3 +36,7 @@ pub record IsEnded (z : Sizes) (v : View) : Type 0 where
   pub sessions : HasAllSessions z v
   pub passes : HasAllPasses v
   pub rest : AllRest v
+
+-- the committer's part, as its seat has it
+abbrev pub committed : CommitSeat → CommitPart
+committed seat = commit_there (first_in (commit_view seat).parts)

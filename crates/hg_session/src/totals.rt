@@ -14,15 +14,17 @@ ghost use Rattle.hg_rule.specs.Rules.{IsBacked};
 ghost use Rattle.hg_rule.specs.Holding.{commit};
 ghost use Rattle.hg_rule.specs.Places.{HoldsCommit};
 ghost use Rattle.hg_rule.specs.Reading.{passes_in};
-ghost use Rattle.hg_rule.specs.Seats.{table_of, sizes_of, pass_view, IsPassOf};
+ghost use Rattle.hg_rule.specs.Seats.{table_of, sizes_of, pass_view, IsPassOf, IsCommitOf};
 ghost use Rattle.hg_store.specs.Stores.{store_table, store_buckets};
+ghost use Rattle.hg_base.specs.declared.report.Kind.{Kind};
+ghost use Rattle.hg_headline.specs.Counted.{removed_all};
 ghost use Rattle.hg_headline.specs.Logged.{Logged};
 ghost use Rattle.hg_headline.specs.Totalled.{TotalsTell, plus};
-ghost use Rattle.hg_session.specs.Ended.{logs_in, visits_in, IsEnded};
+ghost use Rattle.hg_session.specs.Ended.{logs_in, visits_in, committed, IsEnded};
 ghost use Rattle.hg_session.specs.Visited.{Counts, HasVisited};
 
 use hg_base::Totals;
-use hg_rule::{Board, CollectorPass};
+use hg_rule::{Board, CollectorPass, CommitSeat};
 use hg_store::Store;
 use std::sync::Wait;
 
@@ -102,4 +104,35 @@ pub(crate) fn counted<R: Wait>(
         sums = add(sums, counts);
     }
     sums
+}
+
+/// What the buckets counted, all together. All others were joined to the pass. While it has the committer's part nobody
+/// publishes, so there is one history all along. The seat comes back as it was.
+pub(crate) fn totals_with<R: Wait>(
+    rt: &R,
+    board: &Board,
+    store: &Store,
+    seat: CommitSeat,
+    pass: &mut CollectorPass,
+) -> (Totals, CommitSeat)
+    requires table { store_table store.now ≡ table_of board.now }
+    requires buckets { store_buckets store.now ≡ (sizes_of board.now).buckets }
+    requires some { 0 < (sizes_of board.now).buckets }
+    requires own { IsPassOf (table_of board.now) pass.old }
+    requires commit { IsCommitOf (table_of board.now) seat }
+    requires ended { IsEnded (sizes_of board.now) (pass_view pass.old) }
+    ensures totals { TotalsTell (sizes_of board.now).sessions (sizes_of board.now).buckets (passes_in (pass_view pass.old).parts) (logs_in (pass_view pass.old)) (visits_in (pass_view pass.old)) (committed seat).history.list result.0 }
+    ensures logged { Logged (sizes_of board.now).buckets (committed seat).history.list (logs_in (pass_view pass.old)) }
+    ensures mark { length (committed seat).history.list ≡ newest_of (sizes_of board.now).sessions (logs_in (pass_view pass.old)) }
+    ensures visited { HasVisited (pass_view pass.old) (sizes_of board.now).buckets (pass_view pass.new) }
+    ensures logs { logs_in (pass_view pass.new) ≡ logs_in (pass_view pass.old) }
+    ensures passes { passes_in (pass_view pass.new).parts ≡ passes_in (pass_view pass.old).parts }
+    ensures removed { (kind : Kind) (p : ℕ) → removed_all kind (visits_in (pass_view pass.new) p) ≡ removed_all kind (visits_in (pass_view pass.old) p) }
+    ensures seat { IsCommitOf (table_of board.now) result.1 × (committed result.1 ≡ committed seat) }
+    ensures own { IsPassOf (table_of board.now) pass.new }
+{
+    board.join_commit(pass, seat);
+    let totals = counted(rt, board, store, pass);
+    let seat = board.split_commit(pass);
+    (totals, seat)
 }

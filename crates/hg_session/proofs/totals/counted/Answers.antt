@@ -1,4 +1,4 @@
-use Rattle.std.proofs.Common.{◌≡◌, suc, ◌+◌, ◌^◌, ◌<◌, subst, sym, arith}
+use Rattle.std.proofs.Common.{◌≡◌, suc, ◌+◌, ◌^◌, subst, sym, arith}
 use Rattle.hg_rule.specs.Seats.{sizes_of, pass_view}
 use Rattle.hg_headline.proofs.Totalling.{Fits}
 use Rattle.hg_session.specs.Visited.{HasVisited}
