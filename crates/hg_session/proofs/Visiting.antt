@@ -176,6 +176,13 @@ module _ (v w : View) (n : ℕ) (own : HasPass v) (h : HasVisited v n w) where
   pub passes_still : passes_in w.parts ≡ passes_in v.parts
   passes_still = ap passes_in h.parts ∙ sym (ap passes_in own)
 
+  pub ended_still : (z : Sizes) → IsEnded z v → IsEnded z w
+  ended_still z e = record {
+    sessions = λ j is. subst (λ ps. 0 < count (session_key j) ps) (sym h.parts) (subst (λ ps. 0 < count (session_key j) ps) own (e.sessions j is));
+    passes = ap shares h.parts ∙ sym (ap shares own) ∙ e.passes;
+    rest = λ j. ap (λ ps. (session_there (seek (session_key j) ps)).phase) h.parts ∙ sym (ap (λ ps. (session_there (seek (session_key j) ps)).phase) own) ∙ e.rest j;
+  }
+
   pub removed_still : (kind : Kind) (p : ℕ) → removed_all kind (visits_in w p) ≡ removed_all kind (visits_in v p)
   removed_still kind p =
       subst (λ ps. removed_all kind (pass_there (seek (pass_key p) ps)).visits ≡ removed_all kind (visits_in v p)) (sym h.parts)

@@ -129,6 +129,7 @@ pub(crate) fn totals_with<R: Wait>(
     ensures passes { passes_in (pass_view pass.new).parts ≡ passes_in (pass_view pass.old).parts }
     ensures removed { (kind : Kind) (p : ℕ) → removed_all kind (visits_in (pass_view pass.new) p) ≡ removed_all kind (visits_in (pass_view pass.old) p) }
     ensures seat { IsCommitOf (table_of board.now) result.1 × (committed result.1 ≡ committed seat) }
+    ensures ended { IsEnded (sizes_of board.now) (pass_view pass.new) }
     ensures own { IsPassOf (table_of board.now) pass.new }
 {
     board.join_commit(pass, seat);
