@@ -107,7 +107,7 @@ pub(crate) fn counted<R: Wait>(
 }
 
 /// What the buckets counted, all together. All others were joined to the pass. While it has the committer's part nobody
-/// publishes, so there is one history all along. The seat comes back as it was.
+/// publishes, so there is one history all along. The seat comes back with the same part.
 pub(crate) fn totals_with<R: Wait>(
     rt: &R,
     board: &Board,
