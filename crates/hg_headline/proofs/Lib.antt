@@ -27,6 +27,7 @@ pub mod Worked
 pub mod Running
 pub mod Rounds
 pub mod OverBuckets
+pub mod Totalling
 pub mod Quiet
 pub mod Following
 pub mod OpenWrites

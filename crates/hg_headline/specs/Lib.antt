@@ -13,5 +13,6 @@ pub mod Counted
 pub mod Boards
 -- A replay whose history is known at its end alone.
 pub mod Following
+pub mod Totalled
 -- A replay and a run that meet all this.
 pub mod Worked

@@ -24,5 +24,7 @@
 #![tactic(auto)]
 
 mod laws;
+mod totals;
 
 pub use laws::{premises_are_met, replay_is_sound, run_is_sound, states_are_logged};
+pub use totals::buckets_tell;

@@ -23,6 +23,9 @@ mod engine;
 mod parts;
 mod reading;
 mod session;
+#[cfg(test)]
+mod tests;
+mod totals;
 mod writing;
 
 pub use answers::{Deleted, Ended, GetRefusal, PutRefusal, Read, Scanned, Written};

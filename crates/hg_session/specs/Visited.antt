@@ -1,0 +1,43 @@
+-- What counting the buckets makes of a pass's view.
+use Rattle.std.specs.Prelude.{◌≡◌, ℕ, List, [], ◌∷◌, ◌++◌, length, Some}
+use Rattle.hg_base.specs.declared.line.Totals.{Totals}
+use Rattle.hg_core.specs.declared.visit.Visit.{Visit}
+use Rattle.hg_core.specs.Contents.{Content}
+use Rattle.hg_core.specs.Counters.{none_removed}
+use Rattle.hg_rule.specs.declared.view.Part.TheVariants.{OfPass}
+use Rattle.hg_rule.specs.declared.view.View.{View}
+use Rattle.hg_rule.specs.declared.view.Sizes.{Sizes}
+use Rattle.hg_rule.specs.Facts.{StartsWith}
+use Rattle.hg_rule.specs.Rules.{IsBacked}
+use Rattle.hg_rule.specs.Views.{number, pass, others}
+use Rattle.hg_rule.specs.Holding.{bucket}
+use Rattle.hg_rule.specs.Places.{without_bucket}
+use Rattle.hg_store.specs.Kept.{AreCountsOf}
+use Rattle.hg_store.specs.Stores.{Takes}
+
+-- A pass took bucket b, read its counts and gave it back. While it had the bucket, a state that meets the rule backed what it
+-- knew.
+pub record Counts (z : Sizes) (v : View) (b : ℕ) (counts : Totals) (w : View) : Type 0 where
+  pub held : View
+  pub takes : Takes v b held
+  pub mark : ℕ
+  pub told : IsBacked z mark held
+  pub counts_are : AreCountsOf (bucket held).counters counts
+  pub after : w ≡ without_bucket held
+
+-- a visit that removed nothing, and gave this content back
+abbrev pub empty_visit : ℕ → ℕ → Content → Visit
+empty_visit mark b content = record { bucket = b; mark = mark; removed = none_removed; given = Some content }
+
+-- such a visit of each of the first buckets, by what they held, the last one first
+abbrev pub empty_visits : ℕ → List Content → List Visit
+empty_visits mark [] = []
+empty_visits mark (content ∷ contents) = empty_visit mark (length contents) content ∷ empty_visits mark contents
+
+-- a pass has visited each of the first n buckets once more, and removed nothing
+pub record HasVisited (v : View) (n : ℕ) (w : View) : Type 0 where
+  pub contents : List Content
+  pub each : length contents ≡ n
+  pub parts : w.parts ≡ OfPass (number v) (record (pass v) { visits = empty_visits (pass v).mark contents ++ (pass v).visits }) ∷ others v
+  pub kept : StartsWith w.sights v.sights
+  pub events : w.events ≡ v.events

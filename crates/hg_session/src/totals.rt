@@ -1,0 +1,139 @@
+//! The counts of all buckets, taken one after the other.
+//!
+//!     pass     [ pass | commit | sessions | passes ]
+//!              [ pass | bucket 0 | commit | .. ]       counts of bucket 0: by a state that meets the rule
+//!              [ pass | commit | .. ]
+//!              [ pass | bucket 1 | commit | .. ]       counts of bucket 1: by another
+//!
+//! No state is seen that has all buckets at once. But logs, visits and history stand in the pass's own parts, so they are the
+//! same each time, and what one bucket's counts tell is said of them alone.
+
+ghost use Rattle.std.specs.Prelude.{◌≡◌, ℕ, ◌+◌, ◌^◌, ◌<◌, length};
+ghost use Rattle.hg_core.specs.Logs.{newest_of};
+ghost use Rattle.hg_rule.specs.Rules.{IsBacked};
+ghost use Rattle.hg_rule.specs.Holding.{commit};
+ghost use Rattle.hg_rule.specs.Places.{HoldsCommit};
+ghost use Rattle.hg_rule.specs.Reading.{passes_in};
+ghost use Rattle.hg_rule.specs.Seats.{table_of, sizes_of, pass_view, IsPassOf, IsCommitOf};
+ghost use Rattle.hg_store.specs.Stores.{store_table, store_buckets};
+ghost use Rattle.hg_base.specs.declared.report.Kind.{Kind};
+ghost use Rattle.hg_headline.specs.Counted.{removed_all};
+ghost use Rattle.hg_headline.specs.Logged.{Logged};
+ghost use Rattle.hg_headline.specs.Totalled.{TotalsTell, plus};
+ghost use Rattle.hg_session.specs.Ended.{logs_in, visits_in, committed, IsEnded};
+ghost use Rattle.hg_session.specs.Visited.{Counts, HasVisited};
+
+use hg_base::Totals;
+use hg_rule::{Board, CollectorPass, CommitSeat};
+use hg_store::Store;
+use std::sync::Wait;
+
+// One bucket's counts more.
+fn add(sums: Totals, counts: Totals) -> Totals
+    requires made { sums.made + counts.made < 2 ^ 64 }
+    requires undone { sums.undone + counts.undone < 2 ^ 64 }
+    requires group { sums.group + counts.group < 2 ^ 64 }
+    requires table { sums.table + counts.table < 2 ^ 64 }
+    requires interval { sums.interval + counts.interval < 2 ^ 64 }
+    requires left { sums.left + counts.left < 2 ^ 64 }
+    ensures { result ≡ plus sums counts }
+{
+    Totals {
+        made: sums.made + counts.made,
+        undone: sums.undone + counts.undone,
+        group: sums.group + counts.group,
+        table: sums.table + counts.table,
+        interval: sums.interval + counts.interval,
+        left: sums.left + counts.left,
+    }
+}
+
+// Takes one bucket, and gives it back.
+fn count_bucket<R: Wait>(
+    rt: &R,
+    board: &Board,
+    store: &Store,
+    bucket: u32,
+    pass: &mut CollectorPass,
+) -> Totals
+    requires table { store_table store.now ≡ table_of board.now }
+    requires own { IsPassOf (table_of board.now) pass.old }
+    requires bucket { bucket < store_buckets store.now }
+    ensures counts { Counts (sizes_of board.now) (pass_view pass.old) bucket result (pass_view pass.new) }
+    ensures own { IsPassOf (table_of board.now) pass.new }
+{
+    let held = store.take(rt, board, bucket, pass);
+    let counts = held.counts();
+    held.give(board, pass);
+    counts
+}
+
+/// The counts of all buckets together. The pass has the committer's part, and all others were joined to it.
+pub(crate) fn counted<R: Wait>(
+    rt: &R,
+    board: &Board,
+    store: &Store,
+    pass: &mut CollectorPass,
+) -> Totals
+    requires table { store_table store.now ≡ table_of board.now }
+    requires buckets { store_buckets store.now ≡ (sizes_of board.now).buckets }
+    requires some { 0 < (sizes_of board.now).buckets }
+    requires own { IsPassOf (table_of board.now) pass.old }
+    requires commit { HoldsCommit (pass_view pass.old) }
+    requires ended { IsEnded (sizes_of board.now) (pass_view pass.old) }
+    requires told { (mark : ℕ) × IsBacked (sizes_of board.now) mark (pass_view pass.old) }
+    ensures totals { TotalsTell (sizes_of board.now).sessions (sizes_of board.now).buckets (passes_in (pass_view pass.old).parts) (logs_in (pass_view pass.old)) (visits_in (pass_view pass.old)) (commit (pass_view pass.old)).history.list result }
+    ensures logged { Logged (sizes_of board.now).buckets (commit (pass_view pass.old)).history.list (logs_in (pass_view pass.old)) }
+    ensures mark { length (commit (pass_view pass.old)).history.list ≡ newest_of (sizes_of board.now).sessions (logs_in (pass_view pass.old)) }
+    ensures visited { HasVisited (pass_view pass.old) (sizes_of board.now).buckets (pass_view pass.new) }
+    ensures logs { logs_in (pass_view pass.new) ≡ logs_in (pass_view pass.old) }
+    ensures passes { passes_in (pass_view pass.new).parts ≡ passes_in (pass_view pass.old).parts }
+    ensures commit { HoldsCommit (pass_view pass.new) × (commit (pass_view pass.new) ≡ commit (pass_view pass.old)) }
+    ensures own { IsPassOf (table_of board.now) pass.new }
+{
+    let mut sums = Totals {
+        made: 0,
+        undone: 0,
+        group: 0,
+        table: 0,
+        interval: 0,
+        left: 0,
+    };
+    for bucket in 0..store.buckets() {
+        let counts = count_bucket(rt, board, store, bucket, pass);
+        sums = add(sums, counts);
+    }
+    sums
+}
+
+/// What the buckets counted, all together. All others were joined to the pass. While it has the committer's part nobody
+/// publishes, so there is one history all along. The seat comes back with the same part.
+pub(crate) fn totals_with<R: Wait>(
+    rt: &R,
+    board: &Board,
+    store: &Store,
+    seat: CommitSeat,
+    pass: &mut CollectorPass,
+) -> (Totals, CommitSeat)
+    requires table { store_table store.now ≡ table_of board.now }
+    requires buckets { store_buckets store.now ≡ (sizes_of board.now).buckets }
+    requires some { 0 < (sizes_of board.now).buckets }
+    requires own { IsPassOf (table_of board.now) pass.old }
+    requires commit { IsCommitOf (table_of board.now) seat }
+    requires ended { IsEnded (sizes_of board.now) (pass_view pass.old) }
+    ensures totals { TotalsTell (sizes_of board.now).sessions (sizes_of board.now).buckets (passes_in (pass_view pass.old).parts) (logs_in (pass_view pass.old)) (visits_in (pass_view pass.old)) (committed seat).history.list result.0 }
+    ensures logged { Logged (sizes_of board.now).buckets (committed seat).history.list (logs_in (pass_view pass.old)) }
+    ensures mark { length (committed seat).history.list ≡ newest_of (sizes_of board.now).sessions (logs_in (pass_view pass.old)) }
+    ensures visited { HasVisited (pass_view pass.old) (sizes_of board.now).buckets (pass_view pass.new) }
+    ensures logs { logs_in (pass_view pass.new) ≡ logs_in (pass_view pass.old) }
+    ensures passes { passes_in (pass_view pass.new).parts ≡ passes_in (pass_view pass.old).parts }
+    ensures removed { (kind : Kind) (p : ℕ) → removed_all kind (visits_in (pass_view pass.new) p) ≡ removed_all kind (visits_in (pass_view pass.old) p) }
+    ensures seat { IsCommitOf (table_of board.now) result.1 × (committed result.1 ≡ committed seat) }
+    ensures ended { IsEnded (sizes_of board.now) (pass_view pass.new) }
+    ensures own { IsPassOf (table_of board.now) pass.new }
+{
+    board.join_commit(pass, seat);
+    let totals = counted(rt, board, store, pass);
+    let seat = board.split_commit(pass);
+    (totals, seat)
+}
