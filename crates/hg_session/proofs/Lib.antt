@@ -3,6 +3,8 @@ pub mod Trips
 pub mod Seeing
 pub mod Settling
 pub mod Storing
+pub mod Done
+pub mod Undoing
 pub mod Ending
 pub mod Visiting
 pub mod Committing
