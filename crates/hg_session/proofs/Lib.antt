@@ -5,6 +5,8 @@ pub mod Settling
 pub mod Storing
 pub mod Done
 pub mod Undoing
+pub mod Replying
+pub mod Putting
 pub mod Ending
 pub mod Visiting
 pub mod Committing

@@ -5,6 +5,7 @@ pub mod Sessions
 -- What a call leaves of a session, and how it replies.
 pub mod Gains
 pub mod Replies
+pub mod Alone
 -- What a pass knows once all others are joined to it.
 pub mod Ended
 -- What it counts then.
