@@ -6,3 +6,7 @@ pub mod Storing
 pub mod Ending
 pub mod Visiting
 pub mod Committing
+pub mod ScanningKeys
+pub mod ScanningRows
+pub mod ScanningLooks
+pub mod ScanningOrder

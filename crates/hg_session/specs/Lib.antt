@@ -5,6 +5,8 @@ pub mod Sessions
 -- What a call leaves of a session, and how it replies.
 pub mod Gains
 pub mod Replies
+-- What a scan reads, bucket by bucket.
+pub mod Scans
 -- What a pass knows once all others are joined to it.
 pub mod Ended
 -- What it counts then.

@@ -22,6 +22,7 @@ mod answers;
 mod engine;
 mod parts;
 mod reading;
+mod scanning;
 mod session;
 #[cfg(test)]
 mod tests;
