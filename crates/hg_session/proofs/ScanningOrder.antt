@@ -20,7 +20,7 @@ use Rattle.hg_session.specs.Gains.{Gains}
 use Rattle.hg_session.specs.Scans.{Rows, IsOwnKey, Sees, ScansAll, ScansSome}
 use Rattle.hg_session.proofs.Settling.{gains_on}
 use Rattle.hg_session.proofs.ScanningKeys.{differ, is_apart}
-use Rattle.hg_session.proofs.ScanningRows.{key_of, map_append}
+use Rattle.hg_session.proofs.ScanningRows.{key_of, map_append, each_mapped, ascends_tail}
 
 -- the row is one of the first n buckets, which are its key's own
 abbrev pub IsOfSome : ℕ → TableId → (ℕ → Rows) → ℕ → ℕ × List ℤ → Type 0
@@ -56,10 +56,6 @@ all_over : (x : ℕ) (xs : List ℕ) → Ascends (x ∷ xs) → Each (λ y. x < 
 all_over x [] a = tt
 all_over x (y ∷ ys) a = (a.0, each_keeps (λ z. y < z) (λ z. x < z) (λ z l. let k = a.0 in omega (arith, k, l)) ys (all_over y ys a.1))
 
-ascends_tail : (x : ℕ) (xs : List ℕ) → Ascends (x ∷ xs) → Ascends xs
-ascends_tail x [] a = tt
-ascends_tail x (y ∷ ys) a = a.1
-
 nothing_twice : IsDistinct nat_eq []
 unfolding IsDistinct
 nothing_twice = tt
@@ -67,10 +63,6 @@ nothing_twice = tt
 ascends_distinct : (xs : List ℕ) → Ascends xs → IsDistinct nat_eq xs
 ascends_distinct [] a = nothing_twice
 ascends_distinct (x ∷ xs) a = IsDistinct-cons nat_eq x xs (all_of (λ y. nat_eq x y ≡ false) xs (each_keeps (λ y. x < y) (λ y. nat_eq x y ≡ false) (λ y l. is_apart x y (λ e. absurd (omega (arith, l, e)))) xs (all_over x xs a))) (ascends_distinct xs (ascends_tail x xs a))
-
-each_key : (P : ℕ → Type 0) (rows : Rows) → Each (λ p. P p.0) rows → Each P (map key_of rows)
-each_key P [] e = tt
-each_key P (p ∷ ps) e = (e.0, each_key P ps e.1)
 
 -- ---- the looks
 
@@ -125,9 +117,9 @@ module _ {T : Type 0} (count : ℕ) (v u w : View) (table : TableId) (low high n
   later_row p c o = ((n, omega arith, subst (λ r. Contains r p) (sym (part_here s.part n k.part)) c), omega (arith, o))
 
   apart_keys : Each (λ x. Each (λ y. nat_eq x y ≡ false) (map key_of k.part)) (map key_of rows)
-  apart_keys = each_key (λ x. Each (λ y. nat_eq x y ≡ false) (map key_of k.part)) rows
+  apart_keys = each_mapped (λ x. Each (λ y. nat_eq x y ≡ false) (map key_of k.part)) rows
       (each_keeps (IsOfSome count table s.part n) (λ p. Each (λ y. nat_eq p.0 y ≡ false) (map key_of k.part))
-      (λ p q. each_key (λ y. nat_eq p.0 y ≡ false) k.part
+      (λ p q. each_mapped (λ y. nat_eq p.0 y ≡ false) k.part
       (each_keeps (λ r. IsOwnKey count n table r.0) (λ r. nat_eq p.0 r.0 ≡ false)
       (λ r o. is_apart p.0 r.0 (λ e. let less = q.1 in let moved = ap (λ x. bucket_of count (record_at table x)) e in absurd (omega (arith, less, o, moved)))) k.part k.own))
       rows s.each)

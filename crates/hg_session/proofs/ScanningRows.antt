@@ -157,7 +157,7 @@ all_over : (x : ℕ) (rows : Rows) → Ascends (x ∷ map (λ p. p.0) rows) → 
 all_over x [] a = tt
 all_over x (y ∷ ys) a = (let l = a.0 in omega (arith, l), each_keeps (λ p. suc y.0 ≤ p.0) (λ p. suc x ≤ p.0) (λ p k. let l = a.0 in omega (arith, l, k)) ys (all_over y.0 ys a.1))
 
-ascends_tail : (x : ℕ) (xs : List ℕ) → Ascends (x ∷ xs) → Ascends xs
+pub ascends_tail : (x : ℕ) (xs : List ℕ) → Ascends (x ∷ xs) → Ascends xs
 ascends_tail x [] a = tt
 ascends_tail x (y ∷ ys) a = a.1
 
