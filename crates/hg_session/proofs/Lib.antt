@@ -10,3 +10,7 @@ pub mod Putting
 pub mod Ending
 pub mod Visiting
 pub mod Committing
+pub mod ScanningKeys
+pub mod ScanningRows
+pub mod ScanningLooks
+pub mod ScanningOrder

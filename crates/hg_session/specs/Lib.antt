@@ -6,6 +6,8 @@ pub mod Sessions
 pub mod Gains
 pub mod Replies
 pub mod Alone
+-- What a scan reads, bucket by bucket.
+pub mod Scans
 -- What a pass knows once all others are joined to it.
 pub mod Ended
 -- What it counts then.

@@ -23,6 +23,7 @@ mod closing;
 mod engine;
 mod parts;
 mod reading;
+mod scanning;
 mod session;
 #[cfg(test)]
 mod tests;
