@@ -4,7 +4,7 @@ pub mod Seeing
 pub mod Settling
 pub mod Meetings
 pub mod Seating
-pub mod Finishing
+pub mod Bringing
 pub mod Storing
 pub mod Ending
 pub mod Visiting

@@ -1,7 +1,7 @@
 use Rattle.std.proofs.Common.{◌≡◌, ◌++◌}
 use Rattle.hg_rule.specs.Seats.{pass_view, IsPassOf}
 use Rattle.hg_session.specs.Engines.{engine_table}
-use Rattle.hg_session.proofs.Finishing.{Finishes}
+use Rattle.hg_session.proofs.Bringing.{Finishes}
 use Rattle.hg_session.proofs.finishing.finish_all.Given as goal
 
 abbrev pub invariant-loop-session : goal.invariant-loop-session
