@@ -1,5 +1,5 @@
 -- Sessions go to a collector's pass, one after the other.
-use Rattle.std.proofs.Common.{◌≡◌, ℕ, zero, suc, ◌+◌, ◌<◌, Bool, true, false, eqb, List, [], ◌∷◌, ◌++◌, length, map, refl, sym, ap, ◌∙◌, subst, inl, inr, arith, append_assoc, eq-eqb, ne_eqb}
+use Rattle.std.proofs.Common.{◌≡◌, ℕ, zero, suc, ◌+◌, ◌<◌, Bool, true, false, eqb, List, [], ◌∷◌, ◌++◌, length, map, refl, sym, ap, ◌∙◌, subst, inl, inr, arith, append_assoc, append-nil, eq-eqb, ne_eqb}
 use Rattle.std.specs.Prelude.{get_or, max}
 use Rattle.hg_base.specs.Lists.{Each}
 use Rattle.hg_core.specs.declared.phase.Phase.TheVariants as phases
@@ -19,6 +19,7 @@ use Rattle.hg_rule.specs.Reading.{chosen, seek, passes_in}
 use Rattle.hg_rule.proofs.Counts.{count_append}
 use Rattle.hg_rule.proofs.Growing.{among_later}
 use Rattle.hg_rule.proofs.Lists.{starts_same, starts_on, each_map, each_append}
+use Rattle.hg_store.proofs.Filling.{row_at}
 use Rattle.hg_session.specs.declared.engine.Engine.{Engine}
 use Rattle.hg_session.specs.declared.session.Session.{Session}
 use Rattle.hg_session.specs.Engines.{engine_sizes}
@@ -99,14 +100,14 @@ own_part e j i (suc k) (s ∷ sessions) rest is row =
 
 no_part : (j : ℕ) (ps : List Part) → count (session_key j) ps ≡ 0 → seek (session_key j) ps ≡ new_part (session_key j)
 no_part j [] none = refl
-no_part j (p ∷ ps) none = go (has (session_key j) p) none
+no_part j (p ∷ ps) none = go (has (session_key j) p) none (no_part j ps)
   where
-    go : (b : Bool) → one b + count (session_key j) ps ≡ 0 → chosen b p (seek (session_key j) ps) ≡ new_part (session_key j)
-    go true c = absurd (some_more _ c)
+    go : (b : Bool) → one b + count (session_key j) ps ≡ 0 → (count (session_key j) ps ≡ 0 → seek (session_key j) ps ≡ new_part (session_key j)) → chosen b p (seek (session_key j) ps) ≡ new_part (session_key j)
+    go true c ih = absurd (some_more _ c)
       where
         some_more : (n : ℕ) → 1 + n ≡ 0 → ⊥
         some_more n c = omega (arith, c)
-    go false c = no_part j ps (less _ c)
+    go false c ih = ih (less _ c)
       where
         less : (n : ℕ) → 0 + n ≡ 0 → n ≡ 0
         less n c = omega (arith, c)
@@ -206,3 +207,18 @@ module _ (e : Engine) (v w : View) (sessions : List Session) (own : HasPass v) (
   pub heard_finished : (j : ℕ) → IsHeard j (logs_of sessions j) w.sights
   heard_finished zero = inl refl
   heard_finished (suc k) = heard_at e (suc k) 1 k w.sights sessions (from_one k) row h.seen
+
+-- ---- on the way
+
+pub closed_here : (e : Engine) (all before rest more : List Session) (s : Session) → all ≡ before ++ rest → rest ≡ s ∷ more → Row (IsClosed e) 1 all → IsClosed e (1 + length before) s
+closed_here e all before rest more s is next row = row_at (IsClosed e) 1 before more s (subst (Row (IsClosed e) 1) (is ∙ ap (λ r. before ++ r) next) row)
+
+pub one_less : (all before rest more : List Session) (s : Session) → all ≡ before ++ rest → rest ≡ s ∷ more → all ≡ (before ++ s ∷ []) ++ more
+one_less all before rest more s is next = is ∙ (ap (λ r. before ++ r) next ∙ sym (append_assoc before (s ∷ []) more))
+
+pub none_left : (rest : List Session) → length rest ≡ 0 → rest ≡ []
+none_left [] e = refl
+none_left (s ∷ rest) e = absurd (omega (arith, e))
+
+pub all_finish : (v w : View) (all before rest : List Session) → all ≡ before ++ rest → rest ≡ [] → Finishes v before w → Finishes v all w
+all_finish v w all before rest is none h = subst (λ l. Finishes v l w) (sym (is ∙ (ap (λ r. before ++ r) none ∙ append-nil before))) h
