@@ -11,6 +11,7 @@ use Rattle.hg_rule.specs.Moves.{session_part}
 use Rattle.hg_rule.specs.New.{Row, IsNewSession}
 use Rattle.hg_rule.specs.Seats.{session_view}
 use Rattle.hg_session.specs.declared.engine.Engine.{Engine}
+use Rattle.hg_session.specs.declared.session.Session.{Session}
 use Rattle.hg_session.specs.Engines.{engine_table, engine_sizes}
 use Rattle.hg_session.specs.Opened.{seated, IsNewOf}
 
@@ -50,3 +51,7 @@ seated_row e alloc each i (p ∷ ps) most first last row = (
   seated_is e alloc each i p most (record { first = first; last = omega (arith, last) }) row.0,
   seated_row e alloc each (suc i) ps most (omega (arith, first)) (omega (arith, last)) row.1,
 )
+
+-- all sessions of an engine on a board
+pub opened_row : (e : Engine) (alloc : Global) (each : ℕ) (ps : List SessionPass) (sessions : List Session) → sessions ≡ map (seated alloc each) ps → each ≤ (engine_sizes e).each → length ps ≤ (engine_sizes e).sessions → Row (IsNewSession (engine_table e)) 1 ps → Row (IsNewOf e each) 1 sessions
+opened_row e alloc each ps sessions are most all row = subst (Row (IsNewOf e each) 1) (sym are) (seated_row e alloc each 1 ps most (omega arith) (omega (arith, all)) row)

@@ -1,11 +1,10 @@
-use Rattle.std.proofs.Common.{◌≡◌, ℕ, ◌+◌, ◌≤◌, suc, length, sym, ap, ◌∙◌, subst, arith}
+use Rattle.std.proofs.Common.{◌≡◌, ℕ, length, sym, ap, ◌∙◌, subst, arith}
 use Rattle.hg_rule.specs.declared.board.Board.{Board}
 use Rattle.hg_rule.specs.declared.view.Sizes.{Sizes}
 use Rattle.hg_rule.specs.New.{Row, IsNewSession}
 use Rattle.hg_rule.specs.Seats.{table_of, sizes_of}
 use Rattle.hg_tracker.specs.Boards.{board_of}
-use Rattle.hg_session.specs.Opened.{IsNewOf}
-use Rattle.hg_session.proofs.Seating.{seated_row}
+use Rattle.hg_session.proofs.Seating.{opened_row}
 use Rattle.hg_session.proofs.engine.Engine.open.Goals as goal
 
 pub returns-clause-sessions : goal.returns-clause-sessions
@@ -18,4 +17,4 @@ returns-clause-sessions c =
     let count : length ps ≡ c.args.sessions = ap length c.into_vec.ensures ∙ c.in_ok-board.ensures.sessions.0 in
     let each : (sizes_of (board_of c.new-4.result)).each ≡ c.args.each = ap (λ (z : Sizes). z.each) sizes in
     let sessions : (sizes_of (board_of c.new-4.result)).sessions ≡ c.args.sessions = ap (λ (z : Sizes). z.sessions) sizes in
-    subst (Row (IsNewOf _ c.args.each) 1) (sym (c.from.ensures ∙ c.in_ok-sessions.ensures)) (seated_row _ c.args.alloc c.args.each 1 ps (omega (arith, each)) (omega arith) (omega (arith, count, sessions)) row)
+    opened_row _ c.args.alloc c.args.each ps _ (c.from.ensures ∙ c.in_ok-sessions.ensures) (omega (arith, each)) (omega (arith, count, sessions)) row
