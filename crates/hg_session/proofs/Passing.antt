@@ -8,7 +8,7 @@ use Rattle.hg_rule.specs.Facts.{new_pass, new_part}
 use Rattle.hg_rule.specs.New.{IsNewPass}
 use Rattle.hg_rule.specs.Views.{seeing, pass_there}
 use Rattle.hg_rule.specs.Moves.{merged}
-use Rattle.hg_rule.specs.Reading.{chosen, seek}
+use Rattle.hg_rule.specs.Reading.{chosen}
 use Rattle.hg_rule.specs.Seats.{TableId, pass_view}
 use Rattle.hg_session.specs.Ended.{visits_in, HasAllPasses}
 use Rattle.hg_session.specs.Finished.{HasNoSession}

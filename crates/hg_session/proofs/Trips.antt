@@ -65,11 +65,11 @@ arrived v u b only t = record {
 pub departed : (j : ℕ) (part : SessionPart) (b : ℕ) (old : List Sight) (u w : View) → Beside j part b old u → w ≡ without_bucket u → Alone j part old w
 departed j part b old u w h e = record {
   parts =
-      let n = first_number u j part _ h.parts in
-      let s = first_session u j part _ h.parts in
-      let o : beyond u ≡ [] = ap (λ (ps : List Part). after_first (after_first ps)) h.parts in
-      let has : HasSession u = h.parts ∙ (λ i. OfSession (sym n i) (sym s i) ∷ sym (ap after_first h.parts) i) in
-      session_departs u w has e ∙ (λ i. OfSession (n i) (s i) ∷ o i);
+    let n = first_number u j part _ h.parts in
+    let s = first_session u j part _ h.parts in
+    let o : beyond u ≡ [] = ap (λ (ps : List Part). after_first (after_first ps)) h.parts in
+    let has : HasSession u = h.parts ∙ (λ i. OfSession (sym n i) (sym s i) ∷ sym (ap after_first h.parts) i) in
+    session_departs u w has e ∙ (λ i. OfSession (n i) (s i) ∷ o i);
   kept = (h.kept.0, ap (λ (x : View). x.sights) e ∙ h.kept.1);
 }
 

@@ -1,4 +1,4 @@
-use Rattle.std.proofs.Common.{ap, rules}
+use Rattle.std.proofs.Common.{ap}
 use Rattle.hg_rule.specs.declared.view.View.{View}
 use Rattle.hg_session.proofs.Passing.{three_is, all_passes, no_session, no_visits}
 use Rattle.hg_session.proofs.opening.Passes.join.Goals as goal
