@@ -2,6 +2,10 @@ pub mod Tying
 pub mod Trips
 pub mod Seeing
 pub mod Settling
+pub mod Meetings
+pub mod Seating
+pub mod Bringing
+pub mod Passing
 pub mod Storing
 pub mod Done
 pub mod Undoing

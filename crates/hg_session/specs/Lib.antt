@@ -2,6 +2,8 @@
 pub mod Engines
 pub mod Ties
 pub mod Sessions
+-- What a new engine's are.
+pub mod Opened
 -- What a call leaves of a session, and how it replies.
 pub mod Gains
 pub mod Replies
@@ -10,5 +12,6 @@ pub mod Alone
 pub mod Scans
 -- What a pass knows once all others are joined to it.
 pub mod Ended
+pub mod Finished
 -- What it counts then.
 pub mod Visited

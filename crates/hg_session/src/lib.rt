@@ -21,10 +21,14 @@
 mod answers;
 mod closing;
 mod engine;
+mod finishing;
+mod meeting;
+mod opening;
 mod parts;
 mod reading;
 mod scanning;
 mod session;
+mod session_list;
 #[cfg(test)]
 mod tests;
 mod totals;
@@ -32,4 +36,7 @@ mod writing;
 
 pub use answers::{Deleted, Ended, GetRefusal, PutRefusal, Read, Scanned, Written};
 pub use engine::Engine;
+pub use finishing::finish_all;
+pub use opening::{Passes, TableDecl};
 pub use session::Session;
+pub use session_list::SessionList;
