@@ -20,6 +20,7 @@
 
 mod answers;
 mod closing;
+mod deleting;
 mod engine;
 mod finishing;
 mod meeting;
