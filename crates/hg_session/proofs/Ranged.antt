@@ -1,6 +1,9 @@
 -- What a scan and a deletion reply.
-use Rattle.std.proofs.Common.{◌≡◌, ℕ, zero, suc, ◌<◌, ℤ, List, [], ◌∷◌, ◌++◌, map, Bool, true, false, Option, Some, None, refl, sym, ap, ◌∙◌, subst, append_assoc}
-use Rattle.std.specs.Prelude.{is_some, IfSome}
+use Rattle.std.proofs.Common.{◌≡◌, ℕ, zero, suc, ◌<◌, ℤ, List, [], ◌∷◌, ◌++◌, map, Bool, true, false, Option, Some, None, refl, sym, ap, ◌∙◌, subst, append_assoc, append-nil}
+use Rattle.std.specs.Prelude.{is_some, IfSome, Err, ⊤}
+use Rattle.hg_base.specs.declared.image.Image.{Image}
+use Rattle.hg_bucket.specs.declared.refusal.WriteRefusal.{WriteRefusal}
+use Rattle.hg_bucket.specs.declared.refusal.WriteRefusal.TheVariants.{Open, Newer, NoMemory}
 use Rattle.hg_base.specs.declared.rid.Rid.{Rid}
 use Rattle.hg_base.specs.declared.rid.TableId.{TableId}
 use Rattle.hg_base.specs.declared.scope.Snapshot.{Snapshot}
@@ -18,7 +21,7 @@ use Rattle.hg_rule.specs.declared.view.Sizes.{Sizes}
 use Rattle.hg_rule.specs.declared.view.View.{View}
 use Rattle.hg_rule.specs.Views.{session}
 use Rattle.hg_tracker.specs.Begun.{AtMost}
-use Rattle.hg_session.specs.Gains.{Gains, Stays, rows_at}
+use Rattle.hg_session.specs.Gains.{Gains, Stays, entries_of, rows_at}
 use Rattle.hg_session.specs.Scans.{Rows, ScansAll}
 use Rattle.hg_session.specs.Replies.{inside, Answers}
 use Rattle.hg_session.proofs.Replying.{AreQuiet, nothing_more, answers_inside, answers_alone, stays_quiet}
@@ -73,3 +76,16 @@ nothing_inside z v w c rid e g = answers_inside z v w (say.Del rid) answers.Noth
 
 pub nothing_alone : (z : Sizes) (v w : View) (at : ℕ) (rid : Rid) → current (session v).log ≡ None → Each (AtMost at) v.sights → Gains v (close None ++ (saw z.buckets rid [] ∷ Began at (only (Some rid.table)) ∷ [])) w → Answers z v (say.Del rid) (record { at = Some at; answer = answers.Nothing; number = None }) w
 nothing_alone z v w at rid e most g = answers_alone z v w (say.Del rid) answers.Nothing at None nothing_more e refl g refl tt refl refl most tt tt tt
+
+-- after a look that logged nothing
+pub all_behind : (z : Sizes) (v m w : View) (table : TableId) (low high : ℕ) (rows : Rows) → Gains v [] m → ScansAll z.buckets m table low high rows w → ScansAll z.buckets v table low high rows w
+all_behind z v m w table low high rows none k =
+    let es = saws table low high k.part z.buckets in
+    let all = gains_on v m w [] es none k.gains (λ l. ap (λ x. x ++ l) (sym (append-nil es))) in
+    record { part = k.part; joins = k.joins; gains = subst (λ x. Gains v x w) (append-nil es) all }
+
+-- a refusal for want of memory leaves at most what was seen
+pub stays_refused : (z : Sizes) (v w : View) (rid : Rid) (image : Image) (e : WriteRefusal) (rows : Rows) → Gains v (entries_of {T = ⊤} rid image (Err e) ++ saw z.buckets rid rows ∷ []) w → Stays v w
+stays_refused z v w rid image (Open o) rows g = stays_quiet v w _ (tt, (tt, tt)) g
+stays_refused z v w rid image (Newer n) rows g = stays_quiet v w _ (tt, (tt, tt)) g
+stays_refused z v w rid image NoMemory rows g = stays_quiet v w _ (tt, tt) g
