@@ -1,5 +1,5 @@
 -- A pass goes through a table, key by key.
-use Rattle.std.proofs.Common.{◌≡◌, ℕ, suc, ◌+◌, ◌-◌, ◌≤◌, ◌<◌, List, [], ◌∷◌, ◌++◌, length, Bool, true, false, Option, Some, None, refl, sym, ap, ◌∙◌, cond, subst, map, arith}
+use Rattle.std.proofs.Common.{◌≡◌, ℕ, ◌+◌, ◌*◌, ◌≤◌, ◌<◌, List, [], ◌∷◌, ◌++◌, Bool, true, false, Option, Some, None, refl, sym, ap, ◌∙◌, subst, map, arith}
 use Rattle.std.specs.Prelude.{IfSome, ◌^◌, nat_lt, ◌==◌, if◌then◌else◌}
 use Rattle.std.proofs.lemmas.Bool.Decides.{nat_tests}
 use Rattle.hg_base.specs.declared.rid.Rid.{Rid}
@@ -15,9 +15,11 @@ use Rattle.hg_core.specs.declared.visit.Counters.{Counters}
 use Rattle.hg_core.specs.declared.visit.Visit.{Visit}
 use Rattle.hg_core.specs.Contents.{bucket_of, look}
 use Rattle.hg_core.specs.Counters.{total, removed_more}
-use Rattle.hg_core.specs.Passes.{PassRecord}
+use Rattle.hg_core.specs.Clean.{IsClean, IsCutAt}
+use Rattle.hg_core.specs.Passes.{horizon, recorded, table_bound}
 use Rattle.hg_core.specs.Removal.{reclaimed}
 use Rattle.hg_core.specs.Visits.{removing}
+use Rattle.hg_core.proofs.Clean.{cut_is_cut, swept_is_clean}
 use Rattle.hg_core.proofs.Records.{look_store, turned_rid}
 use Rattle.hg_core.proofs.Tallies.{total_store, length_reclaimed}
 use Rattle.hg_bucket.specs.Held.{Kept, versions_of, record_at}
@@ -36,7 +38,7 @@ use Rattle.hg_store.specs.declared.held.Held.{Held}
 use Rattle.hg_store.specs.Kept.{kept}
 use Rattle.hg_store.specs.Stores.{held_number, held_records, Holds}
 use Rattle.hg_store.specs.Clearing.{ReclaimsAll, IsLongOf, Clears, Counts}
-use Rattle.hg_store.proofs.Holding.{look_none, placed_at}
+use Rattle.hg_store.proofs.Holding.{look_none, placed_at, total_at}
 use Rattle.hg_store.proofs.Doing.{Does, short_left}
 
 -- ---- one step
@@ -208,3 +210,20 @@ walk_goes z n kind does table v w x h h' k next gone told hold d walk step after
     next_is (Some m) long fits later =
         let is : is_long (map kept (held v (record_at table m))) ≡ true = ap (λ vs. is_long (map kept vs)) (sym (past m (later m (omega arith)))) ∙ ap is_long (sym (after.keeps.versions (record_at table m))) ∙ next_long (held_records h').records table (k + 1) m long in
         (fits, (long_there z n (held_number h) v (record_at table m) (placed_at z n (held_number h) v told hold.has) is, is))
+
+-- ---- what it leaves, and how many go
+
+pub gone_fits : (z : Sizes) (n : ℕ) (kind : Kind) (v w x : View) (h : Held) (r : Rid) (gone : ℕ) → IsBacked z n v → Holds v h → Counts v kind gone w → Reclaims w r kind x → gone + removed_of w r kind ≤ z.sessions * z.each
+gone_fits z n kind v w x h r gone told hold c step = omega (arith, (counts_more v w x kind gone r c step).versions, total_at z n (held_number h) v told hold.has)
+
+pub cut_left : (v : View) (r : Rid) (bound : ℕ) → bound ≡ table_bound r.table (record_of (pass v)) → IsCutAt bound (left_of v r Table)
+cut_left v r bound is = subst (λ b. IsCutAt b (left_of v r Table)) (sym is) (cut_is_cut (table_bound r.table (record_of (pass v))) (held v r))
+
+pub clean_left : (v : View) (h : Held) (r : Rid) (from : ℕ) → Holds v h → from ≡ horizon (record_of (pass v)) → IsClean from (recorded r.table (record_of (pass v))) (left_of v r Interval)
+clean_left v h r from hold is =
+    let order = hold.ordered r in
+    subst (λ b. IsClean b (recorded r.table (record_of (pass v))) (left_of v r Interval)) (sym is) (swept_is_clean order.0 (horizon (record_of (pass v))) (recorded r.table (record_of (pass v))) (held v r) order.1)
+
+-- what a bucket keeps of a record that the walk has not come to
+pub kept_from : (z : Sizes) (kind : Kind) (table : TableId) (v w : View) (h h' : Held) (k gone : ℕ) → Holds v h → Holds w h' → Walks z kind table (held_number h) v w (Some k) gone → versions_of (held_records h').records (record_at table k) ≡ versions_of (held_records h).records (record_at table k)
+kept_from z kind table v w h h' k gone hold now walk = now.keeps.versions (record_at table k) ∙ ap (map kept) (walk.rest k (omega arith)) ∙ sym (hold.keeps.versions (record_at table k))

@@ -26,22 +26,27 @@ use Rattle.hg_store.proofs.Changing.{cut_kept}
 
 -- ---- a version as a bucket keeps it tells the version
 
-stamp_of : Option ℕ → Option Writer → Stamp
+abbrev stamp_of : Option ℕ → Option Writer → Stamp
 stamp_of None None = Oldest 0
 stamp_of None (Some by) = Written by
 stamp_of (Some n) None = Oldest n
 stamp_of (Some n) (Some by) = Numbered n by
 
-version_of : Kept → Version
+abbrev version_of : Kept → Version
 version_of k = record { stamp = stamp_of k.number k.by; image = k.image }
 
+stamp_back : (x : Stamp) (image : Image) → stamp_of (kept_as x image).number (kept_as x image).by ≡ x
+stamp_back (Written by) image = refl
+stamp_back (Numbered n by) image = refl
+stamp_back (Oldest n) image = refl
+
+image_back : (x : Stamp) (image : Image) → (kept_as x image).image ≡ image
+image_back (Written by) image = refl
+image_back (Numbered n by) image = refl
+image_back (Oldest n) image = refl
+
 version_back : (v : Version) → version_of (kept v) ≡ v
-version_back v = go v.stamp
-  where
-    go : (x : Stamp) → version_of (kept_as x v.image) ≡ record { stamp = x; image = v.image }
-    go (Written by) = refl
-    go (Numbered n by) = refl
-    go (Oldest n) = refl
+version_back v = λ i. record { stamp = stamp_back v.stamp v.image i; image = image_back v.stamp v.image i }
 
 versions_back : (vs : List Version) → map version_of (map kept vs) ≡ vs
 versions_back [] = refl
@@ -91,7 +96,7 @@ number_kept (Oldest n) image = refl
 
 swept_behind : (h : ℕ) (xs ys : List ℕ) → HaveSame xs ys → (up : Option ℕ) (vs : List Version) → swept_from h xs up (map kept vs) ≡ map kept (core.swept h ys up vs)
 swept_behind h xs ys same up [] = refl
-swept_behind h xs ys same up (v ∷ vs) = go (core.goes h ys up n) refl
+swept_behind h xs ys same up (v ∷ vs) = go (core.goes h ys up n) refl (ap (λ m. swept_from h xs m (map kept vs)) number ∙ swept_behind h xs ys same (stamp_number v.stamp) vs)
   where
     n : Option ℕ
     n = stamp_number v.stamp
@@ -99,15 +104,12 @@ swept_behind h xs ys same up (v ∷ vs) = go (core.goes h ys up n) refl
     number : (kept v).number ≡ n
     number = number_kept v.stamp v.image
 
-    rest : swept_from h xs (kept v).number (map kept vs) ≡ map kept (core.swept h ys n vs)
-    rest = ap (λ m. swept_from h xs m (map kept vs)) number ∙ swept_behind h xs ys same n vs
-
     test : chain.goes h xs up (kept v).number ≡ core.goes h ys up n
     test = ap (chain.goes h xs up) number ∙ goes_same h xs ys same up n
 
-    go : (b : Bool) → core.goes h ys up n ≡ b → swept_from h xs up (kept v ∷ map kept vs) ≡ map kept (if b then core.swept h ys n vs else v ∷ core.swept h ys n vs)
-    go true e = first_goes h xs up (kept v) (map kept vs) (test ∙ e) ∙ rest
-    go false e = first_stays h xs up (kept v) (map kept vs) (test ∙ e) ∙ ap (λ ks. kept v ∷ ks) rest
+    go : (b : Bool) → core.goes h ys up n ≡ b → swept_from h xs (kept v).number (map kept vs) ≡ map kept (core.swept h ys n vs) → swept_from h xs up (kept v ∷ map kept vs) ≡ map kept (if b then core.swept h ys n vs else v ∷ core.swept h ys n vs)
+    go true e rest = first_goes h xs up (kept v) (map kept vs) (test ∙ e) ∙ rest
+    go false e rest = first_stays h xs up (kept v) (map kept vs) (test ∙ e) ∙ ap (λ ks. kept v ∷ ks) rest
 
 pub swept_kept : (h : ℕ) (xs ys : List ℕ) (vs : List Version) → HaveSame xs ys → swept h xs (map kept vs) ≡ map kept (core.swept h ys None vs)
 swept_kept h xs ys vs same = swept_behind h xs ys same None vs

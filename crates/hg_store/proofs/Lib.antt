@@ -3,6 +3,7 @@ pub mod Refusing
 pub mod Changing
 pub mod Ending
 pub mod Backing
+pub mod Doing
 pub mod Keeping
 pub mod Bounding
 pub mod Holding
@@ -10,3 +11,5 @@ pub mod Stepping
 pub mod Filling
 pub mod Deciding
 pub mod Storing
+pub mod Rising
+pub mod Clearing
