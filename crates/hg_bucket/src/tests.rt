@@ -144,6 +144,12 @@ fn sweep_record<L: Ledger>(
     (Run { bucket, next }, gone)
 }
 
+fn sweep_one(run: Run, rid: Rid, horizon: u64, snapshots: &[u64]) -> (Run, u64)
+    requires { Rises snapshots.now }
+{
+    sweep_record::<Brand>(Blank::new(1), run, rid, horizon, snapshots)
+}
+
 // ---- the same by a plain list
 
 // A version of a record: a deletion has no value. Of each record the older ones stand before the newer ones.
@@ -439,9 +445,9 @@ fn long_records_are_named(rt: HostRuntime) -> Result<(), Fail> {
     (run, gone) = cut_for_table(run, rid(1, 5), 2);
     assert_eq!(rt; gone, 1);
     assert_eq!(rt; run.bucket.first_long(TableId(1)), Some(9));
-    (run, gone) = sweep_record::<Brand>(Blank::new(1), run, rid(1, 9), 5, &[4]);
+    (run, gone) = sweep_one(run, rid(1, 9), 5, &[4]);
     assert_eq!(rt; gone, 0);
-    (run, gone) = sweep_record::<Brand>(Blank::new(1), run, rid(1, 9), 5, &[2, 5]);
+    (run, gone) = sweep_one(run, rid(1, 9), 5, &[2, 5]);
     assert_eq!(rt; gone, 1);
     assert_eq!(rt; run.bucket.first_long(TableId(2)), Some(4));
     assert_eq!(rt; run.bucket.first_long(TableId(3)), None);
