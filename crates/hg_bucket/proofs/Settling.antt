@@ -1,6 +1,6 @@
 -- Records that can't be shortened, and those that have a chain.
 use Rattle.std.proofs.Common.{◌≡◌, ℕ, List, [], ◌∷◌, ◌++◌, Bool, true, false, Option, Some, None, refl, sym, ap, ◌∙◌, cond, subst, not, ◌<◌, length, arith}
-use Rattle.std.specs.Prelude.{unwrap_or, is_some, IsSome}
+use Rattle.std.specs.Prelude.{unwrap_or, is_some, IsSome, IfSome}
 use Rattle.std.specs.Map.{lookup}
 use Rattle.hg_base.specs.declared.rid.Rid.{Rid}
 use Rattle.hg_base.specs.declared.rid.TableId.{TableId}
@@ -8,10 +8,11 @@ use Rattle.hg_base.specs.History.{same_rid}
 use Rattle.hg_chain.specs.declared.version.Version.{Version}
 use Rattle.hg_space.specs.Index.{place_of}
 use Rattle.hg_space.specs.Places.{Seat, Oldest, image_at}
-use Rattle.hg_bucket.specs.Held.{Kept, versions_of, record_at, cut_at, is_at_most, survivor}
+use Rattle.hg_bucket.specs.Held.{Kept, versions_of, record_at, cut_at, is_at_most, survivor, IsNextKey}
 use Rattle.hg_bucket.specs.Parts.{whole, records_of, AreWhole, IsRow, IsSettled, IsNextChain}
 use Rattle.hg_bucket.specs.Sweeping.{is_long}
 use Rattle.hg_bucket.specs.Long.{IsShort, IsNextLong}
+use Rattle.hg_bucket.proofs.Reading.{there}
 use Rattle.hg_bucket.proofs.Changing.{versions_there}
 use Rattle.hg_bucket.proofs.Installing.{no_versions}
 use Rattle.hg_bucket.proofs.Costing.{whole_long}
@@ -67,3 +68,13 @@ chained es cs places r h some = go (lookup (same_rid r) cs) refl some
 pub next_long : (es : List (Rid × ℕ)) (cs : List (Rid × List Version)) (places : List Seat) (t : TableId) (from : ℕ) (found : Option ℕ) → AreWhole es cs places → IsNextChain cs t from found → IsNextLong (records_of es cs places) t from found
 next_long es cs places t from None h next = λ k le. settled_short (unchained es cs places (record_at t k) h (next k le))
 next_long es cs places t from (Some n) h next = (next.0, chained es cs places (record_at t n) h next.1, λ k le less. settled_short (unchained es cs places (record_at t k) h (next.2 k le less)))
+
+-- ---- a record of the index has a version
+
+pub some_at : (es : List (Rid × ℕ)) (cs : List (Rid × List Version)) (places : List Seat) (t : TableId) (from : ℕ) (found : Option ℕ) → AreWhole es cs places → IsNextKey (records_of es cs places) t from found → IfSome found (λ k. 0 < length (versions_of (records_of es cs places) (record_at t k)))
+some_at es cs places t from None h next = tt
+some_at es cs places t from (Some k) h next = go (place_of es (record_at t k)) refl (sym (there es cs places (record_at t k)) ∙ next.1)
+  where
+    go : (o : Option ℕ) → place_of es (record_at t k) ≡ o → IsSome o → 0 < length (versions_of (records_of es cs places) (record_at t k))
+    go None e some = absurd cc
+    go (Some p) e some = subst (λ vs. 0 < length vs) (sym (versions_there es cs places (record_at t k) p e)) (h.held (record_at t k) p e)

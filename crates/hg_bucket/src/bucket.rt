@@ -155,9 +155,9 @@ impl Bucket {
         ensures interval { self.new ≡ record self.old { records = self.new.records; interval = self.old.interval + result } }
         ensures cost { steps.new ≤ steps.old + record_steps snapshots.now (versions_of self.old.records rid) }
     {
-        let gone = self.records.sweep(rid, horizon, snapshots, steps);
-        self.interval += gone;
-        gone
+        let swept = self.records.sweep(rid, horizon, snapshots, steps);
+        self.interval += swept;
+        swept
     }
 
     /// The least key of a table whose record can be shortened: it has more than its oldest image.
@@ -215,7 +215,8 @@ impl Bucket {
 
     /// The least key of a table at or over a number, of those that have a version.
     pub fn next_key(&self, table: TableId, from: u64) -> Option<u64>
-        ensures { IsNextKey self.now.records table from result }
+        ensures next { IsNextKey self.now.records table from result }
+        ensures there { IfSome result (λ key. 0 < length (versions_of self.now.records (record_at table key))) }
     {
         self.records.next_key(table, from)
     }

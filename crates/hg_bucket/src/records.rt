@@ -75,7 +75,8 @@ impl Records {
 
     /// The least key of a table at or over a number, of those that have a version.
     pub fn next_key(&self, table: TableId, from: u64) -> Option<u64>
-        ensures { IsNextKey self.now table from result }
+        ensures next { IsNextKey self.now table from result }
+        ensures there { IfSome result (λ key. 0 < length (versions_of self.now (record_at table key))) }
     {
         self.index.next_key(table, from)
     }

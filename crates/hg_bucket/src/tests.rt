@@ -452,6 +452,9 @@ fn long_records_are_named(rt: HostRuntime) -> Result<(), Fail> {
     assert_eq!(rt; run.bucket.first_long(TableId(2)), Some(4));
     assert_eq!(rt; run.bucket.first_long(TableId(3)), None);
     let counts = run.bucket.counts();
-    assert_eq!(rt; (counts.group, counts.table, counts.interval, counts.left), (0, 1, 1, 3));
+    assert_eq!(rt;
+        (counts.group, counts.table, counts.interval, counts.left),
+        (0, 1, 1, 3)
+    );
     Ok(())
 }

@@ -72,7 +72,7 @@ install_kept mark old new part r image w free k here others counters = record {
   interval = ap (λ (h : Held). h.interval) counters ∙ k.interval;
 }
 
-kept_length : (vs : List Version) → length (map kept vs) ≡ length vs
+pub kept_length : (vs : List Version) → length (map kept vs) ≡ length vs
 kept_length vs = simp length-map
 
 -- ---- by a reclaim, of any kind

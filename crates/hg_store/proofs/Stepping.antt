@@ -37,7 +37,7 @@ use Rattle.hg_store.specs.Kept.{kept, Keeps}
 use Rattle.hg_store.specs.Stores.{held_number, held_records, Holds}
 use Rattle.hg_store.proofs.Changing.{all_below}
 use Rattle.hg_store.proofs.Doing.{Does}
-use Rattle.hg_store.proofs.Keeping.{undo_kept, stamp_kept, counted, gone_is, reclaim_kept, ordered_stored}
+use Rattle.hg_store.proofs.Keeping.{undo_kept, stamp_kept, kept_length, counted, gone_is, reclaim_kept, ordered_stored}
 use Rattle.hg_store.proofs.Holding.{number_is, ordered_at, session_holds, pass_holds}
 
 -- ---- a key
@@ -53,6 +53,12 @@ empty_of None (v ∷ vs) none e = absurd cc
 
 pub none_between : (h : Held) (v : View) (table : TableId) (from : ℕ) (found : Option ℕ) → Holds v h → IsNextKey (held_records h).records table from found → (k : ℕ) → from ≤ k → IfSome found (λ key. k < key) → look (bucket_words.record_at table k) (bucket v).content ≡ []
 none_between h v table from found hold next k le below = empty_of _ (look (bucket_words.record_at table k) (bucket v).content) (none_there (held_records h).records table from found next k le below) (hold.keeps.versions (bucket_words.record_at table k))
+
+pub some_there : (h : Held) (v : View) (table : TableId) (found : Option ℕ) → Holds v h → IfSome found (λ key. 0 < length (versions_of (held_records h).records (bucket_words.record_at table key))) → IfSome found (λ key. 0 < length (look (bucket_words.record_at table key) (bucket v).content))
+some_there h v table None hold there = tt
+some_there h v table (Some key) hold there =
+    let same = ap length (hold.keeps.versions (bucket_words.record_at table key)) ∙ kept_length (look (bucket_words.record_at table key) (bucket v).content) in
+    omega (arith, same, there)
 
 -- ---- a look
 
