@@ -9,11 +9,10 @@ use Rattle.hg_base.specs.declared.report.Kind.TheVariants.{Group, Table, Interva
 use Rattle.hg_base.specs.Lists.{Each}
 use Rattle.hg_base.specs.History.{same_rid}
 use Rattle.hg_base.proofs.HistoryFacts.{same_rid_itself}
-use Rattle.hg_core.specs.declared.version.Version.{Version}
 use Rattle.hg_core.specs.declared.visit.Removed.{Removed}
 use Rattle.hg_core.specs.declared.visit.Counters.{Counters}
 use Rattle.hg_core.specs.declared.visit.Visit.{Visit}
-use Rattle.hg_core.specs.Contents.{bucket_of, look}
+use Rattle.hg_core.specs.Contents.{bucket_of}
 use Rattle.hg_core.specs.Counters.{total, removed_more}
 use Rattle.hg_core.specs.Clean.{IsClean, IsCutAt}
 use Rattle.hg_core.specs.Passes.{horizon, recorded, table_bound}
@@ -26,7 +25,6 @@ use Rattle.hg_bucket.specs.Held.{Kept, versions_of, record_at}
 use Rattle.hg_bucket.specs.Sweeping.{is_long}
 use Rattle.hg_bucket.specs.Long.{IsShort, IsNextLong}
 use Rattle.hg_bucket.proofs.Walking.{IsBefore, IsFrom, keys_apart, tables_apart, short_before, over}
-use Rattle.hg_rule.specs.declared.view.PassPart.{PassPart}
 use Rattle.hg_rule.specs.declared.view.View.{View}
 use Rattle.hg_rule.specs.declared.view.Sizes.{Sizes}
 use Rattle.hg_rule.specs.Facts.{record_of}

@@ -1,5 +1,5 @@
 -- A pass that holds a bucket holds it still after each step.
-use Rattle.std.proofs.Common.{◌≡◌, ℕ, suc, ◌+◌, ◌-◌, ◌<◌, ◌≤◌, List, [], ◌∷◌, length, Option, Some, None, refl, sym, ap, ◌∙◌, subst, map, arith}
+use Rattle.std.proofs.Common.{◌≡◌, ℕ, suc, ◌+◌, ◌<◌, ◌≤◌, List, [], ◌∷◌, length, Option, Some, None, refl, sym, ap, ◌∙◌, subst, map, arith}
 use Rattle.std.specs.Prelude.{IsSome, IfSome, drop, unwrap_or}
 use Rattle.hg_base.specs.declared.rid.Rid.{Rid}
 use Rattle.hg_base.specs.declared.rid.TableId.{TableId}
@@ -33,7 +33,7 @@ use Rattle.hg_rule.specs.Places.{HasFirst, IsThere as IsVisitedBy}
 use Rattle.hg_rule.specs.Writes.{Looks, Undoes, Stamps, with_log, log_asked, undoing, stamping}
 use Rattle.hg_rule.specs.Removes.{Reclaims, left_of, removed_of, shortening}
 use Rattle.hg_store.specs.declared.held.Held.{Held}
-use Rattle.hg_store.specs.Kept.{kept, Keeps}
+use Rattle.hg_store.specs.Kept.{kept}
 use Rattle.hg_store.specs.Stores.{held_number, held_records, Holds}
 use Rattle.hg_store.proofs.Changing.{all_below}
 use Rattle.hg_store.proofs.Doing.{Does}

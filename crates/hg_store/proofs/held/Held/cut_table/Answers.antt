@@ -1,4 +1,4 @@
-use Rattle.std.proofs.Common.{◌≡◌, ◌+◌, ◌<◌, refl, sym, ap, ◌∙◌, subst, arith}
+use Rattle.std.proofs.Common.{◌+◌, ◌<◌, refl, sym, ap, ◌∙◌, subst, arith}
 use Rattle.hg_base.specs.declared.report.Kind.TheVariants.{Table}
 use Rattle.hg_core.specs.Clean.{IsCutAt}
 use Rattle.hg_core.specs.Passes.{IsWhole, table_bound}
