@@ -1,13 +1,13 @@
 -- A pass goes through a table, key by key.
 use Rattle.std.proofs.Common.{◌≡◌, ℕ, ◌+◌, ◌*◌, ◌≤◌, ◌<◌, List, [], ◌∷◌, ◌++◌, Bool, true, false, Option, Some, None, refl, sym, ap, ◌∙◌, subst, map, arith}
-use Rattle.std.specs.Prelude.{IfSome, ◌^◌, nat_lt, ◌==◌, if◌then◌else◌}
+use Rattle.std.specs.Prelude.{IfSome, ◌^◌, nat_lt, ◌==◌, if◌then◌else◌, ◌||◌}
 use Rattle.std.proofs.lemmas.Bool.Decides.{nat_tests}
 use Rattle.hg_base.specs.declared.rid.Rid.{Rid}
 use Rattle.hg_base.specs.declared.rid.TableId.{TableId}
 use Rattle.hg_base.specs.declared.report.Kind.{Kind}
 use Rattle.hg_base.specs.declared.report.Kind.TheVariants.{Group, Table, Interval}
 use Rattle.hg_base.specs.Lists.{Each}
-use Rattle.hg_base.specs.History.{same_rid}
+use Rattle.hg_base.specs.History.{same_rid, is_among, NoneTwice}
 use Rattle.hg_base.proofs.HistoryFacts.{same_rid_itself}
 use Rattle.hg_core.specs.declared.visit.Removed.{Removed}
 use Rattle.hg_core.specs.declared.visit.Counters.{Counters}
@@ -64,6 +64,34 @@ reclaims_more v w x (q ∷ rids) r kind steps step = (steps.0, (steps.1.0, recla
 each_more : {A : Type 0} (P : A → Type 0) (xs : List A) (x : A) → Each P xs → P x → Each P (xs ++ x ∷ [])
 each_more P [] x h p = (p, tt)
 each_more P (y ∷ xs) x h p = (h.0, each_more P xs x h.1 p)
+
+-- a key is past all that were visited
+abbrev pub AreBefore : Option ℕ → List Rid → Type 0
+AreBefore next rids = Each (λ (q : Rid). IsBefore q.key next) rids
+
+before_next : (n : ℕ) (next : Option ℕ) (rids : List Rid) → ((m : ℕ) → IsFrom m next → n < m) → AreBefore (Some n) rids → AreBefore next rids
+before_next n None [] later h = tt
+before_next n None (q ∷ rids) later h = (tt, before_next n None rids later h.1)
+before_next n (Some m) [] later h = tt
+before_next n (Some m) (q ∷ rids) later h = (omega (arith, h.0, later m (omega arith)), before_next n (Some m) rids later h.1)
+
+at_next : (n : ℕ) (next : Option ℕ) → ((m : ℕ) → IsFrom m next → n < m) → IsBefore n next
+at_next n None later = tt
+at_next n (Some m) later = later m (omega arith)
+
+among_more : (q r : Rid) (rids : List Rid) → is_among q rids ≡ false → same_rid q r ≡ false → is_among q (rids ++ r ∷ []) ≡ false
+among_more q r [] h e = ap (λ b. b || false) e
+among_more q r (x ∷ rids) h e = go (same_rid q x) h (among_more q r rids)
+  where
+    go : (b : Bool) → (b || is_among q rids) ≡ false → (is_among q rids ≡ false → same_rid q r ≡ false → is_among q (rids ++ r ∷ []) ≡ false) → (b || is_among q (rids ++ r ∷ [])) ≡ false
+    go true h more = absurd cc
+    go false h more = more h e
+
+once_more : (table : TableId) (n : ℕ) (rids : List Rid) → NoneTwice rids → AreBefore (Some n) rids → NoneTwice (rids ++ record_at table n ∷ [])
+once_more table n [] once h = (refl, tt)
+once_more table n (q ∷ rids) once h =
+    let less : q.key < n = h.0 in
+    (among_more q (record_at table n) rids once.0 (grind (arith, nat_tests, less)), once_more table n rids once.1 h.1)
 
 -- ---- what is counted
 
@@ -126,6 +154,7 @@ IsNext z table v b k = (k < 2 ^ 64) × ((bucket_of z.buckets (record_at table k)
 
 pub record Walks (z : Sizes) (kind : Kind) (table : TableId) (b : ℕ) (v w : View) (next : Option ℕ) (gone : ℕ) : Type 0 where
   pub clears : Clears v table kind w
+  pub behind : AreBefore next clears.visited
   pub done : (k : ℕ) → IsBefore k next → held w (record_at table k) ≡ left_of v (record_at table k) kind
   pub rest : (k : ℕ) → IsFrom k next → held w (record_at table k) ≡ held v (record_at table k)
   pub others : (r : Rid) → (r.table ≡ table → ⊥) → held w r ≡ held v r
@@ -148,7 +177,8 @@ next_long records table from k h = h.1
 pub walk_begins : (z : Sizes) (n : ℕ) (kind : Kind) (does : List Kept → List Kept) (table : TableId) (v : View) (h : Held) (next : Option ℕ) → IsBacked z n v → Holds v h → Does kind table (record_of (pass v)) does → IsNextLong (held_records h).records table 0 next → IfSome next (λ k. k < 2 ^ 64)
     → Walks z kind table (held_number h) v v next 0
 walk_begins z n kind does table v h next told hold d long fits = record {
-  clears = record { visited = []; are_long = tt; steps = refl };
+  clears = record { visited = []; once = tt; are_long = tt; steps = refl };
+  behind = tt;
   done = λ k before.
       let order = hold.ordered (record_at table k) in
       short_left kind table (record_of (pass v)) does order.0 (held v (record_at table k)) d order.1 (subst IsShort (hold.keeps.versions (record_at table k)) (short_before (held_records h).records table 0 next long k (omega arith) before));
@@ -170,16 +200,21 @@ pub walk_goes : (z : Sizes) (n : ℕ) (kind : Kind) (does : List Kept → List K
 walk_goes z n kind does table v w x h h' k next gone told hold d walk step after long fits = record {
   clears = record {
     visited = walk.clears.visited ++ r ∷ [];
+    once = once_more table k walk.clears.visited walk.clears.once walk.behind;
     are_long = each_more (IsLongOf table v) walk.clears.visited r walk.clears.are_long (refl, walk.next_is.1.1);
     steps = reclaims_more v w x walk.clears.visited r kind walk.clears.steps step;
   };
+  behind = each_more (λ (q : Rid). IsBefore q.key next) walk.clears.visited r (before_next k next walk.clears.visited later walk.behind) (at_next k next later);
   done = done;
-  rest = λ m from. past m (over (held_records h').records table k next long m from);
+  rest = λ m from. past m (later m from);
   others = λ q apart. held_apart w x r kind step q (tables_apart table k q apart) ∙ walk.others q apart;
   counts = counts_more v w x kind gone r walk.counts step;
-  next_is = next_is next long fits (λ m from. over (held_records h').records table k next long m from);
+  next_is = next_is next long fits later;
 }
   where
+    later : (m : ℕ) → IsFrom m next → k < m
+    later m from = over (held_records h').records table k next long m from
+
     r : Rid
     r = record_at table k
 

@@ -4,6 +4,7 @@ use Rattle.hg_base.specs.declared.rid.Rid.{Rid}
 use Rattle.hg_base.specs.declared.rid.TableId.{TableId}
 use Rattle.hg_base.specs.declared.report.Kind.{Kind}
 use Rattle.hg_base.specs.Lists.{Each}
+use Rattle.hg_base.specs.History.{NoneTwice}
 use Rattle.hg_core.specs.Counters.{total, removed_more}
 use Rattle.hg_bucket.specs.Sweeping.{is_long}
 use Rattle.hg_rule.specs.declared.view.View.{View}
@@ -21,10 +22,11 @@ ReclaimsAll v (rid ∷ rids) kind w = (x : View) × (Reclaims v rid kind x × Re
 abbrev pub IsLongOf : TableId → View → Rid → Type 0
 IsLongOf table v r = (r.table ≡ table) × IsTrue (is_long (map kept (held v r)))
 
--- The pass visits records of the table, each of which has more than its oldest image, and takes of each what its kind of
+-- The pass visits records of the table, each once, that have more than their oldest image, and takes of each what its kind of
 -- collector takes.
 pub record Clears (v : View) (table : TableId) (kind : Kind) (w : View) : Type 0 where
   pub visited : List Rid
+  pub once : NoneTwice visited
   pub are_long : Each (IsLongOf table v) visited
   pub steps : ReclaimsAll v visited kind w
 
