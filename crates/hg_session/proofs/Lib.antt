@@ -6,3 +6,6 @@ pub mod Storing
 pub mod Ending
 pub mod Visiting
 pub mod Committing
+pub mod Quiet
+pub mod Cutting
+pub mod Leaving

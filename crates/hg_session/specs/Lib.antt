@@ -9,3 +9,5 @@ pub mod Replies
 pub mod Ended
 -- What it counts then.
 pub mod Visited
+-- What it makes of the buckets then.
+pub mod Settled

@@ -19,6 +19,7 @@
 #![tactic(auto)]
 
 mod answers;
+mod cuts;
 mod engine;
 mod parts;
 mod reading;
@@ -29,5 +30,6 @@ mod totals;
 mod writing;
 
 pub use answers::{Deleted, Ended, GetRefusal, PutRefusal, Read, Scanned, Written};
+pub use cuts::settle;
 pub use engine::Engine;
 pub use session::Session;
