@@ -20,6 +20,8 @@
 
 mod answers;
 mod cuts;
+#[cfg(test)]
+mod cuts_tests;
 mod engine;
 mod parts;
 mod reading;
