@@ -19,3 +19,6 @@ pub mod ScanningKeys
 pub mod ScanningRows
 pub mod ScanningLooks
 pub mod ScanningOrder
+pub mod Quiet
+pub mod Cutting
+pub mod Leaving
