@@ -1,28 +1,21 @@
 -- A transaction that ends.
-use Rattle.std.proofs.Common.{◌≡◌, ℕ, suc, ◌≤◌, List, [], ◌∷◌, ◌++◌, Bool, true, false, length, Option, Some, None, refl, sym, ap, ◌∙◌, subst, inl, inr, arith, ◌<◌}
-use Rattle.std.specs.Prelude.{is_some, IsSome, IsTrue, ◌||◌, ◌==◌, if◌then◌else◌}
-use Rattle.std.proofs.lemmas.Option.{none-some}
+use Rattle.std.proofs.Common.{◌≡◌, ℕ, ◌≤◌, List, [], ◌∷◌, true, false, length, Some, refl, sym, ap, ◌∙◌, subst, arith, ◌<◌}
+use Rattle.std.specs.Prelude.{is_some, IsTrue, ◌||◌, ◌==◌, if◌then◌else◌}
 use Rattle.std.proofs.lemmas.Bool.Decides.{nat_tests}
 use Rattle.hg_base.specs.declared.rid.Rid.{Rid}
-use Rattle.hg_base.specs.declared.image.Image.{Image}
-use Rattle.hg_base.specs.declared.scope.Snapshot.{Snapshot}
-use Rattle.hg_base.specs.Lists.{Each}
-use Rattle.hg_base.specs.History.{Write, History, same_rid, image_in, is_among, NoneTwice}
+use Rattle.hg_base.specs.History.{Write, image_in, is_among}
 use Rattle.hg_base.specs.Replies.{is_written}
 use Rattle.hg_base.proofs.HistoryFacts.{same_rid_itself}
 use Rattle.hg_core.specs.declared.log.LogEntry.{LogEntry}
 use Rattle.hg_core.specs.declared.log.LogEntry.TheVariants.{Published, Over}
 use Rattle.hg_core.specs.declared.phase.Phase.TheVariants.{Idle}
-use Rattle.hg_core.specs.Logs.{is_plain, own_writes, open_in}
-use Rattle.hg_core.specs.Reading.{close}
+use Rattle.hg_core.specs.Logs.{is_plain, own_writes}
 use Rattle.hg_core.proofs.NewGroup.{image_open}
-use Rattle.hg_rule.specs.declared.view.SessionPart.{SessionPart}
 use Rattle.hg_rule.specs.declared.view.Part.TheVariants.{OfSession}
-use Rattle.hg_rule.specs.declared.view.Sight.{Sight}
 use Rattle.hg_rule.specs.declared.view.Sight.TheVariants.{Heard}
 use Rattle.hg_rule.specs.declared.view.View.{View}
-use Rattle.hg_rule.specs.Facts.{StartsWith, IsAmong}
-use Rattle.hg_rule.specs.Views.{number, session, HasOnlySession}
+use Rattle.hg_rule.specs.Facts.{IsAmong}
+use Rattle.hg_rule.specs.Views.{number, session}
 use Rattle.hg_rule.specs.Steps.{Within, logging, Ends}
 use Rattle.hg_rule.specs.Holding.{snapshot}
 use Rattle.hg_rule.specs.Writes.{with_published}
@@ -32,7 +25,7 @@ use Rattle.hg_tracker.proofs.After.{within_most}
 use Rattle.hg_group.specs.declared.receipt.Receipt.{Receipt}
 use Rattle.hg_group.specs.Committing.{HasCommitted}
 use Rattle.hg_session.specs.Ties.{AreWritten}
-use Rattle.hg_session.specs.Gains.{Alone, Gains, IsAfter}
+use Rattle.hg_session.specs.Gains.{Alone, IsAfter}
 use Rattle.hg_session.proofs.Trips.{first_number, first_session, alone_only, ended}
 
 -- ---- what a transaction wrote

@@ -1,7 +1,6 @@
 -- What a write replies, in a transaction and as one of its own.
-use Rattle.std.proofs.Common.{◌≡◌, ℕ, suc, ◌<◌, ◌≤◌, ℤ, List, [], ◌∷◌, ◌++◌, map, Bool, true, false, Option, Some, None, refl, sym, ap, ◌∙◌, subst, append_assoc, arith}
-use Rattle.std.specs.Prelude.{is_some, IsSome, IsTrue, IsFalse, IfSome, Result, Ok, Err, ◌==◌, ◌||◌, ⊤}
-use Rattle.std.proofs.lemmas.Option.{none-some}
+use Rattle.std.proofs.Common.{◌≡◌, ℕ, ◌≤◌, ℤ, List, [], ◌∷◌, ◌++◌, map, true, false, Option, Some, None, refl, sym, ap, ◌∙◌, subst, append_assoc, arith}
+use Rattle.std.specs.Prelude.{is_some, IsTrue, IsFalse, IfSome, Err, ◌==◌, ◌||◌, ⊤}
 use Rattle.hg_base.specs.declared.rid.Rid.{Rid}
 use Rattle.hg_base.specs.declared.image.Image.{Image}
 use Rattle.hg_base.specs.declared.writer.Writer.{Writer}
@@ -10,11 +9,10 @@ use Rattle.hg_base.specs.declared.statement.Statement.{Statement}
 use Rattle.hg_base.specs.declared.statement.Statement.TheVariants as say
 use Rattle.hg_base.specs.declared.line.Answer.{Answer}
 use Rattle.hg_base.specs.declared.line.Answer.TheVariants as answers
-use Rattle.hg_base.specs.declared.line.Reply.{Reply}
 use Rattle.hg_base.specs.Lists.{Each}
-use Rattle.hg_base.specs.History.{Write, same_rid, image_in, is_among}
+use Rattle.hg_base.specs.History.{Write, is_among}
 use Rattle.hg_base.specs.Replies.{is_written}
-use Rattle.hg_base.specs.Transcript.{only, table_of, stored_by, committed_by}
+use Rattle.hg_base.specs.Transcript.{only, table_of, stored_by}
 use Rattle.hg_base.proofs.HistoryFacts.{same_rid_itself}
 use Rattle.hg_core.specs.declared.log.LogEntry.{LogEntry}
 use Rattle.hg_core.specs.declared.log.LogEntry.TheVariants.{Began, Refused, Wrote, Undid, Over}
@@ -146,9 +144,24 @@ module _ (z : Sizes) (s : Statement) (u : Unprinted) (v w : View) (rid : Rid) (i
 
 pub puts : (z : Sizes) (u : Unprinted) (own : List Write) (rid : Rid) (row : List ℤ) → Writing z (say.Put rid row) u own rid (record { row = Some row }) [] answers.Stored
 puts z u own rid row = record {
-  access = refl; stores = refl; opened = λ w. refl; newer = λ n. refl; fits = tt; fits_opened = λ w. tt; fits_newer = λ n. tt;
-  by = refl; by_opened = λ w. refl; by_newer = λ n. refl; at = λ at n. refl; at_none = refl; newer_none = λ at n. refl;
-  number_is = λ at n. refl; number_none = refl; none_opened = λ at w. refl; none_newer = λ at n. refl; goes = λ v. tt;
+  access = refl;
+  stores = refl;
+  opened = λ w. refl;
+  newer = λ n. refl;
+  fits = tt;
+  fits_opened = λ w. tt;
+  fits_newer = λ n. tt;
+  by = refl;
+  by_opened = λ w. refl;
+  by_newer = λ n. refl;
+  at = λ at n. refl;
+  at_none = refl;
+  newer_none = λ at n. refl;
+  number_is = λ at n. refl;
+  number_none = refl;
+  none_opened = λ at w. refl;
+  none_newer = λ at n. refl;
+  goes = λ v. tt;
 }
 
 -- ---- a write in a transaction of its own, and its end

@@ -1,6 +1,6 @@
 -- What a scan and a deletion reply.
-use Rattle.std.proofs.Common.{◌≡◌, ℕ, zero, suc, ◌<◌, ℤ, List, [], ◌∷◌, ◌++◌, map, Bool, true, false, Option, Some, None, refl, sym, ap, ◌∙◌, subst, append_assoc, append-nil}
-use Rattle.std.specs.Prelude.{is_some, IfSome, Err, ⊤}
+use Rattle.std.proofs.Common.{◌≡◌, ℕ, zero, suc, ℤ, List, [], ◌∷◌, ◌++◌, true, false, Option, Some, None, refl, sym, ap, subst, append_assoc, append-nil}
+use Rattle.std.specs.Prelude.{is_some, Err, ⊤}
 use Rattle.hg_base.specs.declared.image.Image.{Image}
 use Rattle.hg_bucket.specs.declared.refusal.WriteRefusal.{WriteRefusal}
 use Rattle.hg_bucket.specs.declared.refusal.WriteRefusal.TheVariants.{Open, Newer, NoMemory}
@@ -13,15 +13,15 @@ use Rattle.hg_base.specs.Lists.{Each}
 use Rattle.hg_base.specs.History.{Write, nothing}
 use Rattle.hg_base.specs.Transcript.{only}
 use Rattle.hg_core.specs.declared.log.LogEntry.{LogEntry}
-use Rattle.hg_core.specs.declared.log.LogEntry.TheVariants.{Began, Saw, Over}
-use Rattle.hg_core.specs.Logs.{current, own_writes}
+use Rattle.hg_core.specs.declared.log.LogEntry.TheVariants.{Began, Over}
+use Rattle.hg_core.specs.Logs.{current}
 use Rattle.hg_core.specs.Reading.{Unprinted, close, saw, saws}
 use Rattle.hg_core.specs.Reading as reading
 use Rattle.hg_rule.specs.declared.view.Sizes.{Sizes}
 use Rattle.hg_rule.specs.declared.view.View.{View}
 use Rattle.hg_rule.specs.Views.{session}
 use Rattle.hg_tracker.specs.Begun.{AtMost}
-use Rattle.hg_session.specs.Gains.{Gains, Stays, entries_of, rows_at}
+use Rattle.hg_session.specs.Gains.{Gains, Stays, entries_of}
 use Rattle.hg_session.specs.Scans.{Rows, ScansAll}
 use Rattle.hg_session.specs.Replies.{inside, Answers}
 use Rattle.hg_session.proofs.Replying.{AreQuiet, nothing_more, answers_inside, answers_alone, stays_quiet}
@@ -57,9 +57,24 @@ saw_found z rid found = saw z.buckets rid ((rid.key, found) ∷ []) ∷ []
 
 pub dels : (z : Sizes) (own : List Write) (rid : Rid) (found : List ℤ) → Writing z (say.Del rid) (with_found found) own rid nothing (saw_found z rid found) answers.Gone
 dels z own rid found = record {
-  access = refl; stores = refl; opened = λ w. refl; newer = λ n. refl; fits = tt; fits_opened = λ w. tt; fits_newer = λ n. tt;
-  by = refl; by_opened = λ w. refl; by_newer = λ n. refl; at = λ at n. refl; at_none = refl; newer_none = λ at n. refl;
-  number_is = λ at n. refl; number_none = refl; none_opened = λ at w. refl; none_newer = λ at n. refl; goes = λ v. tt;
+  access = refl;
+  stores = refl;
+  opened = λ w. refl;
+  newer = λ n. refl;
+  fits = tt;
+  fits_opened = λ w. tt;
+  fits_newer = λ n. tt;
+  by = refl;
+  by_opened = λ w. refl;
+  by_newer = λ n. refl;
+  at = λ at n. refl;
+  at_none = refl;
+  newer_none = λ at n. refl;
+  number_is = λ at n. refl;
+  number_none = refl;
+  none_opened = λ at w. refl;
+  none_newer = λ at n. refl;
+  goes = λ v. tt;
 }
 
 -- a row that is there

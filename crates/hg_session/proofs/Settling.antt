@@ -3,12 +3,12 @@ use Rattle.std.proofs.Common.{◌≡◌, ℕ, List, [], ◌∷◌, ◌++◌, sym
 use Rattle.hg_core.specs.declared.log.LogEntry.{LogEntry}
 use Rattle.hg_rule.specs.declared.passes.SessionPass.{SessionPass}
 use Rattle.hg_rule.specs.declared.view.SessionPart.{SessionPart}
-use Rattle.hg_rule.specs.declared.view.Part.TheVariants.{OfSession, OfBucket}
+use Rattle.hg_rule.specs.declared.view.Part.TheVariants.{OfSession}
 use Rattle.hg_rule.specs.declared.view.Sight.{Sight}
 use Rattle.hg_rule.specs.declared.view.Sight.TheVariants.{Heard}
 use Rattle.hg_rule.specs.declared.view.View.{View}
 use Rattle.hg_rule.specs.declared.view.Sizes.{Sizes}
-use Rattle.hg_rule.specs.Facts.{StartsWith, IsAmong}
+use Rattle.hg_rule.specs.Facts.{IsAmong}
 use Rattle.hg_rule.specs.Views.{number, session}
 use Rattle.hg_rule.specs.Seats.{TableId, session_view, session_rest, IsSeatOf, IsSessionOf}
 use Rattle.hg_rule.proofs.Holders.{still_session}
@@ -17,7 +17,7 @@ use Rattle.hg_session.specs.declared.engine.Engine.{Engine}
 use Rattle.hg_session.specs.declared.session.Session.{Session}
 use Rattle.hg_session.specs.Engines.{engine_table, engine_sizes}
 use Rattle.hg_session.specs.Ties.{Ties, IsHeard}
-use Rattle.hg_session.specs.Sessions.{IsIn, pass_of, view_of, number_of, log_of, seen_by, left_of, opened_of, written_of}
+use Rattle.hg_session.specs.Sessions.{IsIn, pass_of, view_of, log_of, seen_by, left_of, opened_of, written_of}
 use Rattle.std.specs.Prelude.{IsFalse, ◌==◌}
 use Rattle.hg_base.specs.Lists.{Each}
 use Rattle.hg_bucket.specs.declared.refusal.WriteRefusal.{WriteRefusal}

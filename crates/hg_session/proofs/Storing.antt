@@ -1,6 +1,6 @@
 -- What a write leaves, by its answer.
-use Rattle.std.proofs.Common.{◌≡◌, ℕ, ℤ, ◌<◌, List, [], ◌∷◌, ◌++◌, Bool, true, false, cond, Option, Some, None, refl, sym, ap, ◌∙◌, subst, arith}
-use Rattle.std.specs.Prelude.{IsFalse, ◌==◌, IfErr, OnOk, OnErr, IfSome, Result, Ok, Err, nat_le, option_and_then, ⊤}
+use Rattle.std.proofs.Common.{◌≡◌, ℕ, ℤ, ◌<◌, List, ◌++◌, Bool, true, false, cond, Option, Some, None, refl, sym, ap, ◌∙◌, subst, arith}
+use Rattle.std.specs.Prelude.{IsFalse, ◌==◌, IfErr, OnOk, OnErr, IfSome, Result, Ok, Err, nat_le, option_and_then}
 use Rattle.std.proofs.lemmas.Option.{none-some}
 use Rattle.std.proofs.lemmas.Bool.Decides.{nat_tests}
 use Rattle.hg_base.specs.declared.rid.Rid.{Rid}
@@ -10,11 +10,9 @@ use Rattle.hg_base.specs.declared.line.Answer.{Answer}
 use Rattle.hg_base.specs.declared.line.Answer.TheVariants as answers
 use Rattle.hg_base.specs.Lists.{Each}
 use Rattle.hg_core.specs.declared.ask.Ask.TheVariants.{Write}
-use Rattle.hg_core.specs.declared.log.LogEntry.{LogEntry}
-use Rattle.hg_core.specs.declared.log.LogEntry.TheVariants.{Refused, Wrote}
+use Rattle.hg_core.specs.declared.log.LogEntry.TheVariants.{Wrote}
 use Rattle.hg_core.specs.Versions.{newest_at, unpublished}
 use Rattle.hg_core.specs.Events.{with_refusal}
-use Rattle.hg_core.specs.Phases.{IsSession}
 use Rattle.hg_core.specs.Replies.{same_writer, refused_over, refused_by, refusal}
 use Rattle.hg_bucket.specs.declared.refusal.WriteRefusal.{WriteRefusal}
 use Rattle.hg_bucket.specs.declared.refusal.WriteRefusal.TheVariants.{Open, Newer, NoMemory}
@@ -31,7 +29,7 @@ use Rattle.hg_rule.specs.Places.{without_bucket}
 use Rattle.hg_rule.proofs.Lists.{each_left}
 use Rattle.hg_store.specs.Ends.{HasNoEnd}
 use Rattle.hg_store.specs.Kept.{refusal_of}
-use Rattle.hg_store.specs.Writing.{Writes, IsCause, IsAnothers, OwnerGoesOn, refused_at}
+use Rattle.hg_store.specs.Writing.{Writes, IsCause, IsAnothers, OwnerGoesOn}
 use Rattle.hg_store.proofs.Storing.{free_at}
 use Rattle.hg_session.specs.Gains.{entries_of, IsRefusedBy}
 use Rattle.hg_session.proofs.Trips.{Beside, first_number, first_session, looked, installed}

@@ -1,9 +1,8 @@
 -- A session that takes a bucket, works in it and gives it back.
-use Rattle.std.proofs.Common.{◌≡◌, ℕ, List, [], ◌∷◌, ◌++◌, Some, refl, sym, ap, ◌∙◌, subst, inl, inr, append_assoc, append-nil}
+use Rattle.std.proofs.Common.{◌≡◌, ℕ, List, [], ◌∷◌, ◌++◌, refl, sym, ap, ◌∙◌, subst, inl, inr, append_assoc}
 use Rattle.hg_base.specs.declared.rid.Rid.{Rid}
 use Rattle.hg_base.specs.declared.image.Image.{Image}
 use Rattle.hg_core.specs.declared.ask.Ask.{Ask}
-use Rattle.hg_core.specs.declared.log.LogEntry.{LogEntry}
 use Rattle.hg_core.specs.declared.log.LogEntry.TheVariants.{Wrote, Undid, Over}
 use Rattle.hg_core.specs.declared.phase.Phase.TheVariants.{Idle}
 use Rattle.hg_rule.specs.declared.passes.SessionPass.{SessionPass}
@@ -16,11 +15,11 @@ use Rattle.hg_rule.specs.declared.view.Sight.TheVariants.{Heard}
 use Rattle.hg_rule.specs.declared.view.View.{View}
 use Rattle.hg_rule.specs.declared.view.Sizes.{Sizes}
 use Rattle.hg_rule.specs.Facts.{StartsWith, IsAmong}
-use Rattle.hg_rule.specs.Views.{number, number_in, session, session_there, others, first_in, after_first, bucket_there, seeing, HasSession, HasOnlySession}
+use Rattle.hg_rule.specs.Views.{number, number_in, session, session_there, others, first_in, after_first, seeing, HasSession, HasOnlySession}
 use Rattle.hg_rule.specs.Steps.{logging, Ends}
 use Rattle.hg_rule.specs.Holding.{bucket_number, bucket, beyond, writer}
 use Rattle.hg_rule.specs.Writes.{with_log, with_entry, log_asked, Looks, Installs, Undoes, installing, undoing}
-use Rattle.hg_rule.specs.Places.{without_bucket, with_bucket}
+use Rattle.hg_rule.specs.Places.{without_bucket}
 use Rattle.hg_rule.specs.Seats.{TableId, session_view, session_rest, IsSeatOf, IsSessionOf}
 use Rattle.hg_rule.proofs.Growing.{among_later}
 use Rattle.hg_rule.proofs.Holders.{still_session, session_arrives, session_departs}
@@ -61,11 +60,11 @@ arrived v u b only t = record {
 pub departed : (j : ℕ) (part : SessionPart) (b : ℕ) (old : List Sight) (u w : View) → Beside j part b old u → w ≡ without_bucket u → Alone j part old w
 departed j part b old u w h e = record {
   parts =
-    let n = first_number u j part _ h.parts in
-    let s = first_session u j part _ h.parts in
-    let o : beyond u ≡ [] = ap (λ (ps : List Part). after_first (after_first ps)) h.parts in
-    let has : HasSession u = h.parts ∙ (λ i. OfSession (sym n i) (sym s i) ∷ sym (ap after_first h.parts) i) in
-    session_departs u w has e ∙ (λ i. OfSession (n i) (s i) ∷ o i);
+      let n = first_number u j part _ h.parts in
+      let s = first_session u j part _ h.parts in
+      let o : beyond u ≡ [] = ap (λ (ps : List Part). after_first (after_first ps)) h.parts in
+      let has : HasSession u = h.parts ∙ (λ i. OfSession (sym n i) (sym s i) ∷ sym (ap after_first h.parts) i) in
+      session_departs u w has e ∙ (λ i. OfSession (n i) (s i) ∷ o i);
   kept = (h.kept.0, ap (λ (x : View). x.sights) e ∙ h.kept.1);
 }
 

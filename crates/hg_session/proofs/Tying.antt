@@ -1,6 +1,6 @@
 -- What a session keeps, after each entry of its log.
-use Rattle.std.proofs.Common.{◌≡◌, ℕ, suc, ◌+◌, ◌<◌, ◌≤◌, List, [], ◌∷◌, ◌++◌, Bool, true, false, not, cond, Option, Some, None, refl, sym, ap, ◌∙◌, subst, arith}
-use Rattle.std.specs.Prelude.{is_some, IsTrue, ◌||◌, Result, Err, ⊤}
+use Rattle.std.proofs.Common.{◌≡◌, ℕ, suc, ◌+◌, ◌≤◌, List, [], ◌∷◌, ◌++◌, Bool, true, false, not, cond, Option, Some, None, refl, sym, ap, ◌∙◌, subst, arith}
+use Rattle.std.specs.Prelude.{is_some, ◌||◌, Err, ⊤}
 use Rattle.std.specs.List.{list_any}
 use Rattle.hg_base.specs.declared.rid.Rid.{Rid}
 use Rattle.hg_base.specs.declared.image.Image.{Image}
@@ -12,7 +12,7 @@ use Rattle.hg_headline.proofs.Words.{same_rid_turned}
 use Rattle.hg_core.specs.declared.phase.Phase.TheVariants.{Idle, Live}
 use Rattle.hg_core.specs.declared.log.LogEntry.{LogEntry}
 use Rattle.hg_core.specs.declared.log.LogEntry.TheVariants.{Began, Saw, Refused, Outside, Wrote, Undid, Published, Over}
-use Rattle.hg_core.specs.Logs.{current, begans, wrotes, is_plain, open_in, own_writes}
+use Rattle.hg_core.specs.Logs.{open_in}
 use Rattle.hg_base.specs.declared.line.Answer.TheVariants as answers
 use Rattle.hg_bucket.specs.declared.refusal.WriteRefusal.{WriteRefusal}
 use Rattle.hg_bucket.specs.declared.refusal.WriteRefusal.TheVariants.{Open, Newer, NoMemory}
@@ -20,7 +20,7 @@ use Rattle.hg_session.specs.Gains.{entries_of}
 use Rattle.hg_rule.specs.declared.view.SessionPart.{SessionPart}
 use Rattle.hg_rule.specs.Steps.{logging}
 use Rattle.hg_rule.specs.Writes.{with_log, with_entry, with_published}
-use Rattle.hg_session.specs.Ties.{AreWritten, Ties, phase_at}
+use Rattle.hg_session.specs.Ties.{AreWritten, Ties}
 
 module _ (each : ℕ) (opened : Option Snapshot) (written : List Rid) (part : SessionPart) where
   -- one statement of those that are left

@@ -1,15 +1,15 @@
 -- A transaction that is rolled back.
-use Rattle.std.proofs.Common.{◌≡◌, ◌⊎◌, ℕ, ◌+◌, ◌≤◌, List, [], ◌∷◌, ◌++◌, map, Bool, true, false, cond, Option, Some, None, refl, sym, ap, ◌∙◌, subst, inl, inr, arith}
-use Rattle.std.specs.Prelude.{is_some, IsSome, IsTrue, IsFalse, ◌||◌}
+use Rattle.std.proofs.Common.{◌≡◌, ◌⊎◌, ℕ, List, [], ◌∷◌, ◌++◌, map, Bool, true, false, cond, Option, Some, None, refl, sym, ap, ◌∙◌, subst, inl, inr, arith}
+use Rattle.std.specs.Prelude.{is_some, IsTrue, ◌||◌}
 use Rattle.hg_base.specs.declared.rid.Rid.{Rid}
 use Rattle.hg_base.specs.declared.image.Image.{Image}
 use Rattle.hg_base.specs.declared.scope.Snapshot.{Snapshot}
-use Rattle.hg_base.specs.History.{same_rid, is_among, NoneTwice, image_in}
-use Rattle.hg_base.proofs.HistoryFacts.{same_rid_itself, same_rid_equal}
+use Rattle.hg_base.specs.History.{same_rid, is_among, NoneTwice}
+use Rattle.hg_base.proofs.HistoryFacts.{same_rid_itself}
 use Rattle.hg_core.specs.declared.log.LogEntry.{LogEntry}
 use Rattle.hg_core.specs.declared.log.LogEntry.TheVariants.{Undid, Over}
 use Rattle.hg_core.specs.declared.phase.Phase.TheVariants.{Idle}
-use Rattle.hg_core.specs.Logs.{current, begans, wrotes, is_plain, open_in, own_writes}
+use Rattle.hg_core.specs.Logs.{begans, wrotes, is_plain, open_in, own_writes}
 use Rattle.hg_core.specs.Reading.{UndoesAll}
 use Rattle.hg_core.proofs.NewGroup.{image_open}
 use Rattle.hg_headline.proofs.Words.{same_rid_turned}
@@ -18,7 +18,7 @@ use Rattle.hg_rule.specs.declared.view.Part.TheVariants.{OfSession}
 use Rattle.hg_rule.specs.declared.view.Sight.{Sight}
 use Rattle.hg_rule.specs.declared.view.Sight.TheVariants.{Heard}
 use Rattle.hg_rule.specs.declared.view.View.{View}
-use Rattle.hg_rule.specs.Facts.{StartsWith, IsAmong}
+use Rattle.hg_rule.specs.Facts.{IsAmong}
 use Rattle.hg_rule.specs.Views.{number, session, HasOnlySession}
 use Rattle.hg_rule.specs.Steps.{logging, Ends}
 use Rattle.hg_rule.specs.Holding.{writer}
@@ -27,7 +27,7 @@ use Rattle.hg_rule.specs.Writes.{with_log, Undoes}
 use Rattle.hg_rule.proofs.Lists.{starts_on}
 use Rattle.hg_store.specs.Stores.{Takes}
 use Rattle.hg_session.specs.Ties.{AreWritten, Ties}
-use Rattle.hg_session.specs.Gains.{Alone, Gains, HasUndone}
+use Rattle.hg_session.specs.Gains.{Alone, HasUndone}
 use Rattle.hg_session.proofs.Trips.{arrived, undone, departed, first_number, first_session, alone_only, ended}
 
 -- ---- what an undo leaves of a log

@@ -54,13 +54,22 @@ pub enum GetRefusal {
 pub enum PutRefusal {
     /// The open transaction didn't declare the table.
     #[error("the transaction did not declare the table")]
-    Undeclared { table: TableId },
+    Undeclared {
+        table: TableId,
+    },
     /// Another transaction has an open write of the record.
     #[error("transaction {transaction} of session {session} has the record open")]
-    Open { at: u64, session: u32, transaction: u64 },
+    Open {
+        at: u64,
+        session: u32,
+        transaction: u64,
+    },
     /// The group of this number wrote the record after the snapshot.
     #[error("group {number} wrote the record after snapshot {at}")]
-    Newer { at: u64, number: u64 },
+    Newer {
+        at: u64,
+        number: u64,
+    },
     #[error("out of memory")]
     NoMemory,
 }

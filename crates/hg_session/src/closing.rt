@@ -108,7 +108,10 @@ impl Session {
             snapshot,
             records,
         };
-        match engine.groups.commit(rt, engine.board(), &engine.store, tx, &mut self.pass) {
+        match engine
+            .groups
+            .commit(rt, engine.board(), &engine.store, tx, &mut self.pass)
+        {
             Ok(receipt) => {
                 engine.trackers.end(&mut self.pass);
                 self.opened = None;

@@ -32,13 +32,7 @@ fn is_there(image: Option<&Image>) -> bool
 
 impl Session {
     // Sees whether a record has a row.
-    fn see_there<R: Wait>(
-        &mut self,
-        rt: &R,
-        engine: &Engine,
-        snapshot: Snapshot,
-        rid: Rid,
-    ) -> bool
+    fn see_there<R: Wait>(&mut self, rt: &R, engine: &Engine, snapshot: Snapshot, rid: Rid) -> bool
         requires own { IsIn engine.now 0 1 self.old }
         requires opened { opened_of self.old ≡ Some snapshot }
         requires table { IsTrue (has snapshot.scope rid.table) }

@@ -16,9 +16,9 @@ ghost use Rattle.hg_session.specs.Sessions.{IsIn, IsOf, is_alone, view_of, open_
 ghost use Rattle.hg_session.specs.Replies.{Answers, IsRefusedIf, reading, row_answer, get_reply};
 ghost use Rattle.hg_session.specs.Gains.{Gains, Stays, rows_at, outside_entries};
 
+use crate::answers::{GetRefusal, Read};
 use crate::engine::Engine;
 use crate::session::Session;
-use crate::answers::{GetRefusal, Read};
 use hg_base::{Image, NoMemory, Rid, Row, Scope, Snapshot, TableId};
 use hg_rule::Ask;
 use std::sync::Wait;

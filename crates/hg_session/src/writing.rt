@@ -25,10 +25,12 @@ pub(crate) fn refused_at(at: u64, refusal: WriteRefusal) -> PutRefusal
     ensures { result ≡ refused_at at refusal }
 {
     match refusal {
-        WriteRefusal::Open(Writer {
-            session,
-            transaction,
-        }) => PutRefusal::Open {
+        WriteRefusal::Open(
+            Writer {
+                session,
+                transaction,
+            },
+        ) => PutRefusal::Open {
             at,
             session,
             transaction,

@@ -1,10 +1,10 @@
-use Rattle.std.proofs.Common.{◌≡◌, ◌++◌, ◌∷◌, [], refl, sym, ap, ◌∙◌, subst, rules, append_assoc, append-nil}
-use Rattle.std.specs.Prelude.{IsSome, IsTrue, cond, None, false}
+use Rattle.std.proofs.Common.{◌≡◌, ◌++◌, ◌∷◌, [], sym, ap, ◌∙◌, subst, rules, append-nil}
+use Rattle.std.specs.Prelude.{IsSome, cond, None}
 use Rattle.hg_base.specs.History.{is_among, NoneTwice}
 use Rattle.hg_core.specs.Logs.{open_in}
 use Rattle.hg_rule.specs.Views.{session}
 use Rattle.hg_rule.specs.Seats.{session_view}
-use Rattle.hg_session.proofs.Undoing.{undid_none, undid_more, undone_writer, undone_log, open_undone, last_apart, last_among}
+use Rattle.hg_session.proofs.Undoing.{undid_none, undone_writer, undone_log, open_undone, last_apart, last_among}
 use Rattle.hg_session.proofs.closing.undo_each.Goals as goal
 
 pub loop-rid-init : goal.loop-rid-init

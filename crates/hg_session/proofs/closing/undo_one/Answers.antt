@@ -1,10 +1,10 @@
-use Rattle.std.proofs.Common.{◌≡◌, [], ◌∷◌, sym, ap, ◌∙◌, subst, rules}
+use Rattle.std.proofs.Common.{◌≡◌, ◌∷◌, sym, ap, ◌∙◌, subst, rules}
 use Rattle.std.specs.Prelude.{IsSome, false}
 use Rattle.hg_core.specs.Contents.{bucket_of}
 use Rattle.hg_core.specs.Logs.{open_in}
 use Rattle.hg_rule.specs.declared.view.SessionPart.{SessionPart}
 use Rattle.hg_rule.specs.declared.view.Part.TheVariants.{OfBucket}
-use Rattle.hg_rule.specs.Views.{number, session, number_in, after_first, HasSession}
+use Rattle.hg_rule.specs.Views.{number, session, HasSession}
 use Rattle.hg_rule.specs.Holding.{bucket, beyond, bucket_number, HasBucket}
 use Rattle.hg_rule.specs.Seats.{session_view, sizes_of}
 use Rattle.hg_store.proofs.Holding.{number_is}

@@ -1,4 +1,4 @@
-use Rattle.std.proofs.Common.{◌≡◌, ◌+◌, ◌*◌, ◌%◌, ap, ◌∙◌, rules}
+use Rattle.std.proofs.Common.{◌≡◌, ◌+◌, ◌*◌, ◌%◌, rules}
 use Rattle.hg_core.specs.Contents.{bucket_of}
 use Rattle.hg_rule.specs.Seats.{sizes_of}
 use Rattle.hg_tracker.specs.Boards.{board_of}

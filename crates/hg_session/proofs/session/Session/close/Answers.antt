@@ -1,7 +1,6 @@
-use Rattle.std.proofs.Common.{◌≡◌, [], None, sym, ap, ◌∙◌, subst, rules, arith}
+use Rattle.std.proofs.Common.{◌≡◌, [], None, sym, ◌∙◌, subst, rules}
 use Rattle.std.specs.Prelude.{length, ◌<◌}
-use Rattle.std.proofs.lemmas.Bool.Decides.{nat_tests}
-use Rattle.hg_rule.specs.Views.{number, session}
+use Rattle.hg_rule.specs.Views.{session}
 use Rattle.hg_rule.specs.Holding.{snapshot}
 use Rattle.hg_rule.specs.Seats.{session_view, IsSessionOf}
 use Rattle.hg_core.specs.declared.log.LogEntry.TheVariants.{Over}

@@ -1,4 +1,4 @@
-use Rattle.std.proofs.Common.{◌≡◌, [], ◌∷◌, ◌++◌, true, false, Some, None, Ok, Err, refl, sym, ap, ◌∙◌, subst, rules}
+use Rattle.std.proofs.Common.{◌≡◌, [], ◌∷◌, true, false, Some, None, Err, refl, sym, ◌∙◌, subst, rules}
 use Rattle.std.specs.Prelude.{IfSome, IfErr, IfOk, is_some}
 use Rattle.hg_base.specs.declared.statement.Statement.TheVariants as say
 use Rattle.hg_base.specs.History.{nothing}
@@ -10,7 +10,7 @@ use Rattle.hg_rule.specs.Views.{session}
 use Rattle.hg_session.specs.Engines.{engine_sizes}
 use Rattle.hg_session.specs.Sessions.{view_of, left_of, written_of}
 use Rattle.hg_session.specs.Ties.{Ties}
-use Rattle.hg_session.specs.Gains.{Gains, Stays, rows_at}
+use Rattle.hg_session.specs.Gains.{Gains, rows_at}
 use Rattle.hg_session.specs.Replies.{Answers, del_reply}
 use Rattle.hg_session.specs.Alone.{WritesAlone, IsRefusedAlone}
 use Rattle.hg_session.proofs.Replying.{rest_unwritten}

@@ -1,18 +1,16 @@
-use Rattle.std.proofs.Common.{◌≡◌, [], ◌∷◌, ◌++◌, true, false, Some, None, Ok, Err, refl, sym, ap, ◌∙◌, subst, rules, append_assoc}
-use Rattle.std.specs.Prelude.{IfSome, IfErr, not, is_some, ⊤}
+use Rattle.std.proofs.Common.{◌≡◌, [], ◌∷◌, true, false, Some, Err, refl, sym, subst, rules, append_assoc}
+use Rattle.std.specs.Prelude.{IfSome, IfErr, is_some, ⊤}
 use Rattle.hg_base.specs.declared.statement.Statement.TheVariants as say
 use Rattle.hg_base.specs.History.{nothing}
 use Rattle.hg_core.specs.declared.log.LogEntry.TheVariants.{Wrote}
 use Rattle.hg_core.specs.Logs.{current, own_writes}
 use Rattle.hg_core.specs.Reading.{saw}
-use Rattle.hg_bucket.specs.declared.refusal.WriteRefusal.TheVariants.{NoMemory}
 use Rattle.hg_rule.specs.Views.{session}
-use Rattle.hg_session.specs.declared.answers.PutRefusal.TheVariants as put
 use Rattle.hg_session.specs.Engines.{engine_sizes}
-use Rattle.hg_session.specs.Sessions.{view_of, open_of}
+use Rattle.hg_session.specs.Sessions.{view_of}
 use Rattle.hg_session.specs.Gains.{Gains, IsRefusedBy, rows_at, outside_entries, entries_of}
-use Rattle.hg_session.specs.Replies.{Answers, refused_reply, refused_at}
-use Rattle.hg_session.proofs.Replying.{undeclared_inside, stays_quiet}
+use Rattle.hg_session.specs.Replies.{Answers, refused_reply}
+use Rattle.hg_session.proofs.Replying.{undeclared_inside}
 use Rattle.hg_session.proofs.Putting.{stored_inside, refused_inside}
 use Rattle.hg_session.proofs.Ranged.{dels, with_found, saw_found, found_row, no_row, nothing_inside, stays_refused}
 use Rattle.hg_session.proofs.Settling.{gains_on, refused_before}

@@ -1,10 +1,10 @@
-use Rattle.std.proofs.Common.{◌≡◌, [], ◌∷◌, true, false, Some, refl, sym, ap, ◌∙◌, subst, rules}
+use Rattle.std.proofs.Common.{◌≡◌, [], ◌∷◌, Some, refl, sym, subst, rules}
 use Rattle.hg_base.specs.declared.statement.Statement.TheVariants as say
 use Rattle.hg_core.specs.Reading.{saw}
 use Rattle.hg_core.specs.Logs.{current}
 use Rattle.hg_rule.specs.Views.{session}
 use Rattle.hg_session.specs.Engines.{engine_sizes}
-use Rattle.hg_session.specs.Sessions.{view_of, open_of}
+use Rattle.hg_session.specs.Sessions.{view_of}
 use Rattle.hg_session.specs.Gains.{Gains, rows_at, outside_entries}
 use Rattle.hg_session.proofs.Replying.{get_inside, undeclared_inside, stays_quiet}
 use Rattle.hg_session.proofs.Settling.{gains_on}

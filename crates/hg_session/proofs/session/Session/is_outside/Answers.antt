@@ -1,7 +1,7 @@
 use Rattle.std.proofs.Common.{rules}
 use Rattle.hg_core.specs.declared.ask.Ask.TheVariants.{Outside}
 use Rattle.hg_core.specs.declared.log.LogEntry.TheVariants as entries
-use Rattle.hg_rule.specs.Views.{number, session}
+use Rattle.hg_rule.specs.Views.{session}
 use Rattle.hg_rule.specs.Seats.{session_view, IsSessionOf}
 use Rattle.hg_session.specs.Engines.{engine_table, engine_sizes}
 use Rattle.hg_session.proofs.Tying.{ties_quiet, ties_unbegun}

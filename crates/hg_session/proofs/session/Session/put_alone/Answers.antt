@@ -1,15 +1,13 @@
-use Rattle.std.proofs.Common.{◌≡◌, [], ◌∷◌, ◌++◌, true, false, Some, None, Ok, Err, refl, sym, ap, ◌∙◌, subst, rules}
+use Rattle.std.proofs.Common.{◌≡◌, [], ◌∷◌, true, Some, None, Err, sym, ◌∙◌, subst, rules}
 use Rattle.std.specs.Prelude.{IfSome, IfErr, IfOk}
 use Rattle.hg_base.specs.declared.statement.Statement.TheVariants as say
-use Rattle.hg_base.specs.Transcript.{only, table_of}
 use Rattle.hg_core.specs.declared.log.LogEntry.TheVariants.{Began}
 use Rattle.hg_core.specs.Logs.{current, own_writes}
 use Rattle.hg_rule.specs.Views.{session}
-use Rattle.hg_session.specs.declared.answers.PutRefusal.TheVariants as refusal
 use Rattle.hg_session.specs.Engines.{engine_sizes}
 use Rattle.hg_session.specs.Sessions.{view_of, left_of, written_of}
 use Rattle.hg_session.specs.Ties.{Ties}
-use Rattle.hg_session.specs.Gains.{Gains, Stays}
+use Rattle.hg_session.specs.Gains.{Gains}
 use Rattle.hg_session.specs.Replies.{Answers, put_reply}
 use Rattle.hg_session.specs.Alone.{WritesAlone, IsRefusedAlone}
 use Rattle.hg_session.proofs.Replying.{nothing_more, rest_unwritten}

@@ -1,11 +1,11 @@
-use Rattle.std.proofs.Common.{◌≡◌, [], ◌∷◌, ◌++◌, true, false, Some, Err, refl, sym, ap, ◌∙◌, subst, rules, append-nil, append_assoc}
+use Rattle.std.proofs.Common.{◌≡◌, [], ◌∷◌, false, Some, Err, refl, sym, subst, rules, append_assoc}
 use Rattle.std.specs.Prelude.{IfSome, IfErr, ⊤}
 use Rattle.hg_base.specs.declared.statement.Statement.TheVariants as say
 use Rattle.hg_core.specs.declared.log.LogEntry.TheVariants.{Wrote}
 use Rattle.hg_core.specs.Logs.{current, own_writes}
 use Rattle.hg_rule.specs.Views.{session}
 use Rattle.hg_session.specs.Engines.{engine_sizes}
-use Rattle.hg_session.specs.Sessions.{view_of, open_of}
+use Rattle.hg_session.specs.Sessions.{view_of}
 use Rattle.hg_session.specs.Gains.{Gains, IsRefusedBy, outside_entries, entries_of}
 use Rattle.hg_session.specs.Replies.{Answers, refused_reply}
 use Rattle.hg_session.proofs.Replying.{nothing_more, undeclared_inside}

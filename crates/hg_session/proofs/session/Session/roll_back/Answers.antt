@@ -1,9 +1,8 @@
 use Rattle.std.proofs.Common.{◌≡◌, map, ◌++◌, ◌∷◌, [], refl, sym, ap, ◌∙◌, subst, rules, None}
-use Rattle.hg_base.specs.declared.rid.Rid.{Rid}
 use Rattle.hg_core.specs.declared.log.LogEntry.TheVariants.{Undid, Over}
 use Rattle.hg_core.specs.declared.phase.Phase.TheVariants.{Idle}
 use Rattle.hg_core.specs.Logs.{open_in}
-use Rattle.hg_rule.specs.Views.{number, session}
+use Rattle.hg_rule.specs.Views.{session}
 use Rattle.hg_rule.specs.Steps.{logging}
 use Rattle.hg_rule.specs.Writes.{with_log}
 use Rattle.hg_rule.specs.Seats.{session_view, IsSessionOf}

@@ -1,10 +1,10 @@
-use Rattle.std.proofs.Common.{◌≡◌, Some, None, ◌∙◌, refl, rules}
+use Rattle.std.proofs.Common.{◌≡◌, Some, None, refl}
 use Rattle.std.specs.Prelude.{IsSome, Option}
 use Rattle.hg_base.specs.declared.scope.Snapshot.{Snapshot}
 use Rattle.hg_core.specs.Logs.{current}
 use Rattle.hg_rule.specs.Views.{session}
 use Rattle.hg_session.specs.Engines.{engine_sizes}
-use Rattle.hg_session.specs.Sessions.{view_of, open_of}
+use Rattle.hg_session.specs.Sessions.{view_of}
 use Rattle.hg_session.proofs.Putting.{rollback_inside}
 use Rattle.hg_session.proofs.session.Session.rollback.Goals as goal
 

@@ -1,7 +1,5 @@
-use Rattle.std.proofs.Common.{◌≡◌, [], ◌∷◌, ◌++◌, true, false, Some, None, Ok, Err, refl, sym, ap, ◌∙◌, subst, rules, append_assoc}
+use Rattle.std.proofs.Common.{◌≡◌, [], ◌∷◌, ◌++◌, None, Err, refl, sym, subst, rules, append_assoc}
 use Rattle.std.specs.Prelude.{OnErr}
-use Rattle.hg_base.specs.declared.statement.Statement.TheVariants as say
-use Rattle.hg_base.specs.Transcript.{only}
 use Rattle.hg_core.specs.declared.log.LogEntry.TheVariants.{Began, Over}
 use Rattle.hg_core.specs.Reading.{saws}
 use Rattle.hg_core.specs.Logs.{current}

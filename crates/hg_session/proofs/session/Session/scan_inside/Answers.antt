@@ -1,10 +1,10 @@
-use Rattle.std.proofs.Common.{◌≡◌, [], ◌∷◌, ◌++◌, true, false, Some, Ok, Err, refl, sym, ap, ◌∙◌, subst, rules, append-nil, append_assoc}
+use Rattle.std.proofs.Common.{◌≡◌, [], ◌++◌, Some, refl, sym, ap, subst, rules, append-nil}
 use Rattle.hg_base.specs.declared.statement.Statement.TheVariants as say
 use Rattle.hg_core.specs.Reading.{saws}
 use Rattle.hg_core.specs.Logs.{current}
 use Rattle.hg_rule.specs.Views.{session}
 use Rattle.hg_session.specs.Engines.{engine_sizes}
-use Rattle.hg_session.specs.Sessions.{view_of, open_of}
+use Rattle.hg_session.specs.Sessions.{view_of}
 use Rattle.hg_session.specs.Gains.{Gains, outside_entries}
 use Rattle.hg_session.specs.Scans.{Scans, ScansAll, ScansSome}
 use Rattle.hg_session.proofs.Replying.{undeclared_inside, stays_quiet}

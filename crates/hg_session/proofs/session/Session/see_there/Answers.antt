@@ -7,13 +7,13 @@ use Rattle.hg_core.specs.Reading.{saw}
 use Rattle.hg_core.specs.Replies.{read_by}
 use Rattle.hg_rule.specs.Views.{number, session}
 use Rattle.hg_rule.specs.Steps.{loaded_in}
-use Rattle.hg_rule.specs.Holding.{held, writer, snapshot}
-use Rattle.hg_rule.specs.Writes.{with_log, with_entry, log_asked}
+use Rattle.hg_rule.specs.Holding.{held}
+use Rattle.hg_rule.specs.Writes.{with_log, with_entry}
 use Rattle.hg_rule.specs.Seats.{session_view, IsSeatOf, IsSessionOf}
 use Rattle.hg_session.specs.Engines.{engine_sizes, engine_table}
 use Rattle.hg_session.specs.Gains.{rows_at}
 use Rattle.hg_session.proofs.Tying.{ties_quiet}
-use Rattle.hg_session.proofs.Trips.{Beside, arrived, looked}
+use Rattle.hg_session.proofs.Trips.{arrived, looked}
 use Rattle.hg_session.proofs.Seeing.{writer_beside, snapshot_beside, saw_log}
 use Rattle.hg_session.proofs.Settling.{Trip, trip, trip_settled, gained}
 use Rattle.hg_session.proofs.session.Session.see_there.Goals as goal

@@ -1,8 +1,8 @@
-use Rattle.std.proofs.Common.{◌≡◌, [], ◌∷◌, ◌++◌, true, false, Some, Ok, Err, refl, sym, ap, ◌∙◌, subst, rules, append_assoc, map}
-use Rattle.std.specs.Prelude.{IfSome, IfErr, IfOk, is_some, OnErr, ⊤}
+use Rattle.std.proofs.Common.{◌≡◌, [], ◌∷◌, ◌++◌, Ok, sym, subst, rules, append_assoc, map}
+use Rattle.std.specs.Prelude.{IfSome, IfErr, IfOk, is_some}
 use Rattle.hg_base.specs.Replies.{is_written}
 use Rattle.hg_core.specs.declared.log.LogEntry.TheVariants.{Wrote, Undid, Over}
-use Rattle.hg_core.specs.Logs.{current, own_writes}
+use Rattle.hg_core.specs.Logs.{own_writes}
 use Rattle.hg_core.specs.Reading.{close, UndoesAll}
 use Rattle.hg_rule.specs.Views.{session}
 use Rattle.hg_session.specs.Engines.{engine_sizes}

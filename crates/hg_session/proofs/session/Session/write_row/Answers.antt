@@ -1,5 +1,5 @@
-use Rattle.std.proofs.Common.{◌≡◌, ◌∷◌, ◌++◌, [], Err, Ok, refl, sym, ap, ◌∙◌, subst, rules, arith}
-use Rattle.std.specs.Prelude.{Bool, true, false, not, is_some, IfErr, IfOk}
+use Rattle.std.proofs.Common.{◌≡◌, ◌∷◌, ◌++◌, [], Err, refl, sym, ap, ◌∙◌, subst, rules}
+use Rattle.std.specs.Prelude.{true, false, not, is_some, IfErr}
 use Rattle.hg_core.specs.declared.log.LogEntry.TheVariants.{Wrote}
 use Rattle.hg_core.specs.Logs.{open_in}
 use Rattle.hg_rule.specs.Views.{number, session}
@@ -8,14 +8,14 @@ use Rattle.hg_rule.specs.declared.view.SessionPart.{SessionPart}
 use Rattle.hg_rule.specs.Writes.{with_entry}
 use Rattle.hg_rule.specs.Seats.{session_view, IsSeatOf, IsSessionOf}
 use Rattle.hg_session.specs.Engines.{engine_sizes, engine_table}
-use Rattle.hg_session.specs.Gains.{IsRefusedBy, entries_of}
+use Rattle.hg_session.specs.Gains.{IsRefusedBy}
 use Rattle.hg_store.specs.Writing.{IsAnothers}
 use Rattle.hg_session.specs.Ties.{Ties}
 use Rattle.hg_session.specs.Sessions.{written_of}
 use Rattle.hg_session.proofs.Tying.{with_written, ties_unwritten, ties_refused, ties_wrote}
-use Rattle.hg_session.proofs.Trips.{Beside, arrived, first_session}
+use Rattle.hg_session.proofs.Trips.{arrived, first_session}
 use Rattle.hg_session.proofs.Seeing.{snapshot_beside}
-use Rattle.hg_session.proofs.Settling.{Trip, trip_settled, gained}
+use Rattle.hg_session.proofs.Settling.{trip_settled, gained}
 use Rattle.hg_session.proofs.Storing.{trip_refused, trip_stored, refused_told}
 use Rattle.hg_session.proofs.session.Session.write_row.Goals as goal
 
