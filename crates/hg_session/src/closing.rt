@@ -145,6 +145,7 @@ impl Session {
         requires opened { IsSome (open_of self.old) }
         ensures answers { IfOk result (λ ended. Answers (engine_sizes engine.now) (view_of self.old) say.Commit (inside (commit_answer (number_in ended.receipt))) (view_of self.new)) }
         ensures refused { OnErr result (view_of self.new ≡ view_of self.old) }
+        ensures over { OnOk result (open_of self.new ≡ None) }
         ensures left { left_of self.new ≡ left_of self.old }
         ensures own { IsOf engine.now self.new }
     {
@@ -162,6 +163,7 @@ impl Session {
         requires own { IsOf engine.now self.old }
         requires opened { IsSome (open_of self.old) }
         ensures answers { Answers (engine_sizes engine.now) (view_of self.old) say.Rollback (inside Undone) (view_of self.new) }
+        ensures over { open_of self.new ≡ None }
         ensures left { left_of self.new ≡ left_of self.old }
         ensures own { IsOf engine.now self.new }
     {

@@ -115,6 +115,7 @@ impl Session {
         ensures reply { IfSome (get_reply (is_alone self.old) result) (λ reply. Answers (engine_sizes engine.now) (view_of self.old) (say.Get rid) reply (view_of self.new)) }
         ensures undeclared { IsRefusedIf (open_of self.old) rid.table result (refusal.Undeclared rid.table) }
         ensures refused { result ≡ Err refusal.NoMemory → Stays (view_of self.old) (view_of self.new) }
+        ensures open { open_of self.new ≡ open_of self.old }
         ensures left { left_of self.new + 1 ≡ left_of self.old }
         ensures own { IsOf engine.now self.new }
     {
@@ -138,6 +139,7 @@ impl Session {
         ensures reply { IfSome (get_reply false result) (λ reply. Answers (engine_sizes engine.now) (view_of self.old) (say.Get rid) reply (view_of self.new)) }
         ensures undeclared { IsRefusedIf (Some snapshot) rid.table result (refusal.Undeclared rid.table) }
         ensures refused { result ≡ Err refusal.NoMemory → Stays (view_of self.old) (view_of self.new) }
+        ensures open { opened_of self.new ≡ opened_of self.old }
         ensures left { left_of self.new ≡ left_of self.old }
         ensures own { IsOf engine.now self.new }
     {
@@ -158,6 +160,7 @@ impl Session {
         requires table { rid.table.0 < (engine_sizes engine.now).tables }
         ensures reply { IfOk result (λ read. Answers (engine_sizes engine.now) (view_of self.old) (say.Get rid) (reading true read.at (row_answer read.row)) (view_of self.new)) }
         ensures refused { OnErr result (Stays (view_of self.old) (view_of self.new)) }
+        ensures open { opened_of self.new ≡ None }
         ensures left { left_of self.new ≡ left_of self.old }
         ensures own { IsOf engine.now self.new }
     {

@@ -230,6 +230,7 @@ impl Session {
         ensures reply { IfSome (scan_reply (is_alone self.old) result) (λ reply. Answers (engine_sizes engine.now) (view_of self.old) (say.Scan table low high) reply (view_of self.new)) }
         ensures undeclared { IsRefusedIf (open_of self.old) table result (refusal.Undeclared table) }
         ensures refused { result ≡ Err refusal.NoMemory → Stays (view_of self.old) (view_of self.new) }
+        ensures open { open_of self.new ≡ open_of self.old }
         ensures left { left_of self.new + 1 ≡ left_of self.old }
         ensures own { IsOf engine.now self.new }
     {
@@ -255,6 +256,7 @@ impl Session {
         ensures reply { IfSome (scan_reply false result) (λ reply. Answers (engine_sizes engine.now) (view_of self.old) (say.Scan table low high) reply (view_of self.new)) }
         ensures undeclared { IsRefusedIf (Some snapshot) table result (refusal.Undeclared table) }
         ensures refused { result ≡ Err refusal.NoMemory → Stays (view_of self.old) (view_of self.new) }
+        ensures open { opened_of self.new ≡ opened_of self.old }
         ensures left { left_of self.new ≡ left_of self.old }
         ensures own { IsOf engine.now self.new }
     {
@@ -282,6 +284,7 @@ impl Session {
         requires table { table.0 < (engine_sizes engine.now).tables }
         ensures reply { IfOk result (λ scanned. Answers (engine_sizes engine.now) (view_of self.old) (say.Scan table low high) (reading true scanned.at (Rows scanned.rows)) (view_of self.new)) }
         ensures refused { OnErr result (Stays (view_of self.old) (view_of self.new)) }
+        ensures open { opened_of self.new ≡ None }
         ensures left { left_of self.new ≡ left_of self.old }
         ensures own { IsOf engine.now self.new }
     {

@@ -78,6 +78,7 @@ impl Session {
         requires left { 0 < left_of self.old }
         requires tables { IsBelow (engine_sizes engine.now).tables scope }
         ensures answers { Answers (engine_sizes engine.now) (view_of self.old) (say.Begin scope) (inside (Begun result)) (view_of self.new) }
+        ensures open { open_of self.new ≡ Some (record { at = result; scope = scope }) }
         ensures left { left_of self.new + 1 ≡ left_of self.old }
         ensures own { IsOf engine.now self.new }
     {

@@ -87,6 +87,7 @@ impl Session {
         requires table { IsTrue (has snapshot.scope rid.table) × (rid.table.0 < (engine_sizes engine.now).tables) }
         ensures stored { IfOk result (WritesAlone (view_of self.old) rid image snapshot.at (view_of self.new)) }
         ensures refused { IfErr result (IsRefusedAlone (engine_sizes engine.now) (view_of self.old) rid snapshot.at (view_of self.new)) }
+        ensures over { opened_of self.new ≡ None }
         ensures left { left_of self.new ≡ left_of self.old }
         ensures own { IsOf engine.now self.new }
     {
@@ -118,6 +119,7 @@ impl Session {
         ensures reply { IfSome (put_reply (is_alone self.old) result) (λ reply. Answers (engine_sizes engine.now) (view_of self.old) (say.Put rid row) reply (view_of self.new)) }
         ensures undeclared { IsRefusedIf (open_of self.old) rid.table result (refusal.Undeclared rid.table) }
         ensures refused { result ≡ Err refusal.NoMemory → Stays (view_of self.old) (view_of self.new) }
+        ensures open { open_of self.new ≡ open_of self.old }
         ensures left { left_of self.new + 1 ≡ left_of self.old }
         ensures own { IsOf engine.now self.new }
     {
@@ -142,6 +144,7 @@ impl Session {
         ensures reply { IfSome (put_reply false result) (λ reply. Answers (engine_sizes engine.now) (view_of self.old) (say.Put rid row) reply (view_of self.new)) }
         ensures undeclared { IsRefusedIf (Some snapshot) rid.table result (refusal.Undeclared rid.table) }
         ensures refused { result ≡ Err refusal.NoMemory → Stays (view_of self.old) (view_of self.new) }
+        ensures open { opened_of self.new ≡ opened_of self.old }
         ensures left { left_of self.new ≡ left_of self.old }
         ensures own { IsOf engine.now self.new }
     {
@@ -172,6 +175,7 @@ impl Session {
         ensures reply { IfSome (put_reply true result) (λ reply. Answers (engine_sizes engine.now) (view_of self.old) (say.Put rid row) reply (view_of self.new)) }
         ensures declared { (t : TableId) → result ≡ Err (refusal.Undeclared t) → ⊥ }
         ensures refused { result ≡ Err refusal.NoMemory → Stays (view_of self.old) (view_of self.new) }
+        ensures open { opened_of self.new ≡ None }
         ensures left { left_of self.new ≡ left_of self.old }
         ensures own { IsOf engine.now self.new }
     {
