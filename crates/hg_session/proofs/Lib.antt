@@ -22,3 +22,4 @@ pub mod ScanningOrder
 pub mod Quiet
 pub mod Cutting
 pub mod Leaving
+pub mod Rested

@@ -35,6 +35,8 @@ mod session;
 mod session_list;
 #[cfg(test)]
 mod tests;
+#[cfg(test)]
+mod threads_tests;
 mod totals;
 mod writing;
 
