@@ -1,0 +1,3 @@
+pub mod Heard
+pub mod Listed
+pub mod Asked

@@ -1,0 +1,26 @@
+-- The sessions of a replay in the order of their numbers: session j stands at j - 1.
+use Rattle.std.specs.Prelude.{◌≡◌, ℕ, zero, suc, ◌≤◌, ◌<◌, List, [], length, map, get_or}
+use Rattle.hg_core.specs.declared.log.LogEntry.{LogEntry}
+use Rattle.hg_session.specs.declared.engine.Engine.{Engine}
+use Rattle.hg_session.specs.declared.session.Session.{Session}
+use Rattle.hg_session.specs.Engines.{engine_sizes}
+use Rattle.hg_session.specs.Sessions.{view_of, number_of, log_of, left_of, IsOf}
+use Rattle.zz_drive.specs.Heard.{HasHeard}
+
+-- the log of each session; where there is none, it is empty
+abbrev pub logs_of : List Session → ℕ → List LogEntry
+logs_of list zero = []
+logs_of list (suc k) = get_or (map log_of list) k []
+
+-- one at place k
+pub record IsPlaced (e : Engine) (k : ℕ) (s : Session) : Type 0 where
+  pub own : IsOf e s
+  pub number_is : number_of s ≡ suc k
+
+-- All sessions of the engine, each in its place, which may run `left` statements more. The last one that ran has heard every log.
+pub record AreReady (e : Engine) (last : ℕ) (left : ℕ) (list : List Session) : Type 0 where
+  pub many : length list ≡ (engine_sizes e).sessions
+  pub within : last < length list
+  pub placed : (d : Session) (k : ℕ) → k < length list → IsPlaced e k (get_or list k d)
+  pub left_is : (d : Session) (k : ℕ) → k < length list → left ≤ left_of (get_or list k d)
+  pub heard : (d : Session) → HasHeard (logs_of list) (view_of (get_or list last d))
