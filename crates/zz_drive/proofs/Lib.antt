@@ -1,3 +1,4 @@
 pub mod Hearing
 pub mod Listing
 pub mod Freshly
+pub mod Turns

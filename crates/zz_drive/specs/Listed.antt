@@ -12,7 +12,7 @@ abbrev pub logs_of : List Session → ℕ → List LogEntry
 logs_of list zero = []
 logs_of list (suc k) = get_or (map log_of list) k []
 
--- one at place k
+-- one at place k, which has number k + 1
 pub record IsPlaced (e : Engine) (k : ℕ) (s : Session) : Type 0 where
   pub own : IsOf e s
   pub number_is : number_of s ≡ suc k

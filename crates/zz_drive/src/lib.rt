@@ -1,11 +1,8 @@
 //! The driver of a replay.
 #![tactic(auto)]
 
-ghost use Rattle.std.specs.Prelude.{◌≡◌};
+mod asking;
+mod playing;
+mod turning;
 
-/// Nothing is known of it.
-pub fn same(x: u64) -> u64
-    ensures { result ≡ x }
-{
-    x
-}
+pub use playing::play;
