@@ -2,6 +2,9 @@ pub mod Tying
 pub mod Trips
 pub mod Seeing
 pub mod Settling
+pub mod Meetings
+pub mod Seating
+pub mod Bringing
 pub mod Storing
 pub mod Ending
 pub mod Visiting

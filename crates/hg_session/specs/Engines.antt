@@ -4,6 +4,7 @@ use Rattle.hg_rule.specs.declared.board.Board.{Board}
 use Rattle.hg_rule.specs.declared.view.Sizes.{Sizes}
 use Rattle.hg_rule.specs.Seats.{TableId, table_of, sizes_of}
 use Rattle.hg_tracker.specs.Boards.{board_of}
+use Rattle.hg_group.specs.declared.group_list.GroupList.{GroupList}
 use Rattle.hg_store.specs.declared.store.Store.{Store}
 use Rattle.hg_session.specs.declared.engine.Engine.{Engine}
 
@@ -20,3 +21,7 @@ engine_sizes e = sizes_of (engine_board e)
 -- its buckets
 abbrev pub engine_store : Engine → Store
 engine_store e = e.store
+
+-- its list of groups
+abbrev pub engine_groups : Engine → GroupList
+engine_groups e = e.groups

@@ -2,10 +2,13 @@
 pub mod Engines
 pub mod Ties
 pub mod Sessions
+-- What a new engine's are.
+pub mod Opened
 -- What a call leaves of a session, and how it replies.
 pub mod Gains
 pub mod Replies
 -- What a pass knows once all others are joined to it.
 pub mod Ended
+pub mod Finished
 -- What it counts then.
 pub mod Visited

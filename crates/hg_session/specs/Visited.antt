@@ -1,9 +1,11 @@
 -- What counting the buckets makes of a pass's view.
 use Rattle.std.specs.Prelude.{◌≡◌, ℕ, List, [], ◌∷◌, ◌++◌, length, Some}
 use Rattle.hg_base.specs.declared.line.Totals.{Totals}
+use Rattle.hg_base.specs.History.{History}
 use Rattle.hg_core.specs.declared.visit.Visit.{Visit}
 use Rattle.hg_core.specs.Contents.{Content}
 use Rattle.hg_core.specs.Counters.{none_removed}
+use Rattle.hg_core.specs.Logs.{newest_of}
 use Rattle.hg_rule.specs.declared.view.Part.TheVariants.{OfPass}
 use Rattle.hg_rule.specs.declared.view.View.{View}
 use Rattle.hg_rule.specs.declared.view.Sizes.{Sizes}
@@ -13,7 +15,11 @@ use Rattle.hg_rule.specs.Views.{number, pass, others}
 use Rattle.hg_rule.specs.Holding.{bucket}
 use Rattle.hg_rule.specs.Places.{without_bucket}
 use Rattle.hg_store.specs.Kept.{AreCountsOf}
+use Rattle.hg_rule.specs.Reading.{passes_in}
 use Rattle.hg_store.specs.Stores.{Takes}
+use Rattle.hg_headline.specs.Logged.{Logged}
+use Rattle.hg_headline.specs.Totalled.{TotalsTell}
+use Rattle.hg_session.specs.Ended.{logs_in, visits_in}
 
 -- A pass took bucket b, read its counts and gave it back. While it had the bucket, a state that meets the rule backed what it
 -- knew.
@@ -41,3 +47,11 @@ pub record HasVisited (v : View) (n : ℕ) (w : View) : Type 0 where
   pub parts : w.parts ≡ OfPass (number v) (record (pass v) { visits = empty_visits (pass v).mark contents ++ (pass v).visits }) ∷ others v
   pub kept : StartsWith w.sights v.sights
   pub events : w.events ≡ v.events
+
+-- The counts of all buckets, once all sessions and passes are joined to the view: there is a history of which they tell, which
+-- the logs have, and whose last number is the greatest that was published.
+pub record AreTotals (z : Sizes) (v : View) (totals : Totals) : Type 0 where
+  pub history : History
+  pub tells : TotalsTell z.sessions z.buckets (passes_in v.parts) (logs_in v) (visits_in v) history totals
+  pub logged : Logged z.buckets history (logs_in v)
+  pub newest : length history ≡ newest_of z.sessions (logs_in v)

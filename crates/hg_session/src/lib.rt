@@ -20,9 +20,13 @@
 
 mod answers;
 mod engine;
+mod finishing;
+mod meeting;
+mod opening;
 mod parts;
 mod reading;
 mod session;
+mod session_list;
 #[cfg(test)]
 mod tests;
 mod totals;
@@ -30,4 +34,7 @@ mod writing;
 
 pub use answers::{Deleted, Ended, GetRefusal, PutRefusal, Read, Scanned, Written};
 pub use engine::Engine;
+pub use finishing::finish_all;
+pub use opening::{Passes, TableDecl};
 pub use session::Session;
+pub use session_list::SessionList;

@@ -2,9 +2,10 @@
 
 ghost use Rattle.std.specs.Prelude.{◌≡◌};
 ghost use Rattle.hg_tracker.specs.Boards.{board_of};
-ghost use Rattle.hg_session.specs.Engines.{engine_board, engine_store};
+ghost use Rattle.hg_session.specs.Engines.{engine_board, engine_store, engine_groups};
 
 use crate::engine::Engine;
+use hg_group::GroupList;
 use hg_rule::Board;
 use hg_store::Store;
 use hg_tracker::Trackers;
@@ -22,6 +23,13 @@ impl Engine {
         ensures { result.now ≡ engine_board self.now }
     {
         self.trackers.board()
+    }
+
+    /// The list of groups.
+    pub fn groups(&self) -> &GroupList
+        ensures { result.now ≡ engine_groups self.now }
+    {
+        &self.groups
     }
 
     /// The locked buckets.

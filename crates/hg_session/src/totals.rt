@@ -21,8 +21,10 @@ ghost use Rattle.hg_headline.specs.Counted.{removed_all};
 ghost use Rattle.hg_headline.specs.Logged.{Logged};
 ghost use Rattle.hg_headline.specs.Totalled.{TotalsTell, plus};
 ghost use Rattle.hg_session.specs.Ended.{logs_in, visits_in, committed, IsEnded};
-ghost use Rattle.hg_session.specs.Visited.{Counts, HasVisited};
+ghost use Rattle.hg_session.specs.Engines.{engine_table, engine_sizes};
+ghost use Rattle.hg_session.specs.Visited.{Counts, HasVisited, AreTotals};
 
+use crate::engine::Engine;
 use hg_base::Totals;
 use hg_rule::{Board, CollectorPass, CommitSeat};
 use hg_store::Store;
@@ -136,4 +138,24 @@ pub(crate) fn totals_with<R: Wait>(
     let totals = counted(rt, board, store, pass);
     let seat = board.split_commit(pass);
     (totals, seat)
+}
+
+impl Engine {
+    /// What all buckets counted, for some history that the logs have, each group once. All sessions and all other passes were
+    /// joined to the pass. It waits for the commit lock, and for each bucket's, and takes no memory.
+    pub fn totals<R: Wait>(&self, rt: &R, pass: &mut CollectorPass) -> Totals
+        requires own { IsPassOf (engine_table self.now) pass.old }
+        requires ended { IsEnded (engine_sizes self.now) (pass_view pass.old) }
+        ensures totals { AreTotals (engine_sizes self.now) (pass_view pass.old) result }
+        ensures logs { logs_in (pass_view pass.new) ≡ logs_in (pass_view pass.old) }
+        ensures passes { passes_in (pass_view pass.new).parts ≡ passes_in (pass_view pass.old).parts }
+        ensures removed { (kind : Kind) (p : ℕ) → removed_all kind (visits_in (pass_view pass.new) p) ≡ removed_all kind (visits_in (pass_view pass.old) p) }
+        ensures ended { IsEnded (engine_sizes self.now) (pass_view pass.new) }
+        ensures own { IsPassOf (engine_table self.now) pass.new }
+    {
+        let (held, seat) = self.groups.take(rt);
+        let (totals, seat) = totals_with(rt, self.board(), &self.store, seat, pass);
+        held.give(seat);
+        totals
+    }
 }

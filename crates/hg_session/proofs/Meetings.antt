@@ -1,0 +1,36 @@
+-- A session that met another, or a collector's pass: it keeps its part, and has seen more.
+use Rattle.std.proofs.Common.{◌≡◌, ℕ, ◌++◌, [], ◌∷◌, List, sym, subst, inl, inr}
+use Rattle.hg_core.specs.declared.log.LogEntry.{LogEntry}
+use Rattle.hg_rule.specs.declared.view.Sight.{Sight}
+use Rattle.hg_rule.specs.declared.view.View.{View}
+use Rattle.hg_rule.specs.Facts.{IsAmong}
+use Rattle.hg_rule.specs.Views.{number, session, HasOnlySession}
+use Rattle.hg_rule.specs.Moves.{meeting}
+use Rattle.hg_rule.specs.Seats.{IsSessionOf}
+use Rattle.hg_session.specs.declared.engine.Engine.{Engine}
+use Rattle.hg_session.specs.declared.session.Session.{Session}
+use Rattle.hg_session.specs.Engines.{engine_table, engine_sizes}
+use Rattle.hg_session.specs.Ties.{Ties, IsHeard}
+use Rattle.hg_session.specs.Sessions.{IsIn, pass_of, view_of, left_of, opened_of, written_of}
+
+pub among_first : {A : Type 0} (a : A) (xs more : List A) → IsAmong a xs → IsAmong a (xs ++ more)
+among_first a [] more h = absurd h
+among_first a (x ∷ xs) more (inl e) = inl e
+among_first a (x ∷ xs) more (inr h) = inr (among_first a xs more h)
+
+heard_still : (j : ℕ) (log : List LogEntry) (sights more : List Sight) → IsHeard j log sights → IsHeard j log (sights ++ more)
+heard_still j log sights more (inl e) = inl e
+heard_still j log sights more (inr h) = inr (among_first _ sights more h)
+
+-- it is as it was, but for what it has seen
+pub met : (e : Engine) (begins writes : ℕ) (s t : Session) (w : View) → IsIn e begins writes s → IsSessionOf (engine_table e) (engine_sizes e) (pass_of t) → view_of t ≡ meeting (view_of s) w
+    → opened_of t ≡ opened_of s → written_of t ≡ written_of s → left_of t ≡ left_of s → IsIn e begins writes t
+met e begins writes s t w is own view opened written left = record {
+  pass = own;
+  only = subst HasOnlySession (sym view) is.only;
+  ties = subst (λ v. Ties (engine_sizes e).each (opened_of t) (written_of t) (left_of t) begins writes (session v)) (sym view)
+      (subst (λ o. Ties (engine_sizes e).each o (written_of t) (left_of t) begins writes (session (view_of s))) (sym opened)
+      (subst (λ l. Ties (engine_sizes e).each (opened_of s) l (left_of t) begins writes (session (view_of s))) (sym written)
+      (subst (λ n. Ties (engine_sizes e).each (opened_of s) (written_of s) n begins writes (session (view_of s))) (sym left) is.ties)));
+  heard = subst (λ (v : View). IsHeard (number v) (session v).log v.sights) (sym view) (heard_still (number (view_of s)) (session (view_of s)).log (view_of s).sights w.sights is.heard);
+}

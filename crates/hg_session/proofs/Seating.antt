@@ -1,0 +1,57 @@
+-- The sessions of a new engine.
+use Rattle.std.proofs.Common.{◌≡◌, ℕ, suc, ◌+◌, ◌<◌, ◌≤◌, List, [], ◌∷◌, length, map, refl, sym, ap, ◌∙◌, subst, inl, arith}
+use Rattle.std.specs.declared.alloc.Global.{Global}
+use Rattle.std.specs.Prelude.{is_some}
+use Rattle.hg_core.specs.Logs.{current, begans, wrotes, is_plain, open_in}
+use Rattle.hg_core.specs.Phases.{IsSession}
+use Rattle.hg_rule.specs.declared.passes.SessionPass.{SessionPass}
+use Rattle.hg_rule.specs.declared.view.View.{View}
+use Rattle.hg_rule.specs.Views.{seeing, number, session, HasSession, HasOnlySession}
+use Rattle.hg_rule.specs.Moves.{session_part}
+use Rattle.hg_rule.specs.New.{Row, IsNewSession}
+use Rattle.hg_rule.specs.Seats.{session_view}
+use Rattle.hg_session.specs.declared.engine.Engine.{Engine}
+use Rattle.hg_session.specs.declared.session.Session.{Session}
+use Rattle.hg_session.specs.Engines.{engine_table, engine_sizes}
+use Rattle.hg_session.specs.Opened.{seated, IsNewOf}
+
+pub seated_is : (e : Engine) (alloc : Global) (each j : ℕ) (p : SessionPass) → each ≤ (engine_sizes e).each → IsSession (engine_sizes e).sessions j → IsNewSession (engine_table e) j p → IsNewOf e each j (seated alloc each p)
+seated_is e alloc each j p most inside new =
+    let is : session_view p ≡ seeing (session_part j ∷ []) [] [] = ap (λ m. m.0) new.2.1 in
+    let at : number (session_view p) ≡ j = ap number is in record {
+      own = record {
+        pass = (
+          (new.2.0, ap (λ m. m.1) new.2.1),
+          (at ∙ sym new.0, new.1 ∙ sym (ap (λ v. begans (session v).log) is)),
+          subst (IsSession (engine_sizes e).sessions) (sym at) inside,
+          subst HasSession (sym is) refl,
+        );
+        only = subst HasOnlySession (sym is) refl;
+        ties = record {
+          phase = ap (λ v. (session v).phase) is;
+          unstamped = ap (λ v. (session v).stamped) is;
+          opens = ap (λ v. current (session v).log) is;
+          plain = ap (λ v. is_plain (session v).log) is;
+          written_is = record { once = tt; each = λ r. ap (λ v. is_some (open_in r (session v).log)) (sym is) };
+          rests = λ e. refl;
+          begun = let b : ℕ = begans (session (session_view p)).log in let z : b ≡ 0 = ap (λ v. begans (session v).log) is in omega (arith, z, most);
+          wrote = let b : ℕ = wrotes (session (session_view p)).log in let z : b ≡ 0 = ap (λ v. wrotes (session v).log) is in omega (arith, z, most);
+        };
+        heard = inl (ap (λ v. (session v).log) is);
+      };
+      number_is = at;
+      log = ap (λ v. (session v).log) is;
+      seen = ap (λ (v : View). v.sights) is;
+      left = refl;
+    }
+
+pub seated_row : (e : Engine) (alloc : Global) (each i : ℕ) (ps : List SessionPass) → each ≤ (engine_sizes e).each → 0 < i → i + length ps ≤ suc (engine_sizes e).sessions → Row (IsNewSession (engine_table e)) i ps → Row (IsNewOf e each) i (map (seated alloc each) ps)
+seated_row e alloc each i [] most first last row = tt
+seated_row e alloc each i (p ∷ ps) most first last row = (
+  seated_is e alloc each i p most (record { first = first; last = omega (arith, last) }) row.0,
+  seated_row e alloc each (suc i) ps most (omega (arith, first)) (omega (arith, last)) row.1,
+)
+
+-- all sessions of an engine on a board
+pub opened_row : (e : Engine) (alloc : Global) (each : ℕ) (ps : List SessionPass) (sessions : List Session) → sessions ≡ map (seated alloc each) ps → each ≤ (engine_sizes e).each → length ps ≤ (engine_sizes e).sessions → Row (IsNewSession (engine_table e)) 1 ps → Row (IsNewOf e each) 1 sessions
+opened_row e alloc each ps sessions are most all row = subst (Row (IsNewOf e each) 1) (sym are) (seated_row e alloc each 1 ps most (omega arith) (omega (arith, all)) row)

@@ -1,0 +1,29 @@
+-- What a pass knows that all sessions went to.
+use Rattle.std.specs.Prelude.{◌≡◌, ℕ, zero, suc, List, [], map, get_or, None}
+use Rattle.hg_core.specs.declared.log.LogEntry.{LogEntry}
+use Rattle.hg_rule.specs.declared.view.Sight.{Sight}
+use Rattle.hg_rule.specs.declared.view.View.{View}
+use Rattle.hg_rule.specs.Keys.{session_key, count}
+use Rattle.hg_rule.specs.Facts.{IsAmong}
+use Rattle.hg_session.specs.declared.engine.Engine.{Engine}
+use Rattle.hg_session.specs.declared.session.Session.{Session}
+use Rattle.hg_session.specs.Sessions.{IsOf, number_of, log_of, open_of}
+
+-- the log of session j, which stands at j - 1
+abbrev pub logs_of : List Session → ℕ → List LogEntry
+logs_of sessions zero = []
+logs_of sessions (suc k) = get_or (map log_of sessions) k []
+
+-- session j of the engine, of whose transactions none is open
+pub record IsClosed (e : Engine) (j : ℕ) (s : Session) : Type 0 where
+  pub own : IsOf e s
+  pub number_is : number_of s ≡ j
+  pub closed : open_of s ≡ None
+
+-- a view without sessions
+abbrev pub HasNoSession : View → Type 0
+HasNoSession v = (j : ℕ) → count (session_key j) v.parts ≡ 0
+
+-- all of the first sights are among the others
+abbrev pub AreAmong : List Sight → List Sight → Type 0
+AreAmong some all = (x : Sight) → IsAmong x some → IsAmong x all

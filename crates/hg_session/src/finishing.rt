@@ -1,0 +1,38 @@
+//! How all sessions go to one pass.
+
+ghost use Rattle.std.specs.Prelude.{◌≡◌, ℕ, length};
+ghost use Rattle.hg_base.specs.Lists.{Each};
+ghost use Rattle.hg_rule.specs.Facts.{StartsWith};
+ghost use Rattle.hg_rule.specs.New.{Row};
+ghost use Rattle.hg_rule.specs.Reading.{passes_in};
+ghost use Rattle.hg_rule.specs.Seats.{pass_view, IsPassOf};
+ghost use Rattle.hg_session.specs.Engines.{engine_table, engine_sizes};
+ghost use Rattle.hg_session.specs.Ties.{IsHeard};
+ghost use Rattle.hg_session.specs.Sessions.{seen_by};
+ghost use Rattle.hg_session.specs.Ended.{logs_in, visits_in, HasAllPasses, IsEnded};
+ghost use Rattle.hg_session.specs.Finished.{logs_of, IsClosed, HasNoSession, AreAmong};
+
+use crate::engine::Engine;
+use crate::session::Session;
+use hg_rule::CollectorPass;
+
+/// All sessions of an engine go to a pass that all other passes were joined to, which then knows what they had seen and done.
+pub fn finish_all(engine: &Engine, sessions: Vec<Session>, pass: &mut CollectorPass)
+    requires sessions { Row (IsClosed engine.now) 1 sessions.items }
+    requires all { length sessions.items ≡ (engine_sizes engine.now).sessions }
+    requires own { IsPassOf (engine_table engine.now) pass.old }
+    requires passes { HasAllPasses (pass_view pass.old) }
+    requires none { HasNoSession (pass_view pass.old) }
+    ensures ended { IsEnded (engine_sizes engine.now) (pass_view pass.new) }
+    ensures logs { logs_in (pass_view pass.new) ≡ logs_of sessions.items }
+    ensures heard { (j : ℕ) → IsHeard j (logs_of sessions.items j) (pass_view pass.new).sights }
+    ensures seen { Each (λ s. AreAmong (seen_by s) (pass_view pass.new).sights) sessions.items }
+    ensures kept { StartsWith (pass_view pass.new).sights (pass_view pass.old).sights }
+    ensures visits { visits_in (pass_view pass.new) ≡ visits_in (pass_view pass.old) }
+    ensures passes { passes_in (pass_view pass.new).parts ≡ passes_in (pass_view pass.old).parts }
+    ensures own { IsPassOf (engine_table engine.now) pass.new }
+{
+    for session in sessions {
+        session.finish(engine, pass);
+    }
+}
