@@ -6,6 +6,8 @@ pub mod Meetings
 pub mod Seating
 pub mod Bringing
 pub mod Storing
+pub mod Done
+pub mod Undoing
 pub mod Ending
 pub mod Visiting
 pub mod Committing

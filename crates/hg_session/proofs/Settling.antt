@@ -18,9 +18,9 @@ use Rattle.hg_session.specs.declared.session.Session.{Session}
 use Rattle.hg_session.specs.Engines.{engine_table, engine_sizes}
 use Rattle.hg_session.specs.Ties.{Ties, IsHeard}
 use Rattle.hg_session.specs.Sessions.{IsIn, pass_of, view_of, number_of, log_of, seen_by, left_of, opened_of, written_of}
-use Rattle.hg_session.specs.Gains.{Gains}
+use Rattle.hg_session.specs.Gains.{Alone, Gains}
 use Rattle.hg_rule.specs.Places.{without_bucket}
-use Rattle.hg_session.proofs.Trips.{Beside, Alone, first_number, first_session, alone_only, departed}
+use Rattle.hg_session.proofs.Trips.{Beside, first_number, first_session, alone_only, departed}
 
 -- a pass that gave the bucket back is one of the board still
 pub left_pass : (t : TableId) (z : Sizes) (p q : SessionPass) (j b : ℕ) (part : SessionPart) (old : List Sight) → IsSessionOf t z p → Beside j part b old (session_view p) → IsSeatOf t q.seat → session_rest q ≡ session_rest p → Alone j part old (session_view q) → IsSessionOf t z q

@@ -25,16 +25,12 @@ use Rattle.hg_rule.specs.Seats.{TableId, session_view, session_rest, IsSeatOf, I
 use Rattle.hg_rule.proofs.Growing.{among_later}
 use Rattle.hg_rule.proofs.Holders.{still_session, session_arrives, session_departs}
 use Rattle.hg_store.specs.Stores.{Takes}
+use Rattle.hg_session.specs.Gains.{Alone}
 
 -- a view that has a session's part and a bucket's, and has seen what was seen before
 pub record Beside (j : ℕ) (part : SessionPart) (b : ℕ) (old : List Sight) (v : View) : Type 0 where
   pub holds : BucketPart
   pub parts : v.parts ≡ OfSession j part ∷ OfBucket b holds ∷ []
-  pub kept : StartsWith v.sights old
-
--- one that has a session's part alone
-pub record Alone (j : ℕ) (part : SessionPart) (old : List Sight) (v : View) : Type 0 where
-  pub parts : v.parts ≡ OfSession j part ∷ []
   pub kept : StartsWith v.sights old
 
 only_others : (v : View) → HasOnlySession v → others v ≡ []

@@ -19,7 +19,7 @@ use Rattle.hg_bucket.specs.declared.refusal.WriteRefusal.TheVariants.{Open, Newe
 use Rattle.hg_session.specs.Gains.{entries_of}
 use Rattle.hg_rule.specs.declared.view.SessionPart.{SessionPart}
 use Rattle.hg_rule.specs.Steps.{logging}
-use Rattle.hg_rule.specs.Writes.{with_log, with_entry}
+use Rattle.hg_rule.specs.Writes.{with_log, with_entry, with_published}
 use Rattle.hg_session.specs.Ties.{AreWritten, Ties, phase_at}
 
 module _ (each : ℕ) (opened : Option Snapshot) (written : List Rid) (part : SessionPart) where
@@ -159,3 +159,31 @@ pub ties_refused : (each left begins writes : ℕ) (opened : Option Snapshot) (w
 ties_refused each left begins writes opened written part r image (Open w) t = ties_quiet each left begins writes opened written part (Refused r (answers.OpenBy w)) tt t
 ties_refused each left begins writes opened written part r image (Newer n) t = ties_quiet each left begins writes opened written part (Refused r (answers.Newer n)) tt t
 ties_refused each left begins writes opened written part r image NoMemory t = t
+
+-- ---- the end of a transaction
+
+-- one that has no open write is over
+pub ties_over : (each left begins writes : ℕ) (opened : Option Snapshot) (written : List Rid) (part : SessionPart) → written ≡ [] → Ties each opened written left begins writes part → Ties each None written left begins writes (logging Over Idle part)
+ties_over each left begins writes opened written part none t = record {
+  phase = refl;
+  unstamped = t.unstamped;
+  opens = refl;
+  plain = refl;
+  written_is = subst (λ rids. AreWritten rids (Over ∷ part.log)) (sym none) (record { once = tt; each = λ r. refl });
+  rests = λ e. none;
+  begun = t.begun;
+  wrote = t.wrote;
+}
+
+-- one that was published is over
+pub ties_committed : (each left begins writes n : ℕ) (opened : Option Snapshot) (written : List Rid) (part : SessionPart) → Ties each opened written left begins writes part → Ties each None [] left begins writes (logging Over Idle (with_published n part))
+ties_committed each left begins writes n opened written part t = record {
+  phase = refl;
+  unstamped = refl;
+  opens = refl;
+  plain = refl;
+  written_is = record { once = tt; each = λ r. refl };
+  rests = λ e. refl;
+  begun = t.begun;
+  wrote = t.wrote;
+}

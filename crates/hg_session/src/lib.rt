@@ -19,6 +19,7 @@
 #![tactic(auto)]
 
 mod answers;
+mod closing;
 mod engine;
 mod finishing;
 mod meeting;

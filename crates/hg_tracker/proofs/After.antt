@@ -28,7 +28,7 @@ use Rattle.hg_tracker.specs.Entries.{down_from, live_entry, entries_of}
 use Rattle.hg_tracker.specs.Gathers.{IsNotedOf}
 use Rattle.hg_tracker.specs.Begun.{AtMost, HasBegun, samples_of, HasLoaded, HasGathered}
 
-within_most : (h : History) (n : ℕ) → length h ≡ n → (x : Sight) → Within h x → AtMost n x
+pub within_most : (h : History) (n : ℕ) → length h ≡ n → (x : Sight) → Within h x → AtMost n x
 within_most h n l (Saw g) b = omega (arith, ap length b.1, length-append g.list b.0)
 within_most h n l (Heard j log) b = subst (λ m. UpTo m log) l b
 within_most h n l (Took m) b = omega (arith, b)
