@@ -2,3 +2,5 @@ pub mod Hearing
 pub mod Listing
 pub mod Freshly
 pub mod Turns
+pub mod OpenAfter
+pub mod Going

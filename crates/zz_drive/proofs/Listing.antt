@@ -7,7 +7,7 @@ use Rattle.hg_core.specs.Events.{put}
 use Rattle.hg_core.proofs.Indices.{by_number}
 use Rattle.hg_session.specs.declared.session.Session.{Session}
 use Rattle.hg_session.specs.Sessions.{log_of}
-use Rattle.zz_drive.specs.Listed.{logs_of}
+use Rattle.hg_session.specs.Finished.{logs_of}
 
 pub map_get : {X : Type 0} (f : X → List LogEntry) (d : X) (xs : List X) (k : ℕ) → k < length xs → get_or (map f xs) k [] ≡ f (get_or xs k d)
 map_get f d [] k h = absurd (omega (arith, h))

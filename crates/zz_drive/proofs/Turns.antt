@@ -28,7 +28,8 @@ use Rattle.hg_session.specs.Sessions.{IsOf, view_of, number_of, log_of, left_of}
 use Rattle.hg_session.specs.Ties.{IsHeard}
 use Rattle.hg_session.specs.Replies.{Answers, GoesOn}
 use Rattle.zz_drive.specs.Heard.{HasHeard, HasLog}
-use Rattle.zz_drive.specs.Listed.{IsPlaced, AreReady, logs_of}
+use Rattle.hg_session.specs.Finished.{logs_of}
+use Rattle.zz_drive.specs.Listed.{IsPlaced, AreReady}
 use Rattle.zz_drive.specs.Asked.{IsReplied}
 use Rattle.zz_drive.proofs.Hearing.{heard_met, heard_kept, heard_more, heard_goes, met_open}
 use Rattle.zz_drive.proofs.Listing.{by_two, log_at, logs_same, logs_put}
@@ -130,7 +131,7 @@ other_asked e i s reply old new left h r w is =
     (on.0, λ same. differs w.session (number_of (get_or old i d)) on.1.0 (same ∙ sym (r.placed d i r.within).number_is))
   where
     differs : (a b : ℕ) → IsFalse (a == b) → a ≡ b → ⊥
-    differs a b no same = let yes = (Decides-eqb a b).1 same in let z : true ≡ false = sym yes ∙ no in cc
+    differs a b apart same = let yes = (Decides-eqb a b).1 same in let z : true ≡ false = sym yes ∙ apart in cc
 
 -- ---- what is shown
 

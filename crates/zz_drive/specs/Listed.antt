@@ -1,16 +1,11 @@
 -- The sessions of a replay in the order of their numbers: session j stands at j - 1.
-use Rattle.std.specs.Prelude.{◌≡◌, ℕ, zero, suc, ◌≤◌, ◌<◌, List, [], length, map, get_or}
-use Rattle.hg_core.specs.declared.log.LogEntry.{LogEntry}
+use Rattle.std.specs.Prelude.{◌≡◌, ℕ, suc, ◌≤◌, ◌<◌, List, length, get_or}
 use Rattle.hg_session.specs.declared.engine.Engine.{Engine}
 use Rattle.hg_session.specs.declared.session.Session.{Session}
 use Rattle.hg_session.specs.Engines.{engine_sizes}
-use Rattle.hg_session.specs.Sessions.{view_of, number_of, log_of, left_of, IsOf}
+use Rattle.hg_session.specs.Sessions.{view_of, number_of, left_of, IsOf}
+use Rattle.hg_session.specs.Finished.{logs_of}
 use Rattle.zz_drive.specs.Heard.{HasHeard}
-
--- the log of each session; where there is none, it is empty
-abbrev pub logs_of : List Session → ℕ → List LogEntry
-logs_of list zero = []
-logs_of list (suc k) = get_or (map log_of list) k []
 
 -- one at place k, which has number k + 1
 pub record IsPlaced (e : Engine) (k : ℕ) (s : Session) : Type 0 where

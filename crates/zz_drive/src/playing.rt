@@ -5,7 +5,8 @@ ghost use Rattle.hg_base.specs.Lists.{greatest};
 ghost use Rattle.hg_script.specs.Lawful.{IsLawful};
 ghost use Rattle.hg_headline.specs.Following.{IsFollowing};
 ghost use Rattle.hg_session.specs.Engines.{engine_sizes};
-ghost use Rattle.zz_drive.specs.Listed.{AreReady, logs_of};
+ghost use Rattle.hg_session.specs.Finished.{logs_of};
+ghost use Rattle.zz_drive.specs.Listed.{AreReady};
 
 use crate::turning::answer;
 use hg_base::{Line, LineList, NoMemory};

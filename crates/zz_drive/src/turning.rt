@@ -15,7 +15,8 @@ ghost use Rattle.hg_session.specs.declared.session.Session.{Session};
 ghost use Rattle.hg_session.specs.Engines.{engine_sizes};
 ghost use Rattle.hg_session.specs.Sessions.{IsOf, view_of, open_of, left_of};
 ghost use Rattle.hg_session.specs.Replies.{Answers};
-ghost use Rattle.zz_drive.specs.Listed.{AreReady, logs_of};
+ghost use Rattle.hg_session.specs.Finished.{logs_of};
+ghost use Rattle.zz_drive.specs.Listed.{AreReady};
 ghost use Rattle.zz_drive.specs.Asked.{IsOnTables, IsReplied};
 
 use crate::asking::ask;
