@@ -11,7 +11,6 @@ use Rattle.hg_session.specs.Engines.{engine_sizes}
 use Rattle.zz_drive.specs.Asked.{IsOnTables, IsReplied}
 use Rattle.zz_drive.proofs.Going.{Going, going_first, going_on, going_last, ready_less, may_stand, on_tables}
 use Rattle.zz_drive.proofs.playing.play.Goals as goal
-use Rattle.zz_drive.proofs.playing.play.Goals.{After-record-item}
 
 -- the next record, and those behind it
 next : (xs : List Record) (i : ℕ) (x : Record) → i < length xs → x ≡ get_or xs i x → drop i xs ≡ x ∷ drop (i + 1) xs
@@ -20,7 +19,7 @@ next xs i x less e =
     let plus : suc i ≡ i + 1 = omega arith in
     step ∙ (λ j. sym e j ∷ drop (plus j) xs)
 
-here : (g : _) (c : After-record-item g) → Going c.args.engine.now c.loop-record.list.items c.loop-record.last c.loop-record.lines (c.record-item.result ∷ drop (c.loop-record.record-index + 1) c.records-record-items.result.now) c.args.script.now
+here : (g : _) (c : goal.After-answer-arg-1 g) → Going c.args.engine.now c.loop-record.list.items c.loop-record.last c.loop-record.lines (c.record-item.result ∷ drop (c.loop-record.record-index + 1) c.records-record-items.result.now) c.args.script.now
 here g c =
     let items = c.records-record-items.result.now in
     let less : c.loop-record.record-index < length items = omega arith in
@@ -32,7 +31,7 @@ loop-record-init g c = record {
 }
 
 -- the place of its session
-placed : (g : _) (c : After-record-item g) → suc (c.record-item.result.session - 1) ≡ c.record-item.result.session
+placed : (g : _) (c : goal.After-answer-arg-1 g) → suc (c.record-item.result.session - 1) ≡ c.record-item.result.session
 placed g c = let some = (here g c).coming.0.stands.some in omega (arith, some)
 
 pub answer-requires-clause-ready : goal.answer-requires-clause-ready

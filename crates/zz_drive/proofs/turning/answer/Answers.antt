@@ -9,15 +9,14 @@ use Rattle.zz_drive.specs.Asked.{IsReplied}
 use Rattle.zz_drive.proofs.Listing.{log_at}
 use Rattle.zz_drive.proofs.Turns.{HasAsked, some_of, ready_asked, other_asked, replied}
 use Rattle.zz_drive.proofs.turning.answer.Goals as goal
-use Rattle.zz_drive.proofs.turning.answer.Goals.{After-turn, In_ok-reply}
 
-ready : (g : _) (c : After-turn g) → AreReady c.args.engine.now c.args.i 1 c.turn.new.list.items
+ready : (g : _) (c : goal.After-ask_at-arg-1 g) → AreReady c.args.engine.now c.args.i 1 c.turn.new.list.items
 ready g c = c.turn.ensures.ready 1 c.requires.ready
 
-may : (g : _) (c : After-turn g) → MayStand (is_some (current (logs_of c.turn.new.list.items (suc c.args.i)))) c.args.statement.now
+may : (g : _) (c : goal.After-ask_at-arg-1 g) → MayStand (is_some (current (logs_of c.turn.new.list.items (suc c.args.i)))) c.args.statement.now
 may g c = subst (λ logs. MayStand (is_some (current (logs (suc c.args.i)))) c.args.statement.now) (sym c.turn.ensures.logs) c.requires.may
 
-asked : (g : _) (c : In_ok-reply g) → HasAsked c.args.engine.now c.args.i c.args.statement.now c.in_ok-reply.reply c.turn.new.list.items c.ask_at.new.list.items
+asked : (g : _) (c : goal.After-show-arg-2-1 g) → HasAsked c.args.engine.now c.args.i c.args.statement.now c.in_ok-reply.reply c.turn.new.list.items c.ask_at.new.list.items
 asked g c = let m = c.in_ok-reply.ensures in record { many = m.many; answers = m.answers; left = m.left; rest = m.rest; own = m.own }
 
 pub ask_at-requires-clause-within : goal.ask_at-requires-clause-within
