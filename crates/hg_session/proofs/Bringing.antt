@@ -3,14 +3,13 @@ use Rattle.std.proofs.Common.{◌≡◌, ℕ, zero, suc, ◌+◌, ◌<◌, Bool,
 use Rattle.std.specs.Prelude.{get_or, max}
 use Rattle.hg_base.specs.Lists.{Each}
 use Rattle.hg_core.specs.declared.phase.Phase.TheVariants as phases
-use Rattle.hg_core.specs.declared.log.LogEntry.{LogEntry}
 use Rattle.hg_core.specs.Phases.{IsSession}
 use Rattle.hg_rule.specs.declared.view.SessionPart.{SessionPart}
 use Rattle.hg_rule.specs.declared.view.Part.{Part}
 use Rattle.hg_rule.specs.declared.view.Part.TheVariants.{OfSession, OfPass}
 use Rattle.hg_rule.specs.declared.view.Sight.{Sight}
 use Rattle.hg_rule.specs.declared.view.View.{View}
-use Rattle.hg_rule.specs.Keys.{Key, session_key, pass_key, has, one, count, shares, whole_share}
+use Rattle.hg_rule.specs.Keys.{session_key, pass_key, has, one, count, shares}
 use Rattle.hg_rule.specs.Facts.{StartsWith, IsAmong, new_part}
 use Rattle.hg_rule.specs.New.{Row}
 use Rattle.hg_rule.specs.Views.{number, session, pass, others, session_there, pass_there, HasPass}

@@ -5,6 +5,7 @@ pub mod Settling
 pub mod Meetings
 pub mod Seating
 pub mod Bringing
+pub mod Passing
 pub mod Storing
 pub mod Done
 pub mod Undoing

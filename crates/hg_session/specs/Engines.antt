@@ -1,5 +1,4 @@
 -- What a clause says of an engine.
-use Rattle.std.specs.Prelude.{ℕ}
 use Rattle.hg_rule.specs.declared.board.Board.{Board}
 use Rattle.hg_rule.specs.declared.view.Sizes.{Sizes}
 use Rattle.hg_rule.specs.Seats.{TableId, table_of, sizes_of}

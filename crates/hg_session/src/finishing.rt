@@ -1,9 +1,9 @@
-//! How all sessions go to one pass.
+//! How all passes and all sessions of an engine go to one pass.
 
-ghost use Rattle.std.specs.Prelude.{◌≡◌, ℕ, length};
+ghost use Rattle.std.specs.Prelude.{◌≡◌, ℕ, [], length};
 ghost use Rattle.hg_base.specs.Lists.{Each};
 ghost use Rattle.hg_rule.specs.Facts.{StartsWith};
-ghost use Rattle.hg_rule.specs.New.{Row};
+ghost use Rattle.hg_rule.specs.New.{Row, IsNewPass};
 ghost use Rattle.hg_rule.specs.Reading.{passes_in};
 ghost use Rattle.hg_rule.specs.Seats.{pass_view, IsPassOf};
 ghost use Rattle.hg_session.specs.Engines.{engine_table, engine_sizes};
@@ -13,8 +13,31 @@ ghost use Rattle.hg_session.specs.Ended.{logs_in, visits_in, HasAllPasses, IsEnd
 ghost use Rattle.hg_session.specs.Finished.{logs_of, IsClosed, HasNoSession, AreAmong};
 
 use crate::engine::Engine;
+use crate::opening::Passes;
 use crate::session::Session;
 use hg_rule::CollectorPass;
+
+impl Passes {
+    /// The passes of a new engine in one, whose own is the table collector's.
+    pub fn join(self, engine: &Engine) -> CollectorPass
+        requires new { IsNewPass (engine_table engine.now) 0 self.group × IsNewPass (engine_table engine.now) 1 self.table × IsNewPass (engine_table engine.now) 2 self.interval }
+        ensures passes { HasAllPasses (pass_view result) }
+        ensures none { HasNoSession (pass_view result) }
+        ensures visits { visits_in (pass_view result) ≡ (λ p. []) }
+        ensures seen { (pass_view result).sights ≡ [] }
+        ensures own { IsPassOf (engine_table engine.now) result }
+    {
+        let Passes {
+            group,
+            table,
+            interval,
+        } = self;
+        let mut pass = table;
+        pass.join(engine.board(), group);
+        pass.join(engine.board(), interval);
+        pass
+    }
+}
 
 /// All sessions of an engine go to a pass that all other passes were joined to, which then knows what they had seen and done.
 pub fn finish_all(engine: &Engine, sessions: Vec<Session>, pass: &mut CollectorPass)

@@ -1,45 +1,42 @@
-//! A board on which nobody did anything, counted twice.
+//! An engine on which nobody did anything: its sessions meet, all goes to one pass, and that counts.
 
-ghost use Rattle.std.specs.Prelude.{◌≡◌};
-ghost use Rattle.hg_rule.specs.New.{IsNewSession, IsNewPass};
-ghost use Rattle.hg_rule.specs.Seats.{table_of, sizes_of, pass_view, IsPassOf};
-ghost use Rattle.hg_session.specs.Ended.{IsEnded};
+ghost use Rattle.hg_rule.specs.Seats.{pass_view, IsPassOf};
+ghost use Rattle.hg_session.specs.Engines.{engine_table};
+ghost use Rattle.hg_session.specs.Opened.{IsNewOf};
+ghost use Rattle.hg_session.specs.Ended.{HasAllPasses};
+ghost use Rattle.hg_session.specs.Finished.{IsClosed, HasNoSession};
 
-use crate::totals::totals_with;
-use hg_rule::{Board, CollectorPass, SessionPass};
-use hg_store::Store;
+use super::*;
+use hg_rule::CollectorPass;
 use std::test::Fail;
 
-fn bring_all(
-    board: &Board,
-    session: SessionPass,
-    pass: &mut CollectorPass,
-    group: CollectorPass,
-    interval: CollectorPass,
-)
-    requires one { (sizes_of board.now).sessions ≡ 1 }
-    requires session { IsNewSession (table_of board.now) 1 session }
-    requires passes { IsNewPass (table_of board.now) 0 group × IsNewPass (table_of board.now) 1 pass.old × IsNewPass (table_of board.now) 2 interval }
-    ensures own { IsPassOf (table_of board.now) pass.new }
-    ensures ended { IsEnded (sizes_of board.now) (pass_view pass.new) }
+fn meet_both(engine: &Engine, first: &mut Session, second: &mut Session, pass: &mut CollectorPass)
+    requires sessions { IsNewOf engine.now 10 1 first.old × IsNewOf engine.now 10 2 second.old }
+    requires pass { IsPassOf (engine_table engine.now) pass.old × HasAllPasses (pass_view pass.old) × HasNoSession (pass_view pass.old) }
+    ensures closed { IsClosed engine.now 1 first.new × IsClosed engine.now 2 second.new }
+    ensures pass { IsPassOf (engine_table engine.now) pass.new × HasAllPasses (pass_view pass.new) × HasNoSession (pass_view pass.new) }
 {
-    pass.join(board, group);
-    pass.join(board, interval);
-    session.finish(board, pass);
+    first.meet(engine, second);
+    first.meet_pass(engine, pass);
 }
 
 #[test]
-fn a_new_board_has_made_nothing(rt: HostRuntime) -> Result<(), Fail> {
-    let (board, seats) = Board::new(rt.alloc(), 1, 1, 2, 1)?;
-    let store = Store::new(rt.alloc(), seats.buckets)?;
-    let mut pass = seats.table;
-    let mut sessions = seats.sessions.into_vec();
-    let Some(session) = sessions.pop() else {
+fn a_new_engine_has_made_nothing(rt: HostRuntime) -> Result<(), Fail> {
+    let tables = [TableDecl { columns: 2 }];
+    let (engine, sessions, passes) = Engine::open(rt.alloc(), 2, &tables[..], 4, 10)?;
+    assert_eq!(rt; engine.store().buckets(), 4);
+    let mut pass = passes.join(&engine);
+    let mut sessions = sessions.into_vec();
+    assert_eq!(rt; sessions.len(), 2);
+    let (Some(mut second), Some(mut first)) = (sessions.pop(), sessions.pop()) else {
         unreachable!();
     };
-    bring_all(&board, session, &mut pass, seats.group, seats.interval);
-    let (_, seat) = totals_with(&rt, &board, &store, seats.commit, &mut pass);
-    let (totals, _seat) = totals_with(&rt, &board, &store, seat, &mut pass);
+    meet_both(&engine, &mut first, &mut second, &mut pass);
+    sessions.push(first)?;
+    sessions.push(second)?;
+    finish_all(&engine, sessions, &mut pass);
+    engine.totals(&rt, &mut pass);
+    let totals = engine.totals(&rt, &mut pass);
     assert_eq!(rt; totals.made, 0);
     assert_eq!(rt; totals.undone, 0);
     assert_eq!(rt; totals.group, 0);

@@ -1,4 +1,4 @@
-use Rattle.std.proofs.Common.{◌≡◌, ℕ, ◌∷◌, length, rules}
+use Rattle.std.proofs.Common.{◌≡◌, ◌∷◌, length, rules}
 use Rattle.hg_rule.specs.Seats.{pass_view}
 use Rattle.hg_session.proofs.Bringing.{one_finishes, closed_here, one_less, none_left, all_finish, logs_finished, ended_finished, visits_finished, passes_finished, heard_finished}
 use Rattle.hg_session.proofs.finishing.finish_all.Goals as goal

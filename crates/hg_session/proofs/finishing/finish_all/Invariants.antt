@@ -8,5 +8,5 @@ abbrev pub invariant-loop-session : goal.invariant-loop-session
 invariant-loop-session l = record {
   own : IsPassOf (engine_table l.fn.engine) l.pass;
   finishes : Finishes (pass_view l.fn.pass) l.yielded (pass_view l.pass);
-  sessions : l.fn.sessions.items ≡ l.yielded ++ l.session-iterator.rest.items
+  sessions : l.fn.sessions.items ≡ l.yielded ++ l.session-iterator.rest.items;
 }
