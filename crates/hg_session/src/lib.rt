@@ -28,6 +28,7 @@ mod parts;
 mod reading;
 mod session;
 mod session_list;
+mod standing;
 #[cfg(test)]
 mod tests;
 mod totals;

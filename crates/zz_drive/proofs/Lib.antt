@@ -4,3 +4,4 @@ pub mod Freshly
 pub mod Turns
 pub mod OpenAfter
 pub mod Going
+pub mod Closes

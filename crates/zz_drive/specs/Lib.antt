@@ -1,3 +1,5 @@
 pub mod Heard
 pub mod Listed
 pub mod Asked
+pub mod Closed
+pub mod Stub

@@ -2,7 +2,10 @@
 #![tactic(auto)]
 
 mod asking;
+mod closing;
 mod playing;
+mod replay;
+mod stub;
 mod turning;
 
-pub use playing::play;
+pub use replay::replay;

@@ -16,7 +16,7 @@ use std::alloc::Global;
 use std::sync::Wait;
 
 /// Answers the records of a script in their order.
-pub fn play<R: Wait>(
+pub(crate) fn play<R: Wait>(
     rt: &R,
     alloc: Global,
     engine: &Engine,
