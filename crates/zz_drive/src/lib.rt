@@ -8,4 +8,4 @@ mod replay;
 mod stub;
 mod turning;
 
-pub use replay::replay;
+pub use replay::replay as run_replay;
