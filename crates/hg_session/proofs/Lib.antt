@@ -9,6 +9,12 @@ pub mod Passing
 pub mod Storing
 pub mod Done
 pub mod Undoing
+pub mod Replying
+pub mod Putting
 pub mod Ending
 pub mod Visiting
 pub mod Committing
+pub mod ScanningKeys
+pub mod ScanningRows
+pub mod ScanningLooks
+pub mod ScanningOrder

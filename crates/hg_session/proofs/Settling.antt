@@ -12,13 +12,18 @@ use Rattle.hg_rule.specs.Facts.{StartsWith, IsAmong}
 use Rattle.hg_rule.specs.Views.{number, session}
 use Rattle.hg_rule.specs.Seats.{TableId, session_view, session_rest, IsSeatOf, IsSessionOf}
 use Rattle.hg_rule.proofs.Holders.{still_session}
-use Rattle.hg_rule.proofs.Lists.{starts_on}
+use Rattle.hg_rule.proofs.Lists.{starts_on, each_left}
 use Rattle.hg_session.specs.declared.engine.Engine.{Engine}
 use Rattle.hg_session.specs.declared.session.Session.{Session}
 use Rattle.hg_session.specs.Engines.{engine_table, engine_sizes}
 use Rattle.hg_session.specs.Ties.{Ties, IsHeard}
 use Rattle.hg_session.specs.Sessions.{IsIn, pass_of, view_of, number_of, log_of, seen_by, left_of, opened_of, written_of}
-use Rattle.hg_session.specs.Gains.{Alone, Gains}
+use Rattle.std.specs.Prelude.{IsFalse, ◌==◌}
+use Rattle.hg_base.specs.Lists.{Each}
+use Rattle.hg_bucket.specs.declared.refusal.WriteRefusal.{WriteRefusal}
+use Rattle.hg_bucket.specs.declared.refusal.WriteRefusal.TheVariants.{Open, Newer, NoMemory}
+use Rattle.hg_store.specs.Ends.{HasNoEnd}
+use Rattle.hg_session.specs.Gains.{Alone, Gains, IsRefusedBy}
 use Rattle.hg_rule.specs.Places.{without_bucket}
 use Rattle.hg_session.proofs.Trips.{Beside, first_number, first_session, alone_only, departed}
 
@@ -67,3 +72,9 @@ gains_on u v w es fs a b assoc = record {
   log = b.log ∙ (ap (λ l. fs ++ l) a.log ∙ assoc (session u).log);
   kept = starts_on w.sights v.sights u.sights a.kept b.kept;
 }
+
+-- who refuses a write, as it was before the call
+pub refused_before : (z : Sizes) (v m : View) (at : ℕ) (e : WriteRefusal) (es : List LogEntry) → Gains v es m → IsRefusedBy z m at e → IsRefusedBy z v at e
+refused_before z v m at (Open o) es g r = (r.0, (subst (λ j. IsFalse (o.session == j)) g.number_is r.1.0, each_left (HasNoEnd o) v.sights g.kept.0 (subst (Each (HasNoEnd o)) g.kept.1 r.1.1)))
+refused_before z v m at (Newer n) es g r = r
+refused_before z v m at NoMemory es g r = tt

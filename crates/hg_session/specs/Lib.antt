@@ -7,6 +7,9 @@ pub mod Opened
 -- What a call leaves of a session, and how it replies.
 pub mod Gains
 pub mod Replies
+pub mod Alone
+-- What a scan reads, bucket by bucket.
+pub mod Scans
 -- What a pass knows once all others are joined to it.
 pub mod Ended
 pub mod Finished

@@ -5,7 +5,10 @@ use Rattle.hg_base.specs.declared.line.Answer.{Answer}
 use Rattle.hg_base.specs.declared.line.Answer.TheVariants.{Begun, Stored, Found, Nothing, Gone, Rows, Committed, Ended as NothingWritten, Undone, Newer, OpenBy, Undeclared}
 use Rattle.hg_base.specs.declared.line.Reply.{Reply}
 use Rattle.hg_base.specs.declared.fault.NoMemory.{NoMemory}
+use Rattle.hg_base.specs.declared.rid.TableId.{TableId}
+use Rattle.hg_base.specs.declared.scope.Snapshot.{Snapshot}
 use Rattle.hg_base.specs.Lists.{Each}
+use Rattle.hg_base.specs.Transcript.{has}
 use Rattle.hg_core.specs.Phases.{IsSession}
 use Rattle.hg_core.specs.Reading.{Unprinted, Fits, log_after}
 use Rattle.hg_rule.specs.declared.view.Sizes.{Sizes}
@@ -14,6 +17,8 @@ use Rattle.hg_rule.specs.declared.view.View.{View}
 use Rattle.hg_rule.specs.Facts.{StartsWith}
 use Rattle.hg_rule.specs.Views.{number, session}
 use Rattle.hg_tracker.specs.Begun.{AtMost}
+use Rattle.hg_bucket.specs.declared.refusal.WriteRefusal.{WriteRefusal}
+use Rattle.hg_bucket.specs.declared.refusal.WriteRefusal.TheVariants as bucket
 use Rattle.hg_store.specs.Ends.{HasNoEnd}
 use Rattle.hg_headline.specs.Timely.{snapshot_in, newer_in, commit_in}
 use Rattle.hg_session.specs.declared.answers.Read.{Read}
@@ -104,3 +109,14 @@ pub record Answers (z : Sizes) (old : View) (statement : Statement) (reply : Rep
   pub commit : IfSome (commit_in statement reply) (IsNext old.sights (snapshot_in reply))
   pub newer : IfSome (newer_in reply) (λ c. 0 < c)
   pub goes_on : GoesOn z old reply.answer
+
+-- a statement is refused so exactly where its transaction is open and didn't declare the table
+abbrev pub IsRefusedIf : {T E : Type 0} → Option Snapshot → TableId → Result T E → E → Type 0
+IsRefusedIf None table result e = result ≡ Err e → ⊥
+IsRefusedIf (Some snapshot) table result e = (IsFalse (has snapshot.scope table) → result ≡ Err e) × (result ≡ Err e → IsFalse (has snapshot.scope table))
+
+-- a refused write, with the snapshot at which it was
+abbrev pub refused_at : ℕ → WriteRefusal → PutRefusal
+refused_at at (bucket.Open writer) = put.Open at writer.session writer.transaction
+refused_at at (bucket.Newer number) = put.Newer at number
+refused_at at bucket.NoMemory = put.NoMemory

@@ -2,6 +2,8 @@
 
 ghost use Rattle.std.specs.Prelude.{◌≡◌, ◌++◌, ◌∷◌, [], List, map, false, is_some, Some, None, IsSome, IsTrue, IfOk, IfSome, OnOk, OnErr};
 ghost use Rattle.hg_base.specs.declared.rid.Rid.{Rid};
+ghost use Rattle.hg_base.specs.declared.statement.Statement.TheVariants as say;
+ghost use Rattle.hg_base.specs.declared.line.Answer.TheVariants.{Undone};
 ghost use Rattle.hg_base.specs.History.{NoneTwice, is_among};
 ghost use Rattle.hg_base.specs.Replies.{is_written};
 ghost use Rattle.hg_core.specs.declared.log.LogEntry.TheVariants.{Undid, Over};
@@ -12,9 +14,11 @@ ghost use Rattle.hg_rule.specs.Holding.{writer as writer_of};
 ghost use Rattle.hg_rule.specs.Writes.{with_entry};
 ghost use Rattle.hg_rule.specs.Seats.{session_view, IsSessionOf};
 ghost use Rattle.hg_session.specs.Engines.{engine_table, engine_sizes};
-ghost use Rattle.hg_session.specs.Sessions.{IsIn, view_of, log_of, seen_by, left_of, opened_of, written_of};
+ghost use Rattle.hg_session.specs.Sessions.{IsIn, IsOf, view_of, log_of, seen_by, open_of, left_of, opened_of, written_of};
+ghost use Rattle.hg_session.specs.Replies.{Answers, inside, commit_answer};
 ghost use Rattle.hg_session.specs.Gains.{Alone, Gains, HasUndone, IsAfter, number_in};
 
+use crate::answers::Ended;
 use crate::engine::Engine;
 use crate::session::Session;
 use hg_base::{NoMemory, Rid, Snapshot, Writer};
@@ -130,5 +134,34 @@ impl Session {
         undo_each(rt, engine, &mut self.pass, records.into_vec(), by);
         engine.trackers.end(&mut self.pass);
         self.opened = None;
+    }
+
+    /// Commits the open transaction. One that wrote nothing has no receipt, and uses no number. A refusal leaves it open.
+    pub fn commit<R: Wait>(&mut self, rt: &R, engine: &Engine) -> Result<Ended, NoMemory>
+        requires own { IsOf engine.now self.old }
+        requires opened { IsSome (open_of self.old) }
+        ensures answers { IfOk result (λ ended. Answers (engine_sizes engine.now) (view_of self.old) say.Commit (inside (commit_answer (number_in ended.receipt))) (view_of self.new)) }
+        ensures refused { OnErr result (view_of self.new ≡ view_of self.old) }
+        ensures left { left_of self.new ≡ left_of self.old }
+        ensures own { IsOf engine.now self.new }
+    {
+        match self.opened {
+            Some(snapshot) => {
+                let receipt = self.close(rt, engine, snapshot)?;
+                Ok(Ended { receipt })
+            }
+            None => unreachable!(),
+        }
+    }
+
+    /// Takes every write of the open transaction back, and ends it. No memory is taken.
+    pub fn rollback<R: Wait>(&mut self, rt: &R, engine: &Engine)
+        requires own { IsOf engine.now self.old }
+        requires opened { IsSome (open_of self.old) }
+        ensures answers { Answers (engine_sizes engine.now) (view_of self.old) say.Rollback (inside Undone) (view_of self.new) }
+        ensures left { left_of self.new ≡ left_of self.old }
+        ensures own { IsOf engine.now self.new }
+    {
+        self.roll_back(rt, engine);
     }
 }

@@ -26,6 +26,7 @@ mod meeting;
 mod opening;
 mod parts;
 mod reading;
+mod scanning;
 mod session;
 mod session_list;
 mod standing;

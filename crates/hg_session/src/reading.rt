@@ -1,18 +1,26 @@
 //! What a session reads.
 
-ghost use Rattle.std.specs.Prelude.{◌≡◌, ◌<◌, ℤ, List, Option, Some, None, [], ◌∷◌, is_some, unwrap_or, IsTrue, IfOk, OnOk};
+ghost use Rattle.std.specs.Prelude.{◌≡◌, ◌<◌, ℕ, ℤ, List, Option, Some, None, [], ◌∷◌, not, true, false, is_some, unwrap_or, Err, IsTrue, IfOk, IfSome, OnOk, OnErr, ◌+◌};
 ghost use Rattle.std.specs.Option.{option_copied};
 ghost use Rattle.hg_base.specs.History.{nothing};
+ghost use Rattle.hg_base.specs.declared.limits.TheConstants.{MOST_TABLES};
+ghost use Rattle.hg_base.specs.declared.statement.Statement.TheVariants as say;
 ghost use Rattle.hg_base.specs.Transcript.{has};
+ghost use Rattle.hg_base.specs.Transcript as base;
+ghost use Rattle.hg_session.specs.declared.answers.GetRefusal.TheVariants as refusal;
 ghost use Rattle.hg_core.specs.Contents.{bucket_of};
+ghost use Rattle.hg_core.specs.Words.{IsBelow};
 ghost use Rattle.hg_core.specs.Reading.{saw};
 ghost use Rattle.hg_session.specs.Engines.{engine_sizes};
-ghost use Rattle.hg_session.specs.Sessions.{IsIn, view_of, open_of, left_of, opened_of, written_of};
-ghost use Rattle.hg_session.specs.Gains.{Gains, rows_at};
+ghost use Rattle.hg_session.specs.Sessions.{IsIn, IsOf, is_alone, view_of, open_of, left_of, opened_of, written_of};
+ghost use Rattle.hg_session.specs.Replies.{Answers, IsRefusedIf, reading, row_answer, get_reply};
+ghost use Rattle.hg_session.specs.Gains.{Gains, Stays, rows_at, outside_entries};
 
 use crate::engine::Engine;
 use crate::session::Session;
-use hg_base::{Image, NoMemory, Rid, Row, Snapshot};
+use crate::answers::{GetRefusal, Read};
+use hg_base::{Image, NoMemory, Rid, Row, Scope, Snapshot, TableId};
+use hg_rule::Ask;
 use std::sync::Wait;
 
 impl Engine {
@@ -34,6 +42,26 @@ fn row_of(image: Option<&Image>) -> Result<Option<Row>, NoMemory>
         Some(Image { row: Some(row) }) => Ok(Some(row.copy()?)),
         Some(Image { row: None }) | None => Ok(None),
     }
+}
+
+// Whether a transaction may name the table.
+fn may_name(scope: Scope, table: TableId) -> bool
+    requires { table.0 < MOST_TABLES }
+    ensures { result ≡ has scope table }
+{
+    match scope {
+        Scope::All => true,
+        Scope::Declared(mask) => (mask >> table.0) & 1 == 1,
+    }
+}
+
+// What a transaction that is one statement declares.
+pub(crate) fn only(table: TableId) -> Scope
+    requires { table.0 < MOST_TABLES }
+    ensures is { result ≡ base.only (Some table) }
+    ensures below { (tables : ℕ) → table.0 < tables → IsBelow tables result }
+{
+    Scope::Declared(1 << table.0)
 }
 
 impl Session {
@@ -60,5 +88,85 @@ impl Session {
         let row = row_of(held.read(rid, snapshot.at, by));
         held.give(board, &mut self.pass);
         row
+    }
+
+    // Whether a table is outside of those that the open transaction declared. That is logged.
+    pub(crate) fn is_outside(&mut self, engine: &Engine, snapshot: Snapshot, table: TableId) -> bool
+        requires own { IsIn engine.now 1 1 self.old }
+        requires opened { opened_of self.old ≡ Some snapshot }
+        requires table { table.0 < (engine_sizes engine.now).tables }
+        ensures is { result ≡ not (has snapshot.scope table) }
+        ensures gains { Gains (view_of self.old) (outside_entries result table) (view_of self.new) }
+        ensures kept { (opened_of self.new ≡ opened_of self.old) × (written_of self.new ≡ written_of self.old) × (left_of self.new ≡ left_of self.old) }
+        ensures own { IsIn engine.now 0 1 self.new }
+    {
+        if may_name(snapshot.scope, table) {
+            return false;
+        }
+        engine.board().look(&mut self.pass, &Ask::Outside(table));
+        true
+    }
+
+    /// The row of a record, as the transaction sees it, or none.
+    pub fn get<R: Wait>(&mut self, rt: &R, engine: &Engine, rid: Rid) -> Result<Read, GetRefusal>
+        requires own { IsOf engine.now self.old }
+        requires left { 0 < left_of self.old }
+        requires table { rid.table.0 < (engine_sizes engine.now).tables }
+        ensures reply { IfSome (get_reply (is_alone self.old) result) (λ reply. Answers (engine_sizes engine.now) (view_of self.old) (say.Get rid) reply (view_of self.new)) }
+        ensures undeclared { IsRefusedIf (open_of self.old) rid.table result (refusal.Undeclared rid.table) }
+        ensures refused { result ≡ Err refusal.NoMemory → Stays (view_of self.old) (view_of self.new) }
+        ensures left { left_of self.new + 1 ≡ left_of self.old }
+        ensures own { IsOf engine.now self.new }
+    {
+        self.spend();
+        match self.opened {
+            Some(snapshot) => self.get_inside(rt, engine, snapshot, rid),
+            None => Ok(self.get_alone(rt, engine, rid)?),
+        }
+    }
+
+    fn get_inside<R: Wait>(
+        &mut self,
+        rt: &R,
+        engine: &Engine,
+        snapshot: Snapshot,
+        rid: Rid,
+    ) -> Result<Read, GetRefusal>
+        requires own { IsIn engine.now 1 1 self.old }
+        requires opened { opened_of self.old ≡ Some snapshot }
+        requires table { rid.table.0 < (engine_sizes engine.now).tables }
+        ensures reply { IfSome (get_reply false result) (λ reply. Answers (engine_sizes engine.now) (view_of self.old) (say.Get rid) reply (view_of self.new)) }
+        ensures undeclared { IsRefusedIf (Some snapshot) rid.table result (refusal.Undeclared rid.table) }
+        ensures refused { result ≡ Err refusal.NoMemory → Stays (view_of self.old) (view_of self.new) }
+        ensures left { left_of self.new ≡ left_of self.old }
+        ensures own { IsOf engine.now self.new }
+    {
+        if self.is_outside(engine, snapshot, rid.table) {
+            return Err(GetRefusal::Undeclared { table: rid.table });
+        }
+        let row = self.see_row(rt, engine, snapshot, rid)?;
+        Ok(Read {
+            at: snapshot.at,
+            row,
+        })
+    }
+
+    // A transaction of its own.
+    fn get_alone<R: Wait>(&mut self, rt: &R, engine: &Engine, rid: Rid) -> Result<Read, NoMemory>
+        requires own { IsIn engine.now 1 1 self.old }
+        requires closed { opened_of self.old ≡ None }
+        requires table { rid.table.0 < (engine_sizes engine.now).tables }
+        ensures reply { IfOk result (λ read. Answers (engine_sizes engine.now) (view_of self.old) (say.Get rid) (reading true read.at (row_answer read.row)) (view_of self.new)) }
+        ensures refused { OnErr result (Stays (view_of self.old) (view_of self.new)) }
+        ensures left { left_of self.new ≡ left_of self.old }
+        ensures own { IsOf engine.now self.new }
+    {
+        let snapshot = self.open(engine, only(rid.table));
+        let row = self.see_row(rt, engine, snapshot, rid);
+        self.end(engine);
+        Ok(Read {
+            at: snapshot.at,
+            row: row?,
+        })
     }
 }

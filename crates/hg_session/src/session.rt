@@ -1,12 +1,16 @@
 //! A session, which begins transactions at an engine.
 
-ghost use Rattle.std.specs.Prelude.{◌≡◌, ◌+◌, ◌<◌, ◌∷◌, [], Some, None};
+ghost use Rattle.std.specs.Prelude.{◌≡◌, ◌+◌, ◌<◌, ◌∷◌, [], is_some, Some, None};
+ghost use Rattle.hg_base.specs.declared.statement.Statement.TheVariants as say;
+ghost use Rattle.hg_base.specs.declared.line.Answer.TheVariants.{Begun};
 ghost use Rattle.hg_base.specs.Lists.{Each};
 ghost use Rattle.hg_core.specs.Words.{IsBelow};
 ghost use Rattle.hg_core.specs.declared.log.LogEntry.TheVariants.{Began};
 ghost use Rattle.hg_tracker.specs.Begun.{AtMost};
+ghost use Rattle.hg_session.specs.declared.engine.Engine.{Engine};
 ghost use Rattle.hg_session.specs.Engines.{engine_sizes};
-ghost use Rattle.hg_session.specs.Sessions.{IsIn, view_of, seen_by, open_of, left_of, opened_of, written_of};
+ghost use Rattle.hg_session.specs.Sessions.{IsIn, IsOf, view_of, seen_by, open_of, left_of, opened_of, written_of};
+ghost use Rattle.hg_session.specs.Replies.{Answers, inside};
 ghost use Rattle.hg_session.specs.Gains.{Gains};
 
 use crate::engine::Engine;
@@ -41,5 +45,43 @@ impl Session {
         let snapshot = engine.trackers.begin(&mut self.pass, scope);
         self.opened = Some(snapshot);
         snapshot
+    }
+
+    // One statement of those that are left.
+    pub(crate) fn spend(&mut self)
+        requires left { 0 < left_of self.old }
+        ensures own { (e : Engine) → IsOf e self.old → IsIn e 1 1 self.new }
+        ensures kept { (view_of self.new ≡ view_of self.old) × (opened_of self.new ≡ opened_of self.old) × (written_of self.new ≡ written_of self.old) }
+        ensures left { left_of self.new + 1 ≡ left_of self.old }
+    {
+        self.left -= 1;
+    }
+
+    /// Whether a transaction is open.
+    pub fn is_open(&self) -> bool
+        ensures { (e : Engine) → IsOf e self.now → result ≡ is_some (open_of self.now) }
+    {
+        self.opened.is_some()
+    }
+
+    /// How many statements the session may still run. A commit or rollback takes none.
+    pub fn left(&self) -> u64
+        ensures { result ≡ left_of self.now }
+    {
+        self.left
+    }
+
+    /// Begins a transaction, and answers its snapshot. No memory and no lock is taken.
+    pub fn begin(&mut self, engine: &Engine, scope: Scope) -> u64
+        requires own { IsOf engine.now self.old }
+        requires closed { open_of self.old ≡ None }
+        requires left { 0 < left_of self.old }
+        requires tables { IsBelow (engine_sizes engine.now).tables scope }
+        ensures answers { Answers (engine_sizes engine.now) (view_of self.old) (say.Begin scope) (inside (Begun result)) (view_of self.new) }
+        ensures left { left_of self.new + 1 ≡ left_of self.old }
+        ensures own { IsOf engine.now self.new }
+    {
+        self.spend();
+        self.open(engine, scope).at
     }
 }

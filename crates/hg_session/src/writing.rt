@@ -1,18 +1,42 @@
 //! What a session writes.
 
-ghost use Rattle.std.specs.Prelude.{◌≡◌, ◌<◌, ◌∷◌, [], Some, IsTrue, IsFalse, IfOk, IfErr};
+ghost use Rattle.std.specs.Prelude.{◌≡◌, ◌+◌, ◌<◌, ◌∷◌, [], true, false, Some, None, Err, IsTrue, IsFalse, IfOk, IfErr, IfSome, OnErr};
+ghost use Rattle.hg_base.specs.declared.statement.Statement.TheVariants as say;
+ghost use Rattle.hg_session.specs.declared.answers.PutRefusal.TheVariants as refusal;
 ghost use Rattle.hg_base.specs.Transcript.{has};
 ghost use Rattle.hg_core.specs.Events.{with_refusal};
 ghost use Rattle.hg_core.specs.declared.log.LogEntry.TheVariants.{Wrote};
 ghost use Rattle.hg_session.specs.Engines.{engine_sizes};
-ghost use Rattle.hg_session.specs.Sessions.{IsIn, view_of, left_of, opened_of, written_of};
-ghost use Rattle.hg_session.specs.Gains.{Gains, IsRefusedBy, entries_of};
+ghost use Rattle.hg_session.specs.Sessions.{IsIn, IsOf, is_alone, view_of, open_of, left_of, opened_of, written_of};
+ghost use Rattle.hg_session.specs.Replies.{Answers, IsRefusedIf, put_reply, refused_at};
+ghost use Rattle.hg_session.specs.Alone.{WritesAlone, IsRefusedAlone};
+ghost use Rattle.hg_session.specs.Gains.{Gains, Stays, IsRefusedBy, entries_of};
 
+use crate::answers::{PutRefusal, Written};
 use crate::engine::Engine;
+use crate::reading::only;
 use crate::session::Session;
-use hg_base::{Image, Rid, Snapshot};
+use hg_base::{Image, NoMemory, Rid, Row, Snapshot, TableId, Writer};
 use hg_bucket::WriteRefusal;
 use std::sync::Wait;
+
+// A refusal, with the snapshot at which it was.
+fn refused_at(at: u64, refusal: WriteRefusal) -> PutRefusal
+    ensures { result ≡ refused_at at refusal }
+{
+    match refusal {
+        WriteRefusal::Open(Writer {
+            session,
+            transaction,
+        }) => PutRefusal::Open {
+            at,
+            session,
+            transaction,
+        },
+        WriteRefusal::Newer(number) => PutRefusal::Newer { at, number },
+        WriteRefusal::NoMemory => PutRefusal::NoMemory,
+    }
+}
 
 impl Session {
     // Writes an image in the open transaction.
@@ -30,6 +54,7 @@ impl Session {
         ensures gains { Gains (view_of self.old) (entries_of rid image result) (view_of self.new) }
         ensures refused { IfErr result (IsRefusedBy (engine_sizes engine.now) (view_of self.old) snapshot.at) }
         ensures kept { (opened_of self.new ≡ opened_of self.old) × (left_of self.new ≡ left_of self.old) }
+        ensures unwritten { OnErr result (written_of self.new ≡ written_of self.old) }
         ensures own { IsIn engine.now 0 0 self.new }
     {
         self.written.reserve()?;
@@ -43,5 +68,117 @@ impl Session {
             self.written.push_reserved(rid);
         }
         Ok(())
+    }
+
+    // Writes, and commits the transaction, which is this one write.
+    fn write_alone<R: Wait>(
+        &mut self,
+        rt: &R,
+        engine: &Engine,
+        snapshot: Snapshot,
+        rid: Rid,
+        image: Image,
+    ) -> Result<Option<u64>, PutRefusal>
+        requires own { IsIn engine.now 0 1 self.old }
+        requires opened { opened_of self.old ≡ Some snapshot }
+        requires unwritten { written_of self.old ≡ [] }
+        requires table { IsTrue (has snapshot.scope rid.table) × (rid.table.0 < (engine_sizes engine.now).tables) }
+        ensures stored { IfOk result (WritesAlone (view_of self.old) rid image snapshot.at (view_of self.new)) }
+        ensures refused { IfErr result (IsRefusedAlone (engine_sizes engine.now) (view_of self.old) rid snapshot.at (view_of self.new)) }
+        ensures left { left_of self.new ≡ left_of self.old }
+        ensures own { IsOf engine.now self.new }
+    {
+        if let Err(refusal) = self.write_row(rt, engine, snapshot, rid, image) {
+            self.roll_back(rt, engine);
+            return Err(refused_at(snapshot.at, refusal));
+        }
+        match self.close(rt, engine, snapshot) {
+            Ok(receipt) => Ok(receipt.map(|receipt| receipt.number)),
+            Err(NoMemory) => {
+                self.roll_back(rt, engine);
+                Err(PutRefusal::NoMemory)
+            }
+        }
+    }
+
+    /// Writes a row. In a transaction it is open until this commits. Outside of one it is committed, and the answer has its
+    /// number. The row has as many values as its table has columns.
+    pub fn put<R: Wait>(
+        &mut self,
+        rt: &R,
+        engine: &Engine,
+        rid: Rid,
+        row: Row,
+    ) -> Result<Written, PutRefusal>
+        requires own { IsOf engine.now self.old }
+        requires left { 0 < left_of self.old }
+        requires table { rid.table.0 < (engine_sizes engine.now).tables }
+        ensures reply { IfSome (put_reply (is_alone self.old) result) (λ reply. Answers (engine_sizes engine.now) (view_of self.old) (say.Put rid row) reply (view_of self.new)) }
+        ensures undeclared { IsRefusedIf (open_of self.old) rid.table result (refusal.Undeclared rid.table) }
+        ensures refused { result ≡ Err refusal.NoMemory → Stays (view_of self.old) (view_of self.new) }
+        ensures left { left_of self.new + 1 ≡ left_of self.old }
+        ensures own { IsOf engine.now self.new }
+    {
+        self.spend();
+        match self.opened {
+            Some(snapshot) => self.put_inside(rt, engine, snapshot, rid, row),
+            None => self.put_alone(rt, engine, rid, row),
+        }
+    }
+
+    fn put_inside<R: Wait>(
+        &mut self,
+        rt: &R,
+        engine: &Engine,
+        snapshot: Snapshot,
+        rid: Rid,
+        row: Row,
+    ) -> Result<Written, PutRefusal>
+        requires own { IsIn engine.now 1 1 self.old }
+        requires opened { opened_of self.old ≡ Some snapshot }
+        requires table { rid.table.0 < (engine_sizes engine.now).tables }
+        ensures reply { IfSome (put_reply false result) (λ reply. Answers (engine_sizes engine.now) (view_of self.old) (say.Put rid row) reply (view_of self.new)) }
+        ensures undeclared { IsRefusedIf (Some snapshot) rid.table result (refusal.Undeclared rid.table) }
+        ensures refused { result ≡ Err refusal.NoMemory → Stays (view_of self.old) (view_of self.new) }
+        ensures left { left_of self.new ≡ left_of self.old }
+        ensures own { IsOf engine.now self.new }
+    {
+        if self.is_outside(engine, snapshot, rid.table) {
+            return Err(PutRefusal::Undeclared { table: rid.table });
+        }
+        let image = Image { row: Some(row) };
+        match self.write_row(rt, engine, snapshot, rid, image) {
+            Ok(()) => Ok(Written {
+                at: snapshot.at,
+                number: None,
+            }),
+            Err(refusal) => Err(refused_at(snapshot.at, refusal)),
+        }
+    }
+
+    // A transaction of its own.
+    fn put_alone<R: Wait>(
+        &mut self,
+        rt: &R,
+        engine: &Engine,
+        rid: Rid,
+        row: Row,
+    ) -> Result<Written, PutRefusal>
+        requires own { IsIn engine.now 1 1 self.old }
+        requires closed { opened_of self.old ≡ None }
+        requires table { rid.table.0 < (engine_sizes engine.now).tables }
+        ensures reply { IfSome (put_reply true result) (λ reply. Answers (engine_sizes engine.now) (view_of self.old) (say.Put rid row) reply (view_of self.new)) }
+        ensures declared { (t : TableId) → result ≡ Err (refusal.Undeclared t) → ⊥ }
+        ensures refused { result ≡ Err refusal.NoMemory → Stays (view_of self.old) (view_of self.new) }
+        ensures left { left_of self.new ≡ left_of self.old }
+        ensures own { IsOf engine.now self.new }
+    {
+        let snapshot = self.open(engine, only(rid.table));
+        let image = Image { row: Some(row) };
+        let number = self.write_alone(rt, engine, snapshot, rid, image)?;
+        Ok(Written {
+            at: snapshot.at,
+            number,
+        })
     }
 }

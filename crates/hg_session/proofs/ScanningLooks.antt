@@ -1,0 +1,63 @@
+-- What a look at a range of one bucket logs, and that the rows that were copied are those.
+use Rattle.std.proofs.Common.{◌≡◌, ℕ, ℤ, ◌≤◌, List, [], ◌∷◌, ◌++◌, length, Some, Result, Ok, Err, ap, ◌∙◌, subst, arith}
+use Rattle.std.specs.Prelude.{nat_lt, OnOk}
+use Rattle.std.proofs.lemmas.Bool.Decides.{nat_tests}
+use Rattle.hg_base.specs.declared.rid.TableId.{TableId}
+use Rattle.hg_base.specs.declared.writer.Writer.{Writer}
+use Rattle.hg_base.specs.declared.fault.NoMemory.{NoMemory}
+use Rattle.hg_base.proofs.ListFacts.{cases, none_some, each_keeps}
+use Rattle.hg_core.specs.declared.ask.Ask.TheVariants.{Read}
+use Rattle.hg_core.specs.declared.log.LogEntry.TheVariants.{Saw}
+use Rattle.hg_core.specs.Contents.{Content, look}
+use Rattle.hg_bucket.specs.Held.{record_at}
+use Rattle.hg_rule.specs.declared.view.SessionPart.{SessionPart}
+use Rattle.hg_rule.specs.declared.view.Part.{Part}
+use Rattle.hg_rule.specs.declared.view.Sight.{Sight}
+use Rattle.hg_rule.specs.declared.view.View.{View}
+use Rattle.hg_rule.specs.Views.{number_in, after_first}
+use Rattle.hg_rule.specs.Holding.{bucket, writer, snapshot}
+use Rattle.hg_rule.specs.Writes.{with_log, with_entry, log_asked, Looks}
+use Rattle.hg_rule.specs.Places.{without_bucket}
+use Rattle.hg_session.specs.Gains.{Gains}
+use Rattle.hg_session.specs.Scans.{Rows, IsOwnKey, AreOwn, HasVersion, read_of, Appends, Sees}
+use Rattle.hg_session.proofs.Trips.{Beside, first_session, looked}
+use Rattle.hg_session.proofs.Settling.{Trip, trip}
+use Rattle.hg_session.proofs.ScanningKeys.{own_key, unread}
+use Rattle.hg_session.proofs.ScanningRows.{same_rows}
+
+-- a row is of a record that has a version
+shown_there : (by : Writer) (at : ℕ) (table : TableId) (content : Content) (key : ℕ) (row : List ℤ) → (read_of by at table content key).row ≡ Some row → HasVersion content table key
+shown_there by at table content key row e = cases (nat_lt 0 (length (look (record_at table key) content)))
+    (λ t. grind (arith, nat_tests, t))
+    (λ f. absurd (none_some (read_of by at table content key).row row (unread by at table content key (λ l. grind (arith, nat_tests, f, l))) e))
+
+on_ok : {T A B : Type 0} (answer : Result T NoMemory) → (A → B) → OnOk answer A → OnOk answer B
+on_ok (Ok t) f a = f a
+on_ok (Err e) f a = a
+
+module _ (count j b n : ℕ) (part : SessionPart) (old : List Sight) (table : TableId) (low high : ℕ) (u w : View) (h : Beside j part b old u) (k : Looks u (Read table low high) n w) where
+  pub saw_rows : log_asked u (Read table low high) n k.rows ≡ Saw table low high b k.rows ∷ part.log
+  saw_rows =
+      let m = ap (λ (ps : List Part). number_in (after_first ps)) h.parts in
+      let s = first_session u j part _ h.parts in
+      λ i. Saw table low high (m i) k.rows ∷ (s i).log
+
+  pub trip_saw : (x : View) → x ≡ without_bucket w → Trip j (with_entry (Saw table low high b k.rows) part) b old w x
+  trip_saw x gives =
+      let l = looked j part b n old (Read table low high) u w h k in
+      subst (λ es. Trip j (with_log es part) b old w x) saw_rows (trip j b _ old w x l.0 l.1 gives)
+
+  -- what was copied is what was logged
+  pub sees : {T : Type 0} (v x : View) (by : Writer) (at : ℕ) (before after : Rows) (answer : Result T NoMemory) → AreOwn count b (bucket u).content → by ≡ writer u → at ≡ snapshot u → OnOk answer (Appends (read_of by at table (bucket u).content) low high before after) → Gains v (Saw table low high b k.rows ∷ []) x
+      → Sees count v table low high b before answer x after
+  sees v x by at before after answer own same_by same_at copied gains = record {
+    part = k.rows;
+    gains = gains;
+    ascend = k.shown.ascend;
+    own = each_keeps (λ p. (low ≤ p.0) × (p.0 ≤ high) × ((read_of (writer u) (snapshot u) table (bucket u).content p.0).row ≡ Some p.1)) (λ p. IsOwnKey count b table p.0)
+        (λ p s. own_key count b (bucket u).content table p.0 own (shown_there (writer u) (snapshot u) table (bucket u).content p.0 p.1 s.2)) k.rows k.shown.each;
+    added = on_ok answer same (subst (λ m. OnOk answer (Appends (read_of (writer u) m table (bucket u).content) low high before after)) same_at (subst (λ y. OnOk answer (Appends (read_of y at table (bucket u).content) low high before after)) same_by copied));
+  }
+    where
+      same : Appends (read_of (writer u) (snapshot u) table (bucket u).content) low high before after → after ≡ before ++ k.rows
+      same a = a.is ∙ ap (λ rows. before ++ rows) (same_rows (read_of (writer u) (snapshot u) table (bucket u).content) low high a.more k.rows a.rows k.shown)

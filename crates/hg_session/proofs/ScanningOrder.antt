@@ -1,0 +1,194 @@
+-- The rows of all buckets, the looks at them, and the order of the rows.
+use Rattle.std.proofs.Common.{◌≡◌, ℕ, ℤ, zero, suc, ◌<◌, ◌≤◌, List, [], ◌∷◌, ◌++◌, map, length, get_or, false, cond, Result, refl, sym, ap, ◌∙◌, subst, arith}
+use Rattle.std.specs.Prelude.{◌==◌, nat_eq, nat_lt, Contains}
+use Rattle.std.specs.List.{IsDistinct, All, AllByRecursion}
+use Rattle.std.specs.List.Sorted.{IsPermutation, IsNonDecreasingBy}
+use Rattle.std.proofs.lemmas.Bool.Decides.{Decides-eqb, nat_tests}
+use Rattle.std.proofs.lemmas.Map.Keys.{IsDistinct-head, IsDistinct-tail, IsDistinct-cons, IsDistinct-IsPermutation}
+use Rattle.std.proofs.lemmas.List.Sorted.{IsPermutation-map, All-permutation, Contains-permutation}
+use Rattle.std.proofs.lemmas.List.Elements.{Contains-append_left, Contains-append_right}
+use Rattle.hg_base.specs.declared.rid.TableId.{TableId}
+use Rattle.hg_base.specs.declared.fault.NoMemory.{NoMemory}
+use Rattle.hg_base.specs.Lists.{Each, Ascends}
+use Rattle.hg_base.proofs.ListFacts.{cases, each_append, each_keeps, append_nil}
+use Rattle.hg_core.specs.declared.log.LogEntry.TheVariants.{Saw}
+use Rattle.hg_core.specs.Contents.{bucket_of}
+use Rattle.hg_core.specs.Reading.{saws}
+use Rattle.hg_bucket.specs.Held.{record_at}
+use Rattle.hg_rule.specs.declared.view.View.{View}
+use Rattle.hg_session.specs.Gains.{Gains}
+use Rattle.hg_session.specs.Scans.{Rows, IsOwnKey, Sees, ScansAll, ScansSome}
+use Rattle.hg_session.proofs.Settling.{gains_on}
+use Rattle.hg_session.proofs.ScanningKeys.{differ, is_apart}
+use Rattle.hg_session.proofs.ScanningRows.{key_of, map_append, each_mapped, ascends_tail}
+
+-- the row is one of the first n buckets, which are its key's own
+abbrev pub IsOfSome : ℕ → TableId → (ℕ → Rows) → ℕ → ℕ × List ℤ → Type 0
+IsOfSome count table part n p = ((b : ℕ) × (b < n) × Contains (part b) p) × (bucket_of count (record_at table p.0) < n)
+
+-- the rows of the first n buckets are there, and one look at each was logged
+pub record IsScanned (count : ℕ) (v : View) (table : TableId) (low high n : ℕ) (rows : Rows) (w : View) : Type 0 where
+  pub part : ℕ → Rows
+  pub gains : Gains v (saws table low high part n) w
+  pub each : Each (IsOfSome count table part n) rows
+  pub every : (b : ℕ) → b < n → Each (λ p. Contains rows p) (part b)
+  pub distinct : IsDistinct nat_eq (map key_of rows)
+
+-- ---- distinct numbers
+
+all_of : (P : ℕ → Type 0) (xs : List ℕ) → Each P xs → AllByRecursion P xs
+all_of P [] e = tt
+all_of P (x ∷ xs) e = (e.0, all_of P xs e.1)
+
+each_of : (P : ℕ → Type 0) (xs : List ℕ) → AllByRecursion P xs → Each P xs
+each_of P [] e = tt
+each_of P (x ∷ xs) e = (e.0, each_of P xs e.1)
+
+distinct_append : (xs ys : List ℕ) → IsDistinct nat_eq xs → IsDistinct nat_eq ys → Each (λ x. Each (λ y. nat_eq x y ≡ false) ys) xs → IsDistinct nat_eq (xs ++ ys)
+distinct_append [] ys a b e = b
+distinct_append (x ∷ xs) ys a b e =
+    IsDistinct-cons nat_eq x (xs ++ ys)
+    (all_of (λ y. nat_eq x y ≡ false) (xs ++ ys) (each_append (λ y. nat_eq x y ≡ false) xs ys (each_of (λ y. nat_eq x y ≡ false) xs (IsDistinct-head nat_eq x xs a)) e.0))
+    (distinct_append xs ys (IsDistinct-tail nat_eq x xs a) b e.1)
+
+-- ascending numbers are distinct
+all_over : (x : ℕ) (xs : List ℕ) → Ascends (x ∷ xs) → Each (λ y. x < y) xs
+all_over x [] a = tt
+all_over x (y ∷ ys) a = (a.0, each_keeps (λ z. y < z) (λ z. x < z) (λ z l. let k = a.0 in omega (arith, k, l)) ys (all_over y ys a.1))
+
+nothing_twice : IsDistinct nat_eq []
+unfolding IsDistinct
+nothing_twice = tt
+
+ascends_distinct : (xs : List ℕ) → Ascends xs → IsDistinct nat_eq xs
+ascends_distinct [] a = nothing_twice
+ascends_distinct (x ∷ xs) a = IsDistinct-cons nat_eq x xs (all_of (λ y. nat_eq x y ≡ false) xs (each_keeps (λ y. x < y) (λ y. nat_eq x y ≡ false) (λ y l. is_apart x y (λ e. absurd (omega (arith, l, e)))) xs (all_over x xs a))) (ascends_distinct xs (ascends_tail x xs a))
+
+-- ---- the looks
+
+-- only the parts of those buckets count
+saws_same : (table : TableId) (low high : ℕ) (p q : ℕ → Rows) (n : ℕ) → ((b : ℕ) → b < n → p b ≡ q b) → saws table low high p n ≡ saws table low high q n
+saws_same table low high p q zero same = refl
+saws_same table low high p q (suc n) same = λ i. Saw table low high n (same n (omega arith) i) ∷ saws_same table low high p q n (λ b l. same b (omega (arith, l))) i
+
+-- the parts with one more
+with_part : (ℕ → Rows) → ℕ → Rows → ℕ → Rows
+with_part part n rows b = cond (b == n) rows (part b)
+
+part_here : (part : ℕ → Rows) (n : ℕ) (rows : Rows) → with_part part n rows n ≡ rows
+unfolding with_part
+part_here part n rows = ap (λ t. cond t rows (part n)) ((Decides-eqb n n).1 refl)
+
+part_else : (part : ℕ → Rows) (n : ℕ) (rows : Rows) (b : ℕ) → b < n → with_part part n rows b ≡ part b
+unfolding with_part
+part_else part n rows b l = ap (λ t. cond t rows (part b)) (is_apart b n (λ e. absurd (omega (arith, l, e))))
+
+-- ---- bucket by bucket
+
+pub none_scanned : (count : ℕ) (v : View) (table : TableId) (low high : ℕ) → IsScanned count v table low high 0 [] v
+none_scanned count v table low high = record {
+  part = λ b. [];
+  gains = record { number_is = refl; log = refl; kept = ([], sym (append_nil v.sights)) };
+  each = tt;
+  every = λ b l. absurd (omega (arith, l));
+  distinct = nothing_twice;
+}
+
+module _ {T : Type 0} (count : ℕ) (v u w : View) (table : TableId) (low high n : ℕ) (rows new : Rows) (answer : Result T NoMemory) (s : IsScanned count v table low high n rows u) (k : Sees count u table low high n rows answer w new) where
+  parts : ℕ → Rows
+  parts = with_part s.part n k.part
+
+  -- one look more
+  more_gained : Gains v (saws table low high parts (suc n)) w
+  unfolding parts
+  more_gained =
+      let joined = gains_on v u w (saws table low high s.part n) (Saw table low high n k.part ∷ []) s.gains k.gains (λ l. refl) in
+      subst (λ es. Gains v es w) (λ i. Saw table low high n (sym (part_here s.part n k.part) i) ∷ saws_same table low high s.part (with_part s.part n k.part) n (λ b l. sym (part_else s.part n k.part b l)) i) joined
+
+  pub stops : n < count → ScansSome count v table low high w
+  stops l = record { seen = suc n; within = omega (arith, l); part = parts; gains = more_gained }
+
+  earlier_row : (p : ℕ × List ℤ) → IsOfSome count table s.part n p → IsOfSome count table parts (suc n) p
+  unfolding parts
+  earlier_row p q = ((q.0.0, let l = q.0.1 in omega (arith, l), subst (λ r. Contains r p) (sym (part_else s.part n k.part q.0.0 q.0.1)) q.0.2), let l = q.1 in omega (arith, l))
+
+  later_row : (p : ℕ × List ℤ) → Contains k.part p → IsOwnKey count n table p.0 → IsOfSome count table parts (suc n) p
+  unfolding parts
+  later_row p c o = ((n, omega arith, subst (λ r. Contains r p) (sym (part_here s.part n k.part)) c), omega (arith, o))
+
+  apart_keys : Each (λ x. Each (λ y. nat_eq x y ≡ false) (map key_of k.part)) (map key_of rows)
+  apart_keys = each_mapped (λ x. Each (λ y. nat_eq x y ≡ false) (map key_of k.part)) rows
+      (each_keeps (IsOfSome count table s.part n) (λ p. Each (λ y. nat_eq p.0 y ≡ false) (map key_of k.part))
+      (λ p q. each_mapped (λ y. nat_eq p.0 y ≡ false) k.part
+      (each_keeps (λ r. IsOwnKey count n table r.0) (λ r. nat_eq p.0 r.0 ≡ false)
+      (λ r o. is_apart p.0 r.0 (λ e. let less = q.1 in let moved = ap (λ x. bucket_of count (record_at table x)) e in absurd (omega (arith, less, o, moved)))) k.part k.own))
+      rows s.each)
+
+  pub one_scanned : new ≡ rows ++ k.part → IsScanned count v table low high (suc n) new w
+  unfolding parts
+  one_scanned e = record {
+    part = parts;
+    gains = more_gained;
+    each = subst (Each (IsOfSome count table parts (suc n))) (sym e) (each_append (IsOfSome count table parts (suc n)) rows k.part (each_keeps (IsOfSome count table s.part n) (IsOfSome count table parts (suc n)) earlier_row rows s.each) (all_later k.part (λ p c. c) k.own));
+    every = λ b l. cases (nat_lt b n)
+        (λ t. let less : b < n = grind (arith, nat_tests, t) in
+        subst (Each (λ p. Contains new p)) (sym (part_else s.part n k.part b less)) (each_keeps (λ p. Contains rows p) (λ p. Contains new p) (λ p c. subst (λ r. Contains r p) (sym e) (Contains-append_left rows k.part p c)) (s.part b) (s.every b less)))
+        (λ f. let same : n ≡ b = grind (arith, nat_tests, f, l) in
+        subst (λ m. Each (λ p. Contains new p) (parts m)) same (subst (Each (λ p. Contains new p)) (sym (part_here s.part n k.part)) (all_there k.part (λ p c. subst (λ r. Contains r p) (sym e) (Contains-append_right rows k.part p c)))));
+    distinct = subst (IsDistinct nat_eq) (sym (ap (map key_of) e ∙ map_append rows k.part)) (distinct_append (map key_of rows) (map key_of k.part) s.distinct (ascends_distinct (map key_of k.part) k.ascend) apart_keys);
+  }
+    where
+      first_there : (x : ℕ × List ℤ) (xs : Rows) → Contains (x ∷ xs) x
+      first_there x xs = (0, omega arith, refl)
+
+      behind_there : (x y : ℕ × List ℤ) (xs : Rows) → Contains xs y → Contains (x ∷ xs) y
+      behind_there x y xs c = Contains-append_right (x ∷ []) xs y c
+
+      all_there : {P : ℕ × List ℤ → Type 0} (xs : Rows) → ((p : ℕ × List ℤ) → Contains xs p → P p) → Each P xs
+      all_there [] f = tt
+      all_there (x ∷ xs) f = (f x (first_there x xs), all_there xs (λ p c. f p (behind_there x p xs c)))
+
+      all_later : (xs : Rows) → ((p : ℕ × List ℤ) → Contains xs p → Contains k.part p) → Each (λ p. IsOwnKey count n table p.0) xs → Each (IsOfSome count table parts (suc n)) xs
+      all_later [] f o = tt
+      all_later (x ∷ xs) f o = (later_row x (f x (first_there x xs)) o.0, all_later xs (λ p c. f p (behind_there x p xs c)) o.1)
+
+-- ---- in order
+
+ascends_sorted : (rows : Rows) → IsNonDecreasingBy key_of rows → IsDistinct nat_eq (map key_of rows) → Ascends (map (λ p. p.0) rows)
+ascends_sorted [] s d = tt
+ascends_sorted (p ∷ []) s d = tt
+ascends_sorted (p ∷ q ∷ rows) s d =
+    let le : p.0 ≤ q.0 = s 0 1 p (omega arith) (omega arith) in
+    let apart : nat_eq p.0 q.0 ≡ false = (IsDistinct-head nat_eq p.0 (q.0 ∷ map key_of rows) d).0 in
+    let differs : p.0 ≡ q.0 → ⊥ = differ p.0 q.0 apart in
+    (less p.0 q.0 le differs, ascends_sorted (q ∷ rows) (λ i j x l m. s (suc i) (suc j) x (omega (arith, l)) (omega (arith, m))) (IsDistinct-tail nat_eq p.0 (q.0 ∷ map key_of rows) d))
+  where
+    less : (a b : ℕ) → a ≤ b → (a ≡ b → ⊥) → a < b
+    less a b le n = cases (nat_lt a b) (λ t. grind (arith, nat_tests, t)) (λ f. absurd (n (grind (arith, nat_tests, f, le))))
+
+nat_eq_flips : (x y : ℕ) → nat_eq x y ≡ nat_eq y x
+nat_eq_flips x y = cases (nat_eq x y) (λ t. t ∙ sym ((Decides-eqb y x).1 (sym ((Decides-eqb x y).0 t)))) (λ f. f ∙ sym (is_apart y x (λ e. differ x y f (sym e))))
+
+each_get : (P : ℕ × List ℤ → Type 0) (xs : Rows) (i : ℕ) (d : ℕ × List ℤ) → i < length xs → Each P xs → P (get_or xs i d)
+each_get P [] i d less e = absurd (omega (arith, less))
+each_get P (x ∷ xs) zero d less e = e.0
+each_get P (x ∷ xs) (suc i) d less e = let l : i < length xs = omega (arith, less) in each_get P xs i d l e.1
+
+each_permuted : (P : ℕ × List ℤ → Type 0) (xs ys : Rows) → IsPermutation xs ys → Each P xs → Each P ys
+each_permuted P xs ys q e = all_each ys (All-permutation P xs ys q (λ k d less. each_get P xs k d less e))
+  where
+    all_each : (zs : Rows) → All P zs → Each P zs
+    all_each [] a = tt
+    all_each (z ∷ zs) a = (a 0 z (omega arith), all_each zs (λ k d less. a (suc k) d (omega (arith, less))))
+
+pub all_scanned : (count : ℕ) (v w : View) (table : TableId) (low high n : ℕ) (rows sorted : Rows) → n ≡ count → IsScanned count v table low high n rows w → IsPermutation rows sorted → IsNonDecreasingBy key_of sorted → ScansAll count v table low high sorted w
+all_scanned count v w table low high n rows sorted all so_far p o =
+    let s = subst (λ m. IsScanned count v table low high m rows w) all so_far in record {
+      part = s.part;
+      joins = record {
+        ascend = ascends_sorted sorted o (IsDistinct-IsPermutation nat_eq nat_eq_flips (map key_of rows) (map key_of sorted) (IsPermutation-map key_of rows sorted p) s.distinct);
+        each = each_permuted (λ q. (b : ℕ) × (b < count) × Contains (s.part b) q) rows sorted p (each_keeps (IsOfSome count table s.part count) (λ q. (b : ℕ) × (b < count) × Contains (s.part b) q) (λ q k. k.0) rows s.each);
+        every = λ b l. each_keeps (λ q. Contains rows q) (λ q. Contains sorted q) (λ q c. Contains-permutation rows sorted q p c) (s.part b) (s.every b l);
+      };
+      gains = s.gains;
+    }

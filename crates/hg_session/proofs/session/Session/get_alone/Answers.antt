@@ -1,0 +1,43 @@
+use Rattle.std.proofs.Common.{◌≡◌, [], ◌∷◌, ◌++◌, true, false, Some, None, refl, sym, ap, ◌∙◌, subst, rules}
+use Rattle.std.specs.Prelude.{OnErr, Err}
+use Rattle.hg_base.specs.declared.statement.Statement.TheVariants as say
+use Rattle.hg_base.specs.Transcript.{only}
+use Rattle.hg_core.specs.declared.log.LogEntry.TheVariants.{Began, Over}
+use Rattle.hg_core.specs.Reading.{saw}
+use Rattle.hg_core.specs.Words.{IsBelow}
+use Rattle.hg_core.specs.Logs.{current}
+use Rattle.hg_rule.specs.Views.{session}
+use Rattle.hg_session.specs.Engines.{engine_sizes}
+use Rattle.hg_session.specs.Sessions.{view_of, left_of, written_of}
+use Rattle.hg_session.specs.Ties.{Ties}
+use Rattle.hg_session.specs.Gains.{Gains, Stays, rows_at}
+use Rattle.hg_session.proofs.Replying.{get_alone, stays_alone, rest_unwritten}
+use Rattle.hg_session.proofs.Settling.{gains_on}
+use Rattle.hg_session.proofs.session.Session.get_alone.Goals as goal
+
+pub open-snapshot-requires-clause-tables : goal.open-snapshot-requires-clause-tables
+open-snapshot-requires-clause-tables g c = c.only.ensures.below (engine_sizes c.args.engine.now).tables c.requires.table
+
+pub returns-in_err-row-clause-refused : goal.returns-in_err-row-clause-refused
+returns-in_err-row-clause-refused g c =
+    let v = view_of c.args.self.now in
+    let w = view_of c.end.new.self in
+    let none : current (session v).log ≡ None = search rules in
+    let bare = rest_unwritten _ _ 1 1 _ (session v) (subst (λ o. Ties (engine_sizes c.args.engine.now).each o (written_of c.args.self.now) (left_of c.args.self.now) 1 1 (session v)) c.requires.closed c.requires.own.ties) in
+    let two = gains_on v (view_of c.open-snapshot.new.self) (view_of c.see_row-row.new.self) _ _ c.open-snapshot.ensures.gains c.see_row-row.ensures.gains.1.0 (λ l. refl) in
+    let all = gains_on v (view_of c.see_row-row.new.self) w _ (Over ∷ []) two c.end.ensures.gains (λ l. refl) in
+    let same : c.from_residual.result ≡ Err c.in_err-row.field-0.0 = search rules in
+    subst (λ r. OnErr r (Stays v w)) (sym same) (stays_alone v w _ none bare all)
+
+pub returns-clause-reply : goal.returns-clause-reply
+returns-clause-reply g c =
+    let z = engine_sizes c.args.engine.now in
+    let v = view_of c.args.self.now in
+    let w = view_of c.end.new.self in
+    let none : current (session v).log ≡ None = search rules in
+    let row : c.in_ok-row.field-0 ≡ c.see_row-row.ensures.gains.0 = search rules in
+    let scope : c.open-snapshot.result.scope ≡ only (Some c.args.rid.table) = search rules in
+    let opened = subst (λ s. Gains v (Began c.open-snapshot.result.at s ∷ []) (view_of c.open-snapshot.new.self)) (c.only.ensures.is) c.open-snapshot.ensures.gains in
+    let two = gains_on v (view_of c.open-snapshot.new.self) (view_of c.see_row-row.new.self) _ _ opened (subst (λ r. Gains (view_of c.open-snapshot.new.self) (saw z.buckets c.args.rid (rows_at c.args.rid.key r) ∷ []) (view_of c.see_row-row.new.self)) (sym row) c.see_row-row.ensures.gains.1.0) (λ l. refl) in
+    let all = gains_on v (view_of c.see_row-row.new.self) w _ (Over ∷ []) two c.end.ensures.gains (λ l. refl) in
+    get_alone z v w c.open-snapshot.result.at c.args.rid c.in_ok-row.field-0 none c.open-snapshot.ensures.fresh all

@@ -1,0 +1,47 @@
+use Rattle.std.proofs.Common.{◌≡◌, [], ◌∷◌, ◌++◌, true, false, Some, Err, refl, sym, ap, ◌∙◌, subst, rules, append-nil, append_assoc}
+use Rattle.std.specs.Prelude.{IfSome, IfErr, ⊤}
+use Rattle.hg_base.specs.declared.statement.Statement.TheVariants as say
+use Rattle.hg_core.specs.declared.log.LogEntry.TheVariants.{Wrote}
+use Rattle.hg_core.specs.Logs.{current, own_writes}
+use Rattle.hg_rule.specs.Views.{session}
+use Rattle.hg_session.specs.Engines.{engine_sizes}
+use Rattle.hg_session.specs.Sessions.{view_of, open_of}
+use Rattle.hg_session.specs.Gains.{Gains, IsRefusedBy, outside_entries, entries_of}
+use Rattle.hg_session.specs.Replies.{Answers, refused_reply}
+use Rattle.hg_session.proofs.Replying.{nothing_more, undeclared_inside}
+use Rattle.hg_session.proofs.Putting.{puts, stored_inside, refused_inside}
+use Rattle.hg_session.proofs.Settling.{gains_on, refused_before}
+use Rattle.hg_session.proofs.session.Session.put_inside.Goals as goal
+
+pub returns-then-is_outside-clause-reply : goal.returns-then-is_outside-clause-reply
+returns-then-is_outside-clause-reply g c =
+    let z = engine_sizes c.args.engine.now in
+    let v = view_of c.args.self.now in
+    let opened : current (session v).log ≡ Some c.args.snapshot = search rules in
+    let gains = subst (λ b. Gains v (outside_entries b c.args.rid.table) (view_of c.is_outside.new.self)) c.if-is_outside.true c.is_outside.ensures.gains in
+    undeclared_inside z v (view_of c.is_outside.new.self) c.args.snapshot (say.Put c.args.rid c.args.row) c.args.rid.table opened refl refl refl gains
+
+pub returns-in-Ok-clause-reply : goal.returns-in-Ok-clause-reply
+returns-in-Ok-clause-reply g c =
+    let z = engine_sizes c.args.engine.now in
+    let v = view_of c.args.self.now in
+    let w = view_of c.write_row.new.self in
+    let opened : current (session v).log ≡ Some c.args.snapshot = search rules in
+    let none = subst (λ b. Gains v (outside_entries b c.args.rid.table) (view_of c.is_outside.new.self)) c.if-is_outside.false c.is_outside.ensures.gains in
+    let wrote = subst (λ r. Gains (view_of c.is_outside.new.self) (entries_of c.args.rid (record { row = Some c.args.row }) r) w) c.in-Ok.is c.write_row.ensures.gains in
+    let all = gains_on v (view_of c.is_outside.new.self) w [] (Wrote c.args.rid (record { row = Some c.args.row }) ∷ []) none wrote (λ l. refl) in
+    stored_inside z (say.Put c.args.rid c.args.row) nothing_more v w c.args.rid (record { row = Some c.args.row }) [] _ (puts z nothing_more (own_writes (session v).log) c.args.rid c.args.row) c.args.snapshot opened all
+
+pub returns-in-Err-clause-reply : goal.returns-in-Err-clause-reply
+returns-in-Err-clause-reply g c =
+    let z = engine_sizes c.args.engine.now in
+    let v = view_of c.args.self.now in
+    let m = view_of c.is_outside.new.self in
+    let w = view_of c.write_row.new.self in
+    let opened : current (session v).log ≡ Some c.args.snapshot = search rules in
+    let none = subst (λ b. Gains v (outside_entries b c.args.rid.table) m) c.if-is_outside.false c.is_outside.ensures.gains in
+    let wrote = subst (λ r. Gains m (entries_of c.args.rid (record { row = Some c.args.row }) r) w) c.in-Err.is c.write_row.ensures.gains in
+    let all = gains_on v m w [] (entries_of {T = ⊤} c.args.rid (record { row = Some c.args.row }) (Err c.in-Err.refusal) ++ []) none (subst (λ es. Gains m es w) (sym (append-nil _)) wrote) (λ l. sym (append_assoc (entries_of {T = ⊤} c.args.rid (record { row = Some c.args.row }) (Err c.in-Err.refusal) ++ []) [] l)) in
+    let refused = refused_before z v m c.args.snapshot.at c.in-Err.refusal _ none (subst (λ r. IfErr r (IsRefusedBy z m c.args.snapshot.at)) c.in-Err.is c.write_row.ensures.refused) in
+    subst (λ e. IfSome (refused_reply false e) (λ reply. Answers z v (say.Put c.args.rid c.args.row) reply w)) (sym c.refused_at.ensures)
+    (refused_inside z (say.Put c.args.rid c.args.row) nothing_more v w c.args.rid (record { row = Some c.args.row }) [] _ (puts z nothing_more (own_writes (session v).log) c.args.rid c.args.row) c.args.snapshot c.args.snapshot.at c.in-Err.refusal opened all refused)

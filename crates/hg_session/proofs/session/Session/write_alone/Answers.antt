@@ -1,0 +1,56 @@
+use Rattle.std.proofs.Common.{◌≡◌, [], ◌∷◌, ◌++◌, true, false, Some, Ok, Err, refl, sym, ap, ◌∙◌, subst, rules, append_assoc, map}
+use Rattle.std.specs.Prelude.{IfSome, IfErr, IfOk, is_some, OnErr, ⊤}
+use Rattle.hg_base.specs.Replies.{is_written}
+use Rattle.hg_core.specs.declared.log.LogEntry.TheVariants.{Wrote, Undid, Over}
+use Rattle.hg_core.specs.Logs.{current, own_writes}
+use Rattle.hg_core.specs.Reading.{close, UndoesAll}
+use Rattle.hg_rule.specs.Views.{session}
+use Rattle.hg_session.specs.Engines.{engine_sizes}
+use Rattle.hg_session.specs.Sessions.{view_of, written_of}
+use Rattle.hg_session.specs.Gains.{Gains, IsAfter, IsRefusedBy, entries_of, number_in}
+use Rattle.hg_session.specs.Alone.{WritesAlone, IsRefusedAlone}
+use Rattle.hg_session.proofs.Replying.{no_writes}
+use Rattle.hg_session.proofs.Putting.{nothing_undone, refused_over, refused_bare, committed_alone}
+use Rattle.hg_session.proofs.Settling.{gains_on}
+use Rattle.hg_session.proofs.session.Session.write_alone.Goals as goal
+
+pub returns-in-Err-clause-refused : goal.returns-in-Err-clause-refused
+returns-in-Err-clause-refused g c =
+    let z = engine_sizes c.args.engine.now in
+    let v = view_of c.args.self.now in
+    let m = view_of c.write_row.new.self in
+    let w = view_of c.roll_back.new.self in
+    let r = c.roll_back.ensures.gains in
+    let wrote = subst (λ x. Gains v (entries_of c.args.rid c.args.image x) m) c.in-Err.is c.write_row.ensures.gains in
+    let bare = refused_bare v m c.args.rid c.args.image c.in-Err.refusal wrote (no_writes (written_of c.args.self.now) (session v).log c.requires.own.ties.plain c.requires.own.ties.written_is c.requires.unwritten) in
+    let none = nothing_undone r.0 (subst (λ own. UndoesAll own r.0) bare r.1.0) in
+    let over = subst (λ rids. Gains m (Over ∷ map Undid rids) w) none r.1.1 in
+    let refused = subst (λ x. IfErr x (IsRefusedBy z v c.args.snapshot.at)) c.in-Err.is c.write_row.ensures.refused in
+    subst (IsRefusedAlone z v c.args.rid c.args.snapshot.at w) (sym c.refused_at.ensures) (refused_over z v m w c.args.rid c.args.image c.args.snapshot.at c.in-Err.refusal wrote over refused)
+
+pub returns-in-Ok-clause-stored : goal.returns-in-Ok-clause-stored
+returns-in-Ok-clause-stored g c =
+    let v = view_of c.args.self.now in
+    let m = view_of c.write_row.new.self in
+    let w = view_of c.close.new.self in
+    let r = c.in-Ok.receipt in
+    let is : c.write_row.result ≡ Ok tt = search rules in
+    let wrote = subst (λ x. Gains v (entries_of c.args.rid c.args.image x) m) is c.write_row.ensures.gains in
+    let closes : Gains m (close (number_in r)) w = subst (λ x. IfOk x (λ receipt. Gains m (close (number_in receipt)) w)) c.in-Ok.is c.close.ensures.gains in
+    let some : is_some r ≡ is_written (own_writes (session m).log) = subst (λ x. IfOk x (λ receipt. is_some receipt ≡ is_written (own_writes (session m).log))) c.in-Ok.is c.close.ensures.wrote in
+    let after : IfSome (number_in r) (IsAfter m.sights c.args.snapshot.at) = subst (λ x. IfOk x (λ receipt. IfSome (number_in receipt) (IsAfter m.sights c.args.snapshot.at))) c.in-Ok.is c.close.ensures.after in
+    let number : c.map.result ≡ number_in r = search rules in
+    subst (WritesAlone v c.args.rid c.args.image c.args.snapshot.at w) (sym number) (committed_alone v m w c.args.rid c.args.image c.args.snapshot.at r wrote closes some after)
+
+pub returns-in-Err-close-clause-refused : goal.returns-in-Err-close-clause-refused
+returns-in-Err-close-clause-refused g c =
+    let v = view_of c.args.self.now in
+    let m = view_of c.write_row.new.self in
+    let n = view_of c.close.new.self in
+    let w = view_of c.roll_back-in-Err-close.new.self in
+    let r = c.roll_back-in-Err-close.ensures.gains in
+    let is : c.write_row.result ≡ Ok tt = search rules in
+    let wrote = subst (λ x. Gains v (entries_of c.args.rid c.args.image x) m) is c.write_row.ensures.gains in
+    let same : n ≡ m = search rules in
+    let undid = subst (λ x. Gains x (Over ∷ map Undid r.0) w) same r.1.1 in
+    (map Undid r.0 ++ Wrote c.args.rid c.args.image ∷ [], gains_on v m w (Wrote c.args.rid c.args.image ∷ []) (Over ∷ map Undid r.0) wrote undid (λ l. sym (append_assoc (Over ∷ map Undid r.0) (Wrote c.args.rid c.args.image ∷ []) l)))
