@@ -13,8 +13,9 @@ use Rattle.hg_chain.specs.declared.version.Stamp.TheVariants.{Written, Numbered}
 use Rattle.hg_chain.specs.declared.version.Version.{Version}
 use Rattle.hg_space.specs.Places.{Oldest}
 use Rattle.hg_bucket.specs.Held.{Kept, versions_of, record_at}
-use Rattle.hg_bucket.specs.Parts.{kept_as, whole, IsNextLong}
+use Rattle.hg_bucket.specs.Parts.{kept_as, whole}
 use Rattle.hg_bucket.specs.Sweeping.{is_long, is_looked_at, sweep_steps}
+use Rattle.hg_bucket.specs.Long.{IsNextLong}
 use Rattle.hg_bucket.proofs.Bare.{whole_sum}
 
 -- what one record costs, for so many snapshots

@@ -1,6 +1,6 @@
 -- The chains of a table from a key on.
-use Rattle.std.proofs.Common.{◌≡◌, ℕ, ◌+◌, ◌≤◌, ◌<◌, List, [], ◌∷◌, Option, Some, None, refl, sym, ◌∙◌, subst, arith}
-use Rattle.std.specs.Prelude.{IsSome}
+use Rattle.std.proofs.Common.{◌≡◌, ℕ, ◌+◌, ◌≤◌, ◌<◌, List, [], ◌∷◌, Option, Some, None, refl, sym, ap, ◌∙◌, subst, arith}
+use Rattle.std.specs.Prelude.{IsSome, is_some}
 use Rattle.std.specs.Map.{lookup}
 use Rattle.std.specs.BTreeMap.{BTreeMap}
 use Rattle.std.specs.BTreeMap.Range.{IsRangeOf, IsLeBy, IsLtBy}
@@ -32,6 +32,7 @@ over_record t key r h = grind (arith, nat_tests, h)
 pub record First (m : BTreeMap Rid (List Version)) (t : TableId) (from : ℕ) (r : Rid) : Type 0 where
   pub above : IsLeBy rid_cmp (record_at t from) r
   pub least : (k : ℕ) → from ≤ k → IsSome (lookup (same_rid (record_at t k)) m.entries) → IsLeBy rid_cmp r (record_at t k)
+  pub there : IsSome (lookup (same_rid r) m.entries)
 
 pub none_from : (m : BTreeMap Rid (List Version)) (t : TableId) (from : ℕ) (rs : List (Rid × List Version)) → FromKey m t from rs → rs ≡ [] → IsNextChain m.entries t from None
 none_from m t from rs h e k le = sym (looked_up m.entries (record_at t k)) ∙ h.5 e (record_at t k) (le_keys (record_at t from) (record_at t k) refl le, tt)
@@ -42,12 +43,12 @@ none_over m t key rs h e k le = sym (looked_up m.entries (record_at t k)) ∙ h.
 pub first_from : (m : BTreeMap Rid (List Version)) (t : TableId) (from : ℕ) (rs : List (Rid × List Version)) (r : Rid) (vs : List Version) (more : List (Rid × List Version)) → FromKey m t from rs → rs ≡ (r, vs) ∷ more → First m t from r
 first_from m t from rs r vs more h e =
     let k : FromKey m t from ((r, vs) ∷ more) = subst (FromKey m t from) e h in
-    record { above = k.1.0.0; least = λ n le there. k.2 (record_at t n) (le_keys (record_at t from) (record_at t n) refl le, tt) (subst IsSome (sym (looked_up m.entries (record_at t n))) there) }
+    record { above = k.1.0.0; least = λ n le there. k.2 (record_at t n) (le_keys (record_at t from) (record_at t n) refl le, tt) (subst IsSome (sym (looked_up m.entries (record_at t n))) there); there = ap is_some (sym (looked_up m.entries r) ∙ k.1.1) }
 
 pub first_over : (m : BTreeMap Rid (List Version)) (t : TableId) (key : ℕ) (rs : List (Rid × List Version)) (r : Rid) (vs : List Version) (more : List (Rid × List Version)) → OverKey m t key rs → rs ≡ (r, vs) ∷ more → First m t (key + 1) r
 first_over m t key rs r vs more h e =
     let k : OverKey m t key ((r, vs) ∷ more) = subst (OverKey m t key) e h in
-    record { above = over_record t key r k.1.0.0; least = λ n le there. k.2 (record_at t n) (over_keys t key n le, tt) (subst IsSome (sym (looked_up m.entries (record_at t n))) there) }
+    record { above = over_record t key r k.1.0.0; least = λ n le there. k.2 (record_at t n) (over_keys t key n le, tt) (subst IsSome (sym (looked_up m.entries (record_at t n))) there); there = ap is_some (sym (looked_up m.entries r) ∙ k.1.1) }
 
 pub none_where : {X : Type 0} (o : Option X) → (IsSome o → ⊥) → o ≡ None
 none_where None h = refl
@@ -63,7 +64,7 @@ next_other m t from r first apart k le = none_where (lookup (same_rid (record_at
         apart (omega (arith, low, high))
 
 pub next_found : (m : BTreeMap Rid (List Version)) (t : TableId) (from : ℕ) (r : Rid) → First m t from r → r.table.0 ≡ t.0 → IsNextChain m.entries t from (Some r.key)
-next_found m t from r first same = (le_in_table (record_at t from) r first.above (sym same), λ k le less. none_where (lookup (same_rid (record_at t k)) m.entries) (none k le less))
+next_found m t from r first same = (le_in_table (record_at t from) r first.above (sym same), subst (λ q. IsSome (lookup (same_rid q) m.entries)) (λ i. record { table = record { 0 = same i }; key = r.key }) first.there, λ k le less. none_where (lookup (same_rid (record_at t k)) m.entries) (none k le less))
   where
     none : (k : ℕ) → from ≤ k → k < r.key → IsSome (lookup (same_rid (record_at t k)) m.entries) → ⊥
     none k le less there = let at : r.key ≤ k = le_in_table r (record_at t k) (first.least k le there) same in omega (arith, at, less)

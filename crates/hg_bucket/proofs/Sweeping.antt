@@ -31,6 +31,7 @@ pub record Sweeps (horizon : ℕ) (xs : List ℕ) (es : List (Rid × ℕ)) (cs d
   pub clean : IsClean horizon xs (versions_of (records_of es ds seats) r)
   pub others : OthersStay (records_of es cs places) (records_of es ds seats) r
   pub few : gone ≤ left (records_of es cs places)
+  pub lost : length (versions_of (records_of es ds seats) r) + gone ≡ length (versions_of (records_of es cs places) r)
   pub left : left (records_of es ds seats) + gone ≡ left (records_of es cs places)
 
 row_left : (im : Oldest) (b : Bool) → IsRow im → IsRow (less_base b im)
@@ -46,6 +47,7 @@ sweeps horizon xs es cs ds places seats r p b gone index old s turns =
       others = turned_others es cs ds places seats r p ws to turns;
       left = omega (arith, turned_left es cs ds places seats r p ws to index turns, many);
       few = omega (arith, turned_left es cs ds places seats r p ws to index turns, many);
+      lost = (λ i. length (now i) + (gone + cond {A = ℕ} b 1 0)) ∙ many ∙ (λ i. length (sym there i));
     }
   where
     vs : List Version

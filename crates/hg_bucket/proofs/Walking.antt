@@ -6,10 +6,8 @@ use Rattle.hg_base.specs.declared.rid.Rid.{Rid}
 use Rattle.hg_base.specs.declared.rid.TableId.{TableId}
 use Rattle.hg_base.specs.History.{same_rid}
 use Rattle.hg_bucket.specs.Held.{Kept, versions_of, record_at, cut_at, left, OthersStay}
-use Rattle.hg_bucket.specs.Parts.{IsSettled, IsNextLong}
+use Rattle.hg_bucket.specs.Long.{IsShort, IsNextLong}
 use Rattle.hg_bucket.specs.Sweeping.{swept, IsClean}
-use Rattle.hg_bucket.proofs.Settling.{settled_cut}
-use Rattle.hg_bucket.proofs.Sweeps.{settled_swept, settled_clean}
 
 -- before the next key, and from it on
 abbrev pub IsBefore : ℕ → Option ℕ → Type 0
@@ -33,8 +31,8 @@ pub record Walks (Done : List Kept → List Kept → Type 0) (t : TableId) (old 
   pub fits : IfSome next (λ k. k < 2 ^ 64)
 
 -- what can't be shortened stays
-abbrev pub KeepsSettled : (List Kept → List Kept → Type 0) → Type 0
-KeepsSettled Done = (vs : List Kept) → IsSettled vs → Done vs vs
+abbrev pub KeepsShort : (List Kept → List Kept → Type 0) → Type 0
+KeepsShort Done = (vs : List Kept) → IsShort vs → Done vs vs
 
 pub keys_apart : (t : TableId) (n k : ℕ) → (n ≡ k → ⊥) → same_rid (record_at t n) (record_at t k) ≡ false
 keys_apart t n k h = grind (arith, nat_tests, h)
@@ -46,14 +44,14 @@ tables_apart t n q h = go (t.0 == q.table.0) refl
     go true e = let same : q.table.0 ≡ t.0 = grind (arith, nat_tests, e) in absurd (h (λ i. record { 0 = same i }))
     go false e = grind (arith, nat_tests, e)
 
-pub settled_before : (records : List (Rid × List Kept)) (t : TableId) (from : ℕ) (next : Option ℕ) → IsNextLong records t from next → (k : ℕ) → from ≤ k → IsBefore k next → IsSettled (versions_of records (record_at t k))
-settled_before records t from None h k le before = h k le
-settled_before records t from (Some n) h k le before = h.1 k le before
+pub short_before : (records : List (Rid × List Kept)) (t : TableId) (from : ℕ) (next : Option ℕ) → IsNextLong records t from next → (k : ℕ) → from ≤ k → IsBefore k next → IsShort (versions_of records (record_at t k))
+short_before records t from None h k le before = h k le
+short_before records t from (Some n) h k le before = h.2 k le before
 
-pub begins : (Done : List Kept → List Kept → Type 0) (t : TableId) (old : List (Rid × List Kept)) (next : Option ℕ) → KeepsSettled Done → IsNextLong old t 0 next → IfSome next (λ k. k < 2 ^ 64) → Walks Done t old old next 0
+pub begins : (Done : List Kept → List Kept → Type 0) (t : TableId) (old : List (Rid × List Kept)) (next : Option ℕ) → KeepsShort Done → IsNextLong old t 0 next → IfSome next (λ k. k < 2 ^ 64) → Walks Done t old old next 0
 begins Done t old next keeps h fits =
     record {
-      done = λ k before. keeps (versions_of old (record_at t k)) (settled_before old t 0 next h k (omega arith) before);
+      done = λ k before. keeps (versions_of old (record_at t k)) (short_before old t 0 next h k (omega arith) before);
       rest = λ k from. refl;
       others = λ q apart. refl;
       left = omega arith;
@@ -64,7 +62,7 @@ pub over : (records : List (Rid × List Kept)) (t : TableId) (n : ℕ) (next : O
 over records t n None h k from = absurd from
 over records t n (Some m) h k from = let le : n + 1 ≤ m = h.0 in omega (arith, le, from)
 
-pub goes : (Done : List Kept → List Kept → Type 0) (t : TableId) (old now new : List (Rid × List Kept)) (n : ℕ) (next : Option ℕ) (gone more : ℕ) → KeepsSettled Done → Walks Done t old now (Some n) gone → Done (versions_of now (record_at t n)) (versions_of new (record_at t n)) → OthersStay now new (record_at t n) → left new + more ≡ left now → IsNextLong new t (n + 1) next → IfSome next (λ k. k < 2 ^ 64) → Walks Done t old new next (gone + more)
+pub goes : (Done : List Kept → List Kept → Type 0) (t : TableId) (old now new : List (Rid × List Kept)) (n : ℕ) (next : Option ℕ) (gone more : ℕ) → KeepsShort Done → Walks Done t old now (Some n) gone → Done (versions_of now (record_at t n)) (versions_of new (record_at t n)) → OthersStay now new (record_at t n) → left new + more ≡ left now → IsNextLong new t (n + 1) next → IfSome next (λ k. k < 2 ^ 64) → Walks Done t old new next (gone + more)
 goes Done t old now new n next gone more keeps h here others count long fits =
     record {
       done = done;
@@ -82,7 +80,7 @@ goes Done t old now new n next gone more keeps h here others count long fits =
         go false true e f =
             let less : n < k = grind (arith, nat_tests, f) in
             let same = others (record_at t k) (keys_apart t n k (λ e. omega (arith, less, e))) ∙ h.rest k (omega (arith, less)) in
-            subst (λ vs. Done vs (versions_of new (record_at t k))) same (keeps (versions_of new (record_at t k)) (settled_before new t (n + 1) next long k (omega (arith, less)) before))
+            subst (λ vs. Done vs (versions_of new (record_at t k))) same (keeps (versions_of new (record_at t k)) (short_before new t (n + 1) next long k (omega (arith, less)) before))
         go false false e f =
             let same : n ≡ k = grind (arith, nat_tests, e, f) in
             subst (λ x. Done (versions_of old (record_at t x)) (versions_of new (record_at t x))) same (subst (λ vs. Done vs (versions_of new (record_at t n))) (h.rest n (omega arith)) here)
@@ -92,14 +90,14 @@ goes Done t old now new n next gone more keeps h here others count long fits =
 abbrev pub Cut : ℕ → List Kept → List Kept → Type 0
 Cut bound vs ws = ws ≡ cut_at bound vs
 
-pub cut_keeps : (bound : ℕ) → KeepsSettled (Cut bound)
-cut_keeps bound vs h = sym (settled_cut bound vs h)
+pub cut_keeps : (bound : ℕ) → KeepsShort (Cut bound)
+cut_keeps bound vs h = sym (h.cut bound)
 
 abbrev pub Swept : ℕ → List ℕ → List Kept → List Kept → Type 0
 Swept horizon snapshots vs ws = (ws ≡ swept horizon snapshots vs) × IsClean horizon snapshots ws
 
-pub swept_keeps : (horizon : ℕ) (snapshots : List ℕ) → KeepsSettled (Swept horizon snapshots)
-swept_keeps horizon snapshots vs h = (settled_swept horizon snapshots vs h, settled_clean horizon snapshots vs h)
+pub swept_keeps : (horizon : ℕ) (snapshots : List ℕ) → KeepsShort (Swept horizon snapshots)
+swept_keeps horizon snapshots vs h = (sym (h.swept horizon snapshots), h.clean horizon snapshots)
 
 pub nearer : (records : List (Rid × List Kept)) (t : TableId) (n : ℕ) (next : Option ℕ) → n < 2 ^ 64 → IsNextLong records t (n + 1) next → to_go next < to_go (Some n)
 nearer records t n None fits h = omega (arith, fits)

@@ -2,4 +2,5 @@
 pub mod Held
 pub mod Conflicts
 pub mod Sweeping
+pub mod Long
 pub mod Parts

@@ -14,7 +14,7 @@ use Rattle.hg_chain.specs.declared.version.Version.{Version}
 use Rattle.hg_base.specs.RidOrder.{rid_cmp}
 use Rattle.hg_space.specs.Places.{Seat, Oldest, image_at, IsTaken, free}
 use Rattle.hg_space.specs.Index.{AreTaken, place_of}
-use Rattle.hg_bucket.specs.Held.{Kept, versions_of, record_at}
+use Rattle.hg_bucket.specs.Held.{Kept, record_at}
 
 -- a version of a chain
 abbrev pub kept_as : Stamp → Image → Kept
@@ -92,14 +92,7 @@ abbrev pub IsNextChain : List (Rid × List Version) → TableId → ℕ → Opti
 IsNextChain chains table from found =
     MatchOption found
     ((k : ℕ) → from ≤ k → lookup (same_rid (record_at table k)) chains ≡ None)
-    (λ least. (from ≤ least) × ((k : ℕ) → from ≤ k → k < least → lookup (same_rid (record_at table k)) chains ≡ None))
-
--- below that key nothing can be shortened from the number on
-abbrev pub IsNextLong : List (Rid × List Kept) → TableId → ℕ → Option ℕ → Type 0
-IsNextLong records table from found =
-    MatchOption found
-    ((k : ℕ) → from ≤ k → IsSettled (versions_of records (record_at table k)))
-    (λ least. (from ≤ least) × ((k : ℕ) → from ≤ k → k < least → IsSettled (versions_of records (record_at table k))))
+    (λ least. (from ≤ least) × IsSome (lookup (same_rid (record_at table least)) chains) × ((k : ℕ) → from ≤ k → k < least → lookup (same_rid (record_at table k)) chains ≡ None))
 
 -- ---- changing the parts
 

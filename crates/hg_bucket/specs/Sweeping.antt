@@ -1,5 +1,5 @@
 -- What a sweep of a table removes, and how many steps it may take.
-use Rattle.std.specs.Prelude.{ℕ, ◌+◌, List, [], ◌∷◌, map, filter, length, sum_by, Bool, true, false, not, ◌&&◌, ◌==◌, Option, None, is_some}
+use Rattle.std.specs.Prelude.{ℕ, ◌+◌, List, [], ◌∷◌, map, filter, length, sum_by, Bool, true, false, not, ◌&&◌, ◌==◌, Option, None, is_some, if◌then◌else◌}
 use Rattle.hg_base.specs.declared.rid.Rid.{Rid}
 use Rattle.hg_base.specs.declared.rid.TableId.{TableId}
 use Rattle.hg_base.specs.Lists.{Each}
@@ -29,6 +29,10 @@ abbrev pub is_long : List Kept → Bool
 is_long [] = false
 is_long (v ∷ []) = is_some v.by
 is_long (v ∷ w ∷ vs) = true
+
+-- at most so many steps for one record: its versions and the snapshots
+abbrev pub record_steps : List ℕ → List Kept → ℕ
+record_steps snapshots vs = if is_long vs then length vs + length snapshots else 0
 
 abbrev pub is_looked_at : TableId → Rid × List Kept → Bool
 is_looked_at table e = (e.0.table.0 == table.0) && is_long e.1

@@ -11,7 +11,8 @@ ghost use Rattle.hg_bucket.specs.declared.refusal.WriteRefusal.TheVariants.{Open
 ghost use Rattle.hg_bucket.specs.Conflicts.{holder, newer, IsCause};
 ghost use Rattle.hg_base.specs.declared.writer.Writer.{Writer};
 ghost use Rattle.hg_chain.specs.Sweeps.{Rises, IsProtected};
-ghost use Rattle.hg_bucket.specs.Sweeping.{swept, IsClean, sweep_steps};
+ghost use Rattle.hg_bucket.specs.Sweeping.{swept, IsClean, record_steps, sweep_steps};
+ghost use Rattle.hg_bucket.specs.Long.{IsNextLong};
 ghost use Rattle.hg_bucket.specs.Held.{versions_of, begins_open, installed, stamped, OthersStay, IsBelow, read_at, record_at, cut_at, left, counts_of, IsBalanced, IsNextKey};
 
 use crate::records::Records;
@@ -112,7 +113,7 @@ impl Bucket {
         self.records.stamp(rid, by, number);
     }
 
-    /// Cuts a record's versions at a bound. The answer says how many went.
+    /// Cuts a record's versions at a bound, for the group collector. The answer says how many went.
     pub fn cut_record(&mut self, rid: Rid, bound: u64) -> u64
         ensures here { versions_of self.new.records rid ≡ cut_at bound (versions_of self.old.records rid) }
         ensures others { OthersStay self.old.records self.new.records rid }
@@ -122,6 +123,57 @@ impl Bucket {
         let gone = self.records.cut(rid, bound);
         self.group += gone;
         gone
+    }
+
+    /// The same for the table collector.
+    pub fn cut_for_table(&mut self, rid: Rid, bound: u64) -> u64
+        ensures here { versions_of self.new.records rid ≡ cut_at bound (versions_of self.old.records rid) }
+        ensures others { OthersStay self.old.records self.new.records rid }
+        ensures gone { length (versions_of self.new.records rid) + result ≡ length (versions_of self.old.records rid) }
+        ensures table { self.new ≡ record self.old { records = self.new.records; table = self.old.table + result } }
+    {
+        let gone = self.records.cut(rid, bound);
+        self.table += gone;
+        gone
+    }
+
+    /// Removes of a record every version that no snapshot sees, as `sweep` does of each record of a table. The answer says how
+    /// many went.
+    pub fn sweep_record<L: Ledger>(
+        &mut self,
+        rid: Rid,
+        horizon: u64,
+        snapshots: &[u64],
+        steps: &mut Steps<L>,
+    ) -> u64
+        requires { Rises snapshots.now }
+        ensures here { versions_of self.new.records rid ≡ swept horizon snapshots.now (versions_of self.old.records rid) }
+        ensures clean { IsClean horizon snapshots.now (versions_of self.new.records rid) }
+        ensures seen { (s : ℕ) (own : Writer) → IsProtected horizon snapshots.now s → read_at own s (versions_of self.new.records rid) ≡ read_at own s (versions_of self.old.records rid) }
+        ensures others { OthersStay self.old.records self.new.records rid }
+        ensures gone { length (versions_of self.new.records rid) + result ≡ length (versions_of self.old.records rid) }
+        ensures interval { self.new ≡ record self.old { records = self.new.records; interval = self.old.interval + result } }
+        ensures cost { steps.new ≤ steps.old + record_steps snapshots.now (versions_of self.old.records rid) }
+    {
+        let swept = self.records.sweep(rid, horizon, snapshots, steps);
+        self.interval += swept;
+        swept
+    }
+
+    /// The least key of a table whose record can be shortened: it has more than its oldest image.
+    pub fn first_long(&self, table: TableId) -> Option<u64>
+        ensures next { IsNextLong self.now.records table 0 result }
+        ensures fits { IfSome result (λ key. key < 2 ^ 64) }
+    {
+        self.records.first_long(table)
+    }
+
+    /// The least such key over another.
+    pub fn long_after(&self, table: TableId, key: u64) -> Option<u64>
+        ensures next { IsNextLong self.now.records table (key + 1) result }
+        ensures fits { IfSome result (λ key. key < 2 ^ 64) }
+    {
+        self.records.long_after(table, key)
     }
 
     /// Cuts each record of a table at a bound. The answer says how many versions went. A record that has only its oldest
@@ -163,7 +215,8 @@ impl Bucket {
 
     /// The least key of a table at or over a number, of those that have a version.
     pub fn next_key(&self, table: TableId, from: u64) -> Option<u64>
-        ensures { IsNextKey self.now.records table from result }
+        ensures next { IsNextKey self.now.records table from result }
+        ensures there { IfSome result (λ key. 0 < length (versions_of self.now.records (record_at table key))) }
     {
         self.records.next_key(table, from)
     }

@@ -10,10 +10,11 @@ ghost use Rattle.std.specs.Option.{option_copied};
 ghost use Rattle.hg_space.specs.Places as seat;
 ghost use Rattle.hg_space.specs.Places.{IsTaken};
 ghost use Rattle.hg_space.specs.Index.{AreTaken, place_of, IsIndex};
-ghost use Rattle.hg_bucket.specs.Parts.{oldest_by, records_of, AreWhole, IsNextLong};
+ghost use Rattle.hg_bucket.specs.Parts.{oldest_by, records_of, AreWhole};
 ghost use Rattle.hg_bucket.specs.Conflicts.{conflict, NoOther, holder, newer, IsCause};
 ghost use Rattle.hg_chain.specs.Sweeps.{Rises};
-ghost use Rattle.hg_bucket.specs.Sweeping.{swept, IsClean, is_long, sweep_steps};
+ghost use Rattle.hg_bucket.specs.Sweeping.{swept, IsClean, record_steps, sweep_steps};
+ghost use Rattle.hg_bucket.specs.Long.{IsNextLong};
 ghost use Rattle.hg_bucket.specs.Held.{versions_of, begins_open, installed, stamped, OthersStay, IsBelow, read_at, record_at, cut_at, IsNextKey, left};
 
 use crate::chains::{self, Chains};
@@ -74,7 +75,8 @@ impl Records {
 
     /// The least key of a table at or over a number, of those that have a version.
     pub fn next_key(&self, table: TableId, from: u64) -> Option<u64>
-        ensures { IsNextKey self.now table from result }
+        ensures next { IsNextKey self.now table from result }
+        ensures there { IfSome result (λ key. 0 < length (versions_of self.now (record_at table key))) }
     {
         self.index.next_key(table, from)
     }
@@ -181,15 +183,16 @@ impl Records {
         gone
     }
 
-    // The least key of a table whose record can be shortened: those below it can't.
-    fn first_long(&self, table: TableId) -> Option<u64>
+    /// The least key of a table whose record can be shortened.
+    pub fn first_long(&self, table: TableId) -> Option<u64>
         ensures next { IsNextLong self.now table 0 result }
         ensures fits { IfSome result (λ key. key < 2 ^ 64) }
     {
         chains::first(&self.chains, table)
     }
 
-    fn long_after(&self, table: TableId, key: u64) -> Option<u64>
+    /// The least key of a table over another whose record can be shortened.
+    pub fn long_after(&self, table: TableId, key: u64) -> Option<u64>
         ensures next { IsNextLong self.now table (key + 1) result }
         ensures fits { IfSome result (λ key. key < 2 ^ 64) }
     {
@@ -213,7 +216,7 @@ impl Records {
     }
 
     /// Removes every version of a record that no snapshot sees. The answer says how many went.
-    fn sweep<L: Ledger>(
+    pub fn sweep<L: Ledger>(
         &mut self,
         rid: Rid,
         horizon: u64,
@@ -225,8 +228,9 @@ impl Records {
         ensures here { versions_of self.new rid ≡ swept horizon snapshots.now (versions_of self.old rid) }
         ensures clean { IsClean horizon snapshots.now (versions_of self.new rid) }
         ensures others { OthersStay self.old self.new rid }
+        ensures gone { length (versions_of self.new rid) + result ≡ length (versions_of self.old rid) }
         ensures left { left self.new + result ≡ left self.old }
-        ensures cost { steps.new ≤ steps.old + (if is_long (versions_of self.old rid) then length (versions_of self.old rid) + length snapshots.now else 0) }
+        ensures cost { steps.new ≤ steps.old + record_steps snapshots.now (versions_of self.old rid) }
     {
         let Some(place) = self.index.place(rid) else {
             return 0;

@@ -96,6 +96,12 @@ fn cut(run: Run, rid: Rid, bound: u64) -> (Run, u64) {
     (Run { bucket, next }, gone)
 }
 
+fn cut_for_table(run: Run, rid: Rid, bound: u64) -> (Run, u64) {
+    let Run { mut bucket, next } = run;
+    let gone = bucket.cut_for_table(rid, bound);
+    (Run { bucket, next }, gone)
+}
+
 fn cut_table(run: Run, table: TableId, bound: u64) -> (Run, u64) {
     let Run { mut bucket, next } = run;
     let gone = bucket.cut_table(table, bound);
@@ -118,6 +124,30 @@ fn sweep<L: Ledger>(
     let mut steps: Steps<L> = Steps::new(blank);
     let gone = bucket.sweep(table, horizon, snapshots, &mut steps);
     (Run { bucket, next }, gone)
+}
+
+fn sweep_record<L: Ledger>(
+    blank: Blank,
+    run: Run,
+    rid: Rid,
+    horizon: u64,
+    snapshots: &[u64],
+) -> (Run, u64)
+    requires name { blank.name ≡ L.name }
+    requires parts { blank.parts ≡ L.parts }
+    requires some { 0 < blank.parts }
+    requires rises { Rises snapshots.now }
+{
+    let Run { mut bucket, next } = run;
+    let mut steps: Steps<L> = Steps::new(blank);
+    let gone = bucket.sweep_record(rid, horizon, snapshots, &mut steps);
+    (Run { bucket, next }, gone)
+}
+
+fn sweep_one(run: Run, rid: Rid, horizon: u64, snapshots: &[u64]) -> (Run, u64)
+    requires { Rises snapshots.now }
+{
+    sweep_record::<Brand>(Blank::new(1), run, rid, horizon, snapshots)
 }
 
 // ---- the same by a plain list
@@ -395,5 +425,36 @@ fn a_bucket_does_as_a_plain_list(rt: HostRuntime) -> Result<(), Fail> {
             }
         }
     }
+    Ok(())
+}
+
+// A record that has only its oldest image is passed over. What is cut or swept one record at a time is counted for its kind.
+#[test]
+fn long_records_are_named(rt: HostRuntime) -> Result<(), Fail> {
+    let mut run = Run {
+        bucket: Bucket::new(rt.alloc()),
+        next: 1,
+    };
+    for (table, key) in [(1, 5), (1, 5), (1, 9), (2, 4), (1, 9)] {
+        run = commit(run, rid(table, key), image(rt.alloc(), Some(10))?)?;
+    }
+    assert_eq!(rt; run.bucket.first_long(TableId(1)), Some(5));
+    assert_eq!(rt; run.bucket.long_after(TableId(1), 5), Some(9));
+    assert_eq!(rt; run.bucket.long_after(TableId(1), 9), None);
+    let mut gone;
+    (run, gone) = cut_for_table(run, rid(1, 5), 2);
+    assert_eq!(rt; gone, 1);
+    assert_eq!(rt; run.bucket.first_long(TableId(1)), Some(9));
+    (run, gone) = sweep_one(run, rid(1, 9), 5, &[4]);
+    assert_eq!(rt; gone, 0);
+    (run, gone) = sweep_one(run, rid(1, 9), 5, &[2, 5]);
+    assert_eq!(rt; gone, 1);
+    assert_eq!(rt; run.bucket.first_long(TableId(2)), Some(4));
+    assert_eq!(rt; run.bucket.first_long(TableId(3)), None);
+    let counts = run.bucket.counts();
+    assert_eq!(rt;
+        (counts.group, counts.table, counts.interval, counts.left),
+        (0, 1, 1, 3)
+    );
     Ok(())
 }

@@ -18,3 +18,6 @@ pub mod ScanningKeys
 pub mod ScanningRows
 pub mod ScanningLooks
 pub mod ScanningOrder
+pub mod Quiet
+pub mod Cutting
+pub mod Leaving

@@ -15,3 +15,5 @@ pub mod Ended
 pub mod Finished
 -- What it counts then.
 pub mod Visited
+-- What it makes of the buckets then.
+pub mod Settled

@@ -20,6 +20,9 @@
 
 mod answers;
 mod closing;
+mod cuts;
+#[cfg(test)]
+mod cuts_tests;
 mod engine;
 mod finishing;
 mod meeting;
@@ -36,6 +39,7 @@ mod totals;
 mod writing;
 
 pub use answers::{Deleted, Ended, GetRefusal, PutRefusal, Read, Scanned, Written};
+pub use cuts::settle;
 pub use engine::Engine;
 pub use finishing::finish_all;
 pub use opening::{Passes, TableDecl};

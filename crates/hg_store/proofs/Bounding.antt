@@ -20,7 +20,7 @@ use Rattle.hg_core.specs.Contents.{versions}
 use Rattle.hg_core.specs.Covered.{last_pair, MayCommit}
 use Rattle.hg_core.specs.Logs.{wrotes, own_writes, open_in}
 use Rattle.hg_core.specs.Phases.{IsSession}
-use Rattle.hg_core.specs.Counters.{is_of, first_writes}
+use Rattle.hg_core.specs.Counters.{total, is_of, first_writes}
 use Rattle.hg_core.specs.Ordered.{Falls}
 use Rattle.hg_core.specs.State.{CoreState}
 use Rattle.hg_core.specs.Invariant.{IsSteady}
@@ -51,6 +51,13 @@ made_below s h j b is room =
     let most : (k : ℕ) → first_writes (is_of s.buckets b) (s.log k) ≤ s.each = λ k. omega (arith, firsts_most (is_of s.buckets b) (s.log k), h.logs_answer.written k) in
     let more = sum_more s.sessions (λ k. first_writes (is_of s.buckets b) (s.log k)) (λ k. s.each) j is.first is.last most (omega (arith, firsts_most (is_of s.buckets b) (s.log j), room)) in
     omega (arith, all, more, sum_most s.sessions s.each (λ k. s.each) (λ k. omega arith))
+
+-- and what it holds is at most as much
+pub total_most : (s : CoreState) → IsSteady s → (b : ℕ) → total (s.bucket b) ≤ s.sessions * s.each
+total_most s h b =
+    let all = h.counters_balance.made b in
+    let most : (k : ℕ) → first_writes (is_of s.buckets b) (s.log k) ≤ s.each = λ k. omega (arith, firsts_most (is_of s.buckets b) (s.log k), h.logs_answer.written k) in
+    omega (arith, all, h.counters_balance.balance b, sum_most s.sessions s.each (λ k. first_writes (is_of s.buckets b) (s.log k)) most)
 
 -- ---- an own open write
 

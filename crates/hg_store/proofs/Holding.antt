@@ -1,5 +1,5 @@
 -- What a pass that holds a bucket knows, and that it holds it still after a step.
-use Rattle.std.proofs.Common.{◌≡◌, ℕ, List, [], ◌∷◌, Bool, true, false, refl, sym, ap, ◌∙◌, cond, subst, arith}
+use Rattle.std.proofs.Common.{◌≡◌, ℕ, ◌*◌, ◌≤◌, List, [], ◌∷◌, Bool, true, false, refl, sym, ap, ◌∙◌, cond, subst, arith}
 use Rattle.std.specs.Prelude.{◌==◌}
 use Rattle.std.proofs.lemmas.Bool.Decides.{nat_tests}
 use Rattle.hg_base.specs.declared.rid.Rid.{Rid}
@@ -9,6 +9,7 @@ use Rattle.hg_base.specs.Lists.{Each}
 use Rattle.hg_base.proofs.HistoryFacts.{same_rid_equal}
 use Rattle.hg_core.specs.declared.visit.Visit.{Visit}
 use Rattle.hg_core.specs.Contents.{Content, bucket_of, look, versions}
+use Rattle.hg_core.specs.Counters.{total}
 use Rattle.hg_core.specs.Ordered.{IsOrdered}
 use Rattle.hg_core.specs.Visits.{IsVisiting, removing}
 use Rattle.hg_rule.specs.declared.view.SessionPart.{SessionPart}
@@ -29,6 +30,7 @@ use Rattle.hg_rule.specs.Places.{HasFirst, HoldsBucket, arrive_first, with_bucke
 use Rattle.hg_store.specs.declared.held.Held.{Held}
 use Rattle.hg_store.specs.Kept.{Keeps, AreOrdered}
 use Rattle.hg_store.specs.Stores.{held_number, held_records, Holds}
+use Rattle.hg_store.proofs.Bounding.{total_most}
 
 -- ---- the parts of a view that holds a bucket
 
@@ -63,18 +65,23 @@ held_is z n b v k h r here =
 pub ordered_at : (z : Sizes) (n b : ℕ) (v : View) → IsBacked z n v → HoldsBucket b v → (r : Rid) → bucket_of z.buckets r ≡ b → IsOrdered n (held v r)
 ordered_at z n b v k h r here = subst (λ vs. IsOrdered n vs) (held_is z n b v k h r here) (subst (λ m. IsOrdered m (versions k.state.buckets k.state.bucket r)) k.mark_is (k.steady.contents_are_ordered.ordered r))
 
+-- a record of another bucket isn't there
+pub placed_at : (z : Sizes) (n b : ℕ) (v : View) → IsBacked z n v → HoldsBucket b v → Each (λ e. bucket_of z.buckets e.0 ≡ b) (bucket v).content
+placed_at z n b v k h =
+    let shown : Shown k.state (OfBucket b (bucket v)) = second_shown (Shown k.state) v.parts (beyond v) (first_in v.parts) (OfBucket b (bucket v)) (parts_are b v h) k.true_of.parts in
+    subst (λ m. Each (λ e. bucket_of m e.0 ≡ b) (bucket v).content) k.sized.buckets (subst (λ es. Each (λ e. bucket_of k.state.buckets e.0 ≡ b) es) shown.0 (k.steady.contents_are_placed b).bucket)
+
+pub total_at : (z : Sizes) (n b : ℕ) (v : View) → IsBacked z n v → HoldsBucket b v → total (bucket v).content ≤ z.sessions * z.each
+total_at z n b v k h =
+    let shown : Shown k.state (OfBucket b (bucket v)) = second_shown (Shown k.state) v.parts (beyond v) (first_in v.parts) (OfBucket b (bucket v)) (parts_are b v h) k.true_of.parts in
+    subst (λ es. total es ≤ z.sessions * z.each) shown.0 (subst (λ x. total (k.state.bucket b) ≤ x) (λ i. k.sized.sessions i * k.sized.each i) (total_most k.state k.steady b))
+
 pub all_ordered : (z : Sizes) (n b : ℕ) (v : View) → IsBacked z n v → HoldsBucket b v → AreOrdered (bucket v).content
 all_ordered z n b v k h r = go (bucket_of z.buckets r == b) refl
   where
-    shown : Shown k.state (OfBucket b (bucket v))
-    shown = second_shown (Shown k.state) v.parts (beyond v) (first_in v.parts) (OfBucket b (bucket v)) (parts_are b v h) k.true_of.parts
-
-    placed : Each (λ e. bucket_of z.buckets e.0 ≡ b) (bucket v).content
-    placed = subst (λ m. Each (λ e. bucket_of m e.0 ≡ b) (bucket v).content) k.sized.buckets (subst (λ es. Each (λ e. bucket_of k.state.buckets e.0 ≡ b) es) shown.0 (k.steady.contents_are_placed b).bucket)
-
     go : (t : Bool) → (bucket_of z.buckets r == b) ≡ t → (mark : ℕ) × IsOrdered mark (look r (bucket v).content)
     go true e = (n, ordered_at z n b v k h r (grind (arith, nat_tests)))
-    go false e = (0, subst (IsOrdered 0) (sym (look_none z.buckets b r (bucket v).content placed (grind (arith, nat_tests)))) tt)
+    go false e = (0, subst (IsOrdered 0) (sym (look_none z.buckets b r (bucket v).content (placed_at z n b v k h) (grind (arith, nat_tests)))) tt)
 
 -- ---- a bucket comes
 

@@ -5,22 +5,26 @@ use Rattle.std.proofs.lemmas.List.{length-map}
 use Rattle.hg_base.specs.declared.rid.Rid.{Rid}
 use Rattle.hg_base.specs.declared.image.Image.{Image}
 use Rattle.hg_base.specs.declared.writer.Writer.{Writer}
-use Rattle.hg_base.specs.declared.report.Kind.TheVariants.{Group}
+use Rattle.hg_base.specs.declared.report.Kind.{Kind}
+use Rattle.hg_base.specs.declared.report.Kind.TheVariants.{Group, Table, Interval}
 use Rattle.hg_base.specs.History.{same_rid}
 use Rattle.hg_base.proofs.HistoryFacts.{same_rid_equal}
 use Rattle.hg_core.specs.declared.version.Version.{Version}
 use Rattle.hg_core.specs.Versions.{installed, undone, stamped, IsFreeFor}
 use Rattle.hg_core.specs.Contents.{Content, look, store}
-use Rattle.hg_core.specs.Removal.{cut}
+use Rattle.hg_core.specs.Counters.{removed_more}
+use Rattle.hg_core.specs.Passes.{PassRecord}
+use Rattle.hg_core.specs.Removal.{reclaimed}
 use Rattle.hg_core.specs.Ordered.{IsOrdered}
 use Rattle.hg_core.proofs.Records.{look_store, turned_rid}
 use Rattle.hg_bucket.specs.Held as bucket
-use Rattle.hg_bucket.specs.Held.{Held, versions_of, OthersStay, begins_open, cut_at}
+use Rattle.hg_bucket.specs.Held.{Kept, Held, versions_of, OthersStay, begins_open}
 use Rattle.hg_rule.specs.declared.view.BucketPart.{BucketPart}
 use Rattle.hg_rule.specs.Writes.{installing, undoing, stamping}
 use Rattle.hg_rule.specs.Removes.{shortening}
 use Rattle.hg_store.specs.Kept.{kept, Keeps, AreOrdered}
-use Rattle.hg_store.proofs.Changing.{installed_kept, added_kept, undone_kept, stamped_kept, cut_kept}
+use Rattle.hg_store.proofs.Changing.{installed_kept, added_kept, undone_kept, stamped_kept}
+use Rattle.hg_store.proofs.Doing.{Does}
 
 -- what holds of r with the new versions, and of others with their own, holds of all afterwards
 at_store : (r : Rid) (vs : List Version) (content : Content) (Q : Rid → List Version → Type 0) → Q r vs → ((q : Rid) → same_rid r q ≡ false → Q q (look q content)) → (q : Rid) → Q q (look q (store r vs content))
@@ -68,24 +72,57 @@ install_kept mark old new part r image w free k here others counters = record {
   interval = ap (λ (h : Held). h.interval) counters ∙ k.interval;
 }
 
-kept_length : (vs : List Version) → length (map kept vs) ≡ length vs
+pub kept_length : (vs : List Version) → length (map kept vs) ≡ length vs
 kept_length vs = simp length-map
 
--- how many a cut removed
-pub gone_is : (mark bound gone : ℕ) (old new : Held) (part : BucketPart) (r : Rid) → IsOrdered mark (look r part.content) → Keeps old part → versions_of new.records r ≡ cut_at bound (versions_of old.records r) → length (versions_of new.records r) + gone ≡ length (versions_of old.records r) → gone ≡ length (look r part.content) - length (cut bound (look r part.content))
-gone_is mark bound gone old new part r o k here sum =
-    let vs = look r part.content in
-    let after : length (versions_of new.records r) ≡ length (cut bound vs) = ap length (here ∙ ap (cut_at bound) (k.versions r) ∙ cut_kept mark bound vs o) ∙ kept_length (cut bound vs) in
-    let before : length (versions_of old.records r) ≡ length vs = ap length (k.versions r) ∙ kept_length vs in
-    omega arith
+-- ---- by a reclaim, of any kind
 
-pub cut_group_kept : (mark bound gone : ℕ) (old new : Held) (part : BucketPart) (r : Rid) → IsOrdered mark (look r part.content) → Keeps old part → versions_of new.records r ≡ cut_at bound (versions_of old.records r) → OthersStay old.records new.records r → length (versions_of new.records r) + gone ≡ length (versions_of old.records r) → new ≡ record old { records = new.records; group = old.group + gone }
-    → Keeps new (shortening r Group (cut bound (look r part.content)) (length (look r part.content) - length (cut bound (look r part.content))) part)
-cut_group_kept mark bound gone old new part r o k here others sum counters = record {
-  versions = versions_stored old new part.content r (cut bound (look r part.content)) k.versions (here ∙ ap (cut_at bound) (k.versions r) ∙ cut_kept mark bound (look r part.content) o) others;
+-- the records, and the counter of that kind
+abbrev pub counted : Kind → ℕ → Held → List (Rid × List Kept) → Held
+counted Group n h rs = record h { records = rs; group = h.group + n }
+counted Table n h rs = record h { records = rs; table = h.table + n }
+counted Interval n h rs = record h { records = rs; interval = h.interval + n }
+
+keeps_counted : (kind : Kind) (gone : ℕ) (old new : Held) (part : BucketPart) (content : Content) → Keeps old part → ((q : Rid) → versions_of new.records q ≡ map kept (look q content)) → new ≡ counted kind gone old new.records
+    → Keeps new (record { content = content; counters = record part.counters { removed = removed_more kind gone part.counters.removed } })
+keeps_counted Group gone old new part content k all counters = record {
+  versions = all;
   made = ap (λ (h : Held). h.made) counters ∙ k.made;
   undone = ap (λ (h : Held). h.undone) counters ∙ k.undone;
-  group = ap (λ (h : Held). h.group) counters ∙ (λ i. k.group i + gone_is mark bound gone old new part r o k here sum i);
+  group = ap (λ (h : Held). h.group) counters ∙ ap (λ n. n + gone) k.group;
   table = ap (λ (h : Held). h.table) counters ∙ k.table;
   interval = ap (λ (h : Held). h.interval) counters ∙ k.interval;
 }
+keeps_counted Table gone old new part content k all counters = record {
+  versions = all;
+  made = ap (λ (h : Held). h.made) counters ∙ k.made;
+  undone = ap (λ (h : Held). h.undone) counters ∙ k.undone;
+  group = ap (λ (h : Held). h.group) counters ∙ k.group;
+  table = ap (λ (h : Held). h.table) counters ∙ ap (λ n. n + gone) k.table;
+  interval = ap (λ (h : Held). h.interval) counters ∙ k.interval;
+}
+keeps_counted Interval gone old new part content k all counters = record {
+  versions = all;
+  made = ap (λ (h : Held). h.made) counters ∙ k.made;
+  undone = ap (λ (h : Held). h.undone) counters ∙ k.undone;
+  group = ap (λ (h : Held). h.group) counters ∙ k.group;
+  table = ap (λ (h : Held). h.table) counters ∙ k.table;
+  interval = ap (λ (h : Held). h.interval) counters ∙ ap (λ n. n + gone) k.interval;
+}
+
+-- how many went
+pub gone_is : (kind : Kind) (p : PassRecord) (does : List Kept → List Kept) (mark gone : ℕ) (old new : Held) (part : BucketPart) (r : Rid) → Does kind r.table p does → IsOrdered mark (look r part.content) → Keeps old part → versions_of new.records r ≡ does (versions_of old.records r) → length (versions_of new.records r) + gone ≡ length (versions_of old.records r)
+    → gone ≡ length (look r part.content) - length (reclaimed kind r.table p (look r part.content))
+gone_is kind p does mark gone old new part r d o k here sum =
+    let vs = look r part.content in
+    let ws = reclaimed kind r.table p vs in
+    let after : length (versions_of new.records r) ≡ length ws = ap length (here ∙ ap does (k.versions r) ∙ d.alike mark vs o) ∙ kept_length ws in
+    let before : length (versions_of old.records r) ≡ length vs = ap length (k.versions r) ∙ kept_length vs in
+    omega arith
+
+pub reclaim_kept : (kind : Kind) (p : PassRecord) (does : List Kept → List Kept) (mark gone : ℕ) (old new : Held) (part : BucketPart) (r : Rid) → Does kind r.table p does → IsOrdered mark (look r part.content) → Keeps old part → versions_of new.records r ≡ does (versions_of old.records r) → OthersStay old.records new.records r → length (versions_of new.records r) + gone ≡ length (versions_of old.records r) → new ≡ counted kind gone old new.records
+    → Keeps new (shortening r kind (reclaimed kind r.table p (look r part.content)) (length (look r part.content) - length (reclaimed kind r.table p (look r part.content))) part)
+reclaim_kept kind p does mark gone old new part r d o k here others sum counters =
+    let ws = reclaimed kind r.table p (look r part.content) in
+    subst (λ n. Keeps new (shortening r kind ws n part)) (gone_is kind p does mark gone old new part r d o k here sum)
+    (keeps_counted kind gone old new part (store r ws part.content) k (versions_stored old new part.content r ws k.versions (here ∙ ap does (k.versions r) ∙ d.alike mark (look r part.content) o) others) counters)

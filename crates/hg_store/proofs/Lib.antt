@@ -4,6 +4,7 @@ pub mod Changing
 pub mod Ending
 pub mod Backing
 pub mod Mine
+pub mod Doing
 pub mod Keeping
 pub mod Bounding
 pub mod Holding
@@ -12,3 +13,5 @@ pub mod Filling
 pub mod Deciding
 pub mod Storing
 pub mod Owning
+pub mod Rising
+pub mod Clearing

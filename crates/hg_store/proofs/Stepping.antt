@@ -1,9 +1,10 @@
 -- A pass that holds a bucket holds it still after each step.
-use Rattle.std.proofs.Common.{◌≡◌, ℕ, suc, ◌+◌, ◌-◌, ◌<◌, ◌≤◌, List, [], ◌∷◌, length, Option, Some, None, refl, sym, ap, ◌∙◌, subst, map, arith}
+use Rattle.std.proofs.Common.{◌≡◌, ℕ, suc, ◌+◌, ◌<◌, ◌≤◌, List, [], ◌∷◌, length, Option, Some, None, refl, sym, ap, ◌∙◌, subst, map, arith}
 use Rattle.std.specs.Prelude.{IsSome, IfSome, drop, unwrap_or}
 use Rattle.hg_base.specs.declared.rid.Rid.{Rid}
 use Rattle.hg_base.specs.declared.rid.TableId.{TableId}
-use Rattle.hg_base.specs.declared.report.Kind.TheVariants.{Group}
+use Rattle.hg_base.specs.declared.report.Kind.{Kind}
+use Rattle.hg_base.specs.declared.report.Kind.TheVariants.{Group, Table, Interval}
 use Rattle.hg_base.specs.Lists.{Each}
 use Rattle.hg_core.specs.declared.ask.Ask.{Ask}
 use Rattle.hg_core.specs.declared.version.Stamp.{Stamp}
@@ -11,13 +12,13 @@ use Rattle.hg_core.specs.declared.version.Stamp.TheVariants.{Written, Numbered, 
 use Rattle.hg_core.specs.declared.version.Version.{Version}
 use Rattle.hg_core.specs.Versions.{IsOpenBy, undone, stamped}
 use Rattle.hg_core.specs.Contents.{bucket_of, look}
-use Rattle.hg_core.specs.Passes.{group_bound}
-use Rattle.hg_core.specs.Removal.{cut}
+use Rattle.hg_core.specs.Passes.{PassRecord, horizon, recorded, group_bound, table_bound}
+use Rattle.hg_core.specs.Removal.{cut, reclaimed}
 use Rattle.hg_core.specs.Ordered.{IsOrdered}
 use Rattle.hg_core.proofs.Versions.{opened_is, falls_more}
-use Rattle.hg_core.proofs.Sweep.{ordered_cut}
+use Rattle.hg_core.proofs.Sweep.{ordered_cut, ordered_swept}
 use Rattle.hg_bucket.specs.Held as bucket_words
-use Rattle.hg_bucket.specs.Held.{Kept, versions_of, OthersStay, IsBelow, IsThere, IsNextKey, cut_at}
+use Rattle.hg_bucket.specs.Held.{Kept, versions_of, OthersStay, IsBelow, IsThere, IsNextKey}
 use Rattle.hg_bucket.specs.Held.{Held as Records}
 use Rattle.hg_rule.specs.declared.view.Part.TheVariants.{OfSession, OfBucket, OfCommit, OfPass}
 use Rattle.hg_rule.specs.declared.view.Sight.TheVariants.{Saw, Heard}
@@ -32,10 +33,11 @@ use Rattle.hg_rule.specs.Places.{HasFirst, IsThere as IsVisitedBy}
 use Rattle.hg_rule.specs.Writes.{Looks, Undoes, Stamps, with_log, log_asked, undoing, stamping}
 use Rattle.hg_rule.specs.Removes.{Reclaims, left_of, removed_of, shortening}
 use Rattle.hg_store.specs.declared.held.Held.{Held}
-use Rattle.hg_store.specs.Kept.{kept, Keeps}
+use Rattle.hg_store.specs.Kept.{kept}
 use Rattle.hg_store.specs.Stores.{held_number, held_records, Holds}
 use Rattle.hg_store.proofs.Changing.{all_below}
-use Rattle.hg_store.proofs.Keeping.{undo_kept, stamp_kept, gone_is, cut_group_kept, ordered_stored}
+use Rattle.hg_store.proofs.Doing.{Does}
+use Rattle.hg_store.proofs.Keeping.{undo_kept, stamp_kept, kept_length, counted, gone_is, reclaim_kept, ordered_stored}
 use Rattle.hg_store.proofs.Holding.{number_is, ordered_at, session_holds, pass_holds}
 
 -- ---- a key
@@ -51,6 +53,12 @@ empty_of None (v ∷ vs) none e = absurd cc
 
 pub none_between : (h : Held) (v : View) (table : TableId) (from : ℕ) (found : Option ℕ) → Holds v h → IsNextKey (held_records h).records table from found → (k : ℕ) → from ≤ k → IfSome found (λ key. k < key) → look (bucket_words.record_at table k) (bucket v).content ≡ []
 none_between h v table from found hold next k le below = empty_of _ (look (bucket_words.record_at table k) (bucket v).content) (none_there (held_records h).records table from found next k le below) (hold.keeps.versions (bucket_words.record_at table k))
+
+pub some_there : (h : Held) (v : View) (table : TableId) (found : Option ℕ) → Holds v h → IfSome found (λ key. 0 < length (versions_of (held_records h).records (bucket_words.record_at table key))) → IfSome found (λ key. 0 < length (look (bucket_words.record_at table key) (bucket v).content))
+some_there h v table None hold there = tt
+some_there h v table (Some key) hold there =
+    let same = ap length (hold.keeps.versions (bucket_words.record_at table key)) ∙ kept_length (look (bucket_words.record_at table key) (bucket v).content) in
+    omega (arith, same, there)
 
 -- ---- a look
 
@@ -90,7 +98,7 @@ stamp_holds z n m v w h h' r hold k both same here mine next step stored apart c
     (stamp_kept (held_records h) (held_records h') (bucket v) r m (writer v) hold.keeps stored apart counters)
     (ordered_stored (bucket v).content r (stamped m (writer v) (held v r)) n hold.ordered p))
 
--- ---- a cut of a record
+-- ---- a reclaim
 
 pub ordered_more : (m n : ℕ) (vs : List Version) → m ≤ n → IsOrdered m vs → IsOrdered n vs
 ordered_more m n [] le o = tt
@@ -101,16 +109,22 @@ ordered_more m n (v ∷ vs) le o = go v.stamp o
     go (Numbered k by) f = (omega (arith, f.0), f.1)
     go (Oldest k) f = (omega (arith, f.0), f.1)
 
-pub cut_in_order : (m bound : ℕ) (vs : List Version) → IsOrdered m vs → IsOrdered (m + bound) (cut bound vs)
-cut_in_order m bound vs o = (ordered_cut (m + bound) bound vs (omega arith) (ordered_more m (m + bound) vs (omega arith) o)).0
+cut_in_order : (m bound : ℕ) (vs : List Version) → IsOrdered m vs → (n : ℕ) × IsOrdered n (cut bound vs)
+cut_in_order m bound vs o = (m + bound, (ordered_cut (m + bound) bound vs (omega arith) (ordered_more m (m + bound) vs (omega arith) o)).0)
 
-pub cut_gone : (v : View) (h : Held) (new : Records) (r : Rid) (bound gone : ℕ) → Holds v h → bound ≡ group_bound (record_of (pass v)) → versions_of new.records r ≡ cut_at bound (versions_of (held_records h).records r) → length (versions_of new.records r) + gone ≡ length (versions_of (held_records h).records r) → gone ≡ removed_of v r Group
-cut_gone v h new r bound gone hold is here sum = gone_is (hold.ordered r).0 bound gone (held_records h) new (bucket v) r (hold.ordered r).1 hold.keeps here sum ∙ ap (λ b. length (held v r) - length (cut b (held v r))) is
+pub reclaimed_in_order : (kind : Kind) (table : TableId) (p : PassRecord) (m : ℕ) (vs : List Version) → IsOrdered m vs → (n : ℕ) × IsOrdered n (reclaimed kind table p vs)
+reclaimed_in_order Group table p m vs o = cut_in_order m (group_bound p) vs o
+reclaimed_in_order Table table p m vs o = cut_in_order m (table_bound table p) vs o
+reclaimed_in_order Interval table p m vs o = (m, ordered_swept m (horizon p) (recorded table p) vs o)
 
-pub cut_holds : (v w : View) (h h' : Held) (r : Rid) (bound gone : ℕ) → Holds v h → HasPass v → held_number h' ≡ held_number h → bound ≡ group_bound (record_of (pass v)) → Reclaims v r Group w
-    → versions_of (held_records h').records r ≡ cut_at bound (versions_of (held_records h).records r) → OthersStay (held_records h).records (held_records h').records r → length (versions_of (held_records h').records r) + gone ≡ length (versions_of (held_records h).records r) → held_records h' ≡ record (held_records h) { records = (held_records h').records; group = (held_records h).group + gone } → Holds w h'
-cut_holds v w h h' r bound gone hold own same is step here others sum counters =
-    subst (λ x. Holds x h') (sym step) (pass_holds h' (number v) (bucket_number v) (removed_of v r Group) Group (pass v) (shortening r Group (left_of v r Group) (removed_of v r Group) (bucket v)) (beyond v) _ _ (number_is (held_number h) v hold.has ∙ sym same)
+pub reclaim_gone : (kind : Kind) (does : List Kept → List Kept) (v : View) (h : Held) (new : Records) (r : Rid) (gone : ℕ) → Holds v h → Does kind r.table (record_of (pass v)) does → versions_of new.records r ≡ does (versions_of (held_records h).records r) → length (versions_of new.records r) + gone ≡ length (versions_of (held_records h).records r) → gone ≡ removed_of v r kind
+reclaim_gone kind does v h new r gone hold d here sum = gone_is kind (record_of (pass v)) does (hold.ordered r).0 gone (held_records h) new (bucket v) r d (hold.ordered r).1 hold.keeps here sum
+
+pub reclaim_holds : (kind : Kind) (does : List Kept → List Kept) (v w : View) (h h' : Held) (r : Rid) (gone : ℕ) → Holds v h → HasPass v → held_number h' ≡ held_number h → Does kind r.table (record_of (pass v)) does → Reclaims v r kind w
+    → versions_of (held_records h').records r ≡ does (versions_of (held_records h).records r) → OthersStay (held_records h).records (held_records h').records r → length (versions_of (held_records h').records r) + gone ≡ length (versions_of (held_records h).records r) → held_records h' ≡ counted kind gone (held_records h) (held_records h').records → Holds w h'
+reclaim_holds kind does v w h h' r gone hold own same d step here others sum counters =
+    let order = reclaimed_in_order kind r.table (record_of (pass v)) (hold.ordered r).0 (held v r) (hold.ordered r).1 in
+    subst (λ x. Holds x h') (sym step) (pass_holds h' (number v) (bucket_number v) (removed_of v r kind) kind (pass v) (shortening r kind (left_of v r kind) (removed_of v r kind) (bucket v)) (beyond v) _ _ (number_is (held_number h) v hold.has ∙ sym same)
     (subst (λ b. IsVisitedBy b (OfPass (number v) (pass v))) (sym (number_is (held_number h) v hold.has)) (subst (λ ps. IsVisitedBy (held_number h) (first_in ps)) own hold.has.1.1))
-    (subst (λ b. Keeps (held_records h') (shortening r Group (cut b (held v r)) (length (held v r) - length (cut b (held v r))) (bucket v))) is (cut_group_kept (hold.ordered r).0 bound gone (held_records h) (held_records h') (bucket v) r (hold.ordered r).1 hold.keeps here others sum counters))
-    (ordered_stored (bucket v).content r (left_of v r Group) ((hold.ordered r).0 + bound) hold.ordered (subst (λ b. IsOrdered ((hold.ordered r).0 + bound) (cut b (held v r))) is (cut_in_order (hold.ordered r).0 bound (held v r) (hold.ordered r).1))))
+    (reclaim_kept kind (record_of (pass v)) does (hold.ordered r).0 gone (held_records h) (held_records h') (bucket v) r d (hold.ordered r).1 hold.keeps here others sum counters)
+    (ordered_stored (bucket v).content r (left_of v r kind) order.0 hold.ordered order.1))

@@ -6,3 +6,5 @@ pub mod Ends
 pub mod Places
 pub mod Stores
 pub mod Writing
+-- What a pass makes of a table.
+pub mod Clearing

@@ -14,14 +14,19 @@
 //! A write is decided by the content held and by the mark that its own look loads (`Writes`). Where it is refused as open, the
 //! transaction that holds the record goes on, by all that the pass has seen.
 //!
-//! So far no table is cut or swept here.
+//! A collector's pass cuts or sweeps a table of a bucket that it holds. It visits only the records that have more than their
+//! oldest image, with one step for each (`Clears`), and afterwards each record of the table is cut at the table's bound, or clean.
 #![tactic(auto)]
 
+mod cutting;
 mod held;
 mod reading;
-mod removing;
 mod store;
+mod sweeping;
 mod writing;
 
 pub use held::Held;
 pub use store::{Place, Store};
+
+#[cfg(test)]
+mod tests;

@@ -1,10 +1,11 @@
 //! What a bucket that is held shows.
 
-ghost use Rattle.std.specs.Prelude.{◌≡◌, unwrap_or};
+ghost use Rattle.std.specs.Prelude.{◌≡◌, ◌<◌, length, unwrap_or, IfSome};
 ghost use Rattle.std.specs.Option.{option_copied};
 ghost use Rattle.hg_base.specs.History.{nothing};
+ghost use Rattle.hg_core.specs.Contents.{look};
 ghost use Rattle.hg_core.specs.Replies.{read_by};
-ghost use Rattle.hg_bucket.specs.Held.{IsNextKey};
+ghost use Rattle.hg_bucket.specs.Held.{record_at, IsNextKey};
 ghost use Rattle.hg_rule.specs.declared.view.View.{View};
 ghost use Rattle.hg_rule.specs.Holding.{bucket, held};
 ghost use Rattle.hg_store.specs.Kept.{AreCountsOf, NoneBetween};
@@ -24,6 +25,7 @@ impl<'a> Held<'a> {
     /// The least key of a table at or over a number, of those that have a version.
     pub fn next_key(&self, table: TableId, from: u64) -> Option<u64>
         ensures next { IsNextKey (held_records self.now).records table from result }
+        ensures there { (v : View) → Holds v self.now → IfSome result (λ key. 0 < length (look (record_at table key) (bucket v).content)) }
         ensures none { (v : View) → Holds v self.now → NoneBetween (bucket v).content table from result }
     {
         self.bucket.next_key(table, from)

@@ -127,6 +127,13 @@ impl Gathered {
         })
     }
 
+    /// For how many tables it is made.
+    pub fn tables(&self) -> usize
+        ensures { result ≡ tables_in self.now }
+    {
+        self.lists.len()
+    }
+
     /// The mark that the pass loaded.
     pub fn mark(&self) -> u64
         ensures { (sessions : ℕ) (part : PassPart) → IsGatherOf sessions part self.now → result ≡ part.mark }

@@ -1,5 +1,5 @@
 use Rattle.std.proofs.Common.{◌+◌, subst}
-use Rattle.hg_bucket.specs.Parts.{IsNextLong}
+use Rattle.hg_bucket.specs.Long.{IsNextLong}
 use Rattle.hg_bucket.proofs.Settling.{next_long}
 use Rattle.hg_bucket.proofs.records.Records.long_after.Goals as goal
 

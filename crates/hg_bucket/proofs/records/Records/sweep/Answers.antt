@@ -90,6 +90,22 @@ returns-then-not-swept-clause-others g c =
     let done = keeps c.args.horizon xs b.index cs ds places r p base_gone c.sweep-swept.result.gone index c.self.invariant has c.sweep-swept.ensures.here told c.if-not-swept.true in
     subst (λ h. OthersStay h (records_of b.index ds places) r) c.self.view_is done.others
 
+pub returns-then-not-swept-clause-gone : goal.returns-then-not-swept-clause-gone
+returns-then-not-swept-clause-gone g c =
+    let b = c.self.inside in
+    let r = c.args.rid in
+    let xs = c.args.snapshots.now in
+    let cs = b.chains.entries in
+    let ds = c.sweep-swept.new.chains.entries in
+    let places = b.space.places in
+    let p = c.in-Some.place in
+    let index = c.place.ensures.index in
+    let has = sym c.place.ensures.place ∙ c.in-Some.is in
+    let base_gone = c.sweep-swept.result.base_gone in
+    let told = says c.args.horizon xs (chain_of cs r) (image_at places p) c.number-base.result base_gone c.sweep-swept.result.gone c.number-base.ensures c.sweep-swept.ensures.base_gone c.sweep-swept.ensures.gone c.sweep-swept.ensures.clean c.sweep-swept.ensures.base_clean in
+    let done = keeps c.args.horizon xs b.index cs ds places r p base_gone c.sweep-swept.result.gone index c.self.invariant has c.sweep-swept.ensures.here told c.if-not-swept.true in
+    done.lost ∙ ap (λ h. length (versions_of h r)) c.self.view_is
+
 pub returns-then-not-swept-clause-left : goal.returns-then-not-swept-clause-left
 returns-then-not-swept-clause-left g c =
     let b = c.self.inside in
@@ -186,6 +202,22 @@ returns-clause-others g c =
     let told = says c.args.horizon xs (chain_of cs r) (image_at places p) c.number-base.result base_gone c.sweep-swept.result.gone c.number-base.ensures c.sweep-swept.ensures.base_gone c.sweep-swept.ensures.gone c.sweep-swept.ensures.clean c.sweep-swept.ensures.base_clean in
     let done = drops c.args.horizon xs b.index cs ds places c.set_image.new.self.places r p base_gone c.sweep-swept.result.gone index c.self.invariant has c.sweep-swept.ensures.here told c.if-not-swept.false c.set_image.ensures.set in
     subst (λ h. OthersStay h (records_of b.index ds c.set_image.new.self.places) r) c.self.view_is done.others
+
+pub returns-clause-gone : goal.returns-clause-gone
+returns-clause-gone g c =
+    let b = c.self.inside in
+    let r = c.args.rid in
+    let xs = c.args.snapshots.now in
+    let cs = b.chains.entries in
+    let ds = c.sweep-swept.new.chains.entries in
+    let places = b.space.places in
+    let p = c.in-Some.place in
+    let index = c.place.ensures.index in
+    let has = sym c.place.ensures.place ∙ c.in-Some.is in
+    let base_gone = c.sweep-swept.result.base_gone in
+    let told = says c.args.horizon xs (chain_of cs r) (image_at places p) c.number-base.result base_gone c.sweep-swept.result.gone c.number-base.ensures c.sweep-swept.ensures.base_gone c.sweep-swept.ensures.gone c.sweep-swept.ensures.clean c.sweep-swept.ensures.base_clean in
+    let done = drops c.args.horizon xs b.index cs ds places c.set_image.new.self.places r p base_gone c.sweep-swept.result.gone index c.self.invariant has c.sweep-swept.ensures.here told c.if-not-swept.false c.set_image.ensures.set in
+    done.lost ∙ ap (λ h. length (versions_of h r)) c.self.view_is
 
 pub returns-clause-left : goal.returns-clause-left
 returns-clause-left g c =

@@ -1,5 +1,8 @@
-use Rattle.hg_store.proofs.Stepping.{none_between}
+use Rattle.hg_store.proofs.Stepping.{none_between, some_there}
 use Rattle.hg_store.proofs.held.Held.next_key.Goals as goal
 
+pub returns-clause-there : goal.returns-clause-there
+returns-clause-there c v hold = some_there c.args.self.now v c.args.table c.next_key.result hold c.next_key.ensures.there
+
 pub returns-clause-none : goal.returns-clause-none
-returns-clause-none c v hold = none_between c.args.self.now v c.args.table c.args.from c.next_key.result hold c.next_key.ensures
+returns-clause-none c v hold = none_between c.args.self.now v c.args.table c.args.from c.next_key.result hold c.next_key.ensures.next

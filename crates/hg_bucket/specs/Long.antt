@@ -1,0 +1,21 @@
+-- Which records a cut or a sweep can shorten.
+use Rattle.std.specs.Prelude.{◌≡◌, ℕ, ◌≤◌, ◌<◌, List, Option, IsTrue, IsFalse}
+use Rattle.std.specs.Option.{MatchOption}
+use Rattle.hg_base.specs.declared.rid.Rid.{Rid}
+use Rattle.hg_base.specs.declared.rid.TableId.{TableId}
+use Rattle.hg_bucket.specs.Held.{Kept, versions_of, record_at, cut_at}
+use Rattle.hg_bucket.specs.Sweeping.{swept, IsClean, is_long}
+
+-- no version goes by any cut or sweep, and it is clean already
+pub record IsShort (vs : List Kept) : Type 0 where
+  pub one : IsFalse (is_long vs)
+  pub cut : (bound : ℕ) → cut_at bound vs ≡ vs
+  pub swept : (horizon : ℕ) (snapshots : List ℕ) → swept horizon snapshots vs ≡ vs
+  pub clean : (horizon : ℕ) (snapshots : List ℕ) → IsClean horizon snapshots vs
+
+-- the least key of a table at or over a number whose record has more than an oldest image: each record passed over is short
+abbrev pub IsNextLong : List (Rid × List Kept) → TableId → ℕ → Option ℕ → Type 0
+IsNextLong records table from found =
+    MatchOption found
+    ((k : ℕ) → from ≤ k → IsShort (versions_of records (record_at table k)))
+    (λ least. (from ≤ least) × IsTrue (is_long (versions_of records (record_at table least))) × ((k : ℕ) → from ≤ k → k < least → IsShort (versions_of records (record_at table k))))

@@ -1,0 +1,94 @@
+//! What a collector's pass cuts in a bucket that it holds. Each record that is visited costs one step.
+
+ghost use Rattle.std.specs.Prelude.{◌≡◌, ℕ};
+ghost use Rattle.hg_base.specs.declared.rid.Rid.{Rid};
+ghost use Rattle.hg_base.specs.declared.report.Kind.TheVariants.{Group, Table};
+ghost use Rattle.hg_core.specs.Passes.{IsWhole, group_bound, table_bound};
+ghost use Rattle.hg_core.specs.Contents.{bucket_of};
+ghost use Rattle.hg_core.specs.Clean.{IsCutAt};
+ghost use Rattle.hg_bucket.specs.Held.{record_at};
+ghost use Rattle.hg_rule.specs.Holding.{held};
+ghost use Rattle.hg_rule.specs.Facts.{record_of};
+ghost use Rattle.hg_rule.specs.Views.{pass as own_pass};
+ghost use Rattle.hg_rule.specs.Removes.{left_of, removed_of, Reclaims};
+ghost use Rattle.hg_rule.specs.Seats.{table_of, sizes_of, pass_view, IsPassOf};
+ghost use Rattle.hg_store.specs.Stores.{held_table, held_number, Holds};
+ghost use Rattle.hg_store.specs.Clearing.{Clears, Counts};
+
+use crate::held::Held;
+use hg_base::{Kind, Rid, TableId};
+use hg_rule::{Board, CollectorPass};
+
+impl<'a> Held<'a> {
+    /// Cuts a record at the group bound of the pass's record, which is whole. The answer says how many versions went.
+    pub fn cut_record(
+        &mut self,
+        board: &Board,
+        pass: &mut CollectorPass,
+        rid: Rid,
+        bound: u64,
+    ) -> u64
+        requires own { IsPassOf (table_of board.now) pass.old }
+        requires whole { IsWhole (sizes_of board.now).sessions (record_of (own_pass (pass_view pass.old))) }
+        requires holds { Holds (pass_view pass.old) self.old }
+        requires here { bucket_of (sizes_of board.now).buckets rid ≡ held_number self.old }
+        requires bound { bound ≡ group_bound (record_of (own_pass (pass_view pass.old))) }
+        ensures step { Reclaims (pass_view pass.old) rid Group (pass_view pass.new) }
+        ensures gone { result ≡ removed_of (pass_view pass.old) rid Group }
+        ensures holds { Holds (pass_view pass.new) self.new }
+        ensures held { (held_table self.new ≡ held_table self.old) × (held_number self.new ≡ held_number self.old) }
+        ensures own { IsPassOf (table_of board.now) pass.new }
+    {
+        board.reclaim(pass, rid, Kind::Group);
+        self.bucket.cut_record(rid, bound)
+    }
+
+    /// Cuts each record of a table at that table's bound by the pass's record, which is whole. The answer says how many versions
+    /// went. A record that has only its oldest image costs nothing.
+    pub fn cut_table(
+        &mut self,
+        board: &Board,
+        pass: &mut CollectorPass,
+        table: TableId,
+        bound: u64,
+    ) -> u64
+        requires own { IsPassOf (table_of board.now) pass.old }
+        requires whole { IsWhole (sizes_of board.now).sessions (record_of (own_pass (pass_view pass.old))) }
+        requires holds { Holds (pass_view pass.old) self.old }
+        requires bound { bound ≡ table_bound table (record_of (own_pass (pass_view pass.old))) }
+        ensures steps { Clears (pass_view pass.old) table Table (pass_view pass.new) }
+        ensures each { (k : ℕ) → held (pass_view pass.new) (record_at table k) ≡ left_of (pass_view pass.old) (record_at table k) Table }
+        ensures cut { (k : ℕ) → IsCutAt bound (held (pass_view pass.new) (record_at table k)) }
+        ensures others { (r : Rid) → (r.table ≡ table → ⊥) → held (pass_view pass.new) r ≡ held (pass_view pass.old) r }
+        ensures gone { Counts (pass_view pass.old) Table result (pass_view pass.new) }
+        ensures holds { Holds (pass_view pass.new) self.new }
+        ensures held { (held_table self.new ≡ held_table self.old) × (held_number self.new ≡ held_number self.old) }
+        ensures own { IsPassOf (table_of board.now) pass.new }
+    {
+        board.look_at(pass);
+        let mut gone = 0;
+        let mut next = self.bucket.first_long(table);
+        while let Some(key) = next {
+            gone += self.cut_one(board, pass, Rid { table, key }, bound);
+            next = self.bucket.long_after(table, key);
+        }
+        gone
+    }
+
+    // Cuts one record at its table's bound.
+    fn cut_one(&mut self, board: &Board, pass: &mut CollectorPass, rid: Rid, bound: u64) -> u64
+        requires own { IsPassOf (table_of board.now) pass.old }
+        requires whole { IsWhole (sizes_of board.now).sessions (record_of (own_pass (pass_view pass.old))) }
+        requires holds { Holds (pass_view pass.old) self.old }
+        requires here { bucket_of (sizes_of board.now).buckets rid ≡ held_number self.old }
+        requires bound { bound ≡ table_bound rid.table (record_of (own_pass (pass_view pass.old))) }
+        ensures step { Reclaims (pass_view pass.old) rid Table (pass_view pass.new) }
+        ensures gone { result ≡ removed_of (pass_view pass.old) rid Table }
+        ensures holds { Holds (pass_view pass.new) self.new }
+        ensures held { (held_table self.new ≡ held_table self.old) × (held_number self.new ≡ held_number self.old) }
+        ensures own { IsPassOf (table_of board.now) pass.new }
+    {
+        board.reclaim(pass, rid, Kind::Table);
+        self.bucket.cut_for_table(rid, bound)
+    }
+}

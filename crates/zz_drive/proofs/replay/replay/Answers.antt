@@ -1,0 +1,52 @@
+use Rattle.std.proofs.Common.{◌≡◌, ℕ, ◌*◌, ◌<◌, ◌≤◌, List, [], length, sym, ap, ◌∙◌, subst, arith, rules}
+use Rattle.std.specs.Prelude.{map, max}
+use Rattle.std.proofs.lemmas.Nat.{mul-le}
+use Rattle.hg_base.specs.declared.line.Printed.{Printed}
+use Rattle.hg_base.specs.declared.statement.Record.{Record}
+use Rattle.hg_base.specs.Lists.{greatest}
+use Rattle.hg_rule.specs.New.{Row}
+use Rattle.hg_headline.proofs.Closing.{following_last}
+use Rattle.hg_session.specs.declared.session.Session.{Session}
+use Rattle.hg_session.specs.Engines.{engine_sizes}
+use Rattle.hg_session.specs.Opened.{IsNewOf}
+use Rattle.hg_session.specs.Finished.{logs_of}
+use Rattle.zz_drive.specs.Listed.{AreReady}
+use Rattle.zz_drive.proofs.Going.{sessions_within, ready_less, order_quiet}
+use Rattle.zz_drive.proofs.Closes.{new_logs, new_ready}
+use Rattle.zz_drive.proofs.replay.replay.Goals as goal
+
+pub open-requires-clause-room : goal.open-requires-clause-room
+open-requires-clause-room g c =
+    let most = sessions_within c.args.script.now c.requires in
+    let sessions : c.sessions-sessions.result ≤ 64 = omega (arith, most, c.sessions-sessions.ensures) in
+    let each : c.max-each.result ≤ 1048576 = search rules in
+    let product = mul-le c.sessions-sessions.result c.max-each.result 64 1048576 sessions each in
+    omega (arith, product)
+
+pub play-requires-clause-ready : goal.play-requires-clause-ready
+play-requires-clause-ready g c =
+    let e = c.in_ok-engine.engine in
+    let list : List Session = c.into_vec-list.result.items in
+    let each : ℕ = c.max-each.result in
+    let is : list ≡ c.in_ok-engine.list = search rules in
+    let row : Row (IsNewOf e each) 1 list = subst (Row (IsNewOf e each) 1) (sym is) c.in_ok-engine.ensures.sessions in
+    let many : length list ≡ (engine_sizes e).sessions = search rules in
+    let some : 0 < length list = search rules in
+    let less : length c.args.script.now.records ≤ each = search rules in
+    ready_less e 0 (length c.args.script.now.records) each list less (new_ready e each list many some row)
+
+pub play-requires-clause-none : goal.play-requires-clause-none
+play-requires-clause-none g c =
+    let e = c.in_ok-engine.engine in
+    let list : List Session = c.into_vec-list.result.items in
+    let each : ℕ = c.max-each.result in
+    let is : list ≡ c.in_ok-engine.list = search rules in
+    new_logs e each list (subst (Row (IsNewOf e each) 1) (sym is) c.in_ok-engine.ensures.sessions)
+
+pub returns : goal.returns
+returns g c =
+    let z = engine_sizes c.in_ok-engine.engine in
+    let f = c.in_ok-lines.ensures.following in
+    let t = c.close-totals.ensures in
+    let printed : Printed = record { lines = c.in_ok-lines.lines; totals = c.close-totals.result } in
+    following_last z.buckets z.sessions 0 f.0 t.history (logs_of c.play.new.list.items) t.closed c.args.script.now printed f.1 t.closes t.logged (omega arith) (order_quiet [] c.args.script.now.records c.requires.order) t.counted
