@@ -32,7 +32,6 @@ mod reading;
 mod scanning;
 mod session;
 mod session_list;
-mod standing;
 #[cfg(test)]
 mod tests;
 mod totals;

@@ -2,4 +2,3 @@ pub mod Heard
 pub mod Listed
 pub mod Asked
 pub mod Closed
-pub mod Stub

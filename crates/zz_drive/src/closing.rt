@@ -16,9 +16,8 @@ ghost use Rattle.hg_session.specs.Finished.{logs_of, IsClosed};
 ghost use Rattle.zz_drive.specs.Listed.{IsPlaced};
 ghost use Rattle.zz_drive.specs.Closed.{IsClosedBy};
 
-use crate::stub::{rollback, settle};
 use hg_base::Totals;
-use hg_session::{Engine, Passes, Session, finish_all};
+use hg_session::{Engine, Passes, Session, finish_all, settle};
 use hg_tracker::Gathered;
 use std::sync::Wait;
 
@@ -31,7 +30,7 @@ fn close_one<R: Wait>(rt: &R, engine: &Engine, session: &mut Session)
     ensures own { IsOf engine.now session.new }
 {
     if session.is_open() {
-        rollback(session, rt, engine);
+        session.rollback(rt, engine);
     }
 }
 

@@ -5,7 +5,6 @@ mod asking;
 mod closing;
 mod playing;
 mod replay;
-mod stub;
 mod turning;
 
 pub use replay::replay as run_replay;
