@@ -11,6 +11,7 @@ pub mod Done
 pub mod Undoing
 pub mod Replying
 pub mod Putting
+pub mod Ranged
 pub mod Ending
 pub mod Visiting
 pub mod Committing

@@ -8,7 +8,7 @@ use Rattle.hg_rule.specs.Facts.{new_pass, new_part}
 use Rattle.hg_rule.specs.New.{IsNewPass}
 use Rattle.hg_rule.specs.Views.{seeing, pass_there}
 use Rattle.hg_rule.specs.Moves.{merged}
-use Rattle.hg_rule.specs.Reading.{chosen}
+use Rattle.hg_rule.specs.Reading.{chosen, passes_in}
 use Rattle.hg_rule.specs.Seats.{TableId, pass_view}
 use Rattle.hg_session.specs.Ended.{visits_in, HasAllPasses}
 use Rattle.hg_session.specs.Finished.{HasNoSession}
@@ -23,6 +23,9 @@ three_is t group table interval u w g a b first second = second ∙ (λ i. merge
 module _ (w : View) (is : w ≡ three) where
   pub all_passes : HasAllPasses w
   all_passes = ap (λ (v : View). shares v.parts) is
+
+  pub three_passes : passes_in w.parts ≡ 3
+  three_passes = ap (λ (v : View). passes_in v.parts) is
 
   pub no_session : HasNoSession w
   no_session j = ap (λ (v : View). count (session_key j) v.parts) is

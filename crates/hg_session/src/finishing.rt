@@ -22,6 +22,7 @@ impl Passes {
     pub fn join(self, engine: &Engine) -> CollectorPass
         requires new { IsNewPass (engine_table engine.now) 0 self.group × IsNewPass (engine_table engine.now) 1 self.table × IsNewPass (engine_table engine.now) 2 self.interval }
         ensures passes { HasAllPasses (pass_view result) }
+        ensures count { passes_in (pass_view result).parts ≡ 3 }
         ensures none { HasNoSession (pass_view result) }
         ensures visits { visits_in (pass_view result) ≡ (λ p. []) }
         ensures seen { (pass_view result).sights ≡ [] }

@@ -23,6 +23,7 @@ mod closing;
 mod cuts;
 #[cfg(test)]
 mod cuts_tests;
+mod deleting;
 mod engine;
 mod finishing;
 mod meeting;

@@ -7,7 +7,9 @@
 //! can't be is not looked up, and where the bucket may have many of the range, its index leads over those without a version.
 //! The rows of all buckets are put in order once, at the end.
 
-ghost use Rattle.std.specs.Prelude.{◌≡◌, ℕ, ◌+◌, ◌%◌, ◌++◌, ◌<◌, ◌≤◌, Some, IsTrue, OnOk};
+ghost use Rattle.std.specs.Prelude.{◌≡◌, ℕ, ◌+◌, ◌%◌, ◌++◌, ◌<◌, ◌≤◌, true, false, Some, None, Err, IsTrue, IfOk, IfSome, OnOk, OnErr};
+ghost use Rattle.hg_base.specs.declared.line.Answer.TheVariants.{Rows};
+ghost use Rattle.hg_base.specs.declared.statement.Statement.TheVariants as say;
 ghost use Rattle.hg_base.specs.Transcript.{has};
 ghost use Rattle.hg_core.specs.Contents.{bucket_of};
 ghost use Rattle.hg_core.specs.Replies.{read_by};
@@ -15,11 +17,15 @@ ghost use Rattle.hg_rule.specs.declared.view.View.{View};
 ghost use Rattle.hg_rule.specs.Holding.{bucket as bucket_in, held as held_in};
 ghost use Rattle.hg_store.specs.Stores.{Holds};
 ghost use Rattle.hg_session.specs.Engines.{engine_sizes};
-ghost use Rattle.hg_session.specs.Sessions.{IsIn, view_of, left_of, opened_of, written_of};
-ghost use Rattle.hg_session.specs.Gains.{rows_at};
+ghost use Rattle.hg_session.specs.Sessions.{IsIn, IsOf, is_alone, view_of, open_of, left_of, opened_of, written_of};
+ghost use Rattle.hg_session.specs.declared.answers.GetRefusal.TheVariants as refusal;
+ghost use Rattle.hg_session.specs.Replies.{Answers, IsRefusedIf, reading, scan_reply};
+ghost use Rattle.hg_session.specs.Gains.{Stays, rows_at};
 ghost use Rattle.hg_session.specs.Scans.{IsOwnKey, AreOwn, HasVersion, IsWithin, LeadsOn, read_of, Appends, Sees, Scans};
 
+use crate::answers::{GetRefusal, Scanned};
 use crate::engine::Engine;
+use crate::reading::only;
 use crate::session::Session;
 use hg_base::{Image, NoMemory, Rid, Row, RowList, Snapshot, TableId, Writer};
 use hg_store::Held;
@@ -207,5 +213,84 @@ impl Session {
         }
         rows.sort_unstable_by_key(|row| row.0);
         Ok(RowList::from(rows))
+    }
+
+    /// Every key from `low` to `high` that is seen as a row, by ascending key. Each bucket is taken once.
+    pub fn scan<R: Wait>(
+        &mut self,
+        rt: &R,
+        engine: &Engine,
+        table: TableId,
+        low: u64,
+        high: u64,
+    ) -> Result<Scanned, GetRefusal>
+        requires own { IsOf engine.now self.old }
+        requires left { 0 < left_of self.old }
+        requires table { table.0 < (engine_sizes engine.now).tables }
+        ensures reply { IfSome (scan_reply (is_alone self.old) result) (λ reply. Answers (engine_sizes engine.now) (view_of self.old) (say.Scan table low high) reply (view_of self.new)) }
+        ensures undeclared { IsRefusedIf (open_of self.old) table result (refusal.Undeclared table) }
+        ensures refused { result ≡ Err refusal.NoMemory → Stays (view_of self.old) (view_of self.new) }
+        ensures left { left_of self.new + 1 ≡ left_of self.old }
+        ensures own { IsOf engine.now self.new }
+    {
+        self.spend();
+        match self.opened {
+            Some(snapshot) => self.scan_inside(rt, engine, snapshot, table, low, high),
+            None => Ok(self.scan_alone(rt, engine, table, low, high)?),
+        }
+    }
+
+    fn scan_inside<R: Wait>(
+        &mut self,
+        rt: &R,
+        engine: &Engine,
+        snapshot: Snapshot,
+        table: TableId,
+        low: u64,
+        high: u64,
+    ) -> Result<Scanned, GetRefusal>
+        requires own { IsIn engine.now 1 1 self.old }
+        requires opened { opened_of self.old ≡ Some snapshot }
+        requires table { table.0 < (engine_sizes engine.now).tables }
+        ensures reply { IfSome (scan_reply false result) (λ reply. Answers (engine_sizes engine.now) (view_of self.old) (say.Scan table low high) reply (view_of self.new)) }
+        ensures undeclared { IsRefusedIf (Some snapshot) table result (refusal.Undeclared table) }
+        ensures refused { result ≡ Err refusal.NoMemory → Stays (view_of self.old) (view_of self.new) }
+        ensures left { left_of self.new ≡ left_of self.old }
+        ensures own { IsOf engine.now self.new }
+    {
+        if self.is_outside(engine, snapshot, table) {
+            return Err(GetRefusal::Undeclared { table });
+        }
+        let rows = self.scan_rows(rt, engine, snapshot, table, low, high)?;
+        Ok(Scanned {
+            at: snapshot.at,
+            rows,
+        })
+    }
+
+    // A transaction of its own.
+    fn scan_alone<R: Wait>(
+        &mut self,
+        rt: &R,
+        engine: &Engine,
+        table: TableId,
+        low: u64,
+        high: u64,
+    ) -> Result<Scanned, NoMemory>
+        requires own { IsIn engine.now 1 1 self.old }
+        requires closed { opened_of self.old ≡ None }
+        requires table { table.0 < (engine_sizes engine.now).tables }
+        ensures reply { IfOk result (λ scanned. Answers (engine_sizes engine.now) (view_of self.old) (say.Scan table low high) (reading true scanned.at (Rows scanned.rows)) (view_of self.new)) }
+        ensures refused { OnErr result (Stays (view_of self.old) (view_of self.new)) }
+        ensures left { left_of self.new ≡ left_of self.old }
+        ensures own { IsOf engine.now self.new }
+    {
+        let snapshot = self.open(engine, only(table));
+        let rows = self.scan_rows(rt, engine, snapshot, table, low, high);
+        self.end(engine);
+        Ok(Scanned {
+            at: snapshot.at,
+            rows: rows?,
+        })
     }
 }

@@ -21,7 +21,7 @@ use hg_bucket::WriteRefusal;
 use std::sync::Wait;
 
 // A refusal, with the snapshot at which it was.
-fn refused_at(at: u64, refusal: WriteRefusal) -> PutRefusal
+pub(crate) fn refused_at(at: u64, refusal: WriteRefusal) -> PutRefusal
     ensures { result ≡ refused_at at refusal }
 {
     match refusal {
@@ -71,7 +71,7 @@ impl Session {
     }
 
     // Writes, and commits the transaction, which is this one write.
-    fn write_alone<R: Wait>(
+    pub(crate) fn write_alone<R: Wait>(
         &mut self,
         rt: &R,
         engine: &Engine,

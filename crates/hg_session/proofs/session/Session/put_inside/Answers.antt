@@ -41,7 +41,7 @@ returns-in-Err-clause-reply g c =
     let opened : current (session v).log ≡ Some c.args.snapshot = search rules in
     let none = subst (λ b. Gains v (outside_entries b c.args.rid.table) m) c.if-is_outside.false c.is_outside.ensures.gains in
     let wrote = subst (λ r. Gains m (entries_of c.args.rid (record { row = Some c.args.row }) r) w) c.in-Err.is c.write_row.ensures.gains in
-    let all = gains_on v m w [] (entries_of {T = ⊤} c.args.rid (record { row = Some c.args.row }) (Err c.in-Err.refusal) ++ []) none (subst (λ es. Gains m es w) (sym (append-nil _)) wrote) (λ l. sym (append_assoc (entries_of {T = ⊤} c.args.rid (record { row = Some c.args.row }) (Err c.in-Err.refusal) ++ []) [] l)) in
+    let all = gains_on v m w [] (entries_of {T = ⊤} c.args.rid (record { row = Some c.args.row }) (Err c.in-Err.refusal)) none wrote (λ l. sym (append_assoc (entries_of {T = ⊤} c.args.rid (record { row = Some c.args.row }) (Err c.in-Err.refusal)) [] l)) in
     let refused = refused_before z v m c.args.snapshot.at c.in-Err.refusal _ none (subst (λ r. IfErr r (IsRefusedBy z m c.args.snapshot.at)) c.in-Err.is c.write_row.ensures.refused) in
     subst (λ e. IfSome (refused_reply false e) (λ reply. Answers z v (say.Put c.args.rid c.args.row) reply w)) (sym c.refused_at.ensures)
     (refused_inside z (say.Put c.args.rid c.args.row) nothing_more v w c.args.rid (record { row = Some c.args.row }) [] _ (puts z nothing_more (own_writes (session v).log) c.args.rid c.args.row) c.args.snapshot c.args.snapshot.at c.in-Err.refusal opened all refused)

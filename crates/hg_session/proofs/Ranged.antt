@@ -1,0 +1,91 @@
+-- What a scan and a deletion reply.
+use Rattle.std.proofs.Common.{◌≡◌, ℕ, zero, suc, ◌<◌, ℤ, List, [], ◌∷◌, ◌++◌, map, Bool, true, false, Option, Some, None, refl, sym, ap, ◌∙◌, subst, append_assoc, append-nil}
+use Rattle.std.specs.Prelude.{is_some, IfSome, Err, ⊤}
+use Rattle.hg_base.specs.declared.image.Image.{Image}
+use Rattle.hg_bucket.specs.declared.refusal.WriteRefusal.{WriteRefusal}
+use Rattle.hg_bucket.specs.declared.refusal.WriteRefusal.TheVariants.{Open, Newer, NoMemory}
+use Rattle.hg_base.specs.declared.rid.Rid.{Rid}
+use Rattle.hg_base.specs.declared.rid.TableId.{TableId}
+use Rattle.hg_base.specs.declared.scope.Snapshot.{Snapshot}
+use Rattle.hg_base.specs.declared.statement.Statement.TheVariants as say
+use Rattle.hg_base.specs.declared.line.Answer.TheVariants as answers
+use Rattle.hg_base.specs.Lists.{Each}
+use Rattle.hg_base.specs.History.{Write, nothing}
+use Rattle.hg_base.specs.Transcript.{only}
+use Rattle.hg_core.specs.declared.log.LogEntry.{LogEntry}
+use Rattle.hg_core.specs.declared.log.LogEntry.TheVariants.{Began, Saw, Over}
+use Rattle.hg_core.specs.Logs.{current, own_writes}
+use Rattle.hg_core.specs.Reading.{Unprinted, close, saw, saws}
+use Rattle.hg_core.specs.Reading as reading
+use Rattle.hg_rule.specs.declared.view.Sizes.{Sizes}
+use Rattle.hg_rule.specs.declared.view.View.{View}
+use Rattle.hg_rule.specs.Views.{session}
+use Rattle.hg_tracker.specs.Begun.{AtMost}
+use Rattle.hg_session.specs.Gains.{Gains, Stays, entries_of, rows_at}
+use Rattle.hg_session.specs.Scans.{Rows, ScansAll}
+use Rattle.hg_session.specs.Replies.{inside, Answers}
+use Rattle.hg_session.proofs.Replying.{AreQuiet, nothing_more, answers_inside, answers_alone, stays_quiet}
+use Rattle.hg_session.proofs.Putting.{Writing}
+use Rattle.hg_session.proofs.Settling.{gains_on}
+
+-- ---- a scan
+
+abbrev pub with_part : (ℕ → Rows) → Unprinted
+with_part part = record { found = []; part = part; undone = [] }
+
+pub scan_inside : (z : Sizes) (v w : View) (c : Snapshot) (table : TableId) (low high : ℕ) (rows : Rows) → current (session v).log ≡ Some c → ScansAll z.buckets v table low high rows w → Answers z v (say.Scan table low high) (inside (answers.Rows rows)) w
+scan_inside z v w c table low high rows e k = answers_inside z v w (say.Scan table low high) (answers.Rows rows) (with_part k.part) (ap (λ o. reading.is_alone o (say.Scan table low high)) e) k.gains k.joins tt tt tt tt
+
+pub scan_alone : (z : Sizes) (v m n w : View) (at : ℕ) (table : TableId) (low high : ℕ) (rows : Rows) → current (session v).log ≡ None → Each (AtMost at) v.sights → Gains v (Began at (only (Some table)) ∷ []) m → ScansAll z.buckets m table low high rows n → Gains n (Over ∷ []) w
+    → Answers z v (say.Scan table low high) (record { at = Some at; answer = answers.Rows rows; number = None }) w
+scan_alone z v m n w at table low high rows e most b k o =
+    let two = gains_on v m n (Began at (only (Some table)) ∷ []) (saws table low high k.part z.buckets) b k.gains (λ l. sym (append_assoc (saws table low high k.part z.buckets) (Began at (only (Some table)) ∷ []) l)) in
+    let all = gains_on v n w (saws table low high k.part z.buckets ++ Began at (only (Some table)) ∷ []) (Over ∷ []) two o (λ l. refl) in
+    answers_alone z v w (say.Scan table low high) (answers.Rows rows) at None (with_part k.part) e refl all refl k.joins refl refl most tt tt tt
+
+pub quiet_saws : (table : TableId) (low high : ℕ) (part : ℕ → Rows) (n : ℕ) → AreQuiet (saws table low high part n)
+quiet_saws table low high part zero = tt
+quiet_saws table low high part (suc n) = (tt, quiet_saws table low high part n)
+
+-- ---- a deletion
+
+abbrev pub with_found : List ℤ → Unprinted
+with_found found = record { found = found; part = λ b. []; undone = [] }
+
+abbrev pub saw_found : Sizes → Rid → List ℤ → List LogEntry
+saw_found z rid found = saw z.buckets rid ((rid.key, found) ∷ []) ∷ []
+
+pub dels : (z : Sizes) (own : List Write) (rid : Rid) (found : List ℤ) → Writing z (say.Del rid) (with_found found) own rid nothing (saw_found z rid found) answers.Gone
+dels z own rid found = record {
+  access = refl; stores = refl; opened = λ w. refl; newer = λ n. refl; fits = tt; fits_opened = λ w. tt; fits_newer = λ n. tt;
+  by = refl; by_opened = λ w. refl; by_newer = λ n. refl; at = λ at n. refl; at_none = refl; newer_none = λ at n. refl;
+  number_is = λ at n. refl; number_none = refl; none_opened = λ at w. refl; none_newer = λ at n. refl; goes = λ v. tt;
+}
+
+-- a row that is there
+pub found_row : (row : Option (List ℤ)) → true ≡ is_some row → (found : List ℤ) × (row ≡ Some found)
+found_row None e = absurd (let k = e in cc)
+found_row (Some found) e = (found, refl)
+
+pub no_row : (row : Option (List ℤ)) → false ≡ is_some row → row ≡ None
+no_row None e = refl
+no_row (Some found) e = absurd (let k = e in cc)
+
+pub nothing_inside : (z : Sizes) (v w : View) (c : Snapshot) (rid : Rid) → current (session v).log ≡ Some c → Gains v (saw z.buckets rid [] ∷ []) w → Answers z v (say.Del rid) (inside answers.Nothing) w
+nothing_inside z v w c rid e g = answers_inside z v w (say.Del rid) answers.Nothing nothing_more (ap (λ o. reading.is_alone o (say.Del rid)) e) g tt tt tt tt tt
+
+pub nothing_alone : (z : Sizes) (v w : View) (at : ℕ) (rid : Rid) → current (session v).log ≡ None → Each (AtMost at) v.sights → Gains v (close None ++ (saw z.buckets rid [] ∷ Began at (only (Some rid.table)) ∷ [])) w → Answers z v (say.Del rid) (record { at = Some at; answer = answers.Nothing; number = None }) w
+nothing_alone z v w at rid e most g = answers_alone z v w (say.Del rid) answers.Nothing at None nothing_more e refl g refl tt refl refl most tt tt tt
+
+-- after a look that logged nothing
+pub all_behind : (z : Sizes) (v m w : View) (table : TableId) (low high : ℕ) (rows : Rows) → Gains v [] m → ScansAll z.buckets m table low high rows w → ScansAll z.buckets v table low high rows w
+all_behind z v m w table low high rows none k =
+    let es = saws table low high k.part z.buckets in
+    let all = gains_on v m w [] es none k.gains (λ l. ap (λ x. x ++ l) (sym (append-nil es))) in
+    record { part = k.part; joins = k.joins; gains = subst (λ x. Gains v x w) (append-nil es) all }
+
+-- a refusal for want of memory leaves at most what was seen
+pub stays_refused : (z : Sizes) (v w : View) (rid : Rid) (image : Image) (e : WriteRefusal) (rows : Rows) → Gains v (entries_of {T = ⊤} rid image (Err e) ++ saw z.buckets rid rows ∷ []) w → Stays v w
+stays_refused z v w rid image (Open o) rows g = stays_quiet v w _ (tt, (tt, tt)) g
+stays_refused z v w rid image (Newer n) rows g = stays_quiet v w _ (tt, (tt, tt)) g
+stays_refused z v w rid image NoMemory rows g = stays_quiet v w _ (tt, tt) g

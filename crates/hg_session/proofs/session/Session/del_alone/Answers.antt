@@ -1,0 +1,96 @@
+use Rattle.std.proofs.Common.{◌≡◌, [], ◌∷◌, ◌++◌, true, false, Some, None, Ok, Err, refl, sym, ap, ◌∙◌, subst, rules}
+use Rattle.std.specs.Prelude.{IfSome, IfErr, IfOk, is_some}
+use Rattle.hg_base.specs.declared.statement.Statement.TheVariants as say
+use Rattle.hg_base.specs.History.{nothing}
+use Rattle.hg_base.specs.Transcript.{only}
+use Rattle.hg_core.specs.declared.log.LogEntry.TheVariants.{Began, Over}
+use Rattle.hg_core.specs.Logs.{current, own_writes}
+use Rattle.hg_core.specs.Reading.{saw}
+use Rattle.hg_rule.specs.Views.{session}
+use Rattle.hg_session.specs.Engines.{engine_sizes}
+use Rattle.hg_session.specs.Sessions.{view_of, left_of, written_of}
+use Rattle.hg_session.specs.Ties.{Ties}
+use Rattle.hg_session.specs.Gains.{Gains, Stays, rows_at}
+use Rattle.hg_session.specs.Replies.{Answers, del_reply}
+use Rattle.hg_session.specs.Alone.{WritesAlone, IsRefusedAlone}
+use Rattle.hg_session.proofs.Replying.{rest_unwritten}
+use Rattle.hg_session.proofs.Putting.{stored_alone, refused_alone, memory_alone}
+use Rattle.hg_session.proofs.Ranged.{dels, with_found, saw_found, found_row, no_row, nothing_alone}
+use Rattle.hg_session.proofs.Settling.{gains_on}
+use Rattle.hg_session.proofs.session.Session.del_alone.Goals as goal
+
+pub returns-then-not-see_there-clause-reply : goal.returns-then-not-see_there-clause-reply
+returns-then-not-see_there-clause-reply g c =
+    let z = engine_sizes c.args.engine.now in
+    let v = view_of c.args.self.now in
+    let m = view_of c.open-snapshot.new.self in
+    let n = view_of c.see_there.new.self in
+    let w = view_of c.end.new.self in
+    let rid = c.args.rid in
+    let at = c.open-snapshot.result.at in
+    let none : current (session v).log ≡ None = search rules in
+    let begun = subst (λ s. Gains v (Began at s ∷ []) m) c.only.ensures.is c.open-snapshot.ensures.gains in
+    let absent : false ≡ is_some c.see_there.ensures.gains.0 = search rules in
+    let seen = subst (λ r. Gains m (saw z.buckets rid (rows_at rid.key r) ∷ []) n) (no_row c.see_there.ensures.gains.0 absent) c.see_there.ensures.gains.1.0 in
+    let two = gains_on v m n _ _ begun seen (λ l. refl) in
+    nothing_alone z v w at rid none c.open-snapshot.ensures.fresh (gains_on v n w _ (Over ∷ []) two c.end.ensures.gains (λ l. refl))
+
+pub returns-in_err-number-clause-reply : goal.returns-in_err-number-clause-reply
+returns-in_err-number-clause-reply g c =
+    let z = engine_sizes c.args.engine.now in
+    let v = view_of c.args.self.now in
+    let m = view_of c.open-snapshot.new.self in
+    let n = view_of c.see_there.new.self in
+    let w = view_of c.write_alone.new.self in
+    let rid = c.args.rid in
+    let at = c.open-snapshot.result.at in
+    let none : current (session v).log ≡ None = search rules in
+    let begun = subst (λ s. Gains v (Began at s ∷ []) m) c.only.ensures.is c.open-snapshot.ensures.gains in
+    let there : true ≡ is_some c.see_there.ensures.gains.0 = search rules in
+    let row = found_row c.see_there.ensures.gains.0 there in
+    let seen = subst (λ r. Gains m (saw z.buckets rid (rows_at rid.key r) ∷ []) n) row.1 c.see_there.ensures.gains.1.0 in
+    let two = gains_on v m n (Began at (only (Some rid.table)) ∷ []) (saw_found z rid row.0) begun seen (λ l. refl) in
+    let e = c.in_err-number.field-0.0 in
+    let why = subst (λ x. IfErr x (IsRefusedAlone z n rid at w)) c.in_err-number.was c.write_alone.ensures.refused in
+    let same : c.from_residual.result ≡ Err e = search rules in
+    subst (λ x. IfSome (del_reply true x) (λ reply. Answers z v (say.Del rid) reply w)) (sym same)
+    (refused_alone z (say.Del rid) (with_found row.0) v w rid nothing (saw_found z rid row.0) _ (dels z (own_writes (session v).log) rid row.0) n at none c.open-snapshot.ensures.fresh two e why)
+
+pub returns-in_err-number-clause-refused : goal.returns-in_err-number-clause-refused
+returns-in_err-number-clause-refused g c =
+    let z = engine_sizes c.args.engine.now in
+    let v = view_of c.args.self.now in
+    let m = view_of c.open-snapshot.new.self in
+    let n = view_of c.see_there.new.self in
+    let w = view_of c.write_alone.new.self in
+    let rid = c.args.rid in
+    let at = c.open-snapshot.result.at in
+    let none : current (session v).log ≡ None = search rules in
+    let bare = rest_unwritten _ _ 1 1 _ (session v) (subst (λ o. Ties (engine_sizes c.args.engine.now).each o (written_of c.args.self.now) (left_of c.args.self.now) 1 1 (session v)) c.requires.closed c.requires.own.ties) in
+    let begun = subst (λ s. Gains v (Began at s ∷ []) m) c.only.ensures.is c.open-snapshot.ensures.gains in
+    let there : true ≡ is_some c.see_there.ensures.gains.0 = search rules in
+    let row = found_row c.see_there.ensures.gains.0 there in
+    let seen = subst (λ r. Gains m (saw z.buckets rid (rows_at rid.key r) ∷ []) n) row.1 c.see_there.ensures.gains.1.0 in
+    let two = gains_on v m n (Began at (only (Some rid.table)) ∷ []) (saw_found z rid row.0) begun seen (λ l. refl) in
+    let e = c.in_err-number.field-0.0 in
+    let why = subst (λ x. IfErr x (IsRefusedAlone z n rid at w)) c.in_err-number.was c.write_alone.ensures.refused in
+    let same : c.from_residual.result ≡ Err e = search rules in
+    λ h. memory_alone z (say.Del rid) (with_found row.0) v w rid nothing (saw_found z rid row.0) _ (dels z (own_writes (session v).log) rid row.0) n at none c.open-snapshot.ensures.fresh two bare e why (let k = sym same ∙ h in cc)
+
+pub returns-clause-reply : goal.returns-clause-reply
+returns-clause-reply g c =
+    let z = engine_sizes c.args.engine.now in
+    let v = view_of c.args.self.now in
+    let m = view_of c.open-snapshot.new.self in
+    let n = view_of c.see_there.new.self in
+    let w = view_of c.write_alone.new.self in
+    let rid = c.args.rid in
+    let at = c.open-snapshot.result.at in
+    let none : current (session v).log ≡ None = search rules in
+    let begun = subst (λ s. Gains v (Began at s ∷ []) m) c.only.ensures.is c.open-snapshot.ensures.gains in
+    let there : true ≡ is_some c.see_there.ensures.gains.0 = search rules in
+    let row = found_row c.see_there.ensures.gains.0 there in
+    let seen = subst (λ r. Gains m (saw z.buckets rid (rows_at rid.key r) ∷ []) n) row.1 c.see_there.ensures.gains.1.0 in
+    let two = gains_on v m n (Began at (only (Some rid.table)) ∷ []) (saw_found z rid row.0) begun seen (λ l. refl) in
+    let stored = subst (λ x. IfOk x (WritesAlone n rid nothing at w)) c.in_ok-number.was c.write_alone.ensures.stored in
+    stored_alone z (say.Del rid) (with_found row.0) v w rid nothing (saw_found z rid row.0) _ (dels z (own_writes (session v).log) rid row.0) n at none c.open-snapshot.ensures.fresh two c.in_ok-number.number stored
