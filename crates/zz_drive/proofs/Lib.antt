@@ -5,3 +5,4 @@ pub mod Turns
 pub mod OpenAfter
 pub mod Going
 pub mod Closes
+pub mod Told
