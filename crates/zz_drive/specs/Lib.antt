@@ -1,4 +1,0 @@
-pub mod Heard
-pub mod Listed
-pub mod Asked
-pub mod Closed
