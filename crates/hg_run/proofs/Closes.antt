@@ -1,14 +1,13 @@
 -- The end of a replay: what is open is rolled back, and what is counted.
-use Rattle.std.proofs.Common.{◌≡◌, ℕ, zero, suc, ◌+◌, ◌<◌, ◌≤◌, ◌≢◌, inl, inr, List, [], ◌∷◌, length, Bool, true, false, Option, Some, None, refl, sym, ap, ◌∙◌, subst, arith}
-use Rattle.std.specs.Prelude.{get_or, map, nat_lt, is_some, IsSome, IsTrue}
+use Rattle.std.proofs.Common.{◌≡◌, ℕ, zero, suc, ◌+◌, ◌<◌, ◌≤◌, ◌≢◌, inl, List, [], ◌∷◌, length, Bool, true, false, Option, Some, None, refl, sym, ap, ◌∙◌, subst, arith}
+use Rattle.std.specs.Prelude.{get_or, map, nat_lt, is_some, IsSome}
 use Rattle.std.proofs.lemmas.Bool.Decides.{nat_tests}
 use Rattle.hg_base.specs.declared.statement.Statement.TheVariants.{Rollback}
 use Rattle.hg_base.specs.declared.report.Kind.{Kind}
-use Rattle.hg_base.specs.declared.report.Kind.TheVariants.{Group, Table, Interval}
+use Rattle.hg_base.specs.declared.report.Kind.TheVariants.{Group, Interval}
 use Rattle.hg_base.specs.declared.line.Reply.{Reply}
 use Rattle.hg_base.specs.declared.line.Totals.{Totals}
 use Rattle.hg_base.proofs.ListFacts.{false_true}
-use Rattle.hg_core.specs.declared.log.LogEntry.{LogEntry}
 use Rattle.hg_core.specs.declared.visit.Visit.{Visit}
 use Rattle.hg_core.specs.Logs.{current, newest_of}
 use Rattle.hg_core.specs.Sums.{sum_below}
@@ -21,11 +20,11 @@ use Rattle.hg_rule.specs.Views.{session}
 use Rattle.hg_headline.specs.Counted.{Closes, removed_all}
 use Rattle.hg_headline.specs.Totalled.{WasLeftCut}
 use Rattle.hg_headline.specs.Following.{AreQuietTotals}
-use Rattle.hg_headline.proofs.Closing.{closes_idle, closes_rollback}
+use Rattle.hg_headline.proofs.Closing.{closes_rollback}
 use Rattle.hg_session.specs.declared.engine.Engine.{Engine}
 use Rattle.hg_session.specs.declared.session.Session.{Session}
 use Rattle.hg_session.specs.Engines.{engine_sizes}
-use Rattle.hg_session.specs.Sessions.{IsOf, view_of, number_of, log_of, open_of, left_of}
+use Rattle.hg_session.specs.Sessions.{IsOf, view_of, number_of, log_of, open_of}
 use Rattle.hg_session.specs.Opened.{IsNewOf}
 use Rattle.hg_session.specs.Ended.{logs_in, visits_in}
 use Rattle.hg_session.specs.Finished.{logs_of, IsClosed}
@@ -112,7 +111,7 @@ partly_more e i n old now new is within placed c p = record {
   many = c.many ∙ p.many;
   below = λ d k less inside. by_two i i k (λ k. k < n → k < length old → IsClosed e (suc k) (get_or new k d) × Closes (log_of (get_or old k d)) (log_of (get_or new k d))) (here d) (here d)
       (λ apart _ less inside. let lower : k < i = omega (arith, less, is, apart) in
-        subst (λ s. IsClosed e (suc k) s × Closes (log_of (get_or old k d)) (log_of s)) (sym (c.rest d k apart)) (p.below d k lower inside)) less inside;
+      subst (λ s. IsClosed e (suc k) s × Closes (log_of (get_or old k d)) (log_of s)) (sym (c.rest d k apart)) (p.below d k lower inside)) less inside;
   above = λ d k more. let over : i ≤ k = omega (arith, more, is) in c.rest d k (λ same. omega (arith, more, is, same)) ∙ p.above d k over;
 }
   where
@@ -137,10 +136,10 @@ pub partly_logs : (e : Engine) (old now : List Session) (n : ℕ) → length old
 partly_logs e old now n most p = by_place (λ j. Closes (logs_of old j) (logs_of now j)) old (inl (refl, refl))
     (λ k within. at k within)
     (λ k over.
-      let gone : logs_of old (suc k) ≡ [] = map_over log_of old k over in
-      let many = p.many in
-      let too : logs_of now (suc k) ≡ [] = map_over log_of now k (λ q. over (omega (arith, q, many))) in
-      inl (ap current gone, too ∙ sym gone))
+    let gone : logs_of old (suc k) ≡ [] = map_over log_of old k over in
+    let many = p.many in
+    let too : logs_of now (suc k) ≡ [] = map_over log_of now k (λ q. over (omega (arith, q, many))) in
+    inl (ap current gone, too ∙ sym gone))
   where
     some_in : (xs : List Session) (k : ℕ) → k < length xs → Session
     some_in [] k h = absurd (omega (arith, h))

@@ -1,5 +1,5 @@
 -- What an answered statement shows, where its session has heard all logs.
-use Rattle.std.proofs.Common.{◌≡◌, ℕ, ℤ, suc, ◌<◌, ◌≤◌, List, [], ◌∷◌, Bool, true, false, Option, Some, None, refl, sym, ap, ◌∙◌, subst, arith}
+use Rattle.std.proofs.Common.{◌≡◌, ℕ, suc, ◌<◌, ◌≤◌, List, [], ◌∷◌, Bool, true, false, Option, Some, None, refl, sym, ap, ◌∙◌, subst, arith}
 use Rattle.std.specs.Prelude.{◌&&◌, is_some, IfSome, option_map}
 use Rattle.std.specs.Option.{option_or}
 use Rattle.hg_base.specs.declared.report.Sweep.{Sweep}
@@ -9,13 +9,11 @@ use Rattle.hg_base.specs.declared.line.Answer.{Answer}
 use Rattle.hg_base.specs.declared.line.Answer.TheVariants.{Newer}
 use Rattle.hg_base.specs.declared.line.Reply.{Reply}
 use Rattle.hg_base.specs.Lists.{Each, present}
-use Rattle.hg_base.specs.Shape.{report_of}
 use Rattle.hg_base.specs.Transcript.{committed_by, stored_by}
 use Rattle.hg_base.proofs.ListFacts.{if_some_keeps}
 use Rattle.hg_core.specs.declared.log.LogEntry.{LogEntry}
 use Rattle.hg_core.specs.Logs.{current, own_writes}
 use Rattle.hg_core.specs.Reading.{Unprinted, Fits, is_alone}
-use Rattle.hg_rule.specs.declared.view.Sight.{Sight}
 use Rattle.hg_rule.specs.declared.view.View.{View}
 use Rattle.hg_tracker.specs.Begun.{AtMost}
 use Rattle.hg_script.specs.Lawful.{MayStand}

@@ -1,5 +1,5 @@
 -- What a session's pass that has heard all logs knows.
-use Rattle.std.proofs.Common.{◌≡◌, ℕ, ◌<◌, ◌≤◌, ◌⊎◌, inl, inr, List, [], ◌∷◌, ◌++◌, length, false, refl, sym, ◌∙◌, subst, arith}
+use Rattle.std.proofs.Common.{◌≡◌, ℕ, ◌<◌, ◌⊎◌, inl, inr, List, [], ◌∷◌, ◌++◌, false, refl, sym, ◌∙◌, subst, arith}
 use Rattle.hg_base.specs.declared.writer.Writer.{Writer}
 use Rattle.hg_base.specs.Lists.{Each}
 use Rattle.hg_core.specs.declared.log.LogEntry.{LogEntry}

@@ -1,5 +1,5 @@
 -- Whether a session's transaction is open after a statement.
-use Rattle.std.proofs.Common.{◌≡◌, ℕ, ℤ, zero, suc, List, [], ◌∷◌, ◌++◌, Bool, true, false, Option, Some, None, refl, sym, ap, ◌∙◌, subst, arith}
+use Rattle.std.proofs.Common.{◌≡◌, ℕ, ℤ, zero, suc, List, [], ◌∷◌, ◌++◌, Bool, true, false, Option, Some, None, refl, sym, ap, ◌∙◌, arith}
 use Rattle.std.specs.Prelude.{cond, fold, is_some, unwrap_or, ◌==◌}
 use Rattle.std.proofs.lemmas.Bool.Decides.{Decides-eqb, nat_tests}
 use Rattle.hg_base.specs.declared.rid.Rid.{Rid}
@@ -15,7 +15,7 @@ use Rattle.hg_base.specs.Replies.{IsBegun}
 use Rattle.hg_base.specs.Transcript.{only, table_of}
 use Rattle.hg_base.proofs.ListFacts.{false_true}
 use Rattle.hg_core.specs.declared.log.LogEntry.{LogEntry}
-use Rattle.hg_core.specs.declared.log.LogEntry.TheVariants.{Began, Over}
+use Rattle.hg_core.specs.declared.log.LogEntry.TheVariants.{Began}
 use Rattle.hg_core.specs.Logs.{current}
 use Rattle.hg_core.specs.Events.{put}
 use Rattle.hg_core.specs.Reading.{Unprinted, Fits, get_entries, put_entries, del_entries, scan_entries, saws, own_entries, log_after, log_with, is_access, is_alone, close}

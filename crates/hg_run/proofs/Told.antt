@@ -1,5 +1,5 @@
 -- What a session's call answered, as a reply.
-use Rattle.std.proofs.Common.{◌≡◌, Bool, Option, Some, None, refl, subst}
+use Rattle.std.proofs.Common.{◌≡◌, Option, Some, None, refl, subst}
 use Rattle.std.specs.Prelude.{Result, Ok, Err, not, is_some, is_none, IfSome, IfOk}
 use Rattle.hg_base.specs.declared.line.Reply.{Reply}
 use Rattle.hg_base.specs.declared.fault.NoMemory.{NoMemory}

@@ -1,7 +1,7 @@
 -- Sessions of a list that meet, and one that answers.
-use Rattle.std.proofs.Common.{◌≡◌, ℕ, zero, suc, ◌+◌, ◌-◌, ◌<◌, ◌≤◌, ◌≢◌, inl, inr, List, [], ◌∷◌, ◌++◌, length, Bool, true, false, Option, Some, None, refl, sym, ap, ◌∙◌, subst, arith}
+use Rattle.std.proofs.Common.{◌≡◌, ℕ, suc, ◌+◌, ◌-◌, ◌<◌, ◌≤◌, ◌≢◌, List, [], ◌∷◌, length, Bool, true, false, sym, ap, ◌∙◌, subst, arith}
 use Rattle.std.specs.Prelude.{get_or, is_some, ◌==◌, IsFalse}
-use Rattle.std.proofs.lemmas.Bool.Decides.{nat_tests, Decides-eqb}
+use Rattle.std.proofs.lemmas.Bool.Decides.{Decides-eqb}
 use Rattle.hg_base.specs.declared.writer.Writer.{Writer}
 use Rattle.hg_base.specs.declared.statement.Statement.{Statement}
 use Rattle.hg_base.specs.declared.statement.Statement.TheVariants.{Begin, Get, Put, Del, Scan, Commit as CommitIt, Rollback, Gc}
@@ -18,7 +18,6 @@ use Rattle.hg_rule.specs.Moves.{joined, meeting}
 use Rattle.hg_rule.specs.Agreed.{IsMet}
 use Rattle.hg_rule.specs.Views.{number, session}
 use Rattle.hg_script.specs.Lawful.{MayStand}
-use Rattle.hg_headline.specs.Met.{IsMetGc}
 use Rattle.hg_headline.specs.Following.{KnowsOpen, IsMetIfGc}
 use Rattle.hg_headline.proofs.OpenWrites.{met_answer}
 use Rattle.hg_session.specs.declared.engine.Engine.{Engine}
@@ -27,7 +26,7 @@ use Rattle.hg_session.specs.Engines.{engine_sizes}
 use Rattle.hg_session.specs.Sessions.{IsOf, view_of, number_of, log_of, left_of}
 use Rattle.hg_session.specs.Ties.{IsHeard}
 use Rattle.hg_session.specs.Replies.{Answers, GoesOn}
-use Rattle.hg_run.specs.Heard.{HasHeard, HasLog}
+use Rattle.hg_run.specs.Heard.{HasHeard}
 use Rattle.hg_session.specs.Finished.{logs_of}
 use Rattle.hg_run.specs.Listed.{IsPlaced, AreReady}
 use Rattle.hg_run.specs.Asked.{IsReplied}

@@ -1,5 +1,5 @@
 -- The end of a replay.
-use Rattle.std.specs.Prelude.{◌≡◌, ℕ, List}
+use Rattle.std.specs.Prelude.{ℕ, List}
 use Rattle.hg_base.specs.declared.line.Totals.{Totals}
 use Rattle.hg_base.specs.History.{History}
 use Rattle.hg_core.specs.declared.log.LogEntry.{LogEntry}

@@ -37,17 +37,10 @@ fn row_answer(row: Option<Row>) -> Answer
 fn gone_answer(there: bool) -> Answer
     ensures { result ≡ session.gone_answer there }
 {
-    if there {
-        Answer::Gone
-    } else {
-        Answer::Nothing
-    }
+    if there { Answer::Gone } else { Answer::Nothing }
 }
 
-pub(crate) fn get_reply(
-    alone: bool,
-    read: Result<Read, GetRefusal>,
-) -> Result<Reply, NoMemory>
+pub(crate) fn get_reply(alone: bool, read: Result<Read, GetRefusal>) -> Result<Reply, NoMemory>
     ensures { IfOk result (λ reply. session.get_reply alone read ≡ Some reply) }
 {
     match read {

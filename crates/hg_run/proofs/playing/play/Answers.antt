@@ -1,4 +1,4 @@
-use Rattle.std.proofs.Common.{◌≡◌, ℕ, ◌≤◌, ◌<◌, ◌+◌, ◌-◌, ◌∷◌, [], List, length, drop, get_or, suc, refl, sym, ap, ◌∙◌, subst, arith}
+use Rattle.std.proofs.Common.{◌≡◌, ℕ, ◌≤◌, ◌<◌, ◌+◌, ◌-◌, ◌∷◌, [], List, length, drop, get_or, suc, refl, sym, ◌∙◌, subst, arith}
 use Rattle.std.specs.Prelude.{is_some}
 use Rattle.std.proofs.Math.Seq.{drop-cons}
 use Rattle.std.proofs.lemmas.List.{drop_all}
@@ -7,8 +7,7 @@ use Rattle.hg_base.specs.declared.statement.Record.{Record}
 use Rattle.hg_core.specs.Logs.{current}
 use Rattle.hg_script.specs.Lawful.{MayStand}
 use Rattle.hg_session.specs.Finished.{logs_of}
-use Rattle.hg_session.specs.Engines.{engine_sizes}
-use Rattle.hg_run.specs.Asked.{IsOnTables, IsReplied}
+use Rattle.hg_run.specs.Asked.{IsOnTables}
 use Rattle.hg_run.proofs.Going.{Going, going_first, going_on, going_last, ready_less, may_stand, on_tables}
 use Rattle.hg_run.proofs.playing.play.Goals as goal
 

@@ -1,16 +1,12 @@
-use Rattle.std.proofs.Common.{◌≡◌, ℕ, ◌*◌, ◌<◌, ◌≤◌, List, [], length, sym, ap, ◌∙◌, subst, arith, rules}
-use Rattle.std.specs.Prelude.{map, max}
+use Rattle.std.proofs.Common.{◌≡◌, ℕ, ◌<◌, ◌≤◌, List, [], length, sym, subst, arith, rules}
 use Rattle.std.proofs.lemmas.Nat.{mul-le}
 use Rattle.hg_base.specs.declared.line.Printed.{Printed}
-use Rattle.hg_base.specs.declared.statement.Record.{Record}
-use Rattle.hg_base.specs.Lists.{greatest}
 use Rattle.hg_rule.specs.New.{Row}
 use Rattle.hg_headline.proofs.Closing.{following_last}
 use Rattle.hg_session.specs.declared.session.Session.{Session}
 use Rattle.hg_session.specs.Engines.{engine_sizes}
 use Rattle.hg_session.specs.Opened.{IsNewOf}
 use Rattle.hg_session.specs.Finished.{logs_of}
-use Rattle.hg_run.specs.Listed.{AreReady}
 use Rattle.hg_run.proofs.Going.{sessions_within, ready_less, order_quiet}
 use Rattle.hg_run.proofs.Closes.{new_logs, new_ready}
 use Rattle.hg_run.proofs.replay.replay.Goals as goal

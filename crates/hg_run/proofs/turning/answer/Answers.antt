@@ -1,5 +1,5 @@
-use Rattle.std.proofs.Common.{◌≡◌, ◌-◌, length, suc, sym, ap, subst, arith}
-use Rattle.std.specs.Prelude.{get_or, is_some}
+use Rattle.std.proofs.Common.{suc, sym, subst, arith}
+use Rattle.std.specs.Prelude.{is_some}
 use Rattle.hg_core.specs.Logs.{current}
 use Rattle.hg_script.specs.Lawful.{MayStand}
 use Rattle.hg_session.specs.Engines.{engine_sizes}

@@ -1,4 +1,4 @@
-use Rattle.std.proofs.Common.{◌<◌, ◌-◌, length, refl, arith}
+use Rattle.std.proofs.Common.{◌<◌, ◌-◌, length, arith}
 use Rattle.hg_run.proofs.Turns.{HaveMet, logs_met, ready_shown}
 use Rattle.hg_run.proofs.turning.show.Goals as goal
 
