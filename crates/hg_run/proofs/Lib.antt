@@ -1,25 +1,14 @@
 -- Reading and writing, and when each status comes.
 mod Known
 mod Exactly
--- All buckets: each record in its own.
-mod BucketsPlaced
-mod BucketsWriting
-mod BucketsBatches
-mod BucketsBeginning
-mod BucketsScanning
-mod BucketsGathering
-mod BucketsCounting
-mod BucketsSettling
--- One record's versions, and what is kept after each step.
-mod Versions
-mod Showing
-mod LogFacts
-mod Keeping
--- A statement in a transaction, and the end of one.
-mod Asking
-mod Ending
-mod Statements
+-- What a session that has heard all logs knows, and what its reply shows.
+mod Hearing
+mod FreshNumbers
+mod Told
+-- The sessions of a list: one answers, and two meet.
+mod Listing
+mod Turns
 -- A whole script.
-mod Playing
-mod Looping
-mod Closing
+mod OpenAfter
+mod Going
+mod Closes

@@ -17,15 +17,17 @@
 //! that is sound for the script which all the bytes of the source mean.
 #![tactic(auto)]
 
-mod buckets;
-mod driver;
+mod asking;
+mod closing;
 mod page;
+mod playing;
 mod reading;
 mod replay;
+mod replying;
 mod serving;
-mod session;
 mod status;
 mod text;
+mod turning;
 mod words;
 mod writing;
 

@@ -1,30 +1,45 @@
 //! The run of a script on one thread.
 
-ghost use Rattle.std.specs.Prelude.{◌≡◌, IfOk};
+ghost use Rattle.std.specs.Prelude.{◌≡◌, IfOk, length};
 ghost use Rattle.hg_base.specs.Script.{replay};
 ghost use Rattle.hg_base.specs.Sound.{IsSound};
 ghost use Rattle.hg_script.specs.Lawful.{IsLawful};
 
-use crate::driver::Driver;
-use hg_base::{DEFAULT_BUCKETS, Line, LineList, NoMemory, Printed};
+use crate::closing::close;
+use crate::playing::play;
+use hg_base::{DEFAULT_BUCKETS, NoMemory, Printed};
 use hg_script::Script;
+use hg_session::{Engine, TableDecl};
+use hg_tracker::Gathered;
 use std::alloc::Global;
+use std::sync::Wait;
+
+// The tables that a script declares.
+fn declared(alloc: Global, script: &Script) -> Result<Vec<TableDecl>, NoMemory>
+    ensures { IfOk result (λ tables. length tables.items ≡ length script.now.tables) }
+{
+    let mut tables = Vec::new(alloc);
+    for table in script.tables() {
+        tables.push(TableDecl {
+            columns: table.columns(),
+        })?;
+    }
+    Ok(tables)
+}
 
 /// Runs a script on one thread, record by record, and gives what is printed for it.
-pub(crate) fn replay(alloc: Global, script: &Script) -> Result<Printed, NoMemory>
+pub(crate) fn replay<R: Wait>(rt: &R, alloc: Global, script: &Script) -> Result<Printed, NoMemory>
     requires { IsLawful script.now }
     ensures { IfOk result (λ printed. IsSound replay script.now printed) }
 {
-    let mut driver = Driver::new(alloc, script.sessions(), DEFAULT_BUCKETS)?;
-    let mut lines = LineList::new(alloc);
-    for record in script.records() {
-        let reply = driver.answer(record.session, &record.statement)?;
-        lines.push(Line {
-            session: record.session,
-            place: record.place,
-            reply,
-        })?;
-    }
-    let totals = driver.close();
+    let tables = declared(alloc, script)?;
+    let sessions = script.sessions();
+    // A session has at most all records, and each begins one transaction and stores one write at most.
+    let each = (script.records().len() as u64).max(1);
+    let mut gathered = Gathered::new(alloc, sessions, tables.len() as u32)?;
+    let (engine, list, passes) = Engine::open(alloc, sessions, &tables, DEFAULT_BUCKETS, each)?;
+    let mut list = list.into_vec();
+    let lines = play(rt, alloc, &engine, &mut list, script)?;
+    let totals = close(rt, &engine, list, passes, &mut gathered);
     Ok(Printed { lines, totals })
 }

@@ -20,27 +20,32 @@ use std::sync::Wait;
 use std::thread::Threads;
 
 // The text that the script of these bytes prints. Here the script is known to be their meaning.
-fn text_of_bytes(alloc: Global, bytes: &[u8]) -> Result<Vec<u8>, Status>
+fn text_of_bytes<R: Wait>(rt: &R, alloc: Global, bytes: &[u8]) -> Result<Vec<u8>, Status>
     ensures text { IfOk result (λ text. IsTextFor bytes.now text.items) }
     ensures refused { IfErr result (RefusesBytes bytes.now) }
 {
     let script = read_script(alloc, bytes)?;
-    let printed = replay(alloc, &script)?;
+    let printed = replay(rt, alloc, &script)?;
     let text = text_of(alloc, &script, &printed)?;
     Ok(text)
 }
 
 // The text that the script in a source prints.
-fn text_of_source<S: Source>(alloc: Global, source: &mut S) -> Result<Vec<u8>, Status>
+fn text_of_source<R: Wait, S: Source>(
+    rt: &R,
+    alloc: Global,
+    source: &mut S,
+) -> Result<Vec<u8>, Status>
     ensures text { IfOk result (λ text. Answers (change_of S.left S.faults source.old source.new) text.items) }
     ensures refused { IfErr result (RefusesSource (change_of S.left S.faults source.old source.new)) }
 {
     let bytes = read_all(alloc, source)?;
-    text_of_bytes(alloc, &bytes)
+    text_of_bytes(rt, alloc, &bytes)
 }
 
 // The answer, which always comes.
-fn answer<So: Source, Si: Sink>(
+fn answer<R: Wait, So: Source, Si: Sink>(
+    rt: &R,
     alloc: Global,
     words: &[String],
     source: &mut So,
@@ -55,7 +60,7 @@ fn answer<So: Source, Si: Sink>(
     if !are_accepted(words) {
         return Status::Usage;
     }
-    let text = match text_of_source(alloc, source) {
+    let text = match text_of_source(rt, alloc, source) {
         Ok(text) => text,
         Err(status) => return status,
     };
@@ -67,7 +72,7 @@ fn answer<So: Source, Si: Sink>(
 
 /// Does what the words say: reads the script in the source, runs it, and writes its answers to the sink.
 pub fn serve<R: Threads + Wait + Sync, So: Source, Si: Sink, G: Gate + Sync>(
-    _rt: &R,
+    rt: &R,
     alloc: Global,
     words: &[String],
     source: &mut So,
@@ -100,5 +105,5 @@ pub fn serve<R: Threads + Wait + Sync, So: Source, Si: Sink, G: Gate + Sync>(
         → Gives (change_of So.left So.faults source.old source.new) bytes → MOST_SCRIPT_BYTES < length bytes
         → IsUnlessNoMemory result Status.TooLong }
 {
-    answer(alloc, words, source, sink)
+    answer(rt, alloc, words, source, sink)
 }

@@ -1,58 +1,48 @@
-use Rattle.std.proofs.Common.{◌≡◌, ℕ, ◌≤◌, ◌<◌, ◌+◌, ◌^◌, ◌∷◌, [], List, length, drop, get_or, suc, refl, sym, ap, ◌∙◌, subst, arith}
-use Rattle.std.specs.Prelude.{map, max}
-use Rattle.std.proofs.Math.Seq.{drop-cons}
-use Rattle.std.proofs.lemmas.List.{drop_all}
-use Rattle.hg_base.specs.declared.line.Line.{Line}
-use Rattle.hg_base.specs.declared.statement.Record.{Record}
-use Rattle.hg_base.specs.Lists.{greatest}
-use Rattle.hg_run.specs.Playing.{HasPlayed}
-use Rattle.hg_run.proofs.Looping.{Going, going_first, going_on, going_last, is_within, may_stand, on_tables, sessions_within}
+use Rattle.std.proofs.Common.{◌≡◌, ℕ, ◌<◌, ◌≤◌, List, [], length, sym, subst, arith, rules}
+use Rattle.std.proofs.lemmas.Nat.{mul-le}
+use Rattle.hg_base.specs.declared.line.Printed.{Printed}
+use Rattle.hg_rule.specs.New.{Row}
+use Rattle.hg_headline.proofs.Closing.{following_last}
+use Rattle.hg_session.specs.declared.session.Session.{Session}
+use Rattle.hg_session.specs.Engines.{engine_sizes}
+use Rattle.hg_session.specs.Opened.{IsNewOf}
+use Rattle.hg_session.specs.Finished.{logs_of}
+use Rattle.hg_run.proofs.Going.{sessions_within, ready_less, order_quiet}
+use Rattle.hg_run.proofs.Closes.{new_logs, new_ready}
 use Rattle.hg_run.proofs.replay.replay.Goals as goal
 
--- the next record, and those behind it
-next : (xs : List Record) (i : ℕ) (x : Record) → i < length xs → x ≡ get_or xs i x → drop i xs ≡ x ∷ drop (i + 1) xs
-next xs i x less e =
-    let step : drop i xs ≡ get_or xs i x ∷ drop (suc i) xs = drop-cons xs i x less in
-    let plus : suc i ≡ i + 1 = omega arith in
-    step ∙ (λ j. sym e j ∷ drop (plus j) xs)
+pub open-requires-clause-room : goal.open-requires-clause-room
+open-requires-clause-room g c =
+    let most = sessions_within c.args.script.now c.requires in
+    let sessions : c.sessions-sessions.result ≤ 64 = omega (arith, most, c.sessions-sessions.ensures) in
+    let each : c.max-each.result ≤ 1048576 = search rules in
+    let product = mul-le c.sessions-sessions.result c.max-each.result 64 1048576 sessions each in
+    omega (arith, product)
 
-pub new-requires-clause-sessions : goal.new-requires-clause-sessions
-new-requires-clause-sessions c = subst (λ n. n < 2 ^ 31) (sym c.sessions.ensures) (sessions_within c.args.script.now c.requires)
+pub play-requires-clause-ready : goal.play-requires-clause-ready
+play-requires-clause-ready g c =
+    let e = c.in_ok-engine.engine in
+    let list : List Session = c.into_vec-list.result.items in
+    let each : ℕ = c.max-each.result in
+    let is : list ≡ c.in_ok-engine.list = search rules in
+    let row : Row (IsNewOf e each) 1 list = subst (Row (IsNewOf e each) 1) (sym is) c.in_ok-engine.ensures.sessions in
+    let many : length list ≡ (engine_sizes e).sessions = search rules in
+    let some : 0 < length list = search rules in
+    let less : length c.args.script.now.records ≤ each = search rules in
+    ready_less e 0 (length c.args.script.now.records) each list less (new_ready e each list many some row)
 
-pub loop-record-init : goal.loop-record-init
-loop-record-init c =
-    let n : ℕ = max 1 (greatest (map (λ (r : Record). r.session) c.args.script.now.records)) in
-    let played : HasPlayed c.in_ok-driver.driver n [] [] = subst (λ m. HasPlayed c.in_ok-driver.driver m [] []) c.sessions.ensures c.in_ok-driver.ensures in
-    record {
-      going = rw (c.new-lines.ensures, c.records-record-items.ensures.same) (going_first c.in_ok-driver.driver c.args.script.now n refl c.requires played);
-    }
-
-pub loop-record-preserved : goal.loop-record-preserved
-loop-record-preserved c =
-    let n : ℕ = max 1 (greatest (map (λ (r : Record). r.session) c.args.script.now.records)) in
-    let items = c.records-record-items.result.now in
-    let i = c.loop-record.record-index in
-    let item = c.record-item.result in
-    let rest = drop (i + 1) items in
-    let less : i < length items = omega arith in
-    let going : Going c.loop-record.driver n c.loop-record.lines (item ∷ rest) c.args.script.now = subst (λ rs. Going c.loop-record.driver n c.loop-record.lines rs c.args.script.now) (next items i item less c.record-item.is) c.loop-record.invariant.going in
-    let line : Line = record { session = item.session; place = item.place; reply = c.in_ok-reply.reply } in
-    record {
-      going =
-          subst (λ ls. Going c.answer.new.self n ls rest c.args.script.now) (sym c.in_ok-push.ensures.ok)
-          (going_on c.loop-record.driver c.answer.new.self n c.loop-record.lines item rest c.args.script.now line going refl refl (λ p s. c.in_ok-reply.ensures.answered p n s) c.in_ok-reply.ensures.rest);
-    }
-
-pub close-totals-requires-clause-most : goal.close-totals-requires-clause-most
-close-totals-requires-clause-most c =
-    let many = c.loop-record.invariant.going.played.many in
-    let within = sessions_within c.args.script.now c.requires in
-    omega (arith, many, within)
+pub play-requires-clause-none : goal.play-requires-clause-none
+play-requires-clause-none g c =
+    let e = c.in_ok-engine.engine in
+    let list : List Session = c.into_vec-list.result.items in
+    let each : ℕ = c.max-each.result in
+    let is : list ≡ c.in_ok-engine.list = search rules in
+    new_logs e each list (subst (Row (IsNewOf e each) 1) (sym is) c.in_ok-engine.ensures.sessions)
 
 pub returns : goal.returns
-returns c =
-    let n : ℕ = max 1 (greatest (map (λ (r : Record). r.session) c.args.script.now.records)) in
-    let items = c.records-record-items.result.now in
-    let done : length items ≤ c.loop-record.record-index = omega arith in
-    let going : Going c.loop-record.driver n c.loop-record.lines [] c.args.script.now = subst (λ rs. Going c.loop-record.driver n c.loop-record.lines rs c.args.script.now) (drop_all c.loop-record.record-index items done) c.loop-record.invariant.going in
-    going_last c.loop-record.driver n c.loop-record.lines c.args.script.now c.close-totals.result going (λ p s. c.close-totals.ensures p n s going.played.many)
+returns g c =
+    let z = engine_sizes c.in_ok-engine.engine in
+    let f = c.in_ok-lines.ensures.following in
+    let t = c.close-totals.ensures in
+    let printed : Printed = record { lines = c.in_ok-lines.lines; totals = c.close-totals.result } in
+    following_last z.buckets z.sessions 0 f.0 t.history (logs_of c.play.new.list.items) t.closed c.args.script.now printed f.1 t.closes t.logged (omega arith) (order_quiet [] c.args.script.now.records c.requires.order) t.counted

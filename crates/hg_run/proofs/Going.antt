@@ -1,0 +1,144 @@
+-- A replay amid a script that breaks no rule.
+use Rattle.std.proofs.Common.{◌≡◌, ℕ, suc, ◌≤◌, List, [], ◌∷◌, ◌++◌, length, Bool, false, refl, sym, ap, ◌∙◌, subst, arith, append_assoc}
+use Rattle.std.specs.Prelude.{map, max, is_some}
+use Rattle.hg_base.specs.declared.limits.TheConstants.{MOST_SESSIONS}
+use Rattle.hg_base.specs.declared.statement.Statement.{Statement}
+use Rattle.hg_base.specs.declared.statement.Statement.TheVariants.{Begin, Get, Put, Del, Scan, Commit, Rollback, Gc}
+use Rattle.hg_base.specs.declared.scope.Scope.{Scope}
+use Rattle.hg_base.specs.declared.scope.Scope.TheVariants.{All, Declared}
+use Rattle.hg_base.specs.declared.statement.Record.{Record}
+use Rattle.hg_base.specs.declared.line.Line.{Line}
+use Rattle.hg_base.specs.Lists.{Each, greatest}
+use Rattle.hg_base.specs.Script.{Declaration, Script}
+use Rattle.hg_base.proofs.ListFacts.{append_nil}
+use Rattle.hg_core.specs.Answered.{is_gc}
+use Rattle.hg_core.specs.Logs.{current}
+use Rattle.hg_core.specs.Words.{IsBelow}
+use Rattle.hg_script.specs.Lawful.{AreInOrder, FitsTables, IsScope, IsLawful, IsStatement, MayStand}
+use Rattle.hg_script.specs.Rules.{is_open}
+use Rattle.hg_headline.specs.Following.{IsFollowing, top_after}
+use Rattle.hg_headline.proofs.Following.{following_opened, following_more}
+use Rattle.hg_session.specs.declared.engine.Engine.{Engine}
+use Rattle.hg_session.specs.declared.session.Session.{Session}
+use Rattle.hg_session.specs.Engines.{engine_sizes}
+use Rattle.hg_session.specs.Finished.{logs_of}
+use Rattle.hg_run.specs.Listed.{AreReady}
+use Rattle.hg_run.specs.Asked.{IsOnTables, IsReplied}
+use Rattle.hg_run.proofs.OpenAfter.{opened_more}
+
+-- of a record that is still to come: a statement of a session that there is
+pub record IsToCome (script : Script) (sessions : ℕ) (r : Record) : Type 0 where
+  pub stands : IsStatement script.tables r
+  pub most : r.session ≤ sessions
+
+-- the records that were answered, and those that are left
+pub record Going (e : Engine) (list : List Session) (last : ℕ) (lines : List Line) (rest : List Record) (script : Script) : Type 0 where
+  pub done : List Record
+  pub top : ℕ
+  pub all : script.records ≡ done ++ rest
+  pub following : IsFollowing (engine_sizes e).buckets (engine_sizes e).sessions (logs_of list) 0 top done lines
+  pub opened : (j : ℕ) → is_open j done ≡ is_some (current (logs_of list j))
+  pub ready : AreReady e last (length rest) list
+  pub order : AreInOrder done rest
+  pub coming : Each (IsToCome script (engine_sizes e).sessions) rest
+
+-- ---- the sessions of a script
+
+pub to_come : (script : Script) (n : ℕ) (rs : List Record) → Each (IsStatement script.tables) rs → greatest (map (λ r. r.session) rs) ≤ n → Each (IsToCome script n) rs
+to_come script n [] h most = tt
+to_come script n (r ∷ rs) h most =
+    let here : r.session ≤ n = omega (arith, most) in
+    let later : greatest (map (λ (r : Record). r.session) rs) ≤ n = omega (arith, most) in
+    (record { stands = h.0; most = here }, to_come script n rs h.1 later)
+
+pub greatest_within : (script : Script) (rs : List Record) → Each (IsStatement script.tables) rs → greatest (map (λ r. r.session) rs) ≤ MOST_SESSIONS
+greatest_within script [] h = omega arith
+greatest_within script (r ∷ rs) h =
+    let rest = greatest_within script rs h.1 in
+    let here = h.0.most in
+    omega (arith, here, rest)
+
+pub sessions_within : (script : Script) → IsLawful script → max 1 (greatest (map (λ r. r.session) script.records)) ≤ MOST_SESSIONS
+sessions_within script h = let most = greatest_within script script.records h.statements in omega (arith, most)
+
+-- ---- one turn
+
+pub going_first : (e : Engine) (list : List Session) (script : Script) → (engine_sizes e).sessions ≡ max 1 (greatest (map (λ r. r.session) script.records)) → IsLawful script → AreReady e 0 (length script.records) list → ((j : ℕ) → logs_of list j ≡ []) → Going e list 0 [] script.records script
+going_first e list script sessions h ready none =
+    let most : greatest (map (λ (r : Record). r.session) script.records) ≤ (engine_sizes e).sessions = omega (arith, sessions) in
+    let same : (λ j. []) ≡ logs_of list = (λ p j. sym (none j) p) in
+    record {
+      done = [];
+      top = 0;
+      all = refl;
+      following = subst (λ logs. IsFollowing (engine_sizes e).buckets (engine_sizes e).sessions logs 0 0 [] []) same (following_opened (engine_sizes e).buckets (engine_sizes e).sessions);
+      opened = λ j. ap (λ l. is_some (current l)) (sym (none j));
+      ready = ready;
+      order = h.order;
+      coming = to_come script (engine_sizes e).sessions script.records h.statements most;
+    }
+
+pub going_on : (e : Engine) (old new : List Session) (last i : ℕ) (lines : List Line) (r : Record) (rest : List Record) (script : Script) (line : Line) → Going e old last lines (r ∷ rest) script → suc i ≡ r.session → line.session ≡ r.session → line.place ≡ r.place →
+    IsReplied (engine_sizes e).buckets (engine_sizes e).sessions (logs_of old) (suc i) r.statement line.reply (logs_of new) → ((left : ℕ) → AreReady e last (suc left) old → AreReady e i left new) → Going e new i (lines ++ line ∷ []) rest script
+going_on e old new last i lines r rest script line g is session place replied ready =
+    let z = engine_sizes e in
+    let a : IsReplied z.buckets z.sessions (logs_of old) r.session r.statement line.reply (logs_of new) = subst (λ j. IsReplied z.buckets z.sessions (logs_of old) j r.statement line.reply (logs_of new)) is replied in
+    let top : ℕ = top_after g.top r.statement line.reply in
+    record {
+      done = g.done ++ r ∷ [];
+      top = top;
+      all = g.all ∙ sym (append_assoc g.done (r ∷ []) rest);
+      following = subst (λ logs. IsFollowing z.buckets z.sessions logs 0 top (g.done ++ r ∷ []) (lines ++ line ∷ [])) (sym a.logs)
+          (following_more z.buckets z.sessions (logs_of old) 0 0 g.top g.done lines r line a.u g.following g.coming.0.stands.some g.coming.0.most session place a.fits a.met a.fresh);
+      opened = opened_more z.buckets (logs_of old) (logs_of new) g.done r a.u line.reply a.logs a.fits g.opened;
+      ready = ready (length rest) g.ready;
+      order = g.order.1;
+      coming = g.coming.1;
+    }
+
+pub going_last : (e : Engine) (list : List Session) (last : ℕ) (lines : List Line) (script : Script) → Going e list last lines [] script → (top : ℕ) × IsFollowing (engine_sizes e).buckets (engine_sizes e).sessions (logs_of list) 0 top script.records lines
+going_last e list last lines script g = (g.top, subst (λ rs. IsFollowing (engine_sizes e).buckets (engine_sizes e).sessions (logs_of list) 0 g.top rs lines) (sym (g.all ∙ append_nil g.done)) g.following)
+
+-- ---- what the next record asks for
+
+pub ready_less : (e : Engine) (last left more : ℕ) (list : List Session) → left ≤ more → AreReady e last more list → AreReady e last left list
+ready_less e last left more list less r = record {
+  many = r.many;
+  within = r.within;
+  placed = r.placed;
+  left_is = λ d k within. (let more = r.left_is d k within in omega (arith, less, more));
+  heard = r.heard;
+}
+
+pub may_stand : (e : Engine) (list : List Session) (last : ℕ) (lines : List Line) (r : Record) (rest : List Record) (script : Script) → Going e list last lines (r ∷ rest) script → MayStand (is_some (current (logs_of list r.session))) r.statement
+may_stand e list last lines r rest script g = subst (λ b. MayStand b r.statement) (g.opened r.session) g.order.0
+
+scope_below : (tables : List Declaration) (scope : Scope) → IsScope tables scope → IsBelow (length tables) scope
+scope_below tables All h = tt
+scope_below tables (Declared mask) h = h.1
+
+pub on_tables : (tables : List Declaration) (s : Statement) → FitsTables tables s → IsOnTables (length tables) s
+on_tables tables (Begin scope) fits = scope_below tables scope fits
+on_tables tables (Get r) fits = fits
+on_tables tables (Put r row) fits = fits.0
+on_tables tables (Del r) fits = fits
+on_tables tables (Scan table low high) fits = fits
+on_tables tables Commit fits = tt
+on_tables tables Rollback fits = tt
+on_tables tables (Gc kind) fits = tt
+
+-- ---- no record is a `gc`
+
+no_gc : (o : Bool) (s : Statement) → MayStand o s → is_gc s ≡ false
+no_gc o (Gc kind) h = absurd h
+no_gc o (Begin scope) h = refl
+no_gc o (Get r) h = refl
+no_gc o (Put r row) h = refl
+no_gc o (Del r) h = refl
+no_gc o (Scan t low high) h = refl
+no_gc o Commit h = refl
+no_gc o Rollback h = refl
+
+pub order_quiet : (before rs : List Record) → AreInOrder before rs → Each (λ (r : Record). is_gc r.statement ≡ false) rs
+order_quiet before [] h = tt
+order_quiet before (r ∷ rs) h = (no_gc (is_open r.session before) r.statement h.0, order_quiet (before ++ r ∷ []) rs h.1)

@@ -1,0 +1,15 @@
+-- What a session's pass knows of all logs, where one thread has all sessions.
+use Rattle.std.specs.Prelude.{◌≡◌, ℕ, List}
+use Rattle.hg_core.specs.declared.log.LogEntry.{LogEntry}
+use Rattle.hg_rule.specs.declared.view.View.{View}
+use Rattle.hg_rule.specs.Views.{number, session, HasOnlySession}
+use Rattle.hg_session.specs.Ties.{IsHeard}
+
+-- these are the logs, as far as one session's own goes
+pub record HasLog (logs : ℕ → List LogEntry) (v : View) : Type 0 where
+  pub only : HasOnlySession v
+  pub own : (session v).log ≡ logs (number v)
+
+-- each log was heard as it stands, unless it is empty
+abbrev pub HasHeard : (ℕ → List LogEntry) → View → Type 0
+HasHeard logs v = (k : ℕ) → IsHeard k (logs k) v.sights

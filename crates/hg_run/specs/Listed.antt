@@ -1,0 +1,21 @@
+-- The sessions of a replay in the order of their numbers: session j stands at j - 1.
+use Rattle.std.specs.Prelude.{◌≡◌, ℕ, suc, ◌≤◌, ◌<◌, List, length, get_or}
+use Rattle.hg_session.specs.declared.engine.Engine.{Engine}
+use Rattle.hg_session.specs.declared.session.Session.{Session}
+use Rattle.hg_session.specs.Engines.{engine_sizes}
+use Rattle.hg_session.specs.Sessions.{view_of, number_of, left_of, IsOf}
+use Rattle.hg_session.specs.Finished.{logs_of}
+use Rattle.hg_run.specs.Heard.{HasHeard}
+
+-- one at place k, which has number k + 1
+pub record IsPlaced (e : Engine) (k : ℕ) (s : Session) : Type 0 where
+  pub own : IsOf e s
+  pub number_is : number_of s ≡ suc k
+
+-- All sessions of the engine, each in its place, which may run `left` statements more. The last one that ran has heard every log.
+pub record AreReady (e : Engine) (last : ℕ) (left : ℕ) (list : List Session) : Type 0 where
+  pub many : length list ≡ (engine_sizes e).sessions
+  pub within : last < length list
+  pub placed : (d : Session) (k : ℕ) → k < length list → IsPlaced e k (get_or list k d)
+  pub left_is : (d : Session) (k : ℕ) → k < length list → left ≤ left_of (get_or list k d)
+  pub heard : (d : Session) → HasHeard (logs_of list) (view_of (get_or list last d))
