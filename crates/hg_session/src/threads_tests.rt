@@ -33,9 +33,11 @@ fn commit_one<R: Wait>(
         return None;
     }
     match session.commit(rt, engine) {
-        Ok(Ended {
-            receipt: Some(receipt),
-        }) => Some(receipt.place),
+        Ok(
+            Ended {
+                receipt: Some(receipt),
+            },
+        ) => Some(receipt.place),
         _ => None,
     }
 }
@@ -80,9 +82,12 @@ fn commit_beside<R: Threads + Wait + Sync>(
     requires ready { All (MayRun engine.now 100) sessions.old }
     requires table { 0 < (engine_sizes engine.now).tables }
 {
-    thread::for_each_mut(rt, sessions, 4, &|i, session| {
-        commit_often(rt, alloc, engine, session, 1000 * (i as u64 % 4), places)
-    });
+    thread::for_each_mut(
+        rt,
+        sessions,
+        4,
+        &|i, session| { commit_often(rt, alloc, engine, session, 1000 * (i as u64 % 4), places) },
+    );
 }
 
 // Each of two hundred commits has a place of its own, below two hundred.
