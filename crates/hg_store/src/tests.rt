@@ -95,7 +95,7 @@ fn value(image: Option<&Image>) -> Option<i64> {
     image?.row.as_ref()?.values().first().copied()
 }
 
-type Written = (Result<(), WriteRefusal>, Option<i64>, Option<i64>, Totals);
+type Written = (Result<bool, WriteRefusal>, Option<i64>, Option<i64>, Totals);
 
 // Writes in the record's bucket. It answers what the write answers, what the transaction and another one read then, and the
 // counts.
@@ -146,7 +146,7 @@ fn a_session_reads_what_it_wrote(rt: HostRuntime) -> Result<(), Fail> {
     };
     let image = image(rt.alloc(), 10)?;
     let (written, own, others, counts) = write_in(&rt, &store, &board, 1, pass, rid, image, at);
-    assert_eq!(rt; written, Ok(()));
+    assert_eq!(rt; written, Ok(true));
     assert_eq!(rt; own, Some(10));
     assert_eq!(rt; others, None);
     assert_eq!(rt; (counts.made, counts.undone, counts.left), (1, 0, 1));
