@@ -1,6 +1,6 @@
 -- A write: when it is refused, and what it makes of a record.
 use Rattle.std.proofs.Common.{◌≡◌, ℕ, ◌+◌, ◌<◌, List, [], ◌∷◌, length, Bool, true, false, Option, Some, None, refl, sym, ap, ◌∙◌, cond, subst, drop, not, arith}
-use Rattle.std.specs.Prelude.{IsTrue, IsSome, is_some, unwrap_or, option_map, option_and_then, nat_lt, ◌||◌, Result, Err, IsOk}
+use Rattle.std.specs.Prelude.{IsTrue, IsSome, is_some, unwrap_or, option_map, option_and_then, nat_lt, ◌||◌}
 use Rattle.std.specs.Map.{lookup}
 use Rattle.std.specs.Option.{option_or}
 use Rattle.std.proofs.lemmas.Option.{none-some, same_Some}
@@ -99,13 +99,6 @@ free_chain by (v ∷ vs) im h = (one v.stamp v.image h.0, free_chain by vs im h.
     one (Numbered n w) image k = tt
     one (Written w) image k = k
 
-pub free_parts : (by : Writer) (es : List (Rid × ℕ)) (cs : List (Rid × List Version)) (places : List Seat) (r : Rid) → AreWhole es cs places → NoOther by (versions_of (records_of es cs places) r) → chain.NoOther by (chain_of cs r)
-free_parts by es cs places r old h = go (place_of es r) refl
-  where
-    go : (o : Option ℕ) → place_of es r ≡ o → chain.NoOther by (chain_of cs r)
-    go None e = subst (chain.NoOther by) (sym (ap (λ o. unwrap_or o []) (unplaced es cs places r old e))) tt
-    go (Some p) e = free_chain by (chain_of cs r) (image_at places p) (subst (NoOther by) (versions_there es cs places r p e) h)
-
 -- ---- an open write
 
 pub whole_installed : (by : Writer) (image : Image) (vs : List Version) (im : Oldest) → installed by image (whole vs im) ≡ whole (chain.installed by image vs) im
@@ -142,8 +135,9 @@ pub record Installs (es fs : List (Rid × ℕ)) (cs ds : List (Rid × List Versi
   pub left : left (records_of fs ds seats) ≡ left (records_of es cs places) + cond (not (chain.is_open_by by (chain_of cs r))) 1 0
   pub begins : chain.is_open_by by (chain_of cs r) ≡ begins_open by (versions_of (records_of es cs places) r)
 
-pub installs : (es fs : List (Rid × ℕ)) (cs ds : List (Rid × List Version)) (places seats : List Seat) (r : Rid) (by : Writer) (image : Image) → IsIndex es → AreWhole es cs places → ChainIs cs ds r (chain.installed by image (chain_of cs r)) → (IsSome (place_of es r) → fs ≡ es) → (IsSome (place_of es r) → seats ≡ places) → (place_of es r ≡ None → (p : ℕ) × Names es fs places seats r p) → Installs es fs cs ds places seats r by image
-installs es fs cs ds places seats r by image index old is index_stays places_stay names = go (place_of es r) refl
+-- where the record has a place, index and places stay
+pub extends : (es : List (Rid × ℕ)) (cs ds : List (Rid × List Version)) (places : List Seat) (r : Rid) (by : Writer) (image : Image) → IsIndex es → AreWhole es cs places → ChainIs cs ds r (chain.installed by image (chain_of cs r)) → IsSome (place_of es r) → Installs es es cs ds places places r by image
+extends es cs ds places r by image index old is placed = go (place_of es r) refl placed
   where
     at_place : (p : ℕ) → place_of es r ≡ Some p → Installs es es cs ds places places r by image
     at_place p has =
@@ -163,34 +157,21 @@ installs es fs cs ds places seats r by image index old is index_stays places_sta
           begins = sym (open_chain by vs im) ∙ ap (begins_open by) (sym there);
         }
 
-    no_place : place_of es r ≡ None → (p : ℕ) × Names es fs places seats r p → Installs es fs cs ds places seats r by image
-    no_place none place =
-        let p = place.0 in
-        let ws = chain.open_write by image ∷ [] in
-        let bare : chain_of cs r ≡ [] = ap (λ o. unwrap_or o []) (unplaced es cs places r old none) in
-        let empty = no_versions es cs places r none in
-        let begun : ChainIs cs ds r ws = subst (λ vs. ChainIs cs ds r (chain.installed by image vs)) bare is in
-        record {
-          whole = named es fs cs ds places seats r p (chain.open_write by image) [] old place.1 begun;
-          here = named_here es fs cs ds places seats r p ws place.1 begun ∙ ap (installed by image) (sym empty);
-          others = named_others es fs cs ds places seats r p ws place.1 begun;
-          left = named_left es fs cs ds places seats r p ws index place.1 begun ∙ ap (λ vs. left (records_of es cs places) + cond (not (chain.is_open_by by vs)) 1 0) (sym bare);
-          begins = ap (chain.is_open_by by) bare ∙ ap (begins_open by) (sym empty);
-        }
+    go : (o : Option ℕ) → place_of es r ≡ o → IsSome o → Installs es es cs ds places places r by image
+    go None e k = absurd (let j = k in cc)
+    go (Some p) e k = at_place p e
 
-    go : (o : Option ℕ) → place_of es r ≡ o → Installs es fs cs ds places seats r by image
-    go None e = no_place e (names e)
-    go (Some p) e = subst (λ ps. Installs es fs cs ds places ps r by image) (sym (places_stay (ap is_some e))) (subst (λ gs. Installs es gs cs ds places places r by image) (sym (index_stays (ap is_some e))) (at_place p e))
-
--- ---- want of memory
-
-pub not_named : {X E : Type 0} (o : Option ℕ) (result : Result X E) {e : E} → result ≡ Err e → (IsSome o → IsOk result) → o ≡ None
-not_named None result is h = refl
-not_named (Some p) result is h = let k = subst IsOk is (h refl) in absurd cc
-
-pub begins_parts : (by : Writer) (es : List (Rid × ℕ)) (cs : List (Rid × List Version)) (places : List Seat) (r : Rid) → AreWhole es cs places → chain.is_open_by by (chain_of cs r) ≡ begins_open by (versions_of (records_of es cs places) r)
-begins_parts by es cs places r old = go (place_of es r) refl
-  where
-    go : (o : Option ℕ) → place_of es r ≡ o → chain.is_open_by by (chain_of cs r) ≡ begins_open by (versions_of (records_of es cs places) r)
-    go None e = ap (λ o. chain.is_open_by by (unwrap_or o [])) (unplaced es cs places r old e) ∙ ap (begins_open by) (sym (no_versions es cs places r e))
-    go (Some p) e = sym (open_chain by (chain_of cs r) (image_at places p)) ∙ ap (begins_open by) (sym (versions_there es cs places r p e))
+-- where it has none, it gets one
+pub begins : (es fs : List (Rid × ℕ)) (cs ds : List (Rid × List Version)) (places seats : List Seat) (r : Rid) (by : Writer) (image : Image) → IsIndex es → AreWhole es cs places → (p : ℕ) × Names es fs places seats r p → ChainIs cs ds r (chain.installed by image []) → Installs es fs cs ds places seats r by image
+begins es fs cs ds places seats r by image index old place begun =
+    let p = place.0 in
+    let ws = chain.open_write by image ∷ [] in
+    let bare : chain_of cs r ≡ [] = ap (λ o. unwrap_or o []) (unplaced es cs places r old place.1.new) in
+    let empty = no_versions es cs places r place.1.new in
+    record {
+      whole = named es fs cs ds places seats r p (chain.open_write by image) [] old place.1 begun;
+      here = named_here es fs cs ds places seats r p ws place.1 begun ∙ ap (installed by image) (sym empty);
+      others = named_others es fs cs ds places seats r p ws place.1 begun;
+      left = named_left es fs cs ds places seats r p ws index place.1 begun ∙ ap (λ vs. left (records_of es cs places) + cond (not (chain.is_open_by by vs)) 1 0) (sym bare);
+      begins = ap (chain.is_open_by by) bare ∙ ap (begins_open by) (sym empty);
+    }

@@ -10,6 +10,7 @@ pub mod Naming
 pub mod Installing
 pub mod Stamping
 pub mod Refusing
+pub mod Putting
 pub mod Cutting
 pub mod Shortening
 pub mod Ranging

@@ -4,3 +4,4 @@ pub mod Conflicts
 pub mod Sweeping
 pub mod Long
 pub mod Parts
+pub mod Writes

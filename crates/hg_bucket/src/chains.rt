@@ -1,17 +1,21 @@
 //! The chains of the records that have one: no other record is in the map.
 
-ghost use Rattle.std.specs.Prelude.{◌≡◌, ◌+◌, ◌<◌, ◌≤◌, ◌^◌, length, option_to_list, IfSome, [], not, drop, IsTrue, IsSome, IsOk, IfOk, OnOk, OnErr};
+ghost use Rattle.std.specs.Prelude.{◌≡◌, ◌+◌, ◌<◌, ◌≤◌, ◌^◌, length, option_to_list, IfSome, None, [], not, drop, IsTrue, IsOk, IfOk, IfErr, OnOk, OnErr};
 ghost use Rattle.hg_base.specs.Lists.{Each};
 ghost use Rattle.std.specs.Bool.{OnFalse};
 ghost use Rattle.std.specs.Map.{lookup};
 ghost use Rattle.hg_base.specs.History.{same_rid};
 ghost use Rattle.hg_chain.specs.Sweeps.{Rises, swept, swept_away, goes, last_number, IsClean, MayStay};
-ghost use Rattle.hg_chain.specs.Versions.{newest, number_in, image_by, image_at, is_open_by, installed, stamped, left_by, oldest_at, others_at, IsBelow, NoOther};
+ghost use Rattle.hg_chain.specs.Versions.{image_by, image_at, is_open_by, installed, stamped, left_by, oldest_at, others_at, IsBelow, NoOther};
 ghost use Rattle.std.specs.Option.{option_copied, option_or};
-ghost use Rattle.hg_bucket.specs.Parts.{chain_of, ChainIs, IsNextChain};
+ghost use Rattle.hg_bucket.specs.Conflicts.{conflict};
+ghost use Rattle.hg_bucket.specs.Parts.{chain_of, whole, ChainIs, IsNextChain};
+ghost use Rattle.hg_bucket.specs.Writes.{Extends, ExtendsOne};
+ghost use Rattle.hg_space.specs.Places.{Oldest};
 
+use crate::refusal::{WriteRefusal, refusal};
 use hg_base::{Image, NoMemory, Rid, Steps, TableId, Writer};
-use hg_chain::{Chain, Cut, Stamp, Swept};
+use hg_chain::{Chain, Cut, Swept};
 use std::alloc::Global;
 use std::collections::BTreeMap;
 use std::ops::Bound;
@@ -27,31 +31,15 @@ pub(crate) fn read(chains: &Chains, rid: Rid, snapshot: u64, own: Writer) -> Opt
     chain.own(own).or(chain.visible(snapshot))
 }
 
-/// The stamp of a record's newest version. All others have numbers.
-pub(crate) fn newest(chains: &Chains, rid: Rid) -> Option<Stamp>
-    ensures newest { result ≡ newest (chain_of chains.now.entries rid) }
-    ensures others { Each (λ v. IsSome (number_in v.stamp)) (drop 1 (chain_of chains.now.entries rid)) }
+// Why a write into the chain is refused, memory aside.
+fn conflict(chain: &Chain, by: Writer, snapshot: u64, mark: u64) -> Option<WriteRefusal>
+    requires { 0 < length chain.now }
+    ensures refusal { (image : Oldest) → result ≡ conflict by snapshot mark (whole chain.now image) }
+    ensures free { result ≡ None → NoOther by chain.now }
 {
-    chains.get(&rid)?.newest()
-}
-
-/// Writes an image. The answer says whether a version was added.
-pub(crate) fn install(
-    chains: &mut Chains,
-    alloc: Global,
-    rid: Rid,
-    by: Writer,
-    image: Image,
-) -> Result<bool, NoMemory>
-    requires { NoOther by (chain_of chains.old.entries rid) }
-    ensures here { OnOk result (ChainIs chains.old.entries chains.new.entries rid (installed by image (chain_of chains.old.entries rid))) }
-    ensures added { IfOk result (λ added. added ≡ not (is_open_by by (chain_of chains.old.entries rid))) }
-    ensures refused { OnErr result (chains.new.entries ≡ chains.old.entries) }
-    ensures replaced { IsTrue (is_open_by by (chain_of chains.old.entries rid)) → IsOk result }
-{
-    match chains.get_mut(&rid) {
-        Some(chain) => add(chain, by, image),
-        None => begin(chains, alloc, rid, by, image),
+    match chain.newest() {
+        Some(stamp) => refusal(stamp, by, snapshot, mark),
+        None => None,
     }
 }
 
@@ -68,17 +56,55 @@ fn add(chain: &mut Chain, by: Writer, image: Image) -> Result<bool, NoMemory>
     }
 }
 
-// Begins the chain of a record that has none.
-fn begin(
+// Writes an image into the chain, where nothing is in conflict. The answer says whether a version was added.
+fn extend(
+    chain: &mut Chain,
+    by: Writer,
+    image: Image,
+    snapshot: u64,
+    mark: u64,
+) -> Result<bool, WriteRefusal>
+    requires { 0 < length chain.old }
+    ensures { Extends by image snapshot mark chain.old chain.new result }
+{
+    if let Some(refusal) = conflict(chain, by, snapshot, mark) {
+        return Err(refusal);
+    }
+    Ok(add(chain, by, image)?)
+}
+
+/// Writes an image into a record's chain, where nothing is in conflict. The answer says whether a version was added. Where
+/// there is no chain, the image comes back.
+pub(crate) fn write(
+    chains: &mut Chains,
+    rid: Rid,
+    by: Writer,
+    image: Image,
+    snapshot: u64,
+    mark: u64,
+) -> Result<Result<bool, WriteRefusal>, Image>
+    requires some { IfSome (lookup (same_rid rid) chains.old.entries) (λ vs. 0 < length vs) }
+    ensures written { IfOk result (ExtendsOne by image snapshot mark chains.old.entries chains.new.entries rid) }
+    ensures none { OnErr result (lookup (same_rid rid) chains.old.entries ≡ None) }
+    ensures same { OnErr result (chains.new.entries ≡ chains.old.entries) }
+    ensures back { IfErr result (λ back. back ≡ image) }
+{
+    match chains.get_mut(&rid) {
+        Some(chain) => Ok(extend(chain, by, image, snapshot, mark)),
+        None => Err(image),
+    }
+}
+
+/// Begins the chain of a record that has none.
+pub(crate) fn begin(
     chains: &mut Chains,
     alloc: Global,
     rid: Rid,
     by: Writer,
     image: Image,
-) -> Result<bool, NoMemory>
+) -> Result<(), NoMemory>
     requires { chain_of chains.old.entries rid ≡ [] }
     ensures here { OnOk result (ChainIs chains.old.entries chains.new.entries rid (installed by image [])) }
-    ensures added { IfOk result (λ added. IsTrue added) }
     ensures refused { OnErr result (chains.new.entries ≡ chains.old.entries) }
 {
     let mut chain = Chain::new(alloc);
@@ -87,7 +113,7 @@ fn begin(
         Err((_, refused)) => return Err(refused),
     }
     chains.insert(rid, chain)?;
-    Ok(true)
+    Ok(())
 }
 
 /// Removes the transaction's open write.

@@ -1,6 +1,6 @@
 //! The places of records.
 
-ghost use Rattle.std.specs.Prelude.{◌≡◌, ◌+◌, ℕ, is_some, slice_set, IsSome, IsOk, OnOk, OnErr, None, Some, nat_lt, if◌then◌else◌, option_map, option_and_then};
+ghost use Rattle.std.specs.Prelude.{◌≡◌, ◌+◌, ℕ, is_some, slice_set, OnOk, OnErr, None, Some, nat_lt, if◌then◌else◌, option_map, option_and_then};
 ghost use Rattle.std.specs.Option.{option_copied};
 ghost use Rattle.hg_space.specs.Places as seat;
 ghost use Rattle.hg_space.specs.Places.{IsTaken};
@@ -47,20 +47,14 @@ pub(crate) fn newer(space: &TableSpace, place: u64, snapshot: u64) -> Option<Wri
     None
 }
 
-/// Gives a record a place, where it has none.
+/// Gives a record that has none a place.
 pub(crate) fn name(index: &mut RidIndex, space: &mut TableSpace, rid: Rid) -> Result<(), NoMemory>
-    requires { AreTaken index.old space.old.places }
-    ensures had { IsSome (place_of index.old rid) → IsOk result }
-    ensures index { IsSome (place_of index.old rid) → index.new ≡ index.old }
-    ensures places { IsSome (place_of index.old rid) → space.new.places ≡ space.old.places }
-    ensures named { place_of index.old rid ≡ None → OnOk result ((p : ℕ) × Names index.old index.new space.old.places space.new.places rid p) }
+    requires new { place_of index.old rid ≡ None }
+    requires taken { AreTaken index.old space.old.places }
+    ensures named { OnOk result ((p : ℕ) × Names index.old index.new space.old.places space.new.places rid p) }
     ensures refused { OnErr result (index.new ≡ index.old) }
     ensures seats { OnErr result (SeatsStay index.old space.old.places space.new.places) }
-    ensures distinct { IsIndex index.old }
 {
-    if index.place(rid).is_some() {
-        return Ok(());
-    }
     space.reserve()?;
     let place = space.take_place();
     if let Err(refused) = index.insert(rid, place) {

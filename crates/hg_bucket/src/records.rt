@@ -1,25 +1,23 @@
 //! Records with their versions.
 
-ghost use Rattle.std.specs.Prelude.{◌≡◌, ℕ, ◌+◌, ◌<◌, ◌≤◌, ◌^◌, length, [], not, drop, IsTrue, IsOk, IfOk, IfErr, OnOk, OnErr, IfSome, if◌then◌else◌, None};
+ghost use Rattle.std.specs.Prelude.{◌≡◌, ℕ, ◌+◌, ◌<◌, ◌≤◌, ◌^◌, length, [], ◌∷◌, not, drop, IsTrue, IfOk, IfErr, OnOk, OnErr, IfSome, if◌then◌else◌};
 ghost use Rattle.std.specs.List.{IsDistinct};
 ghost use Rattle.std.specs.Map.{keys_of};
 ghost use Rattle.hg_base.specs.History.{same_rid};
 ghost use Rattle.hg_base.specs.Lists.{Each};
 ghost use Rattle.hg_base.specs.declared.rid.Rid.{Rid};
 ghost use Rattle.std.specs.Option.{option_copied};
-ghost use Rattle.hg_space.specs.Places as seat;
-ghost use Rattle.hg_space.specs.Places.{IsTaken};
-ghost use Rattle.hg_space.specs.Index.{AreTaken, place_of, IsIndex};
-ghost use Rattle.hg_bucket.specs.Parts.{oldest_by, records_of, AreWhole};
-ghost use Rattle.hg_bucket.specs.Conflicts.{conflict, NoOther, holder, newer, IsCause};
+ghost use Rattle.hg_bucket.specs.Parts.{records_of, AreWhole, IsSettled};
+ghost use Rattle.hg_bucket.specs.Writes.{Writes};
+ghost use Rattle.hg_bucket.specs.Conflicts.{conflict, IsCause};
 ghost use Rattle.hg_chain.specs.Sweeps.{Rises};
 ghost use Rattle.hg_bucket.specs.Sweeping.{swept, IsClean, record_steps, sweep_steps};
 ghost use Rattle.hg_bucket.specs.Long.{IsNextLong};
-ghost use Rattle.hg_bucket.specs.Held.{versions_of, begins_open, installed, stamped, OthersStay, IsBelow, read_at, record_at, cut_at, IsNextKey, left};
+ghost use Rattle.hg_bucket.specs.Held.{versions_of, begins_open, open_write, installed, stamped, OthersStay, IsBelow, read_at, record_at, cut_at, IsNextKey, left};
 
 use crate::chains::{self, Chains};
 use crate::places::{self, drop_bare};
-use crate::refusal::{WriteRefusal, refusal};
+use crate::refusal::WriteRefusal;
 use hg_base::{Image, NoMemory, Rid, Steps, TableId, Writer};
 use hg_chain::Cut;
 use hg_space::{RidIndex, TableSpace};
@@ -85,19 +83,7 @@ impl Records {
     pub fn stand_once(&self)
         ensures { IsDistinct same_rid (keys_of self.now) }
     {
-        let table = TableId(0);
-        self.index.place(Rid { table, key: 0 });
-    }
-
-    // Why a write is refused, memory aside.
-    fn conflict(&self, rid: Rid, by: Writer, snapshot: u64, mark: u64) -> Option<WriteRefusal>
-        ensures refusal { result ≡ conflict by snapshot mark (versions_of self.now rid) }
-        ensures free { result ≡ None → NoOther by (versions_of self.now rid) }
-    {
-        match chains::newest(&self.chains, rid) {
-            Some(stamp) => refusal(stamp, by, snapshot, mark),
-            None => places::newer(&self.space, self.index.place(rid)?, snapshot),
-        }
+        self.index.stands_once();
     }
 
     /// Writes an image. The answer says whether a version was added.
@@ -117,28 +103,50 @@ impl Records {
         ensures left { IfOk result (λ added. left self.new ≡ left self.old + (if added then 1 else 0)) }
         ensures refused { OnErr result (self.new ≡ self.old) }
     {
-        if let Some(refusal) = self.conflict(rid, by, snapshot, mark) {
-            return Err(refusal);
+        self.index.stands_once();
+        match chains::write(&mut self.chains, rid, by, image, snapshot, mark) {
+            Ok(written) => written,
+            Err(image) => self.begin(rid, by, image, snapshot),
         }
-        Ok(self.install(rid, by, image)?)
     }
 
-    // Writes an image, where no version is an open write of another.
-    fn install(&mut self, rid: Rid, by: Writer, image: Image) -> Result<bool, NoMemory>
-        requires { NoOther by (versions_of self.old rid) }
-        ensures stored { OnOk result (versions_of self.new rid ≡ installed by image (versions_of self.old rid)) }
+    // Writes an image of a record that has no chain: it has its oldest image alone, or nothing.
+    fn begin(
+        &mut self,
+        rid: Rid,
+        by: Writer,
+        image: Image,
+        snapshot: u64,
+    ) -> Result<bool, WriteRefusal>
+        requires { IsSettled (versions_of self.old rid) }
+        ensures { (mark : ℕ) → Writes by image snapshot mark self.old self.new rid result }
+    {
+        let Some(place) = self.index.place(rid) else {
+            self.begin_record(rid, by, image)?;
+            return Ok(true);
+        };
+        if let Some(refusal) = places::newer(&self.space, place, snapshot) {
+            return Err(refusal);
+        }
+        chains::begin(&mut self.chains, self.alloc, rid, by, image)?;
+        Ok(true)
+    }
+
+    // Begins a record.
+    fn begin_record(&mut self, rid: Rid, by: Writer, image: Image) -> Result<(), NoMemory>
+        requires { versions_of self.old rid ≡ [] }
+        ensures stored { OnOk result (versions_of self.new rid ≡ open_write by image ∷ []) }
         ensures others { OthersStay self.old self.new rid }
-        ensures added { IfOk result (λ added. added ≡ not (begins_open by (versions_of self.old rid))) }
-        ensures left { IfOk result (λ added. left self.new ≡ left self.old + (if added then 1 else 0)) }
-        ensures replaced { IsTrue (begins_open by (versions_of self.old rid)) → IsOk result }
+        ensures left { OnOk result (left self.new ≡ left self.old + 1) }
         ensures refused { OnErr result (self.new ≡ self.old) }
     {
-        let added = chains::install(&mut self.chains, self.alloc, rid, by, image)?;
+        self.index.stands_once();
+        chains::begin(&mut self.chains, self.alloc, rid, by, image)?;
         if let Err(refused) = places::name(&mut self.index, &mut self.space, rid) {
             chains::end(&mut self.chains, rid);
             return Err(refused);
         }
-        Ok(added)
+        Ok(())
     }
 
     /// Removes the transaction's open write of a record. A record that has no other version is dropped.

@@ -20,6 +20,7 @@ ghost use Rattle.hg_rule.specs.Resting.{own_session, own_bucket, own_commit, IsA
 
 use super::*;
 use hg_base::{Image, Rid, Scope, TableId, Writer};
+use std::snapshot::Snapshot;
 use std::test::Fail;
 
 // Takes a snapshot of all tables.
@@ -59,7 +60,7 @@ fn write(
 {
     let number = bucket.number;
     board.join_bucket(pass, bucket);
-    board.install(pass, rid, image);
+    board.install(pass, rid, Snapshot::of(image));
     board.split_bucket(pass, number)
 }
 

@@ -21,6 +21,7 @@ use crate::plays::{Asking, Installing, Publishing, Stamping, Undoing};
 use hg_base::{Image, Rid};
 use hg_core::Ask;
 use std::marker::Brand;
+use std::snapshot::Snapshot;
 
 impl Board {
     fn look_as_asked<A: Asked>(&self, pass: &mut SessionPass, _ask: &Ask) -> u64
@@ -52,7 +53,7 @@ impl Board {
         self.look_as_asked::<Brand>(pass, ask)
     }
 
-    fn install_as<A: Written>(&self, pass: &mut SessionPass, _rid: Rid, _image: &Image)
+    fn install_as<A: Written>(&self, pass: &mut SessionPass, _rid: Rid, _image: Snapshot<Image>)
         requires own { IsSessionOf (table_of self.now) (sizes_of self.now) pass.old }
         requires live { IsSome (snapshot_in (session (session_view pass.old)).phase) }
         requires plain { IsTrue (is_plain (session (session_view pass.old)).log) }
@@ -68,8 +69,8 @@ impl Board {
     }
 
     /// Stores a write in the content held, which is logged. Each version of the record is the transaction's own open write, or
-    /// is numbered at or below its snapshot.
-    pub fn install(&self, pass: &mut SessionPass, rid: Rid, image: &Image)
+    /// is numbered at or below its snapshot. Only clauses see the image.
+    pub fn install(&self, pass: &mut SessionPass, rid: Rid, image: Snapshot<Image>)
         requires own { IsSessionOf (table_of self.now) (sizes_of self.now) pass.old }
         requires live { IsSome (snapshot_in (session (session_view pass.old)).phase) }
         requires plain { IsTrue (is_plain (session (session_view pass.old)).log) }
@@ -78,7 +79,7 @@ impl Board {
         requires table { IsTrue (has (tables (session_view pass.old)) rid.table) × (rid.table.0 < (sizes_of self.now).tables) }
         requires room { wrotes (session (session_view pass.old)).log < (sizes_of self.now).each }
         requires free { Each (IsOwnOrSeen (writer (session_view pass.old)) (snapshot (session_view pass.old))) (held (session_view pass.old) rid) }
-        ensures step { Installs (session_view pass.old) rid image.now (session_view pass.new) }
+        ensures step { Installs (session_view pass.old) rid image.value (session_view pass.new) }
         ensures own { IsSessionOf (table_of self.now) (sizes_of self.now) pass.new }
     {
         self.install_as::<Brand>(pass, rid, image);

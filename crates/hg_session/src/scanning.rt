@@ -7,7 +7,7 @@
 //! can't be is not looked up, and where the bucket may have many of the range, its index leads over those without a version.
 //! The rows of all buckets are put in order once, at the end.
 
-ghost use Rattle.std.specs.Prelude.{◌≡◌, ℕ, ◌+◌, ◌%◌, ◌++◌, ◌<◌, ◌≤◌, true, false, Some, None, Err, IsTrue, IfOk, IfSome, OnOk, OnErr};
+ghost use Rattle.std.specs.Prelude.{◌≡◌, ◌+◌, ◌%◌, ◌++◌, ◌<◌, true, false, Some, None, Err, IsTrue, IfOk, IfSome, OnOk, OnErr};
 ghost use Rattle.hg_base.specs.declared.line.Answer.TheVariants.{Rows};
 ghost use Rattle.hg_base.specs.declared.statement.Statement.TheVariants as say;
 ghost use Rattle.hg_base.specs.Transcript.{has};
@@ -91,23 +91,24 @@ fn push_row(
 }
 
 impl Engine {
-    // The next key to read of the bucket held, from a number to `high`. Where no other key of the bucket is left in the range,
-    // nothing needs to look it up.
+    // The next key to read of the bucket held, from a number, whose own bucket is `home`, to `high`. Where no other key of the
+    // bucket is left in the range, nothing needs to look it up.
     fn next_from(
         &self,
         held: &Held<'_>,
         bucket: u32,
+        home: u32,
         table: TableId,
         from: u64,
         high: u64,
     ) -> Option<u64>
         requires bucket { bucket < (engine_sizes self.now).buckets }
+        requires home { IsOwnKey (engine_sizes self.now).buckets home table from }
         ensures within { IsWithin from high result }
         ensures leads { (v : View) → Holds v held.now → AreOwn (engine_sizes self.now).buckets bucket (bucket_in v).content → LeadsOn (HasVersion (bucket_in v).content table) from high result }
     {
         let count = self.store.buckets();
-        let from = Rid { table, key: from };
-        let first = first_key(bucket, self.bucket_of(from), count, from, high)?;
+        let first = first_key(bucket, home, count, Rid { table, key: from }, high)?;
         if high - first < u64::from(count) {
             Some(first)
         } else {
@@ -129,17 +130,20 @@ impl Engine {
         ensures leads { (v : View) → Holds v held.now → AreOwn (engine_sizes self.now).buckets bucket (bucket_in v).content → LeadsOn (HasVersion (bucket_in v).content table) (key + 1) high result }
     {
         if key < high {
-            self.next_from(held, bucket, table, key + 1, high)
+            let from = key + 1;
+            let home = self.bucket_of(Rid { table, key: from });
+            self.next_from(held, bucket, home, table, from, high)
         } else {
             None
         }
     }
 
-    // Adds the rows of a range that a transaction reads of the bucket held.
+    // Adds the rows of a range that a transaction reads of the bucket held. The own bucket of `low` is `home`.
     fn push_rows(
         &self,
         held: &Held<'_>,
         bucket: u32,
+        home: u32,
         table: TableId,
         low: u64,
         high: u64,
@@ -148,9 +152,10 @@ impl Engine {
         rows: &mut Vec<(u64, Row)>,
     ) -> Result<(), NoMemory>
         requires bucket { bucket < (engine_sizes self.now).buckets }
+        requires home { IsOwnKey (engine_sizes self.now).buckets home table low }
         ensures { (v : View) → Holds v held.now → AreOwn (engine_sizes self.now).buckets bucket (bucket_in v).content → OnOk result (Appends (read_of by at table (bucket_in v).content) low high rows.old.items rows.new.items) }
     {
-        let mut next = self.next_from(held, bucket, table, low, high);
+        let mut next = self.next_from(held, bucket, home, table, low, high);
         while let Some(key) = next {
             push_row(held, Rid { table, key }, at, by, rows)?;
             next = self.next_after(held, bucket, table, key, high);
@@ -160,13 +165,14 @@ impl Engine {
 }
 
 impl Session {
-    // Sees a range of one bucket, and adds its rows.
+    // Sees a range of one bucket, and adds its rows. The own bucket of `low` is `home`.
     fn scan_bucket<R: Wait>(
         &mut self,
         rt: &R,
         engine: &Engine,
         snapshot: Snapshot,
         bucket: u32,
+        home: u32,
         table: TableId,
         low: u64,
         high: u64,
@@ -176,6 +182,7 @@ impl Session {
         requires opened { opened_of self.old ≡ Some snapshot }
         requires table { IsTrue (has snapshot.scope table) }
         requires bucket { bucket < (engine_sizes engine.now).buckets }
+        requires home { IsOwnKey (engine_sizes engine.now).buckets home table low }
         ensures sees { Sees (engine_sizes engine.now).buckets (view_of self.old) table low high bucket rows.old.items result (view_of self.new) rows.new.items }
         ensures kept { (opened_of self.new ≡ opened_of self.old) × (written_of self.new ≡ written_of self.old) × (left_of self.new ≡ left_of self.old) }
         ensures own { IsIn engine.now 0 1 self.new }
@@ -184,7 +191,7 @@ impl Session {
         let by = self.pass.writer();
         let held = engine.store.take(rt, board, bucket, &mut self.pass);
         held.see(board, &mut self.pass, table, low, high);
-        let pushed = engine.push_rows(&held, bucket, table, low, high, snapshot.at, by, rows);
+        let pushed = engine.push_rows(&held, bucket, home, table, low, high, snapshot.at, by, rows);
         held.give(board, &mut self.pass);
         pushed
     }
@@ -208,8 +215,11 @@ impl Session {
     {
         let mut rows = Vec::new(self.alloc);
         let count = engine.store.buckets();
+        let home = engine.bucket_of(Rid { table, key: low });
         for bucket in 0..count {
-            self.scan_bucket(rt, engine, snapshot, bucket, table, low, high, &mut rows)?;
+            self.scan_bucket(
+                rt, engine, snapshot, bucket, home, table, low, high, &mut rows,
+            )?;
         }
         rows.sort_unstable_by_key(|row| row.0);
         Ok(RowList::from(rows))

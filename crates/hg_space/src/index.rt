@@ -1,6 +1,6 @@
 //! Which place a record has.
 
-ghost use Rattle.std.specs.Prelude.{◌≡◌, ℕ, [], Some, None, IsFalse, IsTrue, OnOk, OnErr};
+ghost use Rattle.std.specs.Prelude.{◌≡◌, ℕ, [], Some, None, IsFalse, OnOk, OnErr};
 ghost use Rattle.std.specs.BTreeMap.{insert_entry};
 ghost use Rattle.std.specs.Map.{remove_entry};
 ghost use Rattle.hg_base.specs.declared.rid.Rid.{Rid};
@@ -40,6 +40,13 @@ impl RidIndex {
         RidIndex {
             places: BTreeMap::new(alloc),
         }
+    }
+
+    /// No record stands twice, and no two have the same place: for clauses. It looks nothing up.
+    pub fn stands_once(&self)
+        ensures { IsIndex self.now }
+    {
+        let _ = &self.places;
     }
 
     /// The place of a record, if it has one. No two records have the same.

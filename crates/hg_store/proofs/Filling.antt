@@ -1,6 +1,8 @@
 -- The buckets of a new store.
 use Rattle.std.proofs.Common.{◌≡◌, ℕ, suc, ◌+◌, ◌<◌, List, [], ◌∷◌, ◌++◌, length, get_or, refl, sym, ap, ◌∙◌, subst, arith}
 use Rattle.std.specs.declared.snapshot.Snapshot.{Snapshot}
+use Rattle.std.specs.declared.alloc.Global.{Global}
+use Rattle.std.specs.declared.boxed.Box.{Box}
 use Rattle.hg_bucket.specs.Held.{Held as Records}
 use Rattle.hg_rule.specs.declared.passes.BucketSeat.{BucketSeat}
 use Rattle.hg_rule.specs.declared.view.Part.TheVariants.{OfBucket}
@@ -19,9 +21,9 @@ pub row_first : {A : Type 0} (P : ℕ → A → Type 0) (i : ℕ) (xs : List A) 
 row_first P i [] x some r e = absurd (omega arith)
 row_first P i (y ∷ xs) x some r e = subst (P i) (sym e) r.0
 
-pub fits_new : (t : TableId) (tag : Snapshot BucketSeat) (n : ℕ) (seat : BucketSeat) (bucket : Records) → seat_table tag.value ≡ t → IsNewBucket t n seat → bucket ≡ record { records = []; made = 0; undone = 0; group = 0; table = 0; interval = 0 } → PlaceFits tag n (record { bucket = bucket; seat = seat })
+pub fits_new : (t : TableId) (tag : Snapshot BucketSeat) (n : ℕ) (seat : BucketSeat) (bucket : Box Records Global) → seat_table tag.value ≡ t → IsNewBucket t n seat → bucket.value ≡ record { records = []; made = 0; undone = 0; group = 0; table = 0; interval = 0 } → PlaceFits tag n (record { bucket = bucket; seat = seat })
 fits_new t tag n seat bucket same new empty =
     let at : (bucket_view seat).parts ≡ OfBucket n new_bucket ∷ [] = ap (λ m. m.0.parts) new.1.1 in (
       ((new.1.0 ∙ sym same, ap (λ m. m.1) new.1.1), at ∙ (λ i. OfBucket (sym new.0 i) (bucket_there (first_in (sym at i))) ∷ [])),
-      (new.0, subst (λ p. Keeps bucket p) (sym (ap (λ ps. bucket_there (first_in ps)) at)) (subst (λ b. Keeps b new_bucket) (sym empty) (record { versions = λ r. refl; made = refl; undone = refl; group = refl; table = refl; interval = refl }))),
+      (new.0, subst (λ p. Keeps bucket.value p) (sym (ap (λ ps. bucket_there (first_in ps)) at)) (subst (λ b. Keeps b new_bucket) (sym empty) (record { versions = λ r. refl; made = refl; undone = refl; group = refl; table = refl; interval = refl }))),
     )

@@ -15,3 +15,4 @@ pub mod Storing
 pub mod Owning
 pub mod Rising
 pub mod Clearing
+pub mod Boxing

@@ -1,5 +1,5 @@
 -- Who has a record open that is written.
-use Rattle.std.proofs.Common.{◌≡◌, ℕ, suc, ◌<◌, List, [], ◌∷◌, Bool, true, false, eqb, ltb, Option, Some, None, refl, sym, ap, ◌∙◌, cond, subst, map, arith}
+use Rattle.std.proofs.Common.{◌≡◌, ℕ, suc, ◌<◌, List, [], ◌∷◌, Bool, true, false, ltb, Option, Some, None, refl, sym, ap, ◌∙◌, cond, subst, map, arith}
 use Rattle.std.specs.Prelude.{IsTrue, IsFalse, IsSome, is_some, ◌==◌, nat_le, option_and_then, Result, Err, IfErr}
 use Rattle.std.proofs.lemmas.Option.{none-some}
 use Rattle.std.proofs.lemmas.Bool.Decides.{nat_tests}

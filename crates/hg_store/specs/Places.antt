@@ -13,4 +13,4 @@ seat_table s = (bucket_seat s).table_id
 
 -- the seat is of the tag's board and of bucket k, and the bucket keeps the content that the seat shows
 abbrev pub PlaceFits : Snapshot BucketSeat → ℕ → Place → Type 0
-PlaceFits tag k x = IsBucketOf (seat_table tag.value) x.seat × (((bucket_rest x.seat).0 ≡ k) × Keeps x.bucket (bucket_there (first_in (bucket_view x.seat).parts)))
+PlaceFits tag k x = IsBucketOf (seat_table tag.value) x.seat × (((bucket_rest x.seat).0 ≡ k) × Keeps x.bucket.value (bucket_there (first_in (bucket_view x.seat).parts)))

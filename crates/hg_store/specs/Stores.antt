@@ -30,7 +30,7 @@ abbrev pub held_number : Held → ℕ
 held_number h = h.number
 
 abbrev pub held_records : Held → Records
-held_records h = h.bucket
+held_records h = h.bucket.value
 
 -- The view has this bucket, joined last, whose versions are in order; and the bucket keeps what the view shows.
 pub record Holds (v : View) (h : Held) : Type 0 where

@@ -13,7 +13,7 @@ use std::snapshot::Snapshot;
 pub struct Held<'a> {
     pub(crate) locks: &'a Locks<Place>,
     pub(crate) loan: Loan<Place, Snapshot<BucketSeat>>,
-    pub(crate) bucket: Bucket,
+    pub(crate) bucket: Box<Bucket>,
     pub(crate) number: u32,
     ghost lent: { IsLoanOf locks.now loan },
     ghost place: { place_of loan ≡ number },

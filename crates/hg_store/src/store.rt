@@ -15,7 +15,7 @@ use std::sync::Wait;
 /// What lies under a bucket's lock: the bucket, and the seat that shows its content.
 #[derive(Drop)]
 pub struct Place {
-    pub(crate) bucket: Bucket,
+    pub(crate) bucket: Box<Bucket>,
     pub(crate) seat: BucketSeat,
 }
 
@@ -52,7 +52,7 @@ impl Store {
         let tag = Snapshot::of(&seats[0]);
         let mut places = Vec::with_capacity(alloc, seats.len())?;
         for seat in seats {
-            let bucket = Bucket::new(alloc);
+            let bucket = Box::new(alloc, Bucket::new(alloc))?;
             places.push(Place { bucket, seat })?;
         }
         let locks = Locks::new(alloc, places, &tag)?;

@@ -18,6 +18,7 @@ use crate::held::Held;
 use hg_base::{Image, Rid, TableId, Writer};
 use hg_bucket::WriteRefusal;
 use hg_rule::{Ask, Board, SessionPass};
+use std::snapshot::Snapshot;
 
 impl<'a> Held<'a> {
     /// One look: the rows of the range in this bucket are logged.
@@ -109,11 +110,9 @@ impl<'a> Held<'a> {
         ensures own { IsSessionOf (table_of board.now) (sizes_of board.now) pass.new }
     {
         let mark = board.look(pass, &Ask::Write(rid));
+        let written = Snapshot::of(&image);
         let added = self.bucket.write(rid, by, image, snapshot, mark)?;
-        match self.bucket.read(rid, snapshot, by) {
-            Some(image) => board.install(pass, rid, image),
-            None => unreachable!(),
-        }
+        board.install(pass, rid, written);
         Ok(added)
     }
 }

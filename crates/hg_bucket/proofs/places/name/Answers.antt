@@ -12,7 +12,7 @@ insert-requires-clause-new_place c =
     let p = c.take_place-place.result in
     let seats = c.take_place-place.new.self.places in
     let given : Given c.args.space.now.places seats p = subst (λ ps. Given ps seats p) c.reserve.ensures.same (record { was_free = c.take_place-place.ensures.free; is_added = c.take_place-place.ensures.added; is_set = c.take_place-place.ensures.taken }) in
-    given_not_taken c.args.space.now.places p given.was_free given.is_added (c.requires q p named)
+    given_not_taken c.args.space.now.places p given.was_free given.is_added (c.requires.taken q p named)
 
 pub give_place-requires : goal.give_place-requires
 give_place-requires c =
@@ -27,22 +27,21 @@ returns-in-Err-clause-seats c =
     let p = c.take_place-place.result in
     let seats = c.take_place-place.new.self.places in
     let given : Given c.args.space.now.places seats p = subst (λ ps. Given ps seats p) c.reserve.ensures.same (record { was_free = c.take_place-place.ensures.free; is_added = c.take_place-place.ensures.added; is_set = c.take_place-place.ensures.taken }) in
-    ap (λ ps. slice_index_or ps n seat.free) c.give_place.ensures.freed ∙ back_stays c.args.space.now.places seats p given n (c.requires q n k)
+    ap (λ ps. slice_index_or ps n seat.free) c.give_place.ensures.freed ∙ back_stays c.args.space.now.places seats p given n (c.requires.taken q n k)
 
 pub returns-clause-named : goal.returns-clause-named
 returns-clause-named c =
-    λ none.
     let p = c.take_place-place.result in
     let seats = c.take_place-place.new.self.places in
     let given : Given c.args.space.now.places seats p = subst (λ ps. Given ps seats p) c.reserve.ensures.same (record { was_free = c.take_place-place.ensures.free; is_added = c.take_place-place.ensures.added; is_set = c.take_place-place.ensures.taken }) in (
       p,
       record {
-        new = none;
+        new = c.requires.new;
         list = c.in_default.ensures.list;
         here = c.in_default.ensures.here;
         others = c.insert.ensures.others;
         taken = ap is_some (given_here c.args.space.now.places seats p given);
         bare = given_bare c.args.space.now.places seats p given;
-        stay = λ q n k. given_stays c.args.space.now.places seats p given n (c.requires q n k);
+        stay = λ q n k. given_stays c.args.space.now.places seats p given n (c.requires.taken q n k);
       },
     )

@@ -14,4 +14,4 @@ pub returns : goal.returns
 returns c =
     let b = c.self.inside in
     subst (λ h. IsDistinct same_rid (keys_of h)) c.self.view_is
-    (subst (IsDistinct same_rid) (sym (keys_stay _ b.index)) (distinct b.index c.place.ensures.index))
+    (subst (IsDistinct same_rid) (sym (keys_stay _ b.index)) (distinct b.index c.stands_once.ensures))

@@ -1,5 +1,9 @@
 use Rattle.std.proofs.Common.{◌≡◌, ◌∷◌, ◌++◌, [], Err, refl, sym, ap, ◌∙◌, subst, rules}
-use Rattle.std.specs.Prelude.{true, false, not, is_some, IfErr}
+use Rattle.std.specs.Prelude.{Bool, ⊤, true, false, not, is_some, IfErr}
+use Rattle.hg_base.specs.declared.image.Image.{Image}
+use Rattle.hg_base.specs.declared.rid.Rid.{Rid}
+use Rattle.hg_bucket.specs.declared.refusal.WriteRefusal.{WriteRefusal}
+use Rattle.hg_bucket.specs.declared.refusal.WriteRefusal.TheVariants.{Open, Newer, NoMemory}
 use Rattle.hg_core.specs.declared.log.LogEntry.TheVariants.{Wrote}
 use Rattle.hg_core.specs.Logs.{open_in}
 use Rattle.hg_rule.specs.Views.{number, session}
@@ -8,7 +12,7 @@ use Rattle.hg_rule.specs.declared.view.SessionPart.{SessionPart}
 use Rattle.hg_rule.specs.Writes.{with_entry}
 use Rattle.hg_rule.specs.Seats.{session_view, IsSeatOf, IsSessionOf}
 use Rattle.hg_session.specs.Engines.{engine_sizes, engine_table}
-use Rattle.hg_session.specs.Gains.{IsRefusedBy}
+use Rattle.hg_session.specs.Gains.{Gains, IsRefusedBy, entries_of}
 use Rattle.hg_store.specs.Writing.{IsAnothers}
 use Rattle.hg_session.specs.Ties.{Ties}
 use Rattle.hg_session.specs.Sessions.{written_of}
@@ -18,6 +22,25 @@ use Rattle.hg_session.proofs.Seeing.{snapshot_beside}
 use Rattle.hg_session.proofs.Settling.{trip_settled, gained}
 use Rattle.hg_session.proofs.Storing.{trip_refused, trip_stored, refused_told}
 use Rattle.hg_session.proofs.session.Session.write_row.Goals as goal
+
+-- what a refusal logs, whatever the answer would have been
+same_entries : (rid : Rid) (image : Image) (e : WriteRefusal) → entries_of {T = Bool} rid image (Err e) ≡ entries_of {T = ⊤} rid image (Err e)
+same_entries rid image (Open by) = refl
+same_entries rid image (Newer n) = refl
+same_entries rid image NoMemory = refl
+
+pub returns-in_err-written-clause-gains : goal.returns-in_err-written-clause-gains
+returns-in_err-written-clause-gains g c =
+    let v = session_view c.args.self.now.pass in
+    let u = session_view c.take-held.new.pass in
+    let x = session_view c.give.new.pass in
+    let b = c.bucket_of-bucket.result in
+    let e = c.in_err-written.field-0.0 in
+    let h = arrived v u b c.requires.own.only c.take-held.ensures.view in
+    let same : c.from_residual-in_err-written.result ≡ Err e = search rules in
+    let t = trip_refused (number v) b (session v) v.sights c.args.rid c.args.image c.write-written.result u (session_view c.write-written.new.pass) x h c.write-written.ensures.step c.give.ensures.view e c.in_err-written.was in
+    subst (λ r. Gains v (entries_of c.args.rid c.args.image r) x) (sym same)
+    (subst (λ es. Gains v es x) (same_entries c.args.rid c.args.image e) (gained v x _ (entries_of {T = Bool} c.args.rid c.args.image (Err e)) t.alone refl))
 
 pub returns-in_err-written-clause-refused : goal.returns-in_err-written-clause-refused
 returns-in_err-written-clause-refused g c =

@@ -6,14 +6,15 @@ use Rattle.hg_rule.specs.Views.{pass}
 use Rattle.hg_rule.specs.Seats.{pass_view}
 use Rattle.hg_store.proofs.Doing.{does_table}
 use Rattle.hg_store.proofs.Stepping.{reclaim_gone, reclaim_holds}
+use Rattle.hg_store.proofs.Boxing.{boxed, boxed_holds}
 use Rattle.hg_store.proofs.held.Held.cut_one.Goals as goal
 
 pub returns-clause-gone : goal.returns-clause-gone
 returns-clause-gone c =
-    reclaim_gone Table (cut_at c.args.bound) (pass_view c.args.pass.now) c.args.self.now c.cut_for_table.new.self c.args.rid c.cut_for_table.result c.requires.holds
+    reclaim_gone Table (cut_at c.args.bound) (pass_view c.args.pass.now) (boxed c.args.self.now c.deref_mut.result.now) c.cut_for_table.new.self c.args.rid c.cut_for_table.result (boxed_holds c.args.self.now c.deref_mut.result.now c.deref_mut.ensures.value c.requires.holds)
     (does_table c.args.rid.table (record_of (pass (pass_view c.args.pass.now))) c.args.bound c.requires.bound) c.cut_for_table.ensures.here c.cut_for_table.ensures.gone
 
 pub returns-clause-holds : goal.returns-clause-holds
 returns-clause-holds c =
-    reclaim_holds Table (cut_at c.args.bound) (pass_view c.args.pass.now) (pass_view c.reclaim.new.pass) c.args.self.now _ c.args.rid c.cut_for_table.result c.requires.holds c.requires.own.1 refl
+    reclaim_holds Table (cut_at c.args.bound) (pass_view c.args.pass.now) (pass_view c.reclaim.new.pass) (boxed c.args.self.now c.deref_mut.result.now) _ c.args.rid c.cut_for_table.result (boxed_holds c.args.self.now c.deref_mut.result.now c.deref_mut.ensures.value c.requires.holds) c.requires.own.1 refl
     (does_table c.args.rid.table (record_of (pass (pass_view c.args.pass.now))) c.args.bound c.requires.bound) c.reclaim.ensures.step c.cut_for_table.ensures.here c.cut_for_table.ensures.others c.cut_for_table.ensures.gone c.cut_for_table.ensures.table

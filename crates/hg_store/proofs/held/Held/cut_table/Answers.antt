@@ -2,7 +2,8 @@ use Rattle.std.proofs.Common.{◌+◌, ◌<◌, refl, sym, ap, ◌∙◌, subst,
 use Rattle.hg_base.specs.declared.report.Kind.TheVariants.{Table}
 use Rattle.hg_core.specs.Clean.{IsCutAt}
 use Rattle.hg_core.specs.Passes.{IsWhole, table_bound}
-use Rattle.hg_bucket.specs.Held.{cut_at, record_at}
+use Rattle.hg_bucket.specs.Held.{cut_at, record_at, Held as Records}
+use Rattle.hg_bucket.specs.Long.{IsNextLong}
 use Rattle.hg_bucket.proofs.Walking.{to_go, nearer}
 use Rattle.hg_rule.specs.Facts.{record_of}
 use Rattle.hg_rule.specs.Rules.{IsBacked}
@@ -19,7 +20,7 @@ loop-next-init c =
     let v = pass_view c.args.pass.now in
     let told = subst (IsBacked z c.look_at.result) c.look_at.ensures.stays c.look_at.ensures.told in
     let d = does_table c.args.table (record_of (pass v)) c.args.bound c.requires.bound in
-    let walk = walk_begins z c.look_at.result Table (cut_at c.args.bound) c.args.table v c.args.self.now c.first_long-next.result told c.requires.holds d c.first_long-next.ensures.next c.first_long-next.ensures.fits in (
+    let walk = walk_begins z c.look_at.result Table (cut_at c.args.bound) c.args.table v c.args.self.now c.first_long-next.result told c.requires.holds d (subst (λ (b : Records). IsNextLong b.records c.args.table 0 c.first_long-next.result) c.deref.ensures c.first_long-next.ensures.next) c.first_long-next.ensures.fits in (
       subst (λ w. Walks z Table c.args.table (held_number c.args.self.now) v w c.first_long-next.result 0) (sym c.look_at.ensures.stays) walk,
       subst (λ w. Holds w c.args.self.now) (sym c.look_at.ensures.stays) c.requires.holds,
       (c.look_at.ensures.own.0, subst HasPass (sym c.look_at.ensures.stays) c.requires.own.1),
@@ -62,7 +63,7 @@ loop-next-preserved c =
     let told = subst (IsBacked z c.look_at.result) c.look_at.ensures.stays c.look_at.ensures.told in
     let d = does_table t (record_of (pass v)) c.args.bound c.requires.bound in
     let walk = subst (λ next. Walks z Table t (held_number h) v w next c.loop-next.gone) c.in-Some.is c.loop-next.invariant.0 in
-    let more = walk_goes z c.look_at.result Table (cut_at c.args.bound) t v w x h c.cut_one-gone.new.self k c.long_after-next.result c.loop-next.gone told c.requires.holds d walk c.cut_one-gone.ensures.step c.cut_one-gone.ensures.holds c.long_after-next.ensures.next c.long_after-next.ensures.fits in (
+    let more = walk_goes z c.look_at.result Table (cut_at c.args.bound) t v w x h c.cut_one-gone.new.self k c.long_after-next.result c.loop-next.gone told c.requires.holds d walk c.cut_one-gone.ensures.step c.cut_one-gone.ensures.holds (subst (λ (b : Records). IsNextLong b.records c.args.table (c.in-Some.key + 1) c.long_after-next.result) c.deref-in-Some.ensures c.long_after-next.ensures.next) c.long_after-next.ensures.fits in (
       subst (λ n. Walks z Table t (held_number h) v x c.long_after-next.result (c.loop-next.gone + n)) (sym c.cut_one-gone.ensures.gone) more,
       c.cut_one-gone.ensures.holds,
       c.cut_one-gone.ensures.own,
@@ -73,7 +74,7 @@ loop-next-preserved c =
 pub loop-next-smaller : goal.loop-next-smaller
 loop-next-smaller c =
     let walk = subst (λ next. Walks (sizes_of c.args.board.now) Table c.args.table (held_number c.args.self.now) (pass_view c.args.pass.now) (pass_view c.loop-next.pass) next c.loop-next.gone) c.in-Some.is c.loop-next.invariant.0 in
-    subst (λ next. to_go c.long_after-next.result < to_go next) (sym c.in-Some.is) (nearer (held_records c.cut_one-gone.new.self).records c.args.table c.in-Some.key c.long_after-next.result walk.next_is.0 c.long_after-next.ensures.next)
+    subst (λ next. to_go c.long_after-next.result < to_go next) (sym c.in-Some.is) (nearer (held_records c.cut_one-gone.new.self).records c.args.table c.in-Some.key c.long_after-next.result walk.next_is.0 (subst (λ (b : Records). IsNextLong b.records c.args.table (c.in-Some.key + 1) c.long_after-next.result) c.deref-in-Some.ensures c.long_after-next.ensures.next))
 
 pub returns-clause-each : goal.returns-clause-each
 returns-clause-each c =

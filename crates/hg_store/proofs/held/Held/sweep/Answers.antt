@@ -2,7 +2,8 @@ use Rattle.std.proofs.Common.{◌+◌, ◌≤◌, ◌<◌, length, refl, sym, ap
 use Rattle.hg_base.specs.declared.report.Kind.TheVariants.{Interval}
 use Rattle.hg_core.specs.Clean.{IsClean}
 use Rattle.hg_core.specs.Passes.{IsWhole, horizon, recorded}
-use Rattle.hg_bucket.specs.Held.{record_at}
+use Rattle.hg_bucket.specs.Held.{record_at, Held as Records}
+use Rattle.hg_bucket.specs.Long.{IsNextLong}
 use Rattle.hg_bucket.specs.Sweeping.{swept, sweep_steps}
 use Rattle.hg_bucket.proofs.Costing.{cost_of, to_pay, one_paid, next_paid, first_paid}
 use Rattle.hg_bucket.proofs.Walking.{to_go, nearer}
@@ -22,7 +23,7 @@ loop-next-init g c =
     let v = pass_view c.args.pass.now in
     let told = subst (IsBacked z c.look_at.result) c.look_at.ensures.stays c.look_at.ensures.told in
     let d = does_interval c.args.table (record_of (pass v)) c.args.horizon c.args.snapshots.now c.requires.horizon c.requires.snapshots in
-    let walk = walk_begins z c.look_at.result Interval (swept c.args.horizon c.args.snapshots.now) c.args.table v c.args.self.now c.first_long-next.result told c.requires.holds d c.first_long-next.ensures.next c.first_long-next.ensures.fits in (
+    let walk = walk_begins z c.look_at.result Interval (swept c.args.horizon c.args.snapshots.now) c.args.table v c.args.self.now c.first_long-next.result told c.requires.holds d (subst (λ (b : Records). IsNextLong b.records c.args.table 0 c.first_long-next.result) c.deref.ensures c.first_long-next.ensures.next) c.first_long-next.ensures.fits in (
       subst (λ w. Walks z Interval c.args.table (held_number c.args.self.now) v w c.first_long-next.result 0) (sym c.look_at.ensures.stays) walk,
       subst (λ w. Holds w c.args.self.now) (sym c.look_at.ensures.stays) c.requires.holds,
       (c.look_at.ensures.own.0, subst HasPass (sym c.look_at.ensures.stays) c.requires.own.1),
@@ -76,8 +77,8 @@ loop-next-preserved g c =
     let before = subst (λ next. c.loop-next.steps + to_pay t n old next ≤ c.args.steps.now + sweep_steps t c.args.snapshots.now old) c.in-Some.is c.loop-next.invariant.5 in
     let cost = subst (λ vs. c.sweep_one-gone.new.steps ≤ c.loop-next.steps + cost_of n vs) (kept_from z Interval t v w h c.loop-next.self k c.loop-next.gone c.requires.holds c.loop-next.invariant.1 walk) c.sweep_one-gone.ensures.cost in
     let once = one_paid t k n old in
-    let later = next_paid t n k old (held_records c.sweep_one-gone.new.self).records c.long_after-next.result c.long_after-next.ensures.next in
-    let more = walk_goes z c.look_at.result Interval (swept c.args.horizon c.args.snapshots.now) t v w x h c.sweep_one-gone.new.self k c.long_after-next.result c.loop-next.gone told c.requires.holds d walk c.sweep_one-gone.ensures.step c.sweep_one-gone.ensures.holds c.long_after-next.ensures.next c.long_after-next.ensures.fits in (
+    let later = next_paid t n k old (held_records c.sweep_one-gone.new.self).records c.long_after-next.result (subst (λ (b : Records). IsNextLong b.records c.args.table (c.in-Some.key + 1) c.long_after-next.result) c.deref-in-Some.ensures c.long_after-next.ensures.next) in
+    let more = walk_goes z c.look_at.result Interval (swept c.args.horizon c.args.snapshots.now) t v w x h c.sweep_one-gone.new.self k c.long_after-next.result c.loop-next.gone told c.requires.holds d walk c.sweep_one-gone.ensures.step c.sweep_one-gone.ensures.holds (subst (λ (b : Records). IsNextLong b.records c.args.table (c.in-Some.key + 1) c.long_after-next.result) c.deref-in-Some.ensures c.long_after-next.ensures.next) c.long_after-next.ensures.fits in (
       subst (λ n. Walks z Interval t (held_number h) v x c.long_after-next.result (c.loop-next.gone + n)) (sym c.sweep_one-gone.ensures.gone) more,
       c.sweep_one-gone.ensures.holds,
       c.sweep_one-gone.ensures.own,
@@ -89,7 +90,7 @@ loop-next-preserved g c =
 pub loop-next-smaller : goal.loop-next-smaller
 loop-next-smaller g c =
     let walk = subst (λ next. Walks (sizes_of c.args.board.now) Interval c.args.table (held_number c.args.self.now) (pass_view c.args.pass.now) (pass_view c.loop-next.pass) next c.loop-next.gone) c.in-Some.is c.loop-next.invariant.0 in
-    subst (λ next. to_go c.long_after-next.result < to_go next) (sym c.in-Some.is) (nearer (held_records c.sweep_one-gone.new.self).records c.args.table c.in-Some.key c.long_after-next.result walk.next_is.0 c.long_after-next.ensures.next)
+    subst (λ next. to_go c.long_after-next.result < to_go next) (sym c.in-Some.is) (nearer (held_records c.sweep_one-gone.new.self).records c.args.table c.in-Some.key c.long_after-next.result walk.next_is.0 (subst (λ (b : Records). IsNextLong b.records c.args.table (c.in-Some.key + 1) c.long_after-next.result) c.deref-in-Some.ensures c.long_after-next.ensures.next))
 
 pub returns-clause-each : goal.returns-clause-each
 returns-clause-each g c =

@@ -7,16 +7,17 @@ use Rattle.hg_rule.specs.Seats.{pass_view}
 use Rattle.hg_store.proofs.Doing.{does_interval}
 use Rattle.hg_store.proofs.Rising.{rises_of}
 use Rattle.hg_store.proofs.Stepping.{reclaim_gone, reclaim_holds}
+use Rattle.hg_store.proofs.Boxing.{boxed, boxed_holds}
 use Rattle.hg_store.proofs.held.Held.sweep_one.Goals as goal
 
 pub returns-clause-gone : goal.returns-clause-gone
 returns-clause-gone g c =
-    reclaim_gone Interval (swept c.args.horizon c.args.snapshots.now) (pass_view c.args.pass.now) c.args.self.now c.sweep_record.new.self c.args.rid c.sweep_record.result c.requires.holds
+    reclaim_gone Interval (swept c.args.horizon c.args.snapshots.now) (pass_view c.args.pass.now) (boxed c.args.self.now c.deref_mut.result.now) c.sweep_record.new.self c.args.rid c.sweep_record.result (boxed_holds c.args.self.now c.deref_mut.result.now c.deref_mut.ensures.value c.requires.holds)
     (does_interval c.args.rid.table (record_of (pass (pass_view c.args.pass.now))) c.args.horizon c.args.snapshots.now c.requires.horizon c.requires.snapshots) c.sweep_record.ensures.here c.sweep_record.ensures.gone
 
 pub returns-clause-holds : goal.returns-clause-holds
 returns-clause-holds g c =
-    reclaim_holds Interval (swept c.args.horizon c.args.snapshots.now) (pass_view c.args.pass.now) (pass_view c.reclaim.new.pass) c.args.self.now _ c.args.rid c.sweep_record.result c.requires.holds c.requires.own.1 refl
+    reclaim_holds Interval (swept c.args.horizon c.args.snapshots.now) (pass_view c.args.pass.now) (pass_view c.reclaim.new.pass) (boxed c.args.self.now c.deref_mut.result.now) _ c.args.rid c.sweep_record.result (boxed_holds c.args.self.now c.deref_mut.result.now c.deref_mut.ensures.value c.requires.holds) c.requires.own.1 refl
     (does_interval c.args.rid.table (record_of (pass (pass_view c.args.pass.now))) c.args.horizon c.args.snapshots.now c.requires.horizon c.requires.snapshots) c.reclaim.ensures.step c.sweep_record.ensures.here c.sweep_record.ensures.others c.sweep_record.ensures.gone c.sweep_record.ensures.interval
 
 pub sweep_record-requires : goal.sweep_record-requires

@@ -1,11 +1,9 @@
 use Rattle.std.proofs.Common.{◌≡◌, ◌+◌, Err, None, refl, sym, ap, ◌∙◌, subst, arith, rules}
 use Rattle.std.specs.Prelude.{not, IfOk, IfErr, IfSome, OnOk, OnErr, if◌then◌else◌}
-use Rattle.std.specs.Option.{option_copied}
-use Rattle.std.proofs.lemmas.Option.{same_Some}
 use Rattle.hg_base.specs.declared.writer.Writer.{Writer}
 use Rattle.hg_bucket.specs.declared.refusal.WriteRefusal.TheVariants.{Open, Newer}
 use Rattle.hg_bucket.specs.Conflicts.{holder, newer, IsCause}
-use Rattle.hg_bucket.specs.Held.{versions_of, installed, begins_open, read_at}
+use Rattle.hg_bucket.specs.Held.{Held as Records, versions_of, installed, begins_open}
 use Rattle.hg_rule.specs.Seats.{session_view, sizes_of}
 use Rattle.hg_rule.specs.Holding.{writer, snapshot, held}
 use Rattle.hg_rule.specs.Writes.{Installs}
@@ -13,15 +11,16 @@ use Rattle.hg_core.specs.Versions.{IsFreeFor}
 use Rattle.hg_core.specs.Ordered.{IsOrdered}
 use Rattle.hg_store.proofs.Refusing.{free_of}
 use Rattle.hg_store.proofs.Deciding.{decided}
-use Rattle.hg_store.proofs.Storing.{same_holds, refusal_told, refused_writes, free_at, seen_after, install_holds, read_own, writer_same_after, content_after}
+use Rattle.hg_store.proofs.Storing.{same_holds, refusal_told, refused_writes, free_at, seen_after, install_holds, writer_same_after, content_after}
 use Rattle.hg_store.proofs.Stepping.{look_holds}
 use Rattle.hg_store.proofs.Owning.{open_logged, owner_told}
+use Rattle.hg_store.proofs.Boxing.{boxed, boxed_holds}
 use Rattle.hg_store.proofs.held.Held.write.Goals as goal
 
 pub write-requires : goal.write-requires
 write-requires c =
     let d = decided (sizes_of c.args.board.now) c.look-mark.result (session_view c.args.pass.now) (session_view c.look-mark.new.pass) c.args.self.now c.args.rid c.requires.holds c.look-mark.ensures.step c.look-mark.ensures.told c.requires.here c.requires.unstamped c.requires.live in
-    omega (arith, d.made c.requires.own.2 c.requires.room, c.requires.holds.keeps.made, c.args.board.now.room.begins)
+    omega (arith, ap (λ (b : Records). b.made) c.deref_mut.ensures.value, d.made c.requires.own.2 c.requires.room, c.requires.holds.keeps.made, c.args.board.now.room.begins)
 
 pub returns-in_err-added-clause-step : goal.returns-in_err-added-clause-step
 returns-in_err-added-clause-step c =
@@ -29,20 +28,20 @@ returns-in_err-added-clause-step c =
     let v = session_view c.args.pass.now in
     let w = session_view c.look-mark.new.pass in
     let r = c.args.rid in
-    let ks = versions_of c.args.self.now.bucket.records r in
-    let d = decided (sizes_of c.args.board.now) n v w c.args.self.now r c.requires.holds c.look-mark.ensures.step c.look-mark.ensures.told c.requires.here c.requires.unstamped c.requires.live in
+    let ks = versions_of c.deref_mut.result.now.records r in
+    let d = decided (sizes_of c.args.board.now) n v w (boxed c.args.self.now c.deref_mut.result.now) r (boxed_holds c.args.self.now c.deref_mut.result.now c.deref_mut.ensures.value c.requires.holds) c.look-mark.ensures.step c.look-mark.ensures.told c.requires.here c.requires.unstamped c.requires.live in
     let same : c.from_residual.result ≡ Err c.in_err-added.field-0.0 = search rules in
-    let told = refusal_told (sizes_of c.args.board.now) n v c.args.self.now r c.write.result c.requires.holds d
+    let told = refusal_told (sizes_of c.args.board.now) n v (boxed c.args.self.now c.deref_mut.result.now) r c.write.result (boxed_holds c.args.self.now c.deref_mut.result.now c.deref_mut.ensures.value c.requires.holds) d
     (subst (λ (b : Writer). IfSome (holder b n ks) (λ x. c.write.result ≡ Err (Open x))) c.requires.by c.write.ensures.open)
     (subst (λ (b : Writer). holder b n ks ≡ None → IfSome (newer (snapshot v) ks) (λ m. c.write.result ≡ Err (Newer m))) c.requires.by (subst (λ s. holder c.args.by n ks ≡ None → IfSome (newer s ks) (λ m. c.write.result ≡ Err (Newer m))) c.requires.snapshot c.write.ensures.newer)) in
-    refused_writes (sizes_of c.args.board.now) n v w c.args.self.now r c.args.image c.write.result c.from_residual.result c.in_err-added.field-0.0 c.requires.holds d c.look-mark.ensures.step c.in_err-added.was same told
+    refused_writes (sizes_of c.args.board.now) n v w (boxed c.args.self.now c.deref_mut.result.now) r c.args.image c.write.result c.from_residual.result c.in_err-added.field-0.0 (boxed_holds c.args.self.now c.deref_mut.result.now c.deref_mut.ensures.value c.requires.holds) d c.look-mark.ensures.step c.in_err-added.was same told
     (subst (λ (b : Writer). IfErr c.write.result (IsCause b (snapshot v) n ks)) c.requires.by (subst (λ s. IfErr c.write.result (IsCause c.args.by s n ks)) c.requires.snapshot c.write.ensures.cause))
 
 pub returns-in_err-added-clause-holds : goal.returns-in_err-added-clause-holds
 returns-in_err-added-clause-holds c =
     let w = session_view c.look-mark.new.pass in
-    let hold = look_holds (session_view c.args.pass.now) w c.args.self.now _ c.look-mark.result c.requires.holds c.look-mark.ensures.step in
-    same_holds w c.args.self.now _ hold refl (subst (λ o. OnErr o (c.write.new.self ≡ c.args.self.now.bucket)) c.in_err-added.was c.write.ensures.refused)
+    let hold = look_holds (session_view c.args.pass.now) w (boxed c.args.self.now c.deref_mut.result.now) _ c.look-mark.result (boxed_holds c.args.self.now c.deref_mut.result.now c.deref_mut.ensures.value c.requires.holds) c.look-mark.ensures.step in
+    same_holds w (boxed c.args.self.now c.deref_mut.result.now) _ hold refl (subst (λ o. OnErr o (c.write.new.self ≡ c.deref_mut.result.now)) c.in_err-added.was c.write.ensures.refused)
 
 pub install-requires-clause-free : goal.install-requires-clause-free
 install-requires-clause-free c =
@@ -50,9 +49,9 @@ install-requires-clause-free c =
     let v = session_view c.args.pass.now in
     let w = session_view c.look-mark.new.pass in
     let r = c.args.rid in
-    let ks = versions_of c.args.self.now.bucket.records r in
-    let d = decided (sizes_of c.args.board.now) n v w c.args.self.now r c.requires.holds c.look-mark.ensures.step c.look-mark.ensures.told c.requires.here c.requires.unstamped c.requires.live in
-    let told = refusal_told (sizes_of c.args.board.now) n v c.args.self.now r c.write.result c.requires.holds d
+    let ks = versions_of c.deref_mut.result.now.records r in
+    let d = decided (sizes_of c.args.board.now) n v w (boxed c.args.self.now c.deref_mut.result.now) r (boxed_holds c.args.self.now c.deref_mut.result.now c.deref_mut.ensures.value c.requires.holds) c.look-mark.ensures.step c.look-mark.ensures.told c.requires.here c.requires.unstamped c.requires.live in
+    let told = refusal_told (sizes_of c.args.board.now) n v (boxed c.args.self.now c.deref_mut.result.now) r c.write.result (boxed_holds c.args.self.now c.deref_mut.result.now c.deref_mut.ensures.value c.requires.holds) d
     (subst (λ (b : Writer). IfSome (holder b n ks) (λ x. c.write.result ≡ Err (Open x))) c.requires.by c.write.ensures.open)
     (subst (λ (b : Writer). holder b n ks ≡ None → IfSome (newer (snapshot v) ks) (λ m. c.write.result ≡ Err (Newer m))) c.requires.by (subst (λ s. holder c.args.by n ks ≡ None → IfSome (newer s ks) (λ m. c.write.result ≡ Err (Newer m))) c.requires.snapshot c.write.ensures.newer)) in
     seen_after (sizes_of c.args.board.now) n v w r d c.look-mark.ensures.step (free_at n v r c.write.result _ c.in_ok-added.was told)
@@ -63,24 +62,22 @@ returns-clause-holds c =
     let v = session_view c.args.pass.now in
     let w = session_view c.look-mark.new.pass in
     let r = c.args.rid in
-    let old = c.args.self.now.bucket in
+    let old = c.deref_mut.result.now in
     let new = c.write.new.self in
     let ks = versions_of old.records r in
-    let d = decided (sizes_of c.args.board.now) n v w c.args.self.now r c.requires.holds c.look-mark.ensures.step c.look-mark.ensures.told c.requires.here c.requires.unstamped c.requires.live in
-    let told = refusal_told (sizes_of c.args.board.now) n v c.args.self.now r c.write.result c.requires.holds d
+    let d = decided (sizes_of c.args.board.now) n v w (boxed c.args.self.now c.deref_mut.result.now) r (boxed_holds c.args.self.now c.deref_mut.result.now c.deref_mut.ensures.value c.requires.holds) c.look-mark.ensures.step c.look-mark.ensures.told c.requires.here c.requires.unstamped c.requires.live in
+    let told = refusal_told (sizes_of c.args.board.now) n v (boxed c.args.self.now c.deref_mut.result.now) r c.write.result (boxed_holds c.args.self.now c.deref_mut.result.now c.deref_mut.ensures.value c.requires.holds) d
     (subst (λ (b : Writer). IfSome (holder b n ks) (λ x. c.write.result ≡ Err (Open x))) c.requires.by c.write.ensures.open)
     (subst (λ (b : Writer). holder b n ks ≡ None → IfSome (newer (snapshot v) ks) (λ m. c.write.result ≡ Err (Newer m))) c.requires.by (subst (λ s. holder c.args.by n ks ≡ None → IfSome (newer s ks) (λ m. c.write.result ≡ Err (Newer m))) c.requires.snapshot c.write.ensures.newer)) in
     let free = free_at n v r c.write.result _ c.in_ok-added.was told in
     let by = c.requires.by ∙ sym (writer_same_after n v w r c.look-mark.ensures.step) in
     let stored = subst (λ o. OnOk o (versions_of new.records r ≡ installed c.args.by c.args.image ks)) c.in_ok-added.was c.write.ensures.stored in
     let made = subst (λ o. OnOk o (new ≡ record old { records = new.records; made = old.made + (if begins_open c.args.by ks then 0 else 1) })) c.in_ok-added.was c.write.ensures.made in
-    let shown = ap option_copied (sym c.in-Some.is) ∙ c.read.ensures ∙ ap (read_at c.args.by c.args.snapshot) stored ∙ read_own c.args.by c.args.snapshot c.args.image ks in
-    let image : c.in-Some.image.now ≡ c.args.image = same_Some c.in-Some.image.now c.args.image shown in
-    let hold = look_holds v w c.args.self.now _ n c.requires.holds c.look-mark.ensures.step in
+    let hold = look_holds v w (boxed c.args.self.now c.deref_mut.result.now) _ n (boxed_holds c.args.self.now c.deref_mut.result.now c.deref_mut.ensures.value c.requires.holds) c.look-mark.ensures.step in
     let content = content_after n v w r c.look-mark.ensures.step in
     let free_for = subst (λ x. IsFreeFor n x (held w r)) (sym (writer_same_after n v w r c.look-mark.ensures.step)) (subst (IsFreeFor n (writer v)) (sym content) (free_of n (writer v) (snapshot v) (held v r) d.ordered d.unstamped free)) in
-    install_holds n w (session_view c.install.new.pass) c.args.self.now _ r c.args.image hold refl free_for (subst (IsOrdered n) (sym content) d.ordered)
-    (subst (λ x. Installs w r x (session_view c.install.new.pass)) image c.install.ensures.step)
+    install_holds n w (session_view c.install.new.pass) (boxed c.args.self.now c.deref_mut.result.now) _ r c.args.image hold refl free_for (subst (IsOrdered n) (sym content) d.ordered)
+    (subst (λ x. Installs w r x (session_view c.install.new.pass)) c.of-written.ensures c.install.ensures.step)
     (subst (λ (b : Writer). versions_of new.records r ≡ installed b c.args.image ks) by stored)
     c.write.ensures.others
     (subst (λ (b : Writer). new ≡ record old { records = new.records; made = old.made + (if begins_open b ks then 0 else 1) }) by made)
@@ -91,10 +88,10 @@ returns-in_err-added-clause-owner c =
     let v = session_view c.args.pass.now in
     let w = session_view c.look-mark.new.pass in
     let r = c.args.rid in
-    let ks = versions_of c.args.self.now.bucket.records r in
-    let d = decided (sizes_of c.args.board.now) n v w c.args.self.now r c.requires.holds c.look-mark.ensures.step c.look-mark.ensures.told c.requires.here c.requires.unstamped c.requires.live in
+    let ks = versions_of c.deref_mut.result.now.records r in
+    let d = decided (sizes_of c.args.board.now) n v w (boxed c.args.self.now c.deref_mut.result.now) r (boxed_holds c.args.self.now c.deref_mut.result.now c.deref_mut.ensures.value c.requires.holds) c.look-mark.ensures.step c.look-mark.ensures.told c.requires.here c.requires.unstamped c.requires.live in
     let same : c.from_residual.result ≡ Err c.in_err-added.field-0.0 = search rules in
-    owner_told (sizes_of c.args.board.now) n v w c.args.self.now r c.requires.holds c.look-mark.ensures.step c.look-mark.ensures.told c.look-mark.ensures.own.3 c.requires.here c.write.result c.from_residual.result c.in_err-added.field-0.0 d c.in_err-added.was same
+    owner_told (sizes_of c.args.board.now) n v w (boxed c.args.self.now c.deref_mut.result.now) r (boxed_holds c.args.self.now c.deref_mut.result.now c.deref_mut.ensures.value c.requires.holds) c.look-mark.ensures.step c.look-mark.ensures.told c.look-mark.ensures.own.3 c.requires.here c.write.result c.from_residual.result c.in_err-added.field-0.0 d c.in_err-added.was same
     (subst (λ (b : Writer). IfErr c.write.result (IsCause b (snapshot v) n ks)) c.requires.by (subst (λ s. IfErr c.write.result (IsCause c.args.by s n ks)) c.requires.snapshot c.write.ensures.cause))
 
 pub returns-clause-added : goal.returns-clause-added
@@ -102,6 +99,6 @@ returns-clause-added c =
     let v = session_view c.args.pass.now in
     let w = session_view c.look-mark.new.pass in
     let r = c.args.rid in
-    let ks = versions_of c.args.self.now.bucket.records r in
+    let ks = versions_of c.deref_mut.result.now.records r in
     let told = subst (λ o. IfOk o (λ added. added ≡ not (begins_open c.args.by ks))) c.in_ok-added.was c.write.ensures.added in
-    told ∙ ap not (ap (λ b. begins_open b ks) c.requires.by ∙ open_logged (sizes_of c.args.board.now) c.look-mark.result v w c.args.self.now r c.requires.holds c.look-mark.ensures.step c.look-mark.ensures.told c.look-mark.ensures.own.3 c.requires.here c.requires.unstamped)
+    told ∙ ap not (ap (λ b. begins_open b ks) c.requires.by ∙ open_logged (sizes_of c.args.board.now) c.look-mark.result v w (boxed c.args.self.now c.deref_mut.result.now) r (boxed_holds c.args.self.now c.deref_mut.result.now c.deref_mut.ensures.value c.requires.holds) c.look-mark.ensures.step c.look-mark.ensures.told c.look-mark.ensures.own.3 c.requires.here c.requires.unstamped)

@@ -20,5 +20,5 @@ loop-seat-preserved c =
     let tag : seat_table c.of-tag.result.value ≡ t = ap seat_table c.of-tag.ensures ∙ (row_first (IsNewBucket t) 0 c.args.seats c.index.result.now c.requires.some.0 row first).1.0 in record {
       count = ap length c.in_ok-push.ensures.items ∙ length-append c.loop-seat.places.items _ ∙ (let l = length-append xs (c.in-Some.seat ∷ []) in omega (arith, j.count, l));
       seats = all ∙ sym (append_assoc xs (c.in-Some.seat ∷ []) c.next.new.self.rest.items);
-      fit = subst (EachFits (PlaceFits c.of-tag.result)) (sym c.in_ok-push.ensures.items) (EachFits-push (PlaceFits c.of-tag.result) c.loop-seat.places.items _ j.fit (fits_new t c.of-tag.result (length c.loop-seat.places.items) c.in-Some.seat c.new-bucket.result tag at c.new-bucket.ensures));
+      fit = subst (EachFits (PlaceFits c.of-tag.result)) (sym c.in_ok-push.ensures.items) (EachFits-push (PlaceFits c.of-tag.result) c.loop-seat.places.items _ j.fit (fits_new t c.of-tag.result (length c.loop-seat.places.items) c.in-Some.seat c.in_ok-bucket.bucket tag at (c.in_ok-bucket.ensures.ok ∙ c.new.ensures)));
     }
