@@ -16,16 +16,6 @@ use hg_rule::{Board, SessionPass};
 use hg_store::Store;
 use std::sync::Wait;
 
-// The bucket of a record, of so many.
-fn home_of(rid: Rid, count: u32) -> u32
-    requires some { 0 < count }
-    ensures own { result ≡ bucket_of count rid }
-    ensures within { result < count }
-{
-    let count = u64::from(count);
-    ((rid.key % count + 31 * u64::from(rid.table.0)) % count) as u32
-}
-
 // Stamps a record's open write. Its bucket is held for that alone.
 fn stamp_one<R: Wait>(
     rt: &R,
@@ -48,7 +38,7 @@ fn stamp_one<R: Wait>(
     ensures stamped { StampsEach (session_view pass.old) (rid ∷ []) number (session_view pass.new) }
     ensures own { IsSessionOf (table_of board.now) (sizes_of board.now) pass.new }
 {
-    let mut held = store.take(rt, board, home_of(rid, store.buckets()), pass);
+    let mut held = store.take(rt, board, store.bucket_of(rid), pass);
     held.stamp(board, pass, rid, by, number);
     held.give(board, pass);
 }

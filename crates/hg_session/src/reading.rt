@@ -29,8 +29,7 @@ impl Engine {
         ensures own { result ≡ bucket_of (engine_sizes self.now).buckets rid }
         ensures within { result < (engine_sizes self.now).buckets }
     {
-        let count = u64::from(self.store.buckets());
-        ((rid.key % count + 31 * u64::from(rid.table.0)) % count) as u32
+        self.store.bucket_of(rid)
     }
 }
 

@@ -1,10 +1,11 @@
 //! Buckets under locks.
 
 ghost use Rattle.std.specs.Prelude.{◌≡◌, ℕ, ◌<◌, ◌^◌, length, IfOk};
+ghost use Rattle.hg_core.specs.Contents.{bucket_of};
 ghost use Rattle.hg_lock.specs.Locks.{count_of};
 
 use crate::held::Held;
-use hg_base::NoMemory;
+use hg_base::{NoMemory, Rid};
 use hg_bucket::Bucket;
 use hg_lock::{Fits, Locks};
 use hg_rule::{Board, BucketSeat, BucketSeatList, Pass};
@@ -27,10 +28,25 @@ impl Fits for Place {
     ghost fits = { PlaceFits };
 }
 
+// The bucket of a record, of so many. Where table and key have a sum that fits, it is divided once.
+fn bucket_among(count: u64, rid: Rid) -> u64
+    requires some { 0 < count }
+    requires few { count < 2 ^ 32 }
+    ensures own { result ≡ bucket_of count rid }
+    ensures within { result < count }
+{
+    let table = 31 * u64::from(rid.table.0);
+    match rid.key.checked_add(table) {
+        Some(sum) => sum % count,
+        None => (rid.key % count + table) % count,
+    }
+}
+
 /// The buckets of a board, each under a lock of its own.
 #[derive(Drop)]
 pub struct Store {
     pub(crate) locks: Locks<Place>,
+    ghost some: { 0 < count_of locks },
     ghost few: { count_of locks < 2 ^ 32 },
 }
 
@@ -64,6 +80,14 @@ impl Store {
         ensures { result ≡ store_buckets self.now }
     {
         self.locks.count() as u32
+    }
+
+    /// The bucket of a record.
+    pub fn bucket_of(&self, rid: Rid) -> u32
+        ensures own { result ≡ bucket_of (store_buckets self.now) rid }
+        ensures within { result < store_buckets self.now }
+    {
+        bucket_among(u64::from(self.buckets()), rid) as u32
     }
 
     /// Waits for the bucket's lock. The bucket's part of the state comes to the pass, which then knows what the rule says of
