@@ -6,32 +6,16 @@ use Rattle.std.proofs.lemmas.List.{map-append}
 use Rattle.std.proofs.lemmas.List.Elements.{filter_map-append}
 use Rattle.std.proofs.lemmas.Bool.Decides.{Decides-eqb}
 use Rattle.hg_base.specs.declared.image.Image.{Image}
-use Rattle.hg_base.specs.declared.line.Line.{Line}
-use Rattle.hg_base.specs.declared.statement.Record.{Record}
 use Rattle.hg_base.specs.Lists.{Each, EachAfter, onto, numbers_from, greatest}
 use Rattle.hg_base.specs.Script.{Mode}
 use Rattle.hg_base.specs.History.{Commit, Group, History, EachGroup, IsGroup, IsHistory, NoLostUpdate, LosesNothing, writes, group_image}
-use Rattle.hg_base.specs.Transcript.{Said, said, said_from, committed, commit_by, commit_of, commits, commits_from, greatest_commit, group_of, put_by_session, history_of}
+use Rattle.hg_base.specs.Transcript.{Said, committed, commit_by, commit_of, commits, commits_from, greatest_commit, group_of, put_by_session, history_of}
 use Rattle.hg_base.specs.Sound.{IsRight, AreRight}
 use Rattle.hg_base.proofs.ListFacts.{cases, none_some, each_append, each_keeps, each_snoc, cons_option_append, append_nil, numbers_from_snoc, not_equal, moved_on}
 use Rattle.hg_base.proofs.HistoryFacts.{writes_from_snoc}
 use Rattle.hg_base.proofs.Extending.{extends_itself, extends_snoc, lines_step}
 
 -- ---- the lines
-
-pub zero_is_not_suc : (n : ℕ) → zero ≡ suc n → ⊥
-zero_is_not_suc n e = omega (arith, e)
-
-pub sucs : (m n : ℕ) → suc m ≡ suc n → m ≡ n
-sucs m n e = omega (arith, e)
-
--- one record more with its line, where records and lines are as many
-pub said_from_snoc : (earlier : List Said) (rs : List Record) (lines : List Line) (r : Record) (line : Line) → length rs ≡ length lines →
-    said_from earlier (rs ++ r ∷ []) (lines ++ line ∷ []) ≡ said_from earlier rs lines ++ said (onto (said_from earlier rs lines) earlier) r line.reply ∷ []
-said_from_snoc earlier [] [] r line e = refl
-said_from_snoc earlier [] (l ∷ ls) r line e = absurd (zero_is_not_suc (length ls) e)
-said_from_snoc earlier (q ∷ qs) [] r line e = absurd (zero_is_not_suc (length qs) (sym e))
-said_from_snoc earlier (q ∷ qs) (l ∷ ls) r line e = ap (λ xs. said earlier q l.reply ∷ xs) (said_from_snoc (said earlier q l.reply ∷ earlier) qs ls r line (sucs (length qs) (length ls) e))
 
 pub commits_from_snoc : (earlier xs : List Said) (now : Said) → commits_from earlier (xs ++ now ∷ []) ≡ commits_from earlier xs ++ cons_option (commit_of (onto xs earlier) now) []
 commits_from_snoc earlier [] now = refl

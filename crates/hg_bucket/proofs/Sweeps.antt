@@ -1,6 +1,6 @@
 -- What a sweep makes of a record's versions.
-use Rattle.std.proofs.Common.{◌≡◌, ℕ, zero, suc, inl, inr, ◌+◌, ◌<◌, ◌≤◌, List, [], ◌∷◌, length, Bool, true, false, not, ◌||◌, Option, Some, None, refl, ap, sym, ◌∙◌, cond, subst, map, arith}
-use Rattle.std.specs.Prelude.{filter, find, option_map, option_to_list, nat_le, ⊤, Contains}
+use Rattle.std.proofs.Common.{◌≡◌, ℕ, inl, inr, ◌+◌, ◌<◌, ◌≤◌, List, [], ◌∷◌, length, Bool, true, false, not, Option, Some, None, refl, ap, sym, ◌∙◌, cond, subst, map, arith}
+use Rattle.std.specs.Prelude.{filter, find, option_map, option_to_list, nat_le, ⊤}
 use Rattle.std.specs.Option.{option_or}
 use Rattle.std.specs.Bool.{OnFalse}
 use Rattle.std.proofs.lemmas.Bool.Decides.{nat_tests}
@@ -16,6 +16,7 @@ use Rattle.hg_chain.specs.Sweeps as chain
 use Rattle.hg_chain.specs.Sweeps.{goes, MayStay, IsProtected, is_within, is_in_use, last_number, swept_away}
 use Rattle.hg_chain.proofs.Sweeps as runs
 use Rattle.hg_chain.proofs.Sweeps.{last_after, last_of_all, swept_sum}
+use Rattle.hg_chain.proofs.Readers.{lies, over_horizon, in_use_stays}
 use Rattle.hg_space.specs.Places.{Oldest}
 use Rattle.hg_bucket.specs.Held.{Kept, is_at_most, is_open_by, read_at}
 use Rattle.hg_bucket.specs.Sweeping.{with_successors, goes_after, swept, IsClean}
@@ -142,24 +143,6 @@ settled_clean horizon xs (v ∷ w ∷ vs) h = absurd h
 abbrev IsBefore : ℕ → Option ℕ → Type 0
 IsBefore s None = ⊤
 IsBefore s (Some up) = s < up
-
-lies_here : (n up s : ℕ) (b : Bool) → n ≤ s → s < up → (is_within n up s || b) ≡ true
-lies_here n up s b h e = grind (arith, nat_tests)
-
-lies_there : (a b : Bool) → b ≡ true → (a || b) ≡ true
-lies_there true b e = refl
-lies_there false b e = e
-
-lies : (n up s : ℕ) (xs : List ℕ) → n ≤ s → s < up → Contains xs s → is_in_use xs n up ≡ true
-lies n up s [] a b (k, within, e) = absurd (omega (arith, within))
-lies n up s (x ∷ xs) a b (zero, within, e) = subst (λ y. (is_within n up y || is_in_use xs n up) ≡ true) (sym e) (lies_here n up s (is_in_use xs n up) a b)
-lies n up s (x ∷ xs) a b (suc k, within, e) = let less : k < length xs = omega (arith, within) in lies_there (is_within n up x) (is_in_use xs n up) (lies n up s xs a b (k, less, e))
-
-over_horizon : (horizon up n s : ℕ) (xs : List ℕ) → horizon ≤ s → s < up → goes horizon xs (Some up) (Some n) ≡ false
-over_horizon horizon up n s xs a b = grind (arith, nat_tests)
-
-in_use_stays : (horizon up n : ℕ) (xs : List ℕ) → is_in_use xs n up ≡ true → goes horizon xs (Some up) (Some n) ≡ false
-in_use_stays horizon up n xs e = grind (arith, nat_tests)
 
 seen_stays : (horizon s : ℕ) (xs : List ℕ) (up n : Option ℕ) (v : Kept) → IsProtected horizon xs s → IsBefore s up → v.number ≡ n → is_at_most s v ≡ true → goes horizon xs up n ≡ false
 seen_stays horizon s xs None n v g b k e = refl

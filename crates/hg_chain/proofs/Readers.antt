@@ -2,6 +2,7 @@
 use Rattle.std.proofs.Common.{◌≡◌, ℕ, zero, suc, inl, inr, ◌<◌, ◌≤◌, List, [], ◌∷◌, length, Bool, true, false, ◌||◌, Option, Some, None, refl, ap, sym, ◌∙◌, subst, arith}
 use Rattle.std.specs.Prelude.{cond, ⊤, find, option_map, Contains}
 use Rattle.std.proofs.lemmas.Bool.Decides.{nat_tests}
+use Rattle.std.specs.Prelude.{nat_le}
 use Rattle.hg_base.proofs.ListFacts.{cases}
 use Rattle.hg_chain.specs.declared.version.Stamp.{Stamp}
 use Rattle.hg_chain.specs.declared.version.Stamp.TheVariants.{Written, Numbered}
@@ -11,29 +12,28 @@ use Rattle.hg_chain.specs.Sweeps.{goes, is_within, is_in_use, swept}
 use Rattle.hg_chain.proofs.Sweeps.{swept_from, swept_goes, swept_stays}
 use Rattle.hg_chain.specs.Versions.{is_at_most, has_at_most, image_at}
 use Rattle.hg_chain.specs.Sweeps.{IsProtected}
-use Rattle.std.specs.Prelude.{nat_le}
 
 -- a reader is below the number, if that is one
 abbrev IsBefore : ℕ → Option ℕ → Type 0
 IsBefore s None = ⊤
 IsBefore s (Some up) = s < up
 
-lies_here : (n up s : ℕ) (b : Bool) → n ≤ s → s < up → (is_within n up s || b) ≡ true
+pub lies_here : (n up s : ℕ) (b : Bool) → n ≤ s → s < up → (is_within n up s || b) ≡ true
 lies_here n up s b h e = grind (arith, nat_tests)
 
-lies_there : (a b : Bool) → b ≡ true → (a || b) ≡ true
+pub lies_there : (a b : Bool) → b ≡ true → (a || b) ≡ true
 lies_there true b e = refl
 lies_there false b e = e
 
-lies : (n up s : ℕ) (xs : List ℕ) → n ≤ s → s < up → Contains xs s → is_in_use xs n up ≡ true
+pub lies : (n up s : ℕ) (xs : List ℕ) → n ≤ s → s < up → Contains xs s → is_in_use xs n up ≡ true
 lies n up s [] a b (k, within, e) = absurd (omega (arith, within))
 lies n up s (x ∷ xs) a b (zero, within, e) = subst (λ y. (is_within n up y || is_in_use xs n up) ≡ true) (sym e) (lies_here n up s (is_in_use xs n up) a b)
 lies n up s (x ∷ xs) a b (suc k, within, e) = let less : k < length xs = omega (arith, within) in lies_there (is_within n up x) (is_in_use xs n up) (lies n up s xs a b (k, less, e))
 
-over_horizon : (horizon up n s : ℕ) (xs : List ℕ) → horizon ≤ s → s < up → goes horizon xs (Some up) (Some n) ≡ false
+pub over_horizon : (horizon up n s : ℕ) (xs : List ℕ) → horizon ≤ s → s < up → goes horizon xs (Some up) (Some n) ≡ false
 over_horizon horizon up n s xs a b = grind (arith, nat_tests)
 
-in_use_stays : (horizon up n : ℕ) (xs : List ℕ) → is_in_use xs n up ≡ true → goes horizon xs (Some up) (Some n) ≡ false
+pub in_use_stays : (horizon up n : ℕ) (xs : List ℕ) → is_in_use xs n up ≡ true → goes horizon xs (Some up) (Some n) ≡ false
 in_use_stays horizon up n xs e = grind (arith, nat_tests)
 
 at_most : (n s : ℕ) → nat_le n s ≡ true → n ≤ s

@@ -1,11 +1,11 @@
 -- A sweep settles each version once, from the newest on.
-use Rattle.std.proofs.Common.{◌≡◌, ℕ, ◌+◌, ◌<◌, ◌≤◌, List, [], ◌∷◌, ◌++◌, ◌-◌, length, true, false, Option, None, refl, ap, sym, ◌∙◌, subst, arith}
+use Rattle.std.proofs.Common.{◌≡◌, ℕ, ◌+◌, ◌<◌, ◌≤◌, List, [], ◌∷◌, ◌++◌, ◌-◌, length, false, Option, None, refl, ap, sym, ◌∙◌, subst, arith}
 use Rattle.hg_base.proofs.ListFacts.{append_nil}
 use Rattle.hg_chain.specs.declared.version.Version.{Version}
 use Rattle.hg_chain.specs.Versions.{number_in, IsChain}
 use Rattle.hg_chain.specs.Sweeps.{goes, last_number, swept, swept_away}
 use Rattle.hg_chain.specs.Merging.{Follows}
-use Rattle.hg_chain.proofs.Sweeps.{Under, under_next, under_follows, swept_from, last_after, last_of_all, swept_goes, swept_stays, swept_sum}
+use Rattle.hg_chain.proofs.Sweeps.{Under, under_next, under_follows, swept_from, last_after, last_of_all, swept_stays, swept_sum}
 
 -- before is not settled yet, kept is what stays of the others, and both stand in items
 pub record Turned (horizon : ℕ) (snapshots : List ℕ) (old items : List Version) (rest : ℕ) (up : Option ℕ) : Type 0 where
@@ -53,20 +53,6 @@ opened horizon snapshots old v more rest up h t = go t.before t.stand t.many t.l
 
 pub follows : (horizon : ℕ) (snapshots : List ℕ) (old : List Version) (v : Version) (more : List Version) (rest : ℕ) (up : Option ℕ) → 0 < rest → Turned horizon snapshots old (v ∷ more) rest up → Follows up (number_in v.stamp)
 follows horizon snapshots old v more rest up h t = let o = opened horizon snapshots old v more rest up h t in under_follows up v o.before o.under
-
-pub turn_goes : (horizon : ℕ) (snapshots : List ℕ) (old : List Version) (v : Version) (more : List Version) (rest : ℕ) (up : Option ℕ) → 0 < rest → Turned horizon snapshots old (v ∷ more) rest up → goes horizon snapshots up (number_in v.stamp) ≡ true → Turned horizon snapshots old more (rest - 1) (number_in v.stamp)
-turn_goes horizon snapshots old v more rest up h t e =
-    let o = opened horizon snapshots old v more rest up h t in
-    record {
-      before = o.before;
-      kept = o.kept;
-      stand = o.stand;
-      many = (let m = o.many in omega (arith, m));
-      left = ap (λ ws. o.kept ++ ws) (sym (swept_goes horizon snapshots up v o.before e)) ∙ o.left;
-      last = o.last;
-      under = under_next v.stamp o.before o.chain.0;
-      chain = o.chain.1;
-    }
 
 regroup : (xs : List Version) (v : Version) (ys : List Version) → (xs ++ v ∷ []) ++ ys ≡ xs ++ (v ∷ ys)
 regroup [] v ys = refl

@@ -15,6 +15,7 @@ use Rattle.hg_base.specs.History.{History, seen, group_at}
 use Rattle.hg_base.specs.Transcript.{Said, only, table_of, committed_by}
 use Rattle.hg_base.specs.Replies.{IsCommitted, IsAnswer, is_written}
 use Rattle.hg_base.specs.Conflicts.{target}
+use Rattle.hg_base.proofs.ListFacts.{if_some_keeps}
 use Rattle.hg_core.specs.declared.log.LogEntry.{LogEntry}
 use Rattle.hg_core.specs.declared.log.LogEntry.TheVariants.{Began, Saw, Refused, Outside, Wrote, Undid, Published, Over}
 use Rattle.hg_core.specs.Logs.{current, own_writes, commit_in, published, UpTo}
@@ -24,7 +25,6 @@ use Rattle.hg_core.specs.Reading.{Unprinted, close, commit_entries, put_entries,
 use Rattle.hg_core.specs.Answered.{begun_log, done_log, is_gc, StandsAt, IsCaused, IsAnswered}
 use Rattle.hg_core.specs.State.{CoreState}
 use Rattle.hg_core.specs.Invariant.{IsSteady}
-use Rattle.hg_core.proofs.Begins.{if_some_keeps}
 use Rattle.hg_core.proofs.Right.{answer_right, of_some, places_of}
 
 -- ---- the older part of a log

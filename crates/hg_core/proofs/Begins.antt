@@ -110,10 +110,6 @@ if_some_all : {X : Type 0} (o : Option X) (P : X → Type 0) → ((x : X) → P 
 if_some_all None P f = tt
 if_some_all (Some x) P f = f x
 
-pub if_some_keeps : {X : Type 0} (o : Option X) (P Q : X → Type 0) → ((x : X) → P x → Q x) → IfSome o P → IfSome o Q
-if_some_keeps None P Q f h = tt
-if_some_keeps (Some x) P Q f h = f x h
-
 pub probe_kept : (s : CoreState) (j : ℕ) → IsSteady s → May s (Probe j) → IsSteady (happens s (Probe j))
 probe_kept s j h may = turn s j (Probed s.mark) s.register s.log [] h may.session
     (omega arith)

@@ -40,7 +40,7 @@ made_most s h =
 
 -- ---- the mark
 
-newest_most : (n : ℕ) (log : List LogEntry) → UpTo n log → newest_number log ≤ n
+pub newest_most : (n : ℕ) (log : List LogEntry) → UpTo n log → newest_number log ≤ n
 newest_most n [] u = omega arith
 newest_most n (Published m ∷ log) u = omega (arith, u.0, newest_most n log u.1)
 newest_most n (Began at scope ∷ log) u = newest_most n log u.1

@@ -8,12 +8,13 @@ use Rattle.hg_base.specs.Lists.{Each}
 use Rattle.hg_base.specs.History.{Write, Commit, History, same_rid, image_in, is_among, NoneTwice, NoNumberTwice, rids_of, group_rids, IsCommit, IsGroup, IsHistory}
 use Rattle.hg_base.specs.Transcript.{last_images}
 use Rattle.hg_base.proofs.HistoryFacts.{same_rid_equal, same_rid_itself}
+use Rattle.hg_base.proofs.Growth.{each_group_snoc as group_more}
 use Rattle.hg_core.specs.declared.log.LogEntry.{LogEntry}
 use Rattle.hg_core.specs.Logs.{current, number_in, is_plain, own_writes, open_in, commit_in, new_group, is_in, UpTo}
 use Rattle.hg_core.specs.Contents.{is_stamped, has_stamped}
 use Rattle.hg_core.proofs.NewGroup.{image_open, first_in, rest_in}
 use Rattle.hg_core.proofs.Replies.{current_within}
-use Rattle.hg_core.proofs.Updates.{group_more, each_last, own_open}
+use Rattle.hg_core.proofs.Updates.{each_last, own_open}
 
 -- ---- records of a list of writes
 
@@ -61,7 +62,7 @@ among_others q (w ∷ ws) = go (same_rid q w.rid) refl (among_others q ws)
     go true e later = later
     go false e later = ap (λ b. b || is_among q (rids_of (filter (λ v. not (same_rid q v.rid)) ws))) e ∙ later
 
-none_last : (ws : List Write) → NoneTwice (rids_of (last_images ws))
+pub none_last : (ws : List Write) → NoneTwice (rids_of (last_images ws))
 none_last [] = tt
 none_last (w ∷ ws) = (among_others w.rid (last_images ws), none_less (λ v. not (same_rid w.rid v.rid)) (last_images ws) (none_last ws))
 

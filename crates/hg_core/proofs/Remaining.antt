@@ -26,15 +26,15 @@ sum_over : (Rid → ℕ) → List Rid → ℕ
 sum_over f [] = 0
 sum_over f (r ∷ rs) = f r + sum_over f rs
 
-left_false : (a b : Bool) → (a || b) ≡ false → a ≡ false
+pub left_false : (a b : Bool) → (a || b) ≡ false → a ≡ false
 left_false true b e = e
 left_false false b e = refl
 
-right_false : (a b : Bool) → (a || b) ≡ false → b ≡ false
+pub right_false : (a b : Bool) → (a || b) ≡ false → b ≡ false
 right_false true b e = cc
 right_false false b e = e
 
-same_rid_sym : (a b : Rid) → same_rid a b ≡ true → same_rid b a ≡ true
+pub same_rid_sym : (a b : Rid) → same_rid a b ≡ true → same_rid b a ≡ true
 same_rid_sym a b e = turned_rid b a ∙ e
 
 same_rid_not : (a b : Rid) → same_rid a b ≡ false → same_rid b a ≡ false
@@ -120,7 +120,7 @@ placed_other m b r (e ∷ es) p ne = go (same_rid r e.0) refl (placed_other m b 
 
 -- ---- each record once
 
-filtered_out : (p : Rid → Bool) (k : Rid) (rs : List Rid) → is_among k rs ≡ false → is_among k (filter p rs) ≡ false
+pub filtered_out : (p : Rid → Bool) (k : Rid) (rs : List Rid) → is_among k rs ≡ false → is_among k (filter p rs) ≡ false
 filtered_out p k [] h = refl
 filtered_out p k (r ∷ rs) h = go (p r) (filtered_out p k rs (right_false (same_rid k r) (is_among k rs) h))
   where
@@ -128,7 +128,7 @@ filtered_out p k (r ∷ rs) h = go (p r) (filtered_out p k rs (right_false (same
     go true ih = ap (λ b. b || is_among k (filter p rs)) (left_false (same_rid k r) (is_among k rs) h) ∙ ih
     go false ih = ih
 
-filtered_once : (p : Rid → Bool) (rs : List Rid) → NoneTwice rs → NoneTwice (filter p rs)
+pub filtered_once : (p : Rid → Bool) (rs : List Rid) → NoneTwice rs → NoneTwice (filter p rs)
 filtered_once p [] h = tt
 filtered_once p (r ∷ rs) h = go (p r) (filtered_once p rs h.1)
   where
@@ -136,7 +136,7 @@ filtered_once p (r ∷ rs) h = go (p r) (filtered_once p rs h.1)
     go true ih = (filtered_out p r rs h.0, ih)
     go false ih = ih
 
-without_it : (k : Rid) (rs : List Rid) → is_among k (filter (λ other. not (same_rid other k)) rs) ≡ false
+pub without_it : (k : Rid) (rs : List Rid) → is_among k (filter (λ other. not (same_rid other k)) rs) ≡ false
 without_it k [] = refl
 without_it k (r ∷ rs) = go (same_rid r k) refl (without_it k rs)
   where

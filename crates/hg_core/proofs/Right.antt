@@ -28,11 +28,11 @@ use Rattle.hg_core.specs.Reading.{Unprinted, saws, get_entries, put_entries, del
 true_false : true ≡ false → ⊥
 true_false e = cc
 
-or_first : (a b : Bool) → a ≡ true → (a || b) ≡ true
+pub or_first : (a b : Bool) → a ≡ true → (a || b) ≡ true
 or_first true b e = refl
 or_first false b e = absurd (true_false (sym e))
 
-or_with : (a b : Bool) → b ≡ true → (a || b) ≡ true
+pub or_with : (a b : Bool) → b ≡ true → (a || b) ≡ true
 or_with true b e = refl
 or_with false b e = e
 
@@ -47,38 +47,38 @@ pub places_of : (buckets : ℕ) → 0 < buckets → (r : Rid) → bucket_of buck
 unfolding bucket_of
 places_of buckets k r = mod-lt (r.key % buckets + 31 * r.table.0) k
 
-within : (b : Bool) (P Q : Type 0) → b ≡ true → P → MatchBool b P Q
+pub within : (b : Bool) (P Q : Type 0) → b ≡ true → P → MatchBool b P Q
 within true P Q e p = p
 within false P Q e p = absurd (let k : false ≡ true = e in cc)
 
-outwith : (b : Bool) (P Q : Type 0) → b ≡ false → Q → MatchBool b P Q
+pub outwith : (b : Bool) (P Q : Type 0) → b ≡ false → Q → MatchBool b P Q
 outwith true P Q e q = absurd (let k : true ≡ false = e in cc)
 outwith false P Q e q = q
 
-same_table : (t other : TableId) → t.0 ≡ other.0 → t ≡ other
+pub same_table : (t other : TableId) → t.0 ≡ other.0 → t ≡ other
 same_table t other e = λ i. record { 0 = e i }
 
-undeclared : (scope : Scope) (t table : TableId) (Else : Type 0) → IsFalse (has scope t) → t.0 ≡ table.0 → WithinScope scope table (Undeclared t) Else
+pub undeclared : (scope : Scope) (t table : TableId) (Else : Type 0) → IsFalse (has scope t) → t.0 ≡ table.0 → WithinScope scope table (Undeclared t) Else
 undeclared scope t table Else h e = outwith (has scope table) _ _ (ap (has scope) (sym (same_table t table e)) ∙ h) e
 
 -- ---- one key of a bucket
 
 -- its own bucket shows a record
-shown_here : (buckets : ℕ) (r : Rid) (f : Rid → Image) → in_bucket buckets (bucket_of buckets r) r.table f r.key ≡ f r
+pub shown_here : (buckets : ℕ) (r : Rid) (f : Rid → Image) → in_bucket buckets (bucket_of buckets r) r.table f r.key ≡ f r
 shown_here buckets r f = ap (λ b. if b then f r else nothing) (same_number (bucket_of buckets r))
 
 -- a row that a bucket shows
-row_here : (buckets b : ℕ) (t : TableId) (f : Rid → Image) (key : ℕ) (row : List ℤ) → (in_bucket buckets b t f key).row ≡ Some row → (f (record { table = t; key = key })).row ≡ Some row
+pub row_here : (buckets b : ℕ) (t : TableId) (f : Rid → Image) (key : ℕ) (row : List ℤ) → (in_bucket buckets b t f key).row ≡ Some row → (f (record { table = t; key = key })).row ≡ Some row
 row_here buckets b t f key row e = go (bucket_of buckets (record { table = t; key = key }) == b) e
   where
     go : (x : Bool) → (if x then f (record { table = t; key = key }) else nothing).row ≡ Some row → (f (record { table = t; key = key })).row ≡ Some row
     go true e = e
     go false e = absurd (let k : None ≡ Some row = e in cc)
 
-seen_row : (buckets : ℕ) (r : Rid) (f : Rid → Image) (row : List ℤ) → AreRows (in_bucket buckets (bucket_of buckets r) r.table f) r.key r.key ((r.key, row) ∷ []) → (f r).row ≡ Some row
+pub seen_row : (buckets : ℕ) (r : Rid) (f : Rid → Image) (row : List ℤ) → AreRows (in_bucket buckets (bucket_of buckets r) r.table f) r.key r.key ((r.key, row) ∷ []) → (f r).row ≡ Some row
 seen_row buckets r f row a = row_here buckets (bucket_of buckets r) r.table f r.key row a.each.0.2
 
-seen_nothing : (buckets : ℕ) (r : Rid) (f : Rid → Image) → AreRows (in_bucket buckets (bucket_of buckets r) r.table f) r.key r.key [] → (f r).row ≡ None
+pub seen_nothing : (buckets : ℕ) (r : Rid) (f : Rid → Image) → AreRows (in_bucket buckets (bucket_of buckets r) r.table f) r.key r.key [] → (f r).row ≡ None
 seen_nothing buckets r f a = go (a.every r.key (omega arith) (omega arith))
   where
     go : IsTrue false ⊎ ((in_bucket buckets (bucket_of buckets r) r.table f r.key).row ≡ None) → (f r).row ≡ None
@@ -87,14 +87,14 @@ seen_nothing buckets r f a = go (a.every r.key (omega arith) (omega arith))
 
 -- ---- get, put and del
 
-get_right : (buckets : ℕ) (h : History) (logs : ℕ → List LogEntry) (j : ℕ) (r : Rid) (a : Answer) (l : List LogEntry) (c : Snapshot) → current l ≡ Some c → FitsTable r.table a (IsGetAnswer a) → AreReplied buckets h logs j (get_entries buckets r a ++ l) →
+pub get_right : (buckets : ℕ) (h : History) (logs : ℕ → List LogEntry) (j : ℕ) (r : Rid) (a : Answer) (l : List LogEntry) (c : Snapshot) → current l ≡ Some c → FitsTable r.table a (IsGetAnswer a) → AreReplied buckets h logs j (get_entries buckets r a ++ l) →
     WithinScope c.scope r.table a (IsGot (seen h (own_writes l) c.at r) a)
 get_right buckets h logs j r (Found row) l c e f g = let k = of_some (current l) _ c e g.0 in within (has c.scope r.table) _ _ k.0 (seen_row buckets r (seen h (own_writes l) c.at) row k.1)
 get_right buckets h logs j r Nothing l c e f g = let k = of_some (current l) _ c e g.0 in within (has c.scope r.table) _ _ k.0 (seen_nothing buckets r (seen h (own_writes l) c.at) k.1)
 get_right buckets h logs j r (Undeclared t) l c e f g = undeclared c.scope t r.table (IsGot (seen h (own_writes l) c.at r) (Undeclared t)) (of_some (current l) _ c e g.0) f
 get_right buckets h logs j r _ l c e f g = absurd f
 
-put_right : (buckets : ℕ) (h : History) (logs : ℕ → List LogEntry) (j : ℕ) (r : Rid) (row : List ℤ) (a : Answer) (l : List LogEntry) (c : Snapshot) → current l ≡ Some c → FitsTable r.table a (IsPut a) → AreReplied buckets h logs j (put_entries r row a ++ l) →
+pub put_right : (buckets : ℕ) (h : History) (logs : ℕ → List LogEntry) (j : ℕ) (r : Rid) (row : List ℤ) (a : Answer) (l : List LogEntry) (c : Snapshot) → current l ≡ Some c → FitsTable r.table a (IsPut a) → AreReplied buckets h logs j (put_entries r row a ++ l) →
     WithinScope c.scope r.table a (IsPut a)
 put_right buckets h logs j r row Stored l c e f g = within (has c.scope r.table) _ _ (of_some (current l) _ c e g.0.0) tt
 put_right buckets h logs j r row (Newer n) l c e f g = within (has c.scope r.table) _ _ (of_some (current l) _ c e g.0).0 tt
@@ -102,10 +102,10 @@ put_right buckets h logs j r row (OpenBy w) l c e f g = within (has c.scope r.ta
 put_right buckets h logs j r row (Undeclared t) l c e f g = undeclared c.scope t r.table (IsPut (Undeclared t)) (of_some (current l) _ c e g.0) f
 put_right buckets h logs j r row _ l c e f g = absurd f
 
-is_there : (o : Option (List ℤ)) (row : List ℤ) → o ≡ Some row → IsSome o
+pub is_there : (o : Option (List ℤ)) (row : List ℤ) → o ≡ Some row → IsSome o
 is_there o row e = subst (λ p. IsSome p) (sym e) refl
 
-del_right : (buckets : ℕ) (h : History) (logs : ℕ → List LogEntry) (j : ℕ) (found : List ℤ) (r : Rid) (a : Answer) (l : List LogEntry) (c : Snapshot) → current l ≡ Some c → FitsTable r.table a (IsDelAnswer a) → AreReplied buckets h logs j (del_entries buckets found r a ++ l) →
+pub del_right : (buckets : ℕ) (h : History) (logs : ℕ → List LogEntry) (j : ℕ) (found : List ℤ) (r : Rid) (a : Answer) (l : List LogEntry) (c : Snapshot) → current l ≡ Some c → FitsTable r.table a (IsDelAnswer a) → AreReplied buckets h logs j (del_entries buckets found r a ++ l) →
     WithinScope c.scope r.table a (IsDeleted (seen h (own_writes l) c.at r) a)
 del_right buckets h logs j found r Nothing l c e f g = let k = of_some (current l) _ c e g.0 in within (has c.scope r.table) _ _ k.0 (seen_nothing buckets r (seen h (own_writes l) c.at) k.1)
 del_right buckets h logs j found r Gone l c e f g = let k = of_some (current l) _ c e g.1.0 in within (has c.scope r.table) _ _ k.0 (is_there (seen h (own_writes l) c.at r).row found (seen_row buckets r (seen h (own_writes l) c.at) found k.1))
@@ -125,7 +125,7 @@ saws_same t low high part (suc n) l = saws_same t low high part n l
 abbrev pub SawPart : ℕ → History → List Write → Snapshot → TableId → ℕ → ℕ → (ℕ → List (ℕ × List ℤ)) → ℕ → Type 0
 SawPart buckets h own c t low high part b = IsTrue (has c.scope t) × AreRows (in_bucket buckets b t (seen h own c.at)) low high (part b)
 
-saws_replied : (buckets : ℕ) (h : History) (logs : ℕ → List LogEntry) (j : ℕ) (t : TableId) (low high : ℕ) (part : ℕ → List (ℕ × List ℤ)) (n : ℕ) (l : List LogEntry) (c : Snapshot) → current l ≡ Some c → AreReplied buckets h logs j (saws t low high part n ++ l) → (b : ℕ) → b < n → SawPart buckets h (own_writes l) c t low high part b
+pub saws_replied : (buckets : ℕ) (h : History) (logs : ℕ → List LogEntry) (j : ℕ) (t : TableId) (low high : ℕ) (part : ℕ → List (ℕ × List ℤ)) (n : ℕ) (l : List LogEntry) (c : Snapshot) → current l ≡ Some c → AreReplied buckets h logs j (saws t low high part n ++ l) → (b : ℕ) → b < n → SawPart buckets h (own_writes l) c t low high part b
 saws_replied buckets h logs j t low high part zero l c e g b k = absurd (omega (arith, k))
 saws_replied buckets h logs j t low high part (suc n) l c e g b k =
     let same_log = saws_same t low high part n l in
@@ -137,18 +137,18 @@ saws_replied buckets h logs j t low high part (suc n) l c e g b k =
     below_else : (m i : ℕ) → m < suc i → (m == i) ≡ false → m < i
     below_else m i q e = grind (arith, nat_tests)
 
-contains_any : {X : Type 0} (p : X → Bool) (x : X) (xs : List X) → Contains xs x → p x ≡ true → list_any p xs ≡ true
+pub contains_any : {X : Type 0} (p : X → Bool) (x : X) (xs : List X) → Contains xs x → p x ≡ true → list_any p xs ≡ true
 contains_any p x [] (k, within, e) h = absurd (omega (arith, within))
 contains_any p x (z ∷ zs) (zero, within, e) h = or_first (p z) (list_any p zs) (ap p e ∙ h)
 contains_any p x (z ∷ zs) (suc k, within, e) h = let less : k < length zs = omega (arith, within) in or_with (p z) (list_any p zs) (contains_any p x zs (k, less, e) h)
 
 -- where one of the list passes, and all of it are among others, one of the others passes
-any_contained : {X : Type 0} (p : X → Bool) (xs ys : List X) → Each (λ x. Contains ys x) xs → list_any p xs ≡ true → list_any p ys ≡ true
+pub any_contained : {X : Type 0} (p : X → Bool) (xs ys : List X) → Each (λ x. Contains ys x) xs → list_any p xs ≡ true → list_any p ys ≡ true
 any_contained p [] ys h e = absurd (let k : false ≡ true = e in cc)
 any_contained p (x ∷ xs) ys h e = cases (p x) (λ q. contains_any p x ys h.0 q) (λ q. any_contained p xs ys h.1 (sym (ap (λ b. b || list_any p xs) q) ∙ e))
 
 -- the rows of all parts are those of the range
-joined_rows : (buckets : ℕ) (t : TableId) (f : Rid → Image) (low high : ℕ) (part : ℕ → List (ℕ × List ℤ)) (rows : List (ℕ × List ℤ)) → ((r : Rid) → bucket_of buckets r < buckets) → Joins buckets part rows → ((b : ℕ) → b < buckets → AreRows (in_bucket buckets b t f) low high (part b)) →
+pub joined_rows : (buckets : ℕ) (t : TableId) (f : Rid → Image) (low high : ℕ) (part : ℕ → List (ℕ × List ℤ)) (rows : List (ℕ × List ℤ)) → ((r : Rid) → bucket_of buckets r < buckets) → Joins buckets part rows → ((b : ℕ) → b < buckets → AreRows (in_bucket buckets b t f) low high (part b)) →
     AreRows (λ key. f (record { table = t; key = key })) low high rows
 joined_rows buckets t f low high part rows places joins parts = record {
   ascend = joins.ascend;
@@ -166,7 +166,7 @@ joined_rows buckets t f low high part rows places joins parts = record {
     here key k (inl q) = inl (k q)
     here key k (inr q) = inr (ap (λ (i : Image). i.row) (sym (shown_here buckets (record { table = t; key = key }) f)) ∙ q)
 
-scan_right : (buckets : ℕ) (h : History) (logs : ℕ → List LogEntry) (j : ℕ) (part : ℕ → List (ℕ × List ℤ)) (t : TableId) (low high : ℕ) (a : Answer) (l : List LogEntry) (c : Snapshot) → ((r : Rid) → bucket_of buckets r < buckets) → current l ≡ Some c → FitsTable t a (IsScanAnswer buckets part a) → AreReplied buckets h logs j (scan_entries buckets part t low high a ++ l) →
+pub scan_right : (buckets : ℕ) (h : History) (logs : ℕ → List LogEntry) (j : ℕ) (part : ℕ → List (ℕ × List ℤ)) (t : TableId) (low high : ℕ) (a : Answer) (l : List LogEntry) (c : Snapshot) → ((r : Rid) → bucket_of buckets r < buckets) → current l ≡ Some c → FitsTable t a (IsScanAnswer buckets part a) → AreReplied buckets h logs j (scan_entries buckets part t low high a ++ l) →
     WithinScope c.scope t a (IsScanned (λ key. seen h (own_writes l) c.at (record { table = t; key = key })) low high a)
 scan_right buckets h logs j part t low high (Rows rows) l c places e f g =
     let saw : (b : ℕ) → b < buckets → SawPart buckets h (own_writes l) c t low high part b = saws_replied buckets h logs j t low high part buckets l c e g in

@@ -9,6 +9,7 @@ use Rattle.hg_base.specs.History.{Write, Commit, Group, History, EachGroup, same
 use Rattle.hg_base.specs.Transcript.{last_images}
 use Rattle.hg_base.proofs.HistoryFacts.{same_rid_itself, writes_from_snoc}
 use Rattle.hg_base.proofs.ListFacts.{each_keeps, each_append}
+use Rattle.hg_base.proofs.Growth.{each_group_snoc as group_more}
 use Rattle.hg_core.specs.declared.log.LogEntry.{LogEntry}
 use Rattle.hg_core.specs.declared.log.LogEntry.TheVariants.{Began, Saw, Refused, Outside, Wrote, Undid, Published, Over}
 use Rattle.hg_core.specs.declared.phase.Phase.{Phase}
@@ -18,10 +19,6 @@ use Rattle.hg_core.specs.Phases.{snapshot_in}
 use Rattle.hg_core.specs.Covered.{MayCommit, OpenWritesMayCommit}
 
 -- ---- a group more
-
-pub group_more : (P : ℕ → Group → Type 0) (n : ℕ) (h : History) (g : Group) → EachGroup P n h → P (n + length h) g → EachGroup P n (h ++ g ∷ [])
-group_more P n [] g e p = (subst (λ k. P k g) (let z : n + 0 ≡ n = omega arith in z) p, tt)
-group_more P n (f ∷ fs) g e p = (e.0, group_more P (suc n) fs g e.1 (subst (λ k. P k g) (let z : n + suc (length fs) ≡ suc n + length fs = omega arith in z) p))
 
 groups_within : (P Q : ℕ → Group → Type 0) (n top : ℕ) (h : History) → n + length h ≤ suc top → ((m : ℕ) (g : Group) → m ≤ top → P m g → Q m g) → EachGroup P n h → EachGroup Q n h
 groups_within P Q n top [] k f e = tt

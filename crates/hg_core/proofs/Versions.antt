@@ -141,13 +141,3 @@ unnumbered_same mark m (v ∷ vs) n = go v.stamp n
     go (Written by) n = refl
     go (Numbered k by) n = cc
     go (Oldest k) n = refl
-
--- what may be written again has no number
-pub free_unnumbered : (mark : ℕ) (w : Writer) (i : Image) (vs : List Version) → IsFreeFor mark w vs → unpublished mark vs ≡ Some (w, i) → is_numbered vs ≡ false
-free_unnumbered mark w i [] f o = refl
-free_unnumbered mark w i (v ∷ vs) f o = go v.stamp f o
-  where
-    go : (x : Stamp) → IsFreeFor mark w (record { stamp = x; image = v.image } ∷ vs) → unpublished_by mark x v.image ≡ Some (w, i) → is_numbered (record { stamp = x; image = v.image } ∷ vs) ≡ false
-    go (Written by) f o = refl
-    go (Numbered k by) f o = absurd (let p : nat_le k mark ≡ true = grind (arith, nat_tests) in let z = rw p at o in cc)
-    go (Oldest k) f o = absurd (cc)

@@ -17,6 +17,7 @@ use Rattle.hg_base.specs.Script.{Mode, replay, run}
 use Rattle.hg_base.specs.History.{Write, Group, History, image_in, group_image, rids_of, group_rids, writes_from, last_image, visible, seen, nothing}
 use Rattle.hg_base.specs.Transcript.{Said, has, stored, own_writes}
 use Rattle.hg_base.specs.Replies.{IsBegun, IsGot, IsPut, IsDeleted, AreRows, IsScanned, IsCommitted, IsUndone, IsSwept, IsBeside, IsCollected, IsUndeclared, WithinScope, IsAnswer, IsReply, is_written}
+use Rattle.hg_base.proofs.ListFacts.{cases}
 use Rattle.hg_decide.proofs.Decide.{Decided, decide_as, decide_true, decide_false, decide_bools, decide_equal, decide_at_most, decide_always, decide_never, decide_all3, decide_all4, decide_either, decide_implies, decide_match, decide_each, decide_ascends, decide_rows, decide_some, false_is_not_true}
 
 abbrev pub decide_begun : (answer : Answer) → Decided (IsBegun answer)
@@ -86,10 +87,6 @@ or_right false b e = e
 pub and_none : (a b : Bool) → b ≡ false → (a && b) ≡ false
 and_none true b e = e
 and_none false b e = refl
-
-pub cases : {P : Type 0} (b : Bool) → (b ≡ true → P) → (b ≡ false → P) → P
-cases true f g = f refl
-cases false f g = g refl
 
 pub none_left : (key : ℕ) (xs ys : List Rid) → NoneHas key (xs ++ ys) → NoneHas key xs
 none_left key [] ys e = refl

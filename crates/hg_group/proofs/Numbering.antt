@@ -3,35 +3,18 @@ use Rattle.std.proofs.Common.{◌≡◌, ℕ, List, [], ◌∷◌, ◌++◌, ref
 use Rattle.std.proofs.lemmas.List.{map-append}
 use Rattle.hg_base.specs.declared.rid.Rid.{Rid}
 use Rattle.hg_core.specs.Logs.{begans}
-use Rattle.hg_core.specs.Phases.{IsSession}
-use Rattle.hg_rule.specs.declared.passes.SessionPass.{SessionPass}
-use Rattle.hg_rule.specs.declared.view.SessionPart.{SessionPart}
 use Rattle.hg_rule.specs.declared.view.Part.{Part}
 use Rattle.hg_rule.specs.declared.view.Part.TheVariants.{OfSession, OfBucket, OfCommit}
 use Rattle.hg_rule.specs.declared.view.Event.TheVariants.{Stamp}
 use Rattle.hg_rule.specs.declared.view.View.{View}
-use Rattle.hg_rule.specs.declared.view.Sizes.{Sizes}
-use Rattle.hg_rule.specs.Views.{number, number_in, session, session_there, first_in, after_first, seeing, then_has, HasSession}
+use Rattle.hg_rule.specs.Views.{number, session, seeing, HasSession}
 use Rattle.hg_rule.specs.Moves.{put_in}
-use Rattle.hg_rule.specs.Holding.{beyond, bucket_number, bucket, commit, commit_behind, farther, writer, HasCommit, HasBoth}
-use Rattle.hg_rule.specs.Places.{arrive_first, without_bucket}
-use Rattle.hg_rule.specs.Writes.{with_stamp, listing, stamping, Stamps}
-use Rattle.hg_rule.specs.Seats.{TableId, session_view, session_rest, IsSeatOf, IsSessionOf}
+use Rattle.hg_rule.specs.Holding.{beyond, bucket_number, commit, commit_behind, writer, HasCommit, HasBoth}
+use Rattle.hg_rule.specs.Places.{arrive_first}
+use Rattle.hg_rule.specs.Writes.{with_stamp, listing}
 use Rattle.hg_store.specs.Stores.{Takes}
 use Rattle.hg_group.specs.Committing.{StampsEach, stamps, flagged, with_listed}
 use Rattle.hg_group.proofs.Recording.{listed_more, flagged_more, same_log}
-
--- a session's pass whose view begins with its session's part, of the same log, is of the same board
-pub session_still : (t : TableId) (z : Sizes) (p q : SessionPass) (s : SessionPart) (rest : List Part) → IsSessionOf t z p → IsSeatOf t q.seat → session_rest q ≡ session_rest p → (session_view q).parts ≡ OfSession (number (session_view p)) s ∷ rest → begans s.log ≡ begans (session (session_view p)).log → IsSessionOf t z q
-session_still t z p q s rest own seat same e log = (
-  seat,
-  (
-    ap number_in e ∙ own.1.0 ∙ sym (ap (λ x. x.0) same),
-    ap (λ x. x.1) same ∙ own.1.1 ∙ sym log ∙ sym (ap (λ ps. begans (session_there (first_in ps)).log) e),
-  ),
-  subst (IsSession z.sessions) (sym (ap number_in e)) own.2,
-  subst (λ (ps : List Part). ps ≡ OfSession (number_in ps) (session_there (first_in ps)) ∷ after_first ps) (sym e) refl,
-)
 
 -- ---- a bucket comes
 
@@ -55,16 +38,6 @@ pub taken : (v w : View) (b : ℕ) → HasSession v → HasCommit v → Takes v 
 taken v w b own has t = subst (Taken v b) (sym (taken_is v w b own has t)) record { number_is = refl; session_is = refl; writer_is = refl; commit_is = refl; bucket_is = refl; own = refl; both = refl }
 
 -- ---- it leaves again
-
-pub stamped_one : (v w x y : View) (b n : ℕ) (r : Rid) → HasSession v → HasCommit v → Takes v b w → Stamps w r n x → y ≡ without_bucket x → StampsEach v (r ∷ []) n y
-stamped_one v w x y b n r own has t step left =
-    let w_is = taken_is v w b own has t in
-    let step_of : View → View = λ w. then_has w (OfSession (number w) (with_stamp (session w)) ∷ OfBucket (bucket_number w) (stamping n (writer w) r (bucket w)) ∷ OfCommit (listing (number w) r (commit_behind w)) ∷ farther w) [] (Stamp (number w) r n) in
-    let y_is : y ≡ seeing (OfSession (number v) (with_stamp (session v)) ∷ OfCommit (listing (number v) r (commit v)) ∷ beyond v) ((v.sights ++ t.seen) ++ []) (v.events ++ Stamp (number v) r n ∷ []) = left ∙ ap without_bucket step ∙ ap (λ u. without_bucket (step_of u)) w_is in record {
-      parts = ap (λ u. u.parts) y_is;
-      kept = (t.seen, ap (λ u. u.sights) y_is ∙ append-nil (v.sights ++ t.seen));
-      events = ap (λ u. u.events) y_is;
-    }
 
 -- ---- one more
 

@@ -73,14 +73,6 @@ pub same_log : (xs : List Rid) (part : SessionPart) → (flagged xs part).log �
 same_log [] part = refl
 same_log (x ∷ xs) part = refl
 
-pub same_phase : (xs : List Rid) (part : SessionPart) → (flagged xs part).phase ≡ part.phase
-same_phase [] part = refl
-same_phase (x ∷ xs) part = refl
-
-pub is_flagged : (xs : List Rid) (part : SessionPart) → 0 < length xs → (flagged xs part).stamped ≡ true
-is_flagged [] part h = absurd (omega (arith, h))
-is_flagged (x ∷ xs) part h = refl
-
 pub same_published : (n : ℕ) (xs : List Rid) (part : SessionPart) → with_published n (flagged xs part) ≡ with_published n part
 same_published n [] part = refl
 same_published n (x ∷ xs) part = refl

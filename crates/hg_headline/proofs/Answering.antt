@@ -23,12 +23,13 @@ use Rattle.hg_core.specs.Events.{put}
 use Rattle.hg_core.specs.Replies.{in_bucket, writes_in, numbers_in, Refuses}
 use Rattle.hg_core.specs.Reading.{Unprinted, saw, saws, own_entries, FitsAnswer}
 use Rattle.hg_core.proofs.Indices.{put_else}
+use Rattle.hg_core.proofs.Updates.{some_is as some_of_yes}
+use Rattle.hg_core.proofs.Right.{same_table, shown_here}
 use Rattle.hg_headline.specs.Logged.{Logged}
 use Rattle.hg_headline.specs.Answered.{IsCaused, IsAnswered}
-use Rattle.hg_headline.proofs.Words.{true_false, some_of_yes, none_is_not_some}
+use Rattle.hg_headline.proofs.Words.{true_false, none_is_not_some}
 use Rattle.hg_headline.proofs.Adds.{adds_saws}
 use Rattle.hg_headline.proofs.Entries.{own_is}
-use Rattle.hg_headline.proofs.Right.{shown_here, same_table}
 use Rattle.hg_headline.proofs.Growing.{logged_on}
 use Rattle.hg_headline.proofs.Parts.{part_of, parts_join, part_rows}
 

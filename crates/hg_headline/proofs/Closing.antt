@@ -1,5 +1,5 @@
 -- A replay without a `gc`, to its totals.
-use Rattle.std.proofs.Common.{◌≡◌, ℕ, ◌≤◌, inl, inr, List, [], length, false, Option, None, sym, ap, ◌∙◌, arith}
+use Rattle.std.proofs.Common.{◌≡◌, ℕ, ◌≤◌, inr, List, [], length, false, Option, sym, ap, ◌∙◌, arith}
 use Rattle.std.specs.Prelude.{sum_by, IsSome}
 use Rattle.hg_base.specs.declared.scope.Snapshot.{Snapshot}
 use Rattle.hg_base.specs.declared.report.Kind.{Kind}
@@ -20,20 +20,17 @@ use Rattle.hg_core.specs.declared.log.LogEntry.{LogEntry}
 use Rattle.hg_core.specs.Answered.{is_gc}
 use Rattle.hg_core.specs.Logs.{current}
 use Rattle.hg_core.specs.Reading.{Unprinted, Fits, is_alone, log_with, log_after}
+use Rattle.hg_core.proofs.Updates.{some_is as some_of_yes}
 use Rattle.hg_headline.specs.Logged.{Logged}
 use Rattle.hg_headline.specs.Replayed.{HasReplayed}
 use Rattle.hg_headline.specs.Counted.{Closes, IsCounted}
 use Rattle.hg_headline.specs.Following.{IsFollowing, AreQuietTotals}
-use Rattle.hg_headline.proofs.Words.{some_of_yes}
 use Rattle.hg_headline.proofs.Counting.{replay_whole}
 use Rattle.hg_headline.proofs.Before.{logged_before}
 use Rattle.hg_headline.proofs.Quiet.{replay_quiet}
 use Rattle.hg_headline.proofs.Following.{following_ends}
 
 -- ---- what is open is rolled back without a line
-
-pub closes_idle : (log closed : List LogEntry) → current log ≡ None → closed ≡ log → Closes log closed
-closes_idle log closed none same = inl (none, same)
 
 -- as by a `rollback`
 pub closes_rollback : (buckets : ℕ) (u : Unprinted) (log closed : List LogEntry) (reply : Reply) → IsSome (current log) → Fits buckets u log Rollback reply → closed ≡ log_after buckets u Rollback reply log → Closes log closed

@@ -28,6 +28,7 @@ use Rattle.hg_base.specs.declared.statement.Record.{Record}
 use Rattle.hg_base.specs.declared.statement.Statement.TheVariants.{Gc}
 use Rattle.hg_base.proofs.ListFacts.{each_keeps, each_append}
 use Rattle.hg_core.specs.Reading.{Follows}
+use Rattle.hg_core.proofs.Right.{places_of}
 use Rattle.hg_headline.specs.Logged.{Logged}
 use Rattle.hg_headline.specs.Ran.{run_lines, HasRun}
 use Rattle.hg_headline.proofs.Words.{each_pairs, is_any}
@@ -40,7 +41,7 @@ use Rattle.hg_headline.specs.Replayed.{HasReplayed}
 use Rattle.hg_headline.specs.Counted.{every, Closes, IsCounted}
 use Rattle.hg_headline.proofs.Ties.{Ties, ties_nothing}
 use Rattle.hg_headline.proofs.Commits.{Matches, same_printed, printed_onto}
-use Rattle.hg_headline.proofs.Whole.{lines_told, matches_all, places_of}
+use Rattle.hg_headline.proofs.Whole.{lines_told, matches_all}
 use Rattle.hg_headline.proofs.Replaying.{met_collected, replay_sound}
 use Rattle.hg_headline.proofs.Firsts.{first_by, first_writes_is, first_undone, passes, CountsFor, lines_counted}
 use Rattle.hg_headline.proofs.Undone.{publishes, undone_in_log}

@@ -29,10 +29,10 @@ use Rattle.hg_core.specs.Replies.{AreReplied}
 use Rattle.hg_core.specs.Events.{put}
 use Rattle.hg_core.specs.Sums.{sum_to}
 use Rattle.hg_core.specs.Counters.{first_writes}
-use Rattle.hg_headline.specs.Counted.{every}
 use Rattle.hg_core.specs.Reading.{Unprinted, saws, own_entries, is_access, is_alone, close, log_with, log_after, FitsAnswer, Fits, Follows}
 use Rattle.hg_core.proofs.Indices.{by_number, at_index, put_here, put_else}
 use Rattle.hg_core.proofs.Sums.{sum_same, sum_grown}
+use Rattle.hg_headline.specs.Counted.{every}
 use Rattle.hg_headline.proofs.Words.{true_false}
 use Rattle.hg_headline.proofs.Ties.{Ties, StandsIn, ties_other}
 use Rattle.hg_headline.proofs.Entries.{record_of, writes_above}
@@ -42,11 +42,6 @@ use Rattle.hg_headline.proofs.Whole.{follows_first, judged_less, replied_less, d
 abbrev pub one_if : Bool → ℕ
 one_if true = 1
 one_if false = 0
-
--- whether a write is the first of its record among those before it
-abbrev pub is_first : List Write → Option Write → Bool
-is_first own None = false
-is_first own (Some w) = is_none (image_in w.rid own)
 
 -- how many writes in a log are the first of their record, in transactions that pass a test
 abbrev pub first_by : (ℕ → Bool) → List LogEntry → ℕ

@@ -8,6 +8,7 @@ use Rattle.hg_base.specs.History.{Write, History, IsGroup, LosesNothing, NoneTwi
 use Rattle.hg_base.specs.Transcript.{last_images}
 use Rattle.hg_base.specs.Replies.{is_written}
 use Rattle.hg_base.proofs.ListFacts.{cases}
+use Rattle.hg_base.proofs.Growth.{each_group_snoc as group_more}
 use Rattle.hg_core.specs.declared.log.LogEntry.{LogEntry}
 use Rattle.hg_core.specs.declared.log.LogEntry.TheVariants.{Began, Saw, Refused, Outside, Wrote, Undid, Published, Over}
 use Rattle.hg_core.specs.Logs.{current, number_in, own_writes, commit_in, published, is_in, new_group, published_logs, UpTo, AnswerUpTo}
@@ -17,9 +18,11 @@ use Rattle.hg_core.specs.Events.{put}
 use Rattle.hg_core.proofs.Indices.{by_number, put_here}
 use Rattle.hg_core.proofs.Groups.{wider, length_more, commits_kept}
 use Rattle.hg_core.proofs.Replies.{IsNoNumber, replies_entry, replies_published}
-use Rattle.hg_core.proofs.Updates.{group_more, update_more}
+use Rattle.hg_core.proofs.Updates.{update_more}
+use Rattle.hg_core.proofs.Remaining.{left_false as or_left, right_false as or_right}
+use Rattle.hg_core.proofs.Grouping.{none_last}
 use Rattle.hg_headline.specs.Logged.{Logged}
-use Rattle.hg_headline.proofs.Words.{same_number, or_left, or_right}
+use Rattle.hg_headline.proofs.Words.{same_number}
 
 -- ---- as a board opens
 
@@ -162,11 +165,6 @@ among_others q (w ∷ ws) = go (same_rid q w.rid) refl (among_others q ws)
     go : (b : Bool) → same_rid q w.rid ≡ b → is_among q (rids_of (filter (λ v. not (same_rid q v.rid)) ws)) ≡ false → is_among q (rids_of (cond (not b) (w ∷ filter (λ v. not (same_rid q v.rid)) ws) (filter (λ v. not (same_rid q v.rid)) ws))) ≡ false
     go true e later = later
     go false e later = ap (λ b. b || is_among q (rids_of (filter (λ v. not (same_rid q v.rid)) ws))) e ∙ later
-
--- a transaction commits each record once
-pub none_last : (ws : List Write) → NoneTwice (rids_of (last_images ws))
-none_last [] = tt
-none_last (w ∷ ws) = (among_others w.rid (last_images ws), none_less (λ v. not (same_rid w.rid v.rid)) (last_images ws) (none_last ws))
 
 pub append_none : (rids : List Rid) → NoneTwice rids → NoneTwice (rids ++ [])
 append_none rids n = subst NoneTwice (sym (nil rids)) n

@@ -26,12 +26,13 @@ use Rattle.hg_core.specs.Judged.{Judged}
 use Rattle.hg_core.specs.Contents.{bucket_of}
 use Rattle.hg_core.specs.Replies.{AreReplied}
 use Rattle.hg_core.specs.Reading.{Unprinted, own_entries, begin_entries, commit_entries, is_access, is_alone, close, log_with, log_after, FitsAnswer, IsGcAnswer, Fits}
+use Rattle.hg_core.proofs.Right.{answer_right}
 use Rattle.hg_headline.specs.Timely.{commit_in}
 use Rattle.hg_headline.proofs.Words.{none_of_no, none_is_not_some, some_is_some}
 use Rattle.hg_headline.proofs.Ties.{Ties, StandsIn, ties_step, ties_beside}
 use Rattle.hg_headline.proofs.Adds.{adds_nothing, access_answer, access_snapshot, access_commits}
 use Rattle.hg_headline.proofs.Entries.{reply_of, record_of, writes_above, own_is, says_inside, stands_inside, says_outside, stands_outside, says_begin, stands_begin, says_end, stands_end, adds_undone, says_gc, gc_snapshot}
-use Rattle.hg_headline.proofs.Right.{Reads, StillIn, answer_right, conflict_right, seen_is}
+use Rattle.hg_headline.proofs.Right.{Reads, StillIn, conflict_right, seen_is}
 
 -- the snapshot of a line is at least what the session's lines before it print
 abbrev pub IsRising : List Said → Said → Type 0
@@ -81,10 +82,6 @@ append_judged h (e ∷ es) l d = append_judged h es l d.1
 pub close_replied : (buckets : ℕ) (h : History) (logs : ℕ → List LogEntry) (j : ℕ) (o : Option ℕ) (l : List LogEntry) → AreReplied buckets h logs j (close o ++ l) → AreReplied buckets h logs j l
 close_replied buckets h logs j None l g = g.1
 close_replied buckets h logs j (Some c) l g = g.1.1
-
-pub append_replied : (buckets : ℕ) (h : History) (logs : ℕ → List LogEntry) (j : ℕ) (es l : List LogEntry) → AreReplied buckets h logs j (es ++ l) → AreReplied buckets h logs j l
-append_replied buckets h logs j [] l g = g
-append_replied buckets h logs j (e ∷ es) l g = append_replied buckets h logs j es l g.1
 
 -- a snapshot is at or below the number of groups
 pub judged_snapshot : (h : History) (l : List LogEntry) (c : Snapshot) → Judged h l → current l ≡ Some c → c.at ≤ length h

@@ -8,26 +8,11 @@ use Rattle.hg_base.specs.declared.image.Image.{Image}
 use Rattle.hg_base.specs.History.{Write, Group, History, IsHistory, same_rid, is_among, NoneTwice, rids_of, group_rids, image_in, group_image, writes_from, writes, last_image, visible}
 use Rattle.hg_base.specs.Counts.{once, live}
 use Rattle.hg_base.proofs.HistoryFacts.{same_rid_equal, same_rid_itself}
-use Rattle.hg_headline.proofs.Words.{true_false, or_left, or_right, any_append, same_rid_sym, is_any}
+use Rattle.hg_core.proofs.Remaining.{left_false as or_left, right_false as or_right, same_rid_sym, filtered_once, without_it}
+use Rattle.hg_headline.proofs.Words.{true_false, any_append, is_any}
 use Rattle.hg_headline.proofs.Same.{SameGroups, writes_same, length_same}
 
 -- ---- lists in which none stands twice
-
-filtered_out : (p : Rid → Bool) (k : Rid) (rs : List Rid) → is_among k rs ≡ false → is_among k (filter p rs) ≡ false
-filtered_out p k [] h = refl
-filtered_out p k (r ∷ rs) h = go (p r) (filtered_out p k rs (or_right (same_rid k r) (is_among k rs) h))
-  where
-    go : (b : Bool) → is_among k (filter p rs) ≡ false → is_among k (cond b (r ∷ filter p rs) (filter p rs)) ≡ false
-    go true ih = ap (λ b. b || is_among k (filter p rs)) (or_left (same_rid k r) (is_among k rs) h) ∙ ih
-    go false ih = ih
-
-filtered_once : (p : Rid → Bool) (rs : List Rid) → NoneTwice rs → NoneTwice (filter p rs)
-filtered_once p [] h = tt
-filtered_once p (r ∷ rs) h = go (p r) (filtered_once p rs h.1)
-  where
-    go : (b : Bool) → NoneTwice (filter p rs) → NoneTwice (cond b (r ∷ filter p rs) (filter p rs))
-    go true ih = (filtered_out p r rs h.0, ih)
-    go false ih = ih
 
 -- whether a record is among those of a list that pass a test
 among_filtered : (p : Rid → Bool) (k : Rid) (rs : List Rid) → is_among k (filter p rs) ≡ (if p k then is_among k rs else false)
@@ -82,9 +67,6 @@ as_many_records (x ∷ xs) ys n m f =
 
 -- ---- each record once
 
-without_it : (k : Rid) (rs : List Rid) → is_among k (filter (λ other. not (same_rid other k)) rs) ≡ false
-without_it k rs = among_filtered (λ other. not (same_rid other k)) k rs ∙ ap (λ b. if not b then is_among k rs else false) (same_rid_itself k)
-
 once_once : (rs : List Rid) → NoneTwice (once rs)
 once_once [] = tt
 once_once (r ∷ rs) = (without_it r (once rs), filtered_once (λ other. not (same_rid other r)) (once rs) (once_once rs))
@@ -135,23 +117,3 @@ lives_same h k s i =
     ∙ sym (among_filtered (row k) r (once (flat_map group_rids k))))
 
 -- ---- the live records of a history
-
--- a record that is seen as a row is written
-row_written : (h : History) (r : Rid) (s : ℕ) → is_some (visible h r s).row ≡ true → is_among r (flat_map group_rids h) ≡ true
-row_written h r s e = sym (history_among 1 h r) ∙ go (writes h r) refl
-  where
-    go : (ws : List (ℕ × Image)) → writes h r ≡ ws → is_any (writes h r) ≡ true
-    go [] q = absurd (true_false (sym e ∙ ap (λ (xs : List (ℕ × Image)). is_some (last_image (filter (λ (w : ℕ × Image). nat_le w.0 s) xs)).row) q))
-    go (w ∷ ws) q = ap is_any q
-
-pub live_among : (h : History) (r : Rid) → is_among r (live h) ≡ is_some (visible h r (length h)).row
-live_among h r = among_filtered (λ r. is_some (visible h r (length h)).row) r (once (flat_map group_rids h)) ∙ ap (λ b. if is_some (visible h r (length h)).row then b else false) (once_among r (flat_map group_rids h))
-    ∙ go (is_some (visible h r (length h)).row) refl
-  where
-    go : (b : Bool) → is_some (visible h r (length h)).row ≡ b → (if b then is_among r (flat_map group_rids h) else false) ≡ b
-    go true e = row_written h r (length h) e
-    go false e = refl
-
--- records, none twice, that are just those seen as rows at the mark are as many as the live ones
-pub lives_are : (h : History) (rids : List Rid) → NoneTwice rids → ((r : Rid) → is_among r rids ≡ is_some (visible h r (length h)).row) → length rids ≡ length (live h)
-lives_are h rids n f = as_many_records rids (live h) n (filtered_once (λ r. is_some (visible h r (length h)).row) (once (flat_map group_rids h)) (once_once (flat_map group_rids h))) (λ r. f r ∙ sym (live_among h r))

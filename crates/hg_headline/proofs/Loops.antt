@@ -1,5 +1,5 @@
 -- What a replay knows, one record further.
-use Rattle.std.proofs.Common.{◌≡◌, ℕ, ◌<◌, ◌≤◌, List, [], ◌∷◌, ◌++◌, length, Bool, true, false, refl, ap, subst, arith}
+use Rattle.std.proofs.Common.{◌≡◌, ℕ, ◌<◌, ◌≤◌, List, [], ◌∷◌, ◌++◌, length, Bool, true, false, refl, subst, arith}
 use Rattle.std.specs.Prelude.{◌==◌, ⊤}
 use Rattle.std.specs.Bool.{MatchBool}
 use Rattle.std.proofs.lemmas.Bool.Decides.{nat_tests}
@@ -11,20 +11,12 @@ use Rattle.hg_base.specs.Shape.{HasShape, IsLineOf, IsReportOf}
 use Rattle.hg_base.proofs.ListFacts.{each_snoc, if_some_keeps}
 use Rattle.hg_core.specs.declared.log.LogEntry.{LogEntry}
 use Rattle.hg_core.specs.Events.{put}
-use Rattle.hg_core.specs.Reading.{Unprinted, Fits, log_after, Tells, Follows}
+use Rattle.hg_core.specs.Reading.{Unprinted, Fits, log_after, Follows}
 use Rattle.hg_headline.specs.Logged.{Logged}
 use Rattle.hg_headline.specs.Timely.{reads_in, commit_in, IsTimely, Rises}
 use Rattle.hg_headline.specs.Met.{IsMet}
 use Rattle.hg_headline.specs.Replayed.{HasReplayed}
 use Rattle.hg_headline.proofs.Growing.{logged_opened}
-
--- one session's next record
-pub tells_snoc : (buckets : ℕ) (P : Record → Line → Type 0) (l m : List LogEntry) (rs : List Record) (lines : List Line) (r : Record) (line : Line) (u : Unprinted) → Tells buckets P l rs lines m → P r line → Fits buckets u m r.statement line.reply →
-    Tells buckets P l (rs ++ r ∷ []) (lines ++ line ∷ []) (log_after buckets u r.statement line.reply m)
-tells_snoc buckets P l m [] [] r line u t p f = (p, (u, subst (λ x. Fits buckets u x r.statement line.reply) t f, ap (log_after buckets u r.statement line.reply) t))
-tells_snoc buckets P l m [] (e ∷ es) r line u t p f = absurd t
-tells_snoc buckets P l m (q ∷ qs) [] r line u t p f = absurd t
-tells_snoc buckets P l m (q ∷ qs) (e ∷ es) r line u t p f = (t.0, (t.1.0, t.1.1, tells_snoc buckets P (log_after buckets t.1.0 q.statement e.reply l) m qs es r line u t.1.2 p f))
 
 -- the next record, of any session
 pub follows_snoc : (buckets : ℕ) (P : (ℕ → List LogEntry) → Record → Line → Type 0) (logs final : ℕ → List LogEntry) (rs : List Record) (lines : List Line) (r : Record) (line : Line) (u : Unprinted) → Follows buckets P logs rs lines final → P final r line → Fits buckets u (final r.session) r.statement line.reply →

@@ -15,8 +15,9 @@ use Rattle.hg_base.specs.Transcript.{Said, said, said_from, last_of, committed, 
 use Rattle.hg_base.specs.Shape.{report_of, same_kind}
 use Rattle.hg_base.specs.Freshness.{mark_of}
 use Rattle.hg_base.proofs.ListFacts.{cases, each_keeps, each_append, if_some_keeps}
+use Rattle.hg_core.proofs.Right.{or_first, or_with}
 use Rattle.hg_headline.specs.Timely.{reads_in, commit_in, mark_in, newer_in, snapshot_in, IsTimely, Rises}
-use Rattle.hg_headline.proofs.Words.{true_false, or_first, or_with, any_onto, any_to_onto, each_left, each_cons, equal_both}
+use Rattle.hg_headline.proofs.Words.{true_false, any_onto, any_to_onto, each_left, each_cons, equal_both}
 use Rattle.hg_headline.proofs.Commits.{Matches, picked_onto, pick_other, first_picked, commits_numbers, greatest_within, group_some, max_has, max_keeps}
 use Rattle.hg_headline.proofs.Ties.{pick}
 use Rattle.hg_headline.proofs.Whole.{said_says}

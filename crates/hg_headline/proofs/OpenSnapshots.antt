@@ -13,9 +13,10 @@ use Rattle.hg_base.proofs.Growth.{left_below, right_below}
 use Rattle.hg_core.specs.declared.log.LogEntry.{LogEntry}
 use Rattle.hg_core.specs.declared.log.LogEntry.TheVariants.{Began, Saw, Refused, Outside, Wrote, Undid, Published, Over}
 use Rattle.hg_core.specs.Logs.{current, begans}
+use Rattle.hg_core.proofs.Right.{or_first, or_with, of_some}
 use Rattle.hg_headline.specs.Gathered.{began_at, WasLive}
 use Rattle.hg_headline.specs.Met.{live_in, HasDeclared}
-use Rattle.hg_headline.proofs.Words.{same_number, differs, or_first, or_with, none_is_not_some, some_is_some, of_some, ascends_cons}
+use Rattle.hg_headline.proofs.Words.{same_number, differs, none_is_not_some, some_is_some, ascends_cons}
 use Rattle.hg_headline.proofs.Commits.{greatest_within, each_map}
 use Rattle.hg_headline.proofs.Ties.{Ties, StandsIn}
 

@@ -18,10 +18,13 @@ use Rattle.hg_core.specs.Logs.{current, begans, own_writes}
 use Rattle.hg_core.specs.Judged.{Judged}
 use Rattle.hg_core.specs.Replies.{AreReplied, Refuses, writes_in}
 use Rattle.hg_core.specs.Reading.{Unprinted, saw, is_alone, log_with, log_after}
+use Rattle.hg_core.proofs.Right.{of_some}
+use Rattle.hg_core.proofs.Updates.{some_is as some_of_yes}
+use Rattle.hg_core.proofs.Remaining.{left_false as or_left, right_false as or_right}
 use Rattle.hg_headline.specs.Logged.{Logged}
 use Rattle.hg_headline.specs.Met.{IsOpenWrite, IsMetWrite, IsMetAnswer}
 use Rattle.hg_headline.specs.Following.{has_end, KnowsOpen, IsMetIfGc}
-use Rattle.hg_headline.proofs.Words.{true_false, or_left, or_right, some_of_yes, of_some}
+use Rattle.hg_headline.proofs.Words.{true_false}
 use Rattle.hg_headline.proofs.Entries.{own_is}
 use Rattle.hg_headline.proofs.Following.{reply_with}
 

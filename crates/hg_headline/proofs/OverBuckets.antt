@@ -18,19 +18,15 @@ use Rattle.hg_core.specs.Counters.{total, is_of, first_writes, undos, removed_by
 use Rattle.hg_core.specs.State.{CoreState}
 use Rattle.hg_core.specs.Steps.{Always}
 use Rattle.hg_core.specs.Invariant.{IsSteady}
-use Rattle.hg_core.proofs.Sums.{sum_same, below_none, below_same, below_grown}
+use Rattle.hg_core.proofs.Sums.{sum_same, below_none, below_same, below_grown, below_plus as below_add}
 use Rattle.hg_core.proofs.Runs.{steady_after}
 use Rattle.hg_core.proofs.Remaining.{rows_left}
+use Rattle.hg_core.proofs.Right.{places_of}
 use Rattle.hg_headline.specs.Logged.{Logged}
 use Rattle.hg_headline.specs.Counted.{every, made_in, undone_in, removed_all}
 use Rattle.hg_headline.specs.Boards.{IsSettled}
-use Rattle.hg_headline.proofs.Whole.{places_of}
 
 -- ---- sums
-
-pub below_add : (n : ℕ) (f g : ℕ → ℕ) → sum_below n (λ k. f k + g k) ≡ sum_below n f + sum_below n g
-below_add zero f g = omega arith
-below_add (suc n) f g = let ih = below_add n f g in omega (arith, ih)
 
 -- the one bucket of a record
 pub one_bucket : (buckets at n : ℕ) → at < buckets → sum_below buckets (λ b. if at == b then n else 0) ≡ n

@@ -13,7 +13,8 @@ use Rattle.hg_base.proofs.ListFacts.{each_keeps}
 use Rattle.hg_core.specs.Contents.{bucket_of}
 use Rattle.hg_core.specs.Replies.{in_bucket}
 use Rattle.hg_core.specs.Reading.{Joins}
-use Rattle.hg_headline.proofs.Words.{same_number, or_first, or_with, ascends_cons}
+use Rattle.hg_core.proofs.Right.{or_first, or_with}
+use Rattle.hg_headline.proofs.Words.{same_number, ascends_cons}
 
 pub contains_first : {X : Type 0} (x : X) (xs : List X) → Contains (x ∷ xs) x
 contains_first x xs = (0, omega arith, refl)

@@ -1,16 +1,9 @@
 -- Where no record is a `gc`, no line is a report; and a statement that is a transaction of its own has its table.
-use Rattle.std.proofs.Common.{◌≡◌, ℕ, ◌+◌, List, [], ◌∷◌, length, true, false, None, refl, sym, ap, ◌∙◌, arith}
-use Rattle.std.specs.Prelude.{◌==◌, ◌%◌, if◌then◌else◌, Some, sum_by}
+use Rattle.std.proofs.Common.{◌≡◌, ℕ, List, [], ◌∷◌, false, None, refl, ap, ◌∙◌, arith}
+use Rattle.std.specs.Prelude.{if◌then◌else◌, sum_by}
 use Rattle.std.specs.Option.{option_map_or}
-use Rattle.std.proofs.Math.Nat.{div_self}
-use Rattle.std.proofs.lemmas.Nat.{pow_pos}
 use Rattle.std.proofs.lemmas.List.Sums.{sum_by-cons}
-use Rattle.hg_base.specs.declared.rid.TableId.{TableId}
 use Rattle.hg_base.specs.declared.report.Kind.{Kind}
-use Rattle.hg_base.specs.declared.report.Kind.TheVariants as kinds
-use Rattle.hg_base.specs.declared.line.Printed.{Printed}
-use Rattle.hg_base.specs.Script.{Script, replay}
-use Rattle.hg_base.specs.Sound.{IsSound}
 use Rattle.hg_base.specs.declared.statement.Record.{Record}
 use Rattle.hg_base.specs.declared.statement.Statement.{Statement}
 use Rattle.hg_base.specs.declared.statement.Statement.TheVariants.{Begin, Get, Put, Del, Scan, Commit as CommitIt, Rollback, Gc}
@@ -18,26 +11,20 @@ use Rattle.hg_base.specs.declared.line.Answer.{Answer}
 use Rattle.hg_base.specs.declared.line.Line.{Line}
 use Rattle.hg_base.specs.Lists.{Each}
 use Rattle.hg_base.specs.History.{History}
-use Rattle.hg_base.specs.Transcript.{Said, said, said_from, last_of, has, only}
+use Rattle.hg_base.specs.Transcript.{Said, said, said_from, last_of}
 use Rattle.hg_base.specs.Shape.{report_of, same_kind}
-use Rattle.hg_base.specs.Counts.{removed_by, live}
+use Rattle.hg_base.specs.Counts.{removed_by}
 use Rattle.hg_core.specs.declared.log.LogEntry.{LogEntry}
 use Rattle.hg_core.specs.Logs.{own_writes}
 use Rattle.hg_core.specs.Events.{put}
 use Rattle.hg_core.specs.Reading.{log_after, Follows}
 use Rattle.hg_core.specs.Answered.{is_gc}
-use Rattle.hg_headline.specs.Counted.{Closes, made_in, undone_in}
-use Rattle.hg_headline.proofs.Counting.{replay_whole}
 use Rattle.hg_headline.specs.Met.{IsMet}
 use Rattle.hg_headline.specs.Replayed.{HasReplayed}
 use Rattle.hg_headline.specs.Ran.{LeavesGc}
 use Rattle.hg_headline.proofs.Words.{true_false}
 use Rattle.hg_headline.proofs.Whole.{said_says}
 use Rattle.hg_headline.proofs.Rounds.{no_report}
-
--- the one table of a statement that stands alone
-pub has_only : (table : TableId) → has (only (Some table)) table ≡ true
-has_only table = ap (λ n. n % 2 == 1) (div_self (pow_pos table.0))
 
 -- ---- reports
 
@@ -71,18 +58,3 @@ pub replay_quiet : (buckets sessions top : ℕ) (h : History) (logs : ℕ → Li
 replay_quiet buckets sessions top h logs records lines kind g q = quiet_sum kind (said_from [] records lines) (lines_quiet buckets (IsMet sessions) records lines (λ j. []) logs [] q g.follows)
 
 -- A replay without a `gc`: what is counted in the logs as they are closed, what is left, and nothing removed by the group and
--- the interval collector.
-pub replay_without_gc : (buckets sessions top : ℕ) (h : History) (logs closed : ℕ → List LogEntry) (script : Script) (printed : Printed) → HasReplayed buckets sessions h logs top script.records printed.lines → Each (λ (r : Record). is_gc r.statement ≡ false) script.records → ((j : ℕ) → Closes (logs j) (closed j)) →
-    printed.totals.made ≡ made_in sessions closed → printed.totals.undone ≡ undone_in sessions closed → printed.totals.group ≡ 0 → printed.totals.interval ≡ 0 → printed.totals.left ≡ length (live h) → printed.totals.made ≡ printed.totals.undone + printed.totals.table + printed.totals.left → IsSound replay script printed
-replay_without_gc buckets sessions top h logs closed script printed g q c made undone group interval left balance =
-    let quiet : (kind : Kind) → sum_by (removed_by kind) (said_from [] script.records printed.lines) ≡ 0 = λ kind. replay_quiet buckets sessions top h logs script.records printed.lines kind g q in
-    let table = quiet kinds.Table in
-    replay_whole buckets sessions top h logs closed script printed g c (record {
-      made = made;
-      undone = undone;
-      group = group ∙ sym (quiet kinds.Group);
-      table = omega (arith, table);
-      interval = interval ∙ sym (quiet kinds.Interval);
-      left = left;
-      balance = omega (arith, balance, group, interval);
-    })

@@ -27,17 +27,19 @@ use Rattle.hg_base.proofs.ListFacts.{each_keeps}
 use Rattle.hg_core.specs.declared.log.LogEntry.{LogEntry}
 use Rattle.hg_core.specs.Logs.{current, begans, own_writes}
 use Rattle.hg_core.specs.Reading.{Unprinted, FitsAnswer}
+use Rattle.hg_core.proofs.Right.{of_some, places_of}
+use Rattle.hg_core.proofs.Updates.{some_is as some_of_yes}
 use Rattle.hg_headline.specs.Gathered.{WasLive, IsGathered}
 use Rattle.hg_headline.specs.Timely.{reads_in, snapshot_in, newer_in, mark_in, commit_in}
 use Rattle.hg_headline.specs.Met.{live_in, HasDeclared, IsMetReport, IsOpenWrite, IsMetWrite, IsMetAnswer, IsMet}
 use Rattle.hg_headline.specs.Replayed.{HasReplayed}
-use Rattle.hg_headline.proofs.Words.{if_some_by, of_some, some_of_yes, each_pairs}
+use Rattle.hg_headline.proofs.Words.{if_some_by, each_pairs}
 use Rattle.hg_headline.proofs.Commits.{Matches}
 use Rattle.hg_headline.proofs.Ties.{Ties, StandsIn, ties_nothing}
 use Rattle.hg_headline.proofs.Entries.{own_is}
 use Rattle.hg_headline.proofs.Right.{StillIn}
 use Rattle.hg_headline.proofs.Lines.{AsCollected}
-use Rattle.hg_headline.proofs.Whole.{IsTold, AtLine, IsKnown, said_says, lines_told, told_right, matches_all, places_of}
+use Rattle.hg_headline.proofs.Whole.{IsTold, AtLine, IsKnown, said_says, lines_told, told_right, matches_all}
 use Rattle.hg_headline.proofs.Orderly.{Orderly, orderly_nothing, orderly_all}
 use Rattle.hg_headline.proofs.Numbers.{IsOrdered, AllPrinted, below_nothing, lines_ordered, of_reads, each_up, now_over, printed_before, is_greatest, all_printed}
 use Rattle.hg_headline.proofs.OpenSnapshots.{IsLive, Begins, begins_less, live_is_open, live_ascends, live_each, map_twice, each_unmap, was_live}

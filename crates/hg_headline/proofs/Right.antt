@@ -1,34 +1,24 @@
 -- A line is right in the printed history where its entries are right over the history of the logs.
-use Rattle.std.proofs.Common.{◌≡◌, ℕ, zero, suc, ◌<◌, ◌≤◌, ◌⊎◌, inl, inr, ℤ, List, [], ◌∷◌, ◌++◌, length, Bool, true, false, Option, Some, None, refl, sym, ap, ◌∙◌, subst, arith}
-use Rattle.std.specs.Prelude.{◌==◌, ◌||◌, if◌then◌else◌, IsTrue, IsFalse, IsSome, IfSome, is_some, unwrap_or, Contains, ⊤}
-use Rattle.std.specs.List.{list_any}
-use Rattle.std.specs.Bool.{MatchBool}
-use Rattle.std.proofs.lemmas.Bool.Decides.{Decides-eqb, nat_tests}
+use Rattle.std.proofs.Common.{◌≡◌, ℕ, ◌<◌, ◌≤◌, ℤ, List, ◌++◌, length, Some, sym, ap, ◌∙◌, subst}
+use Rattle.std.specs.Prelude.{◌==◌, IsFalse, IsSome, IfSome, is_some, unwrap_or, ⊤}
 use Rattle.hg_base.specs.declared.rid.Rid.{Rid}
-use Rattle.hg_base.specs.declared.rid.TableId.{TableId}
-use Rattle.hg_base.specs.declared.image.Image.{Image}
-use Rattle.hg_base.specs.declared.scope.Scope.{Scope}
 use Rattle.hg_base.specs.declared.scope.Snapshot.{Snapshot}
 use Rattle.hg_base.specs.declared.writer.Writer.{Writer}
 use Rattle.hg_base.specs.declared.statement.Statement.{Statement}
-use Rattle.hg_base.specs.declared.statement.Statement.TheVariants.{Begin, Get, Put, Del, Scan, Commit as CommitIt, Rollback, Gc}
+use Rattle.hg_base.specs.declared.statement.Statement.TheVariants.{Put, Del}
 use Rattle.hg_base.specs.declared.line.Answer.{Answer}
-use Rattle.hg_base.specs.declared.line.Answer.TheVariants.{Stored, Found, Nothing, Gone, Rows, Newer, OpenBy, Undeclared}
+use Rattle.hg_base.specs.declared.line.Answer.TheVariants.{Newer, OpenBy}
 use Rattle.hg_base.specs.Lists.{Each}
 use Rattle.hg_base.specs.Script.{Mode}
-use Rattle.hg_base.specs.History.{Write, History, visible, does_write, image_in, seen, nothing}
-use Rattle.hg_base.specs.Transcript.{Said, has, stored_in}
+use Rattle.hg_base.specs.History.{Write, History, visible, does_write, image_in, seen}
+use Rattle.hg_base.specs.Transcript.{Said, stored_in}
 use Rattle.hg_base.specs.Transcript.{own_writes as own_before, numbers_in as printed_numbers}
-use Rattle.hg_base.specs.Replies.{IsGot, IsPut, IsDeleted, IsScanned, WithinScope, IsAnswer, AreRows}
 use Rattle.hg_base.specs.Conflicts.{ShowsCause, IsStillOpen, OnReplay, target}
-use Rattle.hg_base.proofs.ListFacts.{cases, each_at, each_keeps}
 use Rattle.hg_core.specs.declared.log.LogEntry.{LogEntry}
 use Rattle.hg_core.specs.Logs.{current, own_writes}
-use Rattle.hg_core.specs.Contents.{bucket_of}
-use Rattle.hg_core.specs.Replies.{in_bucket, writes_in, numbers_in, Refuses, AreReplied}
-use Rattle.hg_core.specs.Reading.{Unprinted, saws, get_entries, put_entries, del_entries, scan_entries, own_entries, is_access, Joins, IsGetAnswer, IsDelAnswer, IsScanAnswer, FitsTable, FitsAnswer}
-use Rattle.hg_headline.proofs.Words.{or_first, or_with, same_number, of_some}
-use Rattle.hg_headline.proofs.Adds.{Adds, adds_saws}
+use Rattle.hg_core.specs.Replies.{writes_in, numbers_in, Refuses, AreReplied}
+use Rattle.hg_core.specs.Reading.{Unprinted, put_entries, del_entries, own_entries}
+use Rattle.hg_core.proofs.Right.{of_some}
 
 -- what the lines show of the history and the logs
 pub record Reads (h : History) (k : History) (logs : ℕ → List LogEntry) (all : List Said) : Type 0 where
@@ -43,141 +33,13 @@ abbrev pub StillIn : List Said → Rid → Answer → Type 0
 StillIn earlier r (OpenBy w) = IsStillOpen earlier r w
 StillIn earlier r _ = ⊤
 
-pub within : (b : Bool) (P Q : Type 0) → b ≡ true → P → MatchBool b P Q
-within true P Q e p = p
-within false P Q e p = absurd (let k : false ≡ true = e in cc)
-
-pub outwith : (b : Bool) (P Q : Type 0) → b ≡ false → Q → MatchBool b P Q
-outwith true P Q e q = absurd (let k : true ≡ false = e in cc)
-outwith false P Q e q = q
-
-pub same_table : (t other : TableId) → t.0 ≡ other.0 → t ≡ other
-same_table t other e = λ i. record { 0 = e i }
-
-pub undeclared : (scope : Scope) (t table : TableId) (Else : Type 0) → IsFalse (has scope t) → t.0 ≡ table.0 → WithinScope scope table (Undeclared t) Else
-undeclared scope t table Else h e = outwith (has scope table) _ _ (ap (has scope) (sym (same_table t table e)) ∙ h) e
-
 -- ---- one key of a bucket
-
--- its own bucket shows a record
-pub shown_here : (buckets : ℕ) (r : Rid) (f : Rid → Image) → in_bucket buckets (bucket_of buckets r) r.table f r.key ≡ f r
-shown_here buckets r f = ap (λ b. if b then f r else nothing) (same_number (bucket_of buckets r))
-
--- a row that a bucket shows
-pub row_here : (buckets b : ℕ) (t : TableId) (f : Rid → Image) (key : ℕ) (row : List ℤ) → (in_bucket buckets b t f key).row ≡ Some row → (f (record { table = t; key = key })).row ≡ Some row
-row_here buckets b t f key row e = go (bucket_of buckets (record { table = t; key = key }) == b) e
-  where
-    go : (x : Bool) → (if x then f (record { table = t; key = key }) else nothing).row ≡ Some row → (f (record { table = t; key = key })).row ≡ Some row
-    go true e = e
-    go false e = absurd (let k : None ≡ Some row = e in cc)
-
-pub seen_row : (buckets : ℕ) (r : Rid) (f : Rid → Image) (row : List ℤ) → AreRows (in_bucket buckets (bucket_of buckets r) r.table f) r.key r.key ((r.key, row) ∷ []) → (f r).row ≡ Some row
-seen_row buckets r f row a = row_here buckets (bucket_of buckets r) r.table f r.key row a.each.0.2
-
-pub seen_nothing : (buckets : ℕ) (r : Rid) (f : Rid → Image) → AreRows (in_bucket buckets (bucket_of buckets r) r.table f) r.key r.key [] → (f r).row ≡ None
-seen_nothing buckets r f a = go (a.every r.key (omega arith) (omega arith))
-  where
-    go : IsTrue false ⊎ ((in_bucket buckets (bucket_of buckets r) r.table f r.key).row ≡ None) → (f r).row ≡ None
-    go (inl e) = absurd (let k : false ≡ true = e in cc)
-    go (inr e) = ap (λ (i : Image). i.row) (sym (shown_here buckets r f)) ∙ e
 
 -- ---- get, put and del
 
-pub get_right : (buckets : ℕ) (h : History) (logs : ℕ → List LogEntry) (j : ℕ) (r : Rid) (a : Answer) (l : List LogEntry) (c : Snapshot) → current l ≡ Some c → FitsTable r.table a (IsGetAnswer a) → AreReplied buckets h logs j (get_entries buckets r a ++ l) →
-    WithinScope c.scope r.table a (IsGot (seen h (own_writes l) c.at r) a)
-get_right buckets h logs j r (Found row) l c e f g = let k = of_some (current l) _ c e g.0 in within (has c.scope r.table) _ _ k.0 (seen_row buckets r (seen h (own_writes l) c.at) row k.1)
-get_right buckets h logs j r Nothing l c e f g = let k = of_some (current l) _ c e g.0 in within (has c.scope r.table) _ _ k.0 (seen_nothing buckets r (seen h (own_writes l) c.at) k.1)
-get_right buckets h logs j r (Undeclared t) l c e f g = undeclared c.scope t r.table (IsGot (seen h (own_writes l) c.at r) (Undeclared t)) (of_some (current l) _ c e g.0) f
-get_right buckets h logs j r _ l c e f g = absurd f
-
-pub put_right : (buckets : ℕ) (h : History) (logs : ℕ → List LogEntry) (j : ℕ) (r : Rid) (row : List ℤ) (a : Answer) (l : List LogEntry) (c : Snapshot) → current l ≡ Some c → FitsTable r.table a (IsPut a) → AreReplied buckets h logs j (put_entries r row a ++ l) →
-    WithinScope c.scope r.table a (IsPut a)
-put_right buckets h logs j r row Stored l c e f g = within (has c.scope r.table) _ _ (of_some (current l) _ c e g.0.0) tt
-put_right buckets h logs j r row (Newer n) l c e f g = within (has c.scope r.table) _ _ (of_some (current l) _ c e g.0).0 tt
-put_right buckets h logs j r row (OpenBy w) l c e f g = within (has c.scope r.table) _ _ (of_some (current l) _ c e g.0).0 tt
-put_right buckets h logs j r row (Undeclared t) l c e f g = undeclared c.scope t r.table (IsPut (Undeclared t)) (of_some (current l) _ c e g.0) f
-put_right buckets h logs j r row _ l c e f g = absurd f
-
-pub is_there : (o : Option (List ℤ)) (row : List ℤ) → o ≡ Some row → IsSome o
-is_there o row e = subst (λ p. IsSome p) (sym e) refl
-
-pub del_right : (buckets : ℕ) (h : History) (logs : ℕ → List LogEntry) (j : ℕ) (found : List ℤ) (r : Rid) (a : Answer) (l : List LogEntry) (c : Snapshot) → current l ≡ Some c → FitsTable r.table a (IsDelAnswer a) → AreReplied buckets h logs j (del_entries buckets found r a ++ l) →
-    WithinScope c.scope r.table a (IsDeleted (seen h (own_writes l) c.at r) a)
-del_right buckets h logs j found r Nothing l c e f g = let k = of_some (current l) _ c e g.0 in within (has c.scope r.table) _ _ k.0 (seen_nothing buckets r (seen h (own_writes l) c.at) k.1)
-del_right buckets h logs j found r Gone l c e f g = let k = of_some (current l) _ c e g.1.0 in within (has c.scope r.table) _ _ k.0 (is_there (seen h (own_writes l) c.at r).row found (seen_row buckets r (seen h (own_writes l) c.at) found k.1))
-del_right buckets h logs j found r (Newer n) l c e f g = let k = of_some (current l) _ c e g.1.0 in within (has c.scope r.table) _ _ k.0 (is_there (seen h (own_writes l) c.at r).row found (seen_row buckets r (seen h (own_writes l) c.at) found k.1))
-del_right buckets h logs j found r (OpenBy w) l c e f g = let k = of_some (current l) _ c e g.1.0 in within (has c.scope r.table) _ _ k.0 (is_there (seen h (own_writes l) c.at r).row found (seen_row buckets r (seen h (own_writes l) c.at) found k.1))
-del_right buckets h logs j found r (Undeclared t) l c e f g = undeclared c.scope t r.table (IsDeleted (seen h (own_writes l) c.at r) (Undeclared t)) (of_some (current l) _ c e g.0) f
-del_right buckets h logs j found r _ l c e f g = absurd f
-
 -- ---- scan
 
--- bucket b of a scan
-abbrev pub SawPart : ℕ → History → List Write → Snapshot → TableId → ℕ → ℕ → (ℕ → List (ℕ × List ℤ)) → ℕ → Type 0
-SawPart buckets h own c t low high part b = IsTrue (has c.scope t) × AreRows (in_bucket buckets b t (seen h own c.at)) low high (part b)
-
-pub saws_replied : (buckets : ℕ) (h : History) (logs : ℕ → List LogEntry) (j : ℕ) (t : TableId) (low high : ℕ) (part : ℕ → List (ℕ × List ℤ)) (n : ℕ) (l : List LogEntry) (c : Snapshot) → current l ≡ Some c → AreReplied buckets h logs j (saws t low high part n ++ l) → (b : ℕ) → b < n → SawPart buckets h (own_writes l) c t low high part b
-saws_replied buckets h logs j t low high part zero l c e g b k = absurd (omega (arith, k))
-saws_replied buckets h logs j t low high part (suc n) l c e g b k =
-    let adds : Adds l (saws t low high part n ++ l) None Stored = adds_saws t low high part n l Stored tt in
-    cases (b == n)
-    (λ same. subst (SawPart buckets h (own_writes l) c t low high part) (sym ((Decides-eqb b n).0 same))
-    (subst (λ ws. SawPart buckets h ws c t low high part n) adds.own (of_some (current (saws t low high part n ++ l)) _ c (adds.same ∙ e) g.0)))
-    (λ other. saws_replied buckets h logs j t low high part n l c e g.1 b (below_else b n k other))
-  where
-    below_else : (m i : ℕ) → m < suc i → (m == i) ≡ false → m < i
-    below_else m i q e = grind (arith, nat_tests)
-
-pub contains_any : {X : Type 0} (p : X → Bool) (x : X) (xs : List X) → Contains xs x → p x ≡ true → list_any p xs ≡ true
-contains_any p x [] (k, within, e) h = absurd (omega (arith, within))
-contains_any p x (z ∷ zs) (zero, within, e) h = or_first (p z) (list_any p zs) (ap p e ∙ h)
-contains_any p x (z ∷ zs) (suc k, within, e) h = let less : k < length zs = omega (arith, within) in or_with (p z) (list_any p zs) (contains_any p x zs (k, less, e) h)
-
--- where one of the list passes, and all of it are among others, one of the others passes
-pub any_contained : {X : Type 0} (p : X → Bool) (xs ys : List X) → Each (λ x. Contains ys x) xs → list_any p xs ≡ true → list_any p ys ≡ true
-any_contained p [] ys h e = absurd (let k : false ≡ true = e in cc)
-any_contained p (x ∷ xs) ys h e = cases (p x) (λ q. contains_any p x ys h.0 q) (λ q. any_contained p xs ys h.1 (sym (ap (λ b. b || list_any p xs) q) ∙ e))
-
--- the rows of all parts are those of the range
-pub joined_rows : (buckets : ℕ) (t : TableId) (f : Rid → Image) (low high : ℕ) (part : ℕ → List (ℕ × List ℤ)) (rows : List (ℕ × List ℤ)) → ((r : Rid) → bucket_of buckets r < buckets) → Joins buckets part rows → ((b : ℕ) → b < buckets → AreRows (in_bucket buckets b t f) low high (part b)) →
-    AreRows (λ key. f (record { table = t; key = key })) low high rows
-joined_rows buckets t f low high part rows places joins parts = record {
-  ascend = joins.ascend;
-  each = each_keeps (λ (p : ℕ × List ℤ). (b : ℕ) × (b < buckets) × Contains (part b) p) (λ (p : ℕ × List ℤ). (low ≤ p.0) × (p.0 ≤ high) × ((f (record { table = t; key = p.0 })).row ≡ Some p.1)) (λ p m. one p m.0 m.1 m.2) rows joins.each;
-  every = λ key lo hi.
-      let b = bucket_of buckets (record { table = t; key = key }) in
-      here key (any_contained (λ p. p.0 == key) (part b) rows (joins.every b (places (record { table = t; key = key })))) ((parts b (places (record { table = t; key = key }))).every key lo hi);
-}
-  where
-    one : (p : ℕ × List ℤ) (b : ℕ) → b < buckets → Contains (part b) p → (low ≤ p.0) × (p.0 ≤ high) × ((f (record { table = t; key = p.0 })).row ≡ Some p.1)
-    one p b k c = let q = each_at (λ (p : ℕ × List ℤ). (low ≤ p.0) × (p.0 ≤ high) × ((in_bucket buckets b t f p.0).row ≡ Some p.1)) (part b) p (parts b k).each c in (q.0, q.1, row_here buckets b t f p.0 p.1 q.2)
-
-    here : (key : ℕ) → (list_any (λ p. p.0 == key) (part (bucket_of buckets (record { table = t; key = key }))) ≡ true → list_any (λ p. p.0 == key) rows ≡ true) →
-        IsTrue (list_any (λ p. p.0 == key) (part (bucket_of buckets (record { table = t; key = key })))) ⊎ ((in_bucket buckets (bucket_of buckets (record { table = t; key = key })) t f key).row ≡ None) → IsTrue (list_any (λ p. p.0 == key) rows) ⊎ ((f (record { table = t; key = key })).row ≡ None)
-    here key k (inl q) = inl (k q)
-    here key k (inr q) = inr (ap (λ (i : Image). i.row) (sym (shown_here buckets (record { table = t; key = key }) f)) ∙ q)
-
-pub scan_right : (buckets : ℕ) (h : History) (logs : ℕ → List LogEntry) (j : ℕ) (part : ℕ → List (ℕ × List ℤ)) (t : TableId) (low high : ℕ) (a : Answer) (l : List LogEntry) (c : Snapshot) → ((r : Rid) → bucket_of buckets r < buckets) → current l ≡ Some c → FitsTable t a (IsScanAnswer buckets part a) → AreReplied buckets h logs j (scan_entries buckets part t low high a ++ l) →
-    WithinScope c.scope t a (IsScanned (λ key. seen h (own_writes l) c.at (record { table = t; key = key })) low high a)
-scan_right buckets h logs j part t low high (Rows rows) l c places e f g =
-    let saw : (b : ℕ) → b < buckets → SawPart buckets h (own_writes l) c t low high part b = saws_replied buckets h logs j t low high part buckets l c e g in
-    within (has c.scope t) _ _ (saw (bucket_of buckets (record { table = t; key = low })) (places (record { table = t; key = low }))).0
-    (joined_rows buckets t (seen h (own_writes l) c.at) low high part rows places f (λ b k. (saw b k).1))
-scan_right buckets h logs j part t low high (Undeclared other) l c places e f g = undeclared c.scope other t (IsScanned (λ key. seen h (own_writes l) c.at (record { table = t; key = key })) low high (Undeclared other)) (of_some (current l) _ c e g.0) f
-scan_right buckets h logs j part t low high _ l c places e f g = absurd f
-
 -- ---- any of them
-
-pub answer_right : (mode : Mode) (buckets : ℕ) (h : History) (logs : ℕ → List LogEntry) (wrote : Bool) (u : Unprinted) (j : ℕ) (own : List Write) (s : Statement) (now : Said) (l : List LogEntry) (c : Snapshot) → ((r : Rid) → bucket_of buckets r < buckets) → current l ≡ Some c → now.scope ≡ c.scope → IsTrue (is_access s) → FitsAnswer buckets u own s now.reply.answer → AreReplied buckets h logs j (own_entries buckets u s now.reply.answer ++ l) →
-    IsAnswer mode (seen h (own_writes l) c.at) wrote now s
-answer_right mode buckets h logs wrote u j own (Get r) now l c places e sc i f g = subst (λ scope. WithinScope scope r.table now.reply.answer (IsGot (seen h (own_writes l) c.at r) now.reply.answer)) (sym sc) (get_right buckets h logs j r now.reply.answer l c e f g)
-answer_right mode buckets h logs wrote u j own (Put r row) now l c places e sc i f g = subst (λ scope. WithinScope scope r.table now.reply.answer (IsPut now.reply.answer)) (sym sc) (put_right buckets h logs j r row now.reply.answer l c e f g)
-answer_right mode buckets h logs wrote u j own (Del r) now l c places e sc i f g = subst (λ scope. WithinScope scope r.table now.reply.answer (IsDeleted (seen h (own_writes l) c.at r) now.reply.answer)) (sym sc) (del_right buckets h logs j u.found r now.reply.answer l c e f g)
-answer_right mode buckets h logs wrote u j own (Scan t low high) now l c places e sc i f g = subst (λ scope. WithinScope scope t now.reply.answer (IsScanned (λ key. seen h (own_writes l) c.at (record { table = t; key = key })) low high now.reply.answer)) (sym sc) (scan_right buckets h logs j u.part t low high now.reply.answer l c places e f g)
-answer_right mode buckets h logs wrote u j own (Begin scope) now l c places e sc i f g = absurd (let k : false ≡ true = i in cc)
-answer_right mode buckets h logs wrote u j own CommitIt now l c places e sc i f g = absurd (let k : false ≡ true = i in cc)
-answer_right mode buckets h logs wrote u j own Rollback now l c places e sc i f g = absurd (let k : false ≡ true = i in cc)
-answer_right mode buckets h logs wrote u j own (Gc kind) now l c places e sc i f g = absurd (let k : false ≡ true = i in cc)
 
 -- ---- conflicts
 

@@ -30,12 +30,13 @@ use Rattle.hg_core.specs.declared.log.LogEntry.{LogEntry}
 use Rattle.hg_core.specs.declared.log.LogEntry.TheVariants.{Began, Saw, Refused, Outside, Wrote, Undid, Published, Over}
 use Rattle.hg_core.specs.Logs.{own_writes}
 use Rattle.hg_core.specs.Reading.{Unprinted, log_after, FitsAnswer, Tells}
+use Rattle.hg_core.proofs.Right.{or_first, or_with, places_of}
 use Rattle.hg_headline.specs.Gathered.{began_at, WasLive, IsGathered}
 use Rattle.hg_headline.specs.Ran.{LeavesGc, WasMet, IsPassReport, NotFalling, AreReports, report_lines, run_lines, HasRun}
-use Rattle.hg_headline.proofs.Words.{append_assoc, or_either, or_first, or_with, each_pairs}
+use Rattle.hg_headline.proofs.Words.{append_assoc, or_either, each_pairs}
 use Rattle.hg_headline.proofs.Adds.{IsAccessAnswer, get_answer, put_answer, del_answer, scan_answer}
 use Rattle.hg_headline.proofs.Ties.{ties_nothing}
-use Rattle.hg_headline.proofs.Whole.{IsTold, AtLine, IsKnown, said_says, lines_told, told_right, places_of}
+use Rattle.hg_headline.proofs.Whole.{IsTold, AtLine, IsKnown, said_says, lines_told, told_right}
 use Rattle.hg_headline.proofs.OpenSnapshots.{each_unmap}
 use Rattle.hg_headline.proofs.Replaying.{each_after_first}
 use Rattle.hg_headline.proofs.Running.{RunsGc, LeavesLine, round_of, parted, in_order_is, run_follows}

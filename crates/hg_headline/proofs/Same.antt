@@ -10,8 +10,9 @@ use Rattle.hg_base.specs.Lists.{Each}
 use Rattle.hg_base.specs.History.{Write, Commit, Group, History, EachGroup, IsCommit, IsGroup, IsHistory, NoLostUpdate, NoneTwice, NoNumberTwice, group_rids, rids_of, is_among, image_in, group_image, writes_from, same_rid}
 use Rattle.hg_base.proofs.ListFacts.{cases, each_keeps}
 use Rattle.hg_base.proofs.HistoryFacts.{same_rid_itself}
-use Rattle.hg_headline.proofs.Words.{true_false, or_left, or_right, same_number, equal_back, same_rid_sym, not_among_same, any_append, cons_is_not_nil, each_cond, each_pairs}
 use Rattle.hg_core.specs.Judged.{of_session}
+use Rattle.hg_core.proofs.Remaining.{left_false as or_left, right_false as or_right, same_rid_sym}
+use Rattle.hg_headline.proofs.Words.{true_false, same_number, equal_back, not_among_same, any_append, cons_is_not_nil, each_cond, each_pairs}
 
 -- the same commits of each session
 abbrev pub SameGroup : Group → Group → Type 0

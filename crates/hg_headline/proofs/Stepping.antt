@@ -11,13 +11,14 @@ use Rattle.hg_base.specs.declared.statement.Record.{Record}
 use Rattle.hg_base.specs.declared.statement.Statement.{Statement}
 use Rattle.hg_base.specs.declared.statement.Statement.TheVariants.{Begin, Get, Put, Del, Scan, Commit as CommitIt, Rollback, Gc}
 use Rattle.hg_base.specs.declared.line.Answer.{Answer}
-use Rattle.hg_base.specs.declared.line.Answer.TheVariants.{Begun, Committed, Ended, Undone, Newer, OpenBy, Swept}
+use Rattle.hg_base.specs.declared.line.Answer.TheVariants.{Begun, Undone, Newer, OpenBy, Swept}
 use Rattle.hg_base.specs.declared.line.Reply.{Reply}
 use Rattle.hg_base.specs.declared.line.Line.{Line}
 use Rattle.hg_base.specs.Lists.{Each}
 use Rattle.hg_base.specs.History.{Write, Commit, History, LosesNothing, same_rid, image_in, is_among, writes}
 use Rattle.hg_base.specs.Transcript.{only, table_of, stored_by, committed_by, last_images}
 use Rattle.hg_base.specs.Replies.{is_written}
+use Rattle.hg_base.proofs.RidOrder.{same_back as same_rid_turned}
 use Rattle.hg_core.specs.declared.log.LogEntry.{LogEntry}
 use Rattle.hg_core.specs.declared.log.LogEntry.TheVariants.{Began, Undid, Published, Over}
 use Rattle.hg_core.specs.Logs.{current, begans, own_writes, is_plain, open_in, number_in, commit_in}
@@ -27,25 +28,23 @@ use Rattle.hg_core.proofs.Groups.{length_more}
 use Rattle.hg_core.proofs.Indices.{put_here, put_else}
 use Rattle.hg_core.proofs.NewGroup.{image_open}
 use Rattle.hg_core.proofs.Past.{writes_within}
-use Rattle.hg_core.proofs.Updates.{each_last}
+use Rattle.hg_core.specs.Counters.{first_writes, undos}
+use Rattle.hg_core.specs.Judged.{IsPublish}
+use Rattle.hg_core.proofs.Right.{places_of}
 use Rattle.hg_headline.specs.Logged.{Logged}
 use Rattle.hg_headline.specs.Timely.{reads_in, snapshot_in, mark_in, newer_in, IsTimely}
 use Rattle.hg_headline.specs.Met.{IsMetAnswer}
 use Rattle.hg_headline.specs.Replayed.{HasReplayed}
 use Rattle.hg_headline.specs.Answered.{IsAnswered, HasGone}
-use Rattle.hg_core.specs.Counters.{first_writes, undos}
 use Rattle.hg_headline.specs.Counted.{every, made_in, undone_in, adding}
 use Rattle.hg_headline.proofs.Tallying.{made_put, undone_put, no_more, made_access, undos_access, made_undone, undos_undone}
-use Rattle.hg_headline.proofs.Words.{true_false, none_of_no, same_rid_turned}
+use Rattle.hg_headline.proofs.Words.{true_false, none_of_no}
 use Rattle.hg_headline.proofs.Adds.{Adds, adds_access, access_commits}
 use Rattle.hg_headline.proofs.Entries.{adds_undone}
-use Rattle.hg_headline.proofs.Lines.{judged_snapshot}
-use Rattle.hg_headline.proofs.Whole.{places_of}
 use Rattle.hg_headline.proofs.Growing.{logged_on, logged_commit, put_twice, put_same}
 use Rattle.hg_headline.proofs.Loops.{replayed_more}
 use Rattle.hg_headline.proofs.Answering.{is_open, GoesOn, Leaves, leaves, nothing_more}
 use Rattle.hg_headline.proofs.Replaying.{equal_within}
-use Rattle.hg_core.specs.Judged.{IsPublish}
 
 -- the line of a record
 abbrev pub line_for : Record → Reply → Line
@@ -330,63 +329,6 @@ replayed_begin buckets sessions h logs rs lines place j scope g some most none =
 
 pub in_transaction : (o : Option Snapshot) (c : Snapshot) (s : Statement) → o ≡ Some c → is_alone o s ≡ false
 in_transaction o c s e = ap (λ x. is_alone x s) e
-
-pub replayed_ended : (buckets sessions : ℕ) (h : History) (logs : ℕ → List LogEntry) (rs : List Record) (lines : List Line) (place j : ℕ) (c : Snapshot) → HasReplayed buckets sessions h logs (length h) rs lines → 1 ≤ j → j ≤ sessions →
-    current (logs j) ≡ Some c → is_plain (logs j) ≡ true → own_writes (logs j) ≡ [] →
-    let r : Record = record { place = place; session = j; statement = CommitIt } in
-    Next buckets sessions h logs (rs ++ r ∷ []) (lines ++ line_for r (inside Ended) ∷ []) j None (begans (logs j)) [] 0 0
-replayed_ended buckets sessions h logs rs lines place j c g some most opened plain own =
-    let r : Record = record { place = place; session = j; statement = CommitIt } in
-    let l : List LogEntry = logs j in
-    let is : is_alone (current l) CommitIt ≡ false = in_transaction (current l) c CommitIt opened in
-    let after : Over ∷ l ≡ log_after buckets nothing_more CommitIt (inside Ended) l = sym (ap (λ b. log_with b buckets nothing_more CommitIt (inside Ended) l) is) in
-    let ended : Logged buckets h (put logs j (Over ∷ l)) = logged_on buckets h logs j Over l (subst (Logged buckets h) (sym (put_same logs j)) g.logged) tt (record { opened = is_open (current l) c opened; none = none_open_in l plain own }) tt in
-    record {
-      more = put logs j (log_after buckets nothing_more CommitIt (inside Ended) l);
-      replayed = replayed_more buckets sessions h h logs (length h) (length h) rs lines r (line_for r (inside Ended)) nothing_more g some most refl refl tt
-          (record { at = sym is; number = sym (ap (λ b. b && false) is); answer = ap is_written own })
-          (record { grows = omega arith; reads = tt; snapshot = tt; mark = tt; newer = tt; commit = tt })
-          (omega arith) (subst (λ x. Logged buckets h (put logs j x)) after ended);
-      gone = gone_put logs j (log_after buckets nothing_more CommitIt (inside Ended) l) None (begans l) [] (ap current (sym after)) (ap begans (sym after)) (ap own_writes (sym after)) (ap is_plain (sym after));
-      made = made_put sessions logs j (log_after buckets nothing_more CommitIt (inside Ended) l) 0 some most (no_more _ _ (ap (first_writes every) (sym after)));
-      undone = undone_put sessions logs j (log_after buckets nothing_more CommitIt (inside Ended) l) 0 some most (no_more _ _ (ap (undos every) (sym after)));
-    }
-
--- a transaction as a commit
-abbrev pub made_commit : ℕ → ℕ → ℕ → List Write → Commit
-made_commit j count at own = record { session = j; transaction = count; at = at; images = last_images own }
-
-pub replayed_committed : (buckets sessions : ℕ) (h : History) (logs : ℕ → List LogEntry) (rs : List Record) (lines : List Line) (place j : ℕ) (c : Snapshot) → HasReplayed buckets sessions h logs (length h) rs lines → 1 ≤ j → j ≤ sessions →
-    current (logs j) ≡ Some c → is_plain (logs j) ≡ true → is_written (own_writes (logs j)) ≡ true → Each (λ w. Each (λ other. other.0 ≤ c.at) (writes h w.rid)) (own_writes (logs j)) →
-    let r : Record = record { place = place; session = j; statement = CommitIt } in
-    let more : History = h ++ (made_commit j (begans (logs j)) c.at (own_writes (logs j)) ∷ []) ∷ [] in
-    Next buckets sessions more logs (rs ++ r ∷ []) (lines ++ line_for r (inside (Committed (suc (length h)))) ∷ []) j None (begans (logs j)) [] 0 0
-replayed_committed buckets sessions h logs rs lines place j c g some most opened plain wrote sees =
-    let r : Record = record { place = place; session = j; statement = CommitIt } in
-    let l : List LogEntry = logs j in
-    let n : ℕ = suc (length h) in
-    let reply : Reply = inside (Committed n) in
-    let is : is_alone (current l) CommitIt ≡ false = in_transaction (current l) c CommitIt opened in
-    let after : Over ∷ Published n ∷ l ≡ log_after buckets nothing_more CommitIt reply l = sym (ap (λ b. log_with b buckets nothing_more CommitIt reply l) is) in
-    let at : c.at ≡ number_in (current l) = sym (ap number_in opened) in
-    let small : c.at ≤ length h = judged_snapshot h l c (g.logged.judged j) opened in
-    let commit : commit_in j l ≡ made_commit j (begans l) c.at (own_writes l) = ap (λ a. made_commit j (begans l) a (own_writes l)) (sym at) in
-    let more : History = h ++ (made_commit j (begans l) c.at (own_writes l) ∷ []) ∷ [] in
-    let grown : length more ≡ n = length_more h (made_commit j (begans l) c.at (own_writes l) ∷ []) in
-    let loses : LosesNothing h (commit_in j l) = subst (λ a. Each (λ w. Each (λ other. other.0 ≤ a) (writes h w.rid)) (last_images (own_writes l))) at (each_last (λ w. Each (λ other. other.0 ≤ c.at) (writes h w.rid)) (own_writes l) sees) in
-    let published : Logged buckets more (put logs j (Published n ∷ l)) = subst (λ x. Logged buckets (h ++ (x ∷ []) ∷ []) (put logs j (Published n ∷ l))) commit
-    (logged_commit buckets h logs j g.logged (record { opened = is_open (current l) c opened; plain = plain }) wrote (subst (λ a. a ≤ length h) at small) loses) in
-    let ended : Logged buckets more (put logs j (Over ∷ Published n ∷ l)) = logged_on buckets more logs j Over (Published n ∷ l) published tt (record { opened = is_open (current l) c opened; none = λ q. refl }) tt in
-    record {
-      more = put logs j (log_after buckets nothing_more CommitIt reply l);
-      replayed = replayed_more buckets sessions h more logs (length h) (length more) rs lines r (line_for r reply) nothing_more g some most refl refl tt
-          (record { at = sym is; number = sym (ap (λ b. b && false) is); answer = wrote })
-          (record { grows = omega (arith, grown); reads = tt; snapshot = tt; mark = tt; newer = tt; commit = (omega arith, omega (arith, grown), tt) })
-          (omega arith) (subst (λ x. Logged buckets more (put logs j x)) after ended);
-      gone = gone_put logs j (log_after buckets nothing_more CommitIt reply l) None (begans l) [] (ap current (sym after)) (ap begans (sym after)) (ap own_writes (sym after)) (ap is_plain (sym after));
-      made = made_put sessions logs j (log_after buckets nothing_more CommitIt reply l) 0 some most (no_more _ _ (ap (first_writes every) (sym after)));
-      undone = undone_put sessions logs j (log_after buckets nothing_more CommitIt reply l) 0 some most (no_more _ _ (ap (undos every) (sym after)));
-    }
 
 -- ---- rollback
 

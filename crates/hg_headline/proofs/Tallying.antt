@@ -15,7 +15,7 @@ use Rattle.hg_core.specs.declared.log.LogEntry.TheVariants.{Undid}
 use Rattle.hg_core.specs.Logs.{begans, own_writes}
 use Rattle.hg_core.specs.Events.{put}
 use Rattle.hg_core.specs.Counters.{first_writes, undos}
-use Rattle.hg_core.specs.Reading.{Unprinted, saws, own_entries, is_access, close, FitsAnswer}
+use Rattle.hg_core.specs.Reading.{Unprinted, saws, own_entries, is_access, FitsAnswer}
 use Rattle.hg_core.proofs.Indices.{put_here, put_else}
 use Rattle.hg_core.proofs.Sums.{sum_grown}
 use Rattle.hg_headline.specs.Counted.{every, made_in, undone_in, adding}
@@ -48,10 +48,6 @@ made_access buckets u own s a l e f =
     first_writes_is (own_entries buckets u s a ++ l) ∙ first_access (λ x. true) buckets u own s a l e f
     ∙ adding_is (λ x. true) (begans l) (own_writes l) (stored_by s a) (first_by (λ x. true) l) refl ∙ ap (λ n. n + adding (own_writes l) (stored_by s a)) (sym (first_writes_is l))
 
-pub made_close : (o : Option ℕ) (l : List LogEntry) → first_writes every (close o ++ l) ≡ first_writes every l
-made_close None l = refl
-made_close (Some n) l = refl
-
 pub made_undone : (rids : List Rid) (l : List LogEntry) → first_writes every (map Undid rids ++ l) ≡ first_writes every l
 made_undone [] l = refl
 made_undone (r ∷ rids) l = made_undone rids l
@@ -83,10 +79,6 @@ undos_access buckets u own (Begin scope) a l e f = absurd (true_false (sym e))
 undos_access buckets u own CommitIt a l e f = absurd (true_false (sym e))
 undos_access buckets u own Rollback a l e f = absurd (true_false (sym e))
 undos_access buckets u own (Gc kind) a l e f = absurd (true_false (sym e))
-
-pub undos_close : (o : Option ℕ) (l : List LogEntry) → undos every (close o ++ l) ≡ undos every l
-undos_close None l = refl
-undos_close (Some n) l = refl
 
 pub undos_undone : (rids : List Rid) (l : List LogEntry) → undos every (map Undid rids ++ l) ≡ undos every l + length rids
 undos_undone [] l = omega arith

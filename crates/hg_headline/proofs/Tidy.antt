@@ -26,8 +26,9 @@ use Rattle.hg_core.specs.Events.{put}
 use Rattle.hg_core.specs.Reading.{Unprinted, saws, own_entries, begin_entries, commit_entries, is_access, is_alone, close, log_with, log_after, UndoesAll, FitsAnswer, Fits, Follows}
 use Rattle.hg_core.proofs.Indices.{by_number, put_here}
 use Rattle.hg_core.proofs.NewGroup.{image_open}
+use Rattle.hg_core.proofs.Right.{or_with}
 use Rattle.hg_headline.specs.Counted.{Closes}
-use Rattle.hg_headline.proofs.Words.{true_false, or_with}
+use Rattle.hg_headline.proofs.Words.{true_false}
 use Rattle.hg_headline.proofs.Lines.{close_judged, append_judged, close_replied, plain_after}
 use Rattle.hg_headline.proofs.Whole.{follows_first, judged_less, replied_less}
 use Rattle.hg_headline.proofs.Stepping.{undone_open, none_undone}

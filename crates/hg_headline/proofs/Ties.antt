@@ -14,8 +14,9 @@ use Rattle.hg_base.proofs.ListFacts.{each_append, cons_option_append, append_nil
 use Rattle.hg_core.specs.declared.log.LogEntry.{LogEntry}
 use Rattle.hg_core.specs.Logs.{current, begans, published, UpTo}
 use Rattle.hg_core.specs.Replies.{writes_in, numbers_in}
+use Rattle.hg_core.proofs.Right.{or_first, or_with}
 use Rattle.hg_headline.specs.Gathered.{began_at}
-use Rattle.hg_headline.proofs.Words.{or_with, or_first, append_assoc, same_number}
+use Rattle.hg_headline.proofs.Words.{append_assoc, same_number}
 
 -- the commits of lines, newest line first; the commits stand oldest first
 abbrev pub commits_back : List Said → List (ℕ × Commit)

@@ -94,9 +94,6 @@ tells_same sessions buckets passes logs visits others h b counts t same was = re
 
 -- ---- sums
 
-pub none_tells : (sessions buckets passes : ℕ) (logs : ℕ → List LogEntry) (visits : ℕ → List Visit) (h : History) → SumTells sessions buckets passes logs visits h 0 (record { made = 0; undone = 0; group = 0; table = 0; interval = 0; left = 0 })
-none_tells sessions buckets passes logs visits h = record { made = refl; undone = refl; group = refl; table = refl; interval = refl; left = λ cut. refl; balance = refl }
-
 pub more_tells : (sessions buckets passes : ℕ) (logs : ℕ → List LogEntry) (visits : ℕ → List Visit) (h : History) (n : ℕ) (sums counts : Totals) → SumTells sessions buckets passes logs visits h n sums → BucketTells sessions buckets passes logs visits h n counts → SumTells sessions buckets passes logs visits h (suc n) (plus sums counts)
 more_tells sessions buckets passes logs visits h n sums counts s t = record {
   made = λ i. s.made i + t.made i;

@@ -7,13 +7,14 @@ use Rattle.hg_base.specs.declared.image.Image.{Image}
 use Rattle.hg_base.specs.declared.scope.Snapshot.{Snapshot}
 use Rattle.hg_base.specs.History.{same_rid, is_among, image_in, NoneTwice}
 use Rattle.hg_base.proofs.HistoryFacts.{same_rid_equal, same_rid_itself}
+use Rattle.hg_base.proofs.RidOrder.{same_back as same_rid_turned}
 use Rattle.hg_core.specs.declared.log.LogEntry.{LogEntry}
 use Rattle.hg_core.specs.declared.log.LogEntry.TheVariants.{Began, Saw, Refused, Outside, Wrote, Undid, Published, Over}
 use Rattle.hg_core.specs.Logs.{current, begans, own_writes, is_plain, open_in}
 use Rattle.hg_core.specs.Counters.{undos}
 use Rattle.hg_core.proofs.NewGroup.{image_open}
 use Rattle.hg_headline.specs.Counted.{every}
-use Rattle.hg_headline.proofs.Words.{true_false, none_is_not_some, same_number, same_rid_turned}
+use Rattle.hg_headline.proofs.Words.{true_false, none_is_not_some, same_number}
 use Rattle.hg_headline.proofs.Firsts.{one_if, first_by}
 
 -- ---- logs in which each entry stands where it may

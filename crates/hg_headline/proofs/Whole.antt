@@ -1,8 +1,7 @@
 -- All lines: from the history and the logs to what the printed lines have to be.
-use Rattle.std.proofs.Common.{◌≡◌, ℕ, ◌+◌, ◌<◌, ◌≤◌, List, [], ◌∷◌, ◌++◌, length, Bool, true, false, Option, Some, None, refl, sym, ap, ◌∙◌, subst, arith}
-use Rattle.std.specs.Prelude.{◌==◌, ◌*◌, ◌%◌, filter, filter_map, if◌then◌else◌, nat_le, IfSome, IsSome}
+use Rattle.std.proofs.Common.{◌≡◌, ℕ, ◌<◌, ◌≤◌, List, [], ◌∷◌, ◌++◌, length, Bool, true, false, Option, Some, None, refl, sym, ap, ◌∙◌, subst, arith}
+use Rattle.std.specs.Prelude.{◌==◌, filter, filter_map, if◌then◌else◌, nat_le, IfSome, IsSome}
 use Rattle.std.specs.List.{list_any}
-use Rattle.std.proofs.Math.Nat.{mod-lt}
 use Rattle.std.proofs.lemmas.Bool.Decides.{nat_tests}
 use Rattle.hg_base.specs.declared.rid.Rid.{Rid}
 use Rattle.hg_base.specs.declared.image.Image.{Image}
@@ -172,10 +171,6 @@ pub record IsKnown (mode : Mode) (h : History) (logs : ℕ → List LogEntry) (e
 pub each_after_two : {X : Type 0} (P Q R : List X → X → Type 0) → ((earlier : List X) (x : X) → P earlier x → Q earlier x → R earlier x) → (earlier xs : List X) → EachAfter P earlier xs → EachAfter Q earlier xs → EachAfter R earlier xs
 each_after_two P Q R f earlier [] h k = tt
 each_after_two P Q R f earlier (x ∷ xs) h k = (f earlier x h.0 k.0, each_after_two P Q R f (x ∷ earlier) xs h.1 k.1)
-
-pub places_of : (buckets : ℕ) → 0 < buckets → (r : Rid) → bucket_of buckets r < buckets
-unfolding bucket_of
-places_of buckets k r = mod-lt (r.key % buckets + 31 * r.table.0) k
 
 -- the commits that the lines print are those of the history
 pub matches_all : (buckets : ℕ) (h : History) (final : ℕ → List LogEntry) (all : List Said) → Logged buckets h final → ((j : ℕ) → Ties j (onto all []) (final j)) → Matches h (commits all)

@@ -1,33 +1,18 @@
 -- Words on tests, numbers, records and lists that the proofs use.
-use Rattle.std.proofs.Common.{◌≡◌, ℕ, ◌<◌, ◌≤◌, ◌⊎◌, inl, inr, List, [], ◌∷◌, ◌++◌, Bool, true, false, Option, Some, None, refl, sym, ap, ◌∙◌, subst, arith}
-use Rattle.std.specs.Prelude.{◌==◌, ◌||◌, ◌&&◌, cond, IfSome, IsSome, is_some}
+use Rattle.std.proofs.Common.{◌≡◌, ℕ, ◌<◌, ◌≤◌, ◌⊎◌, inl, inr, List, [], ◌∷◌, ◌++◌, Bool, true, false, Option, Some, None, refl, sym, ap, ◌∙◌, arith}
+use Rattle.std.specs.Prelude.{◌==◌, ◌||◌, ◌&&◌, cond, IfSome, is_some}
 use Rattle.std.specs.List.{list_any, cons_option}
 use Rattle.std.proofs.lemmas.Bool.Decides.{Decides-eqb, nat_tests}
 use Rattle.hg_base.specs.declared.rid.Rid.{Rid}
 use Rattle.hg_base.specs.Lists.{Each, Ascends, onto}
 use Rattle.hg_base.specs.History.{same_rid, is_among}
-use Rattle.hg_base.proofs.HistoryFacts.{same_rid_equal, same_rid_itself}
+use Rattle.hg_base.proofs.HistoryFacts.{same_rid_equal}
+use Rattle.hg_core.proofs.Right.{or_with}
 
 -- ---- tests
 
 pub true_false : true ≡ false → ⊥
 true_false e = cc
-
-pub or_left : (a b : Bool) → (a || b) ≡ false → a ≡ false
-or_left true b e = e
-or_left false b e = refl
-
-pub or_right : (a b : Bool) → (a || b) ≡ false → b ≡ false
-or_right true b e = cc
-or_right false b e = e
-
-pub or_first : (a b : Bool) → a ≡ true → (a || b) ≡ true
-or_first true b e = refl
-or_first false b e = absurd (true_false (sym e))
-
-pub or_with : (a b : Bool) → b ≡ true → (a || b) ≡ true
-or_with true b e = refl
-or_with false b e = e
 
 pub or_either : (a b : Bool) → (a || b) ≡ true → (a ≡ true) ⊎ (b ≡ true)
 or_either true b e = inl refl
@@ -36,10 +21,6 @@ or_either false b e = inr e
 pub and_true : (a : Bool) → (a && true) ≡ a
 and_true true = refl
 and_true false = refl
-
-pub and_false : (a : Bool) → (a && false) ≡ false
-and_false true = refl
-and_false false = refl
 
 pub cond_same : {X : Type 0} (b : Bool) (x : X) → cond b x x ≡ x
 cond_same true x = refl
@@ -56,9 +37,6 @@ differs n x h = grind (arith, nat_tests)
 pub equal_back : (m n : ℕ) → (m == n) ≡ true → (n == m) ≡ true
 equal_back m n e = (Decides-eqb n m).1 (sym ((Decides-eqb m n).0 e))
 
-pub not_same : (m n k : ℕ) → m ≡ n → (k == n) ≡ false → (m == k) ≡ false
-not_same m n k e f = grind (arith, nat_tests)
-
 pub equal_both : (m n : ℕ) → m ≤ n → n ≤ m → m ≡ n
 equal_both m n h k = omega (arith, h, k)
 
@@ -74,30 +52,11 @@ pub none_of_no : {X : Type 0} (o : Option X) → is_some o ≡ false → o ≡ N
 none_of_no None e = refl
 none_of_no (Some x) e = absurd (true_false e)
 
-pub some_of_yes : {X : Type 0} (o : Option X) → IsSome o → (x : X) × (o ≡ Some x)
-some_of_yes None e = absurd (true_false (sym e))
-some_of_yes (Some x) e = (x, refl)
-
 pub if_some_by : {X : Type 0} (o : Option X) (P : X → Type 0) → ((x : X) → o ≡ Some x → P x) → IfSome o P
 if_some_by None P f = tt
 if_some_by (Some x) P f = f x refl
 
-pub of_some : {X : Type 0} (o : Option X) (P : X → Type 0) (x : X) → o ≡ Some x → IfSome o P → P x
-of_some o P x e h = subst (λ p. IfSome p P) e h
-
 -- ---- records
-
-pub same_rid_sym : (a b : Rid) → same_rid a b ≡ true → same_rid b a ≡ true
-same_rid_sym a b e = subst (λ r. same_rid r a ≡ true) (same_rid_equal a b e) (same_rid_itself a)
-
-pub same_rid_turned : (a b : Rid) → same_rid a b ≡ same_rid b a
-same_rid_turned a b = go (same_rid a b) refl (same_rid b a) refl
-  where
-    go : (x : Bool) → same_rid a b ≡ x → (z : Bool) → same_rid b a ≡ z → x ≡ z
-    go true e true f = refl
-    go false e false f = refl
-    go true e false f = absurd (true_false (sym (same_rid_sym a b e) ∙ f))
-    go false e true f = absurd (true_false (sym (same_rid_sym b a f) ∙ e))
 
 -- what is not among records is not among them under an equal name
 pub not_among_same : (r a : Rid) (rids : List Rid) → same_rid r a ≡ true → is_among a rids ≡ false → is_among r rids ≡ false

@@ -12,19 +12,20 @@ use Rattle.hg_base.specs.declared.line.Answer.TheVariants.{Begun, Stored, OpenBy
 use Rattle.hg_base.specs.declared.line.Reply.{Reply}
 use Rattle.hg_base.specs.History.{Write, same_rid, image_in}
 use Rattle.hg_base.specs.Transcript.{said_from}
+use Rattle.hg_base.specs.declared.report.Kind.{Kind}
+use Rattle.hg_base.specs.Shape.{HasShape}
 use Rattle.hg_core.specs.declared.log.LogEntry.{LogEntry}
 use Rattle.hg_core.specs.Logs.{current, begans, own_writes, is_plain}
 use Rattle.hg_core.specs.Events.{put}
 use Rattle.hg_core.specs.Reading.{Unprinted, Fits, Tells, log_with, log_after, is_alone, UndoesAll}
+use Rattle.hg_core.proofs.Remaining.{same_rid_sym}
 use Rattle.hg_headline.specs.Logged.{Logged}
 use Rattle.hg_headline.specs.Met.{live_in}
 use Rattle.hg_headline.specs.Replayed.{HasReplayed}
 use Rattle.hg_headline.specs.Counted.{made_in, undone_in, adding, Closes, IsCounted}
-use Rattle.hg_base.specs.declared.report.Kind.{Kind}
-use Rattle.hg_base.specs.Shape.{HasShape}
 use Rattle.hg_headline.specs.Ran.{LeavesGc, AreReports, HasRun}
 use Rattle.hg_headline.specs.Worked.{five, image, asked, records, line, lines, history, totals, run_records, session_lines, report}
-use Rattle.hg_headline.proofs.Words.{true_false, same_rid_sym}
+use Rattle.hg_headline.proofs.Words.{true_false}
 use Rattle.hg_headline.proofs.Growing.{put_same}
 use Rattle.hg_headline.proofs.Answering.{nothing_more}
 use Rattle.hg_headline.proofs.Loops.{replayed_opened, replayed_more}

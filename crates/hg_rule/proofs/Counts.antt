@@ -21,24 +21,6 @@ same_number i j e = go (ℕ_discrete i j)
     go (yes h) = h
     go (no n) = absurd (true≢false (sym e ∙ ne_eqb i j n))
 
-pub key_is : (k h : Key) → same_key k h ≡ true → k ≡ h
-key_is (session_key i) (session_key j) e = ap session_key (same_number i j e)
-key_is (session_key i) (bucket_key j) e = absurd (true≢false (sym e))
-key_is (session_key i) commit_key e = absurd (true≢false (sym e))
-key_is (session_key i) (pass_key j) e = absurd (true≢false (sym e))
-key_is (bucket_key i) (session_key j) e = absurd (true≢false (sym e))
-key_is (bucket_key i) (bucket_key j) e = ap bucket_key (same_number i j e)
-key_is (bucket_key i) commit_key e = absurd (true≢false (sym e))
-key_is (bucket_key i) (pass_key j) e = absurd (true≢false (sym e))
-key_is commit_key (session_key j) e = absurd (true≢false (sym e))
-key_is commit_key (bucket_key j) e = absurd (true≢false (sym e))
-key_is commit_key commit_key e = refl
-key_is commit_key (pass_key j) e = absurd (true≢false (sym e))
-key_is (pass_key i) (session_key j) e = absurd (true≢false (sym e))
-key_is (pass_key i) (bucket_key j) e = absurd (true≢false (sym e))
-key_is (pass_key i) commit_key e = absurd (true≢false (sym e))
-key_is (pass_key i) (pass_key j) e = ap pass_key (same_number i j e)
-
 pub key_self : (k : Key) → same_key k k ≡ true
 key_self (session_key j) = eq-eqb j j refl
 key_self (bucket_key j) = eq-eqb j j refl

@@ -166,7 +166,7 @@ all_shown s (v ∷ vs) h = each_append (Shown s) v.parts (all_parts vs) (h 0 v r
 idle_shows : (tables : ℕ) (register : Register) (phase : Phase) → Shows tables phase register → phase ≡ phases.Idle → register ≡ registers.Idle
 idle_shows tables register phase a e = subst (λ p. Shows tables p register) e a
 
-inside_is : (z : Sizes) (j : ℕ) → both (ltb 0 j) (ltb j (suc z.sessions)) ≡ true → IsSession z.sessions j
+pub inside_is : (z : Sizes) (j : ℕ) → both (ltb 0 j) (ltb j (suc z.sessions)) ≡ true → IsSession z.sessions j
 inside_is z j e = record { first = sure 0 j (left (ltb 0 j) _ e); last = let l : j < suc z.sessions = sure j (suc z.sessions) (right (ltb 0 j) _ e) in omega arith }
   where
     left : (a b : Bool) → both a b ≡ true → a ≡ true
@@ -193,7 +193,7 @@ reads z t room r = state_is z r.state (slice_index t.words 0) (registers_in z t.
 
 -- ---- one view that has everything
 
-full : (c : ℕ) (b : Bool) → c ≤ one b → (b ≡ true → 0 < c) → c ≡ one b
+pub full : (c : ℕ) (b : Bool) → c ≤ one b → (b ≡ true → 0 < c) → c ≡ one b
 full c true l f = let p : 0 < c = f refl in omega arith
 full c false l f = omega arith
 

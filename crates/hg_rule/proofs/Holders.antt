@@ -4,20 +4,18 @@ use Rattle.atomic_table.specs.Seated.{TableId}
 use Rattle.hg_core.specs.Phases.{IsSession}
 use Rattle.hg_core.specs.Logs.{begans}
 use Rattle.hg_rule.specs.declared.passes.SessionPass.{SessionPass}
-use Rattle.hg_rule.specs.declared.passes.CollectorPass.{CollectorPass}
 use Rattle.hg_rule.specs.declared.view.BucketPart.{BucketPart}
 use Rattle.hg_rule.specs.declared.view.CommitPart.{CommitPart}
 use Rattle.hg_rule.specs.declared.view.SessionPart.{SessionPart}
-use Rattle.hg_rule.specs.declared.view.PassPart.{PassPart}
 use Rattle.hg_rule.specs.declared.view.Part.{Part}
 use Rattle.hg_rule.specs.declared.view.Part.TheVariants.{OfSession, OfBucket, OfCommit, OfPass}
 use Rattle.hg_rule.specs.declared.view.View.{View}
 use Rattle.hg_rule.specs.declared.view.Sizes.{Sizes}
-use Rattle.hg_rule.specs.Views.{number, number_in, session, session_there, pass, pass_there, first_in, after_first, others, HasSession, HasPass}
+use Rattle.hg_rule.specs.Views.{number, number_in, session, session_there, pass, first_in, after_first, others, HasSession, HasPass}
 use Rattle.hg_rule.specs.Moves.{put_in, joined}
 use Rattle.hg_rule.specs.Holding.{beyond, bucket}
-use Rattle.hg_rule.specs.Places.{arrive_first, arriving, depart, departing, with_bucket, without_bucket, without_commit}
-use Rattle.hg_rule.specs.Seats.{session_view, pass_view, session_rest, IsSeatOf, IsSessionOf, IsPassOf}
+use Rattle.hg_rule.specs.Places.{arrive_first, depart, departing, with_bucket, without_bucket}
+use Rattle.hg_rule.specs.Seats.{session_view, session_rest, IsSeatOf, IsSessionOf}
 
 -- ---- what the parts are
 
@@ -40,21 +38,10 @@ still_session t z p q os own seat rest e =
       h.0,
     )
 
--- and a collector's
-pub still_pass : (t : TableId) (q : CollectorPass) (n : ℕ) (r : PassPart) (os : List Part) → IsSeatOf t q.seat → (pass_view q).parts ≡ OfPass n r ∷ os → IsPassOf t q
-still_pass t q n r os seat e =
-    let a : number (pass_view q) ≡ n = ap number_in e in
-    let b : pass (pass_view q) ≡ r = ap (λ (ps : List Part). pass_there (first_in ps)) e in
-    let o : others (pass_view q) ≡ os = ap after_first e in
-    (seat, e ∙ (λ i. OfPass (sym a i) (sym b i) ∷ sym o i))
-
 -- ---- with a bucket, and without
 
 pub session_arrives : (v w u : View) (b : ℕ) (part : BucketPart) → HasSession v → w.parts ≡ OfBucket b part ∷ [] → u ≡ with_bucket v w → u.parts ≡ OfSession (number v) (session v) ∷ OfBucket b part ∷ others v
 session_arrives v w u b part is only e = ap (λ (x : View). x.parts) e ∙ (λ i. put_in (arrive_first (number_in (only i)) (is i)) (only i))
-
-pub pass_arrives : (v w u : View) (b : ℕ) (part : BucketPart) → HasPass v → w.parts ≡ OfBucket b part ∷ [] → u ≡ with_bucket v w → u.parts ≡ OfPass (number v) (arriving b (pass v)) ∷ OfBucket b part ∷ others v
-pass_arrives v w u b part is only e = ap (λ (x : View). x.parts) e ∙ (λ i. put_in (arrive_first (number_in (only i)) (is i)) (only i))
 
 pub session_departs : (v u : View) → HasSession v → u ≡ without_bucket v → u.parts ≡ OfSession (number v) (session v) ∷ beyond v
 session_departs v u is e = ap (λ (x : View). x.parts) e ∙ (λ i. depart (bucket v).content (first_in (is i)) ∷ beyond v)
@@ -64,14 +51,5 @@ pass_departs v u is e = ap (λ (x : View). x.parts) e ∙ (λ i. depart (bucket 
 
 -- ---- with the committer's part, and without
 
-pub session_joins : (v w u : View) (part : CommitPart) → HasSession v → w.parts ≡ OfCommit part ∷ [] → u ≡ joined v w → u.parts ≡ OfSession (number v) (session v) ∷ OfCommit part ∷ others v
-session_joins v w u part is only e = ap (λ (x : View). x.parts) e ∙ (λ i. put_in (is i) (only i))
-
 pub pass_joins : (v w u : View) (part : CommitPart) → HasPass v → w.parts ≡ OfCommit part ∷ [] → u ≡ joined v w → u.parts ≡ OfPass (number v) (pass v) ∷ OfCommit part ∷ others v
 pass_joins v w u part is only e = ap (λ (x : View). x.parts) e ∙ (λ i. put_in (is i) (only i))
-
-pub session_resigns : (v u : View) → HasSession v → u ≡ without_commit v → u.parts ≡ OfSession (number v) (session v) ∷ beyond v
-session_resigns v u is e = ap (λ (x : View). x.parts) e ∙ (λ i. first_in (is i) ∷ beyond v)
-
-pub pass_resigns : (v u : View) → HasPass v → u ≡ without_commit v → u.parts ≡ OfPass (number v) (pass v) ∷ beyond v
-pass_resigns v u is e = ap (λ (x : View). x.parts) e ∙ (λ i. first_in (is i) ∷ beyond v)

@@ -94,9 +94,6 @@ pub record ArePartlyClosed (e : Engine) (old now : List Session) (n : ℕ) : Typ
   pub below : (d : Session) (k : ℕ) → k < n → k < length old → IsClosed e (suc k) (get_or now k d) × Closes (log_of (get_or old k d)) (log_of (get_or now k d))
   pub above : (d : Session) (k : ℕ) → n ≤ k → get_or now k d ≡ get_or old k d
 
-pub partly_first : (e : Engine) (old : List Session) → ArePartlyClosed e old old 0
-partly_first e old = record { many = refl; below = λ d k less within. absurd (omega (arith, less)); above = λ d k more. refl }
-
 -- what the closing of the session at i says
 pub record HasClosed (e : Engine) (i : ℕ) (old new : List Session) : Type 0 where
   pub many : length new ≡ length old

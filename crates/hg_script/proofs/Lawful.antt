@@ -8,7 +8,7 @@ use Rattle.hg_base.specs.declared.statement.Record.{Record}
 use Rattle.hg_base.specs.declared.statement.Statement.{Statement}
 use Rattle.hg_base.specs.Lists.{Each, Ascends}
 use Rattle.hg_base.specs.Script.{Declaration, Script}
-use Rattle.hg_base.proofs.ListFacts.{append_nil}
+use Rattle.hg_base.proofs.ListFacts.{append_nil, each_snoc as each-one}
 use Rattle.hg_script.proofs.Names.{distinct-more, none-twice}
 use Rattle.hg_script.proofs.Scopes.{among, scope-fits}
 use Rattle.hg_script.specs.declared.code.Code.{Code}
@@ -30,10 +30,6 @@ use Rattle.hg_script.specs.Meaning.{draft_code, first_code, nothing, or_next, re
 use Rattle.hg_script.specs.Lawful.{AreInOrder, FitsTables, IsLawful, IsStatement, IsTable, MayStand}
 
 -- ---- lists
-
-each-one : {X : Type 0} (P : X → Type 0) (xs : List X) (x : X) → Each P xs → P x → Each P (xs ++ x ∷ [])
-each-one P [] x h k = (k, tt)
-each-one P (y ∷ ys) x h k = (h.0, each-one P ys x h.1 k)
 
 -- every statement stands before this place
 abbrev pub Before : ℕ → List Record → Type 0

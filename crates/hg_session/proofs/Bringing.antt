@@ -17,7 +17,7 @@ use Rattle.hg_rule.specs.Moves.{put_in, did, merged}
 use Rattle.hg_rule.specs.Reading.{chosen, seek, passes_in}
 use Rattle.hg_rule.proofs.Counts.{count_append}
 use Rattle.hg_rule.proofs.Growing.{among_later}
-use Rattle.hg_rule.proofs.Lists.{starts_same, starts_on, each_map, each_append}
+use Rattle.hg_rule.proofs.Lists.{starts_on, each_map, each_append}
 use Rattle.hg_store.proofs.Filling.{row_at}
 use Rattle.hg_session.specs.declared.engine.Engine.{Engine}
 use Rattle.hg_session.specs.declared.session.Session.{Session}
@@ -41,9 +41,6 @@ pub record Finishes (v : View) (sessions : List Session) (w : View) : Type 0 whe
   pub parts : w.parts ≡ OfPass (number v) (pass v) ∷ (parts_of sessions ++ others v)
   pub seen : Each (λ s. AreAmong (seen_by s) w.sights) sessions
   pub kept : StartsWith w.sights v.sights
-
-pub none_finish : (v : View) → HasPass v → Finishes v [] v
-none_finish v own = record { parts = own; seen = tt; kept = starts_same v.sights }
 
 parts_snoc : (sessions : List Session) (s : Session) → parts_of (sessions ++ s ∷ []) ≡ (view_of s).parts ++ parts_of sessions
 parts_snoc [] s = refl_append (view_of s).parts

@@ -30,7 +30,6 @@ use Rattle.hg_rule.specs.Removes.{visiting}
 use Rattle.hg_rule.proofs.Holders.{pass_departs}
 use Rattle.hg_store.specs.Stores.{Takes}
 use Rattle.hg_store.specs.Clearing.{Counts}
-use Rattle.hg_store.proofs.Clearing.{counts_none}
 use Rattle.hg_session.specs.Settled.{CutsTables, Cuts}
 
 -- ---- what is counted, table by table
@@ -52,9 +51,6 @@ counts_on u v w m n a b = record {
   rest = b.rest ∙ a.rest;
   sights = b.sights ∙ a.sights;
 }
-
-pub cut_none : (v : View) → CutsTables v 0 v
-cut_none v = record { gone = 0; counts = counts_none v Table; cut = λ r l. absurd (omega arith); rest = λ r l. refl }
 
 -- one table more
 pub cut_more : (v u w : View) (n bound gone : ℕ) (t : TableId) → t.0 ≡ n → bound ≡ table_bound t (record_of (pass v)) → CutsTables v n u → Counts u Table gone w → ((k : ℕ) → IsCutAt bound (held w (record_at t k))) → ((r : Rid) → (r.table ≡ t → ⊥) → held w r ≡ held u r) → CutsTables v (suc n) w

@@ -7,7 +7,7 @@ use Rattle.std.specs.Prelude.{max}
 use Rattle.hg_base.specs.declared.line.Totals.{Totals}
 use Rattle.hg_base.specs.Lists.{Each}
 use Rattle.hg_core.specs.declared.visit.Visit.{Visit}
-use Rattle.hg_core.specs.Phases.{IsSession, snapshot_in}
+use Rattle.hg_core.specs.Phases.{snapshot_in}
 use Rattle.hg_core.specs.Logs.{current, wrotes, newest_of}
 use Rattle.hg_core.specs.State.{CoreState}
 use Rattle.hg_rule.specs.declared.view.Part.{Part}
@@ -20,7 +20,7 @@ use Rattle.hg_rule.specs.Rules.{IsBacked}
 use Rattle.hg_rule.specs.Views.{session_there, bucket_there, commit_there, pass_there}
 use Rattle.hg_rule.specs.Reading.{chosen, seek, passes_in, state_of}
 use Rattle.hg_rule.proofs.Counts.{count_append}
-use Rattle.hg_rule.proofs.Found.{ltb_less, state_is}
+use Rattle.hg_rule.proofs.Found.{ltb_less, state_is, full, inside_is as is_session}
 use Rattle.hg_rule.proofs.Lists.{each_append}
 use Rattle.hg_base.proofs.ListFacts.{each_keeps}
 use Rattle.hg_headline.specs.Logged.{Logged}
@@ -127,10 +127,6 @@ passes_same (OfPass p t ∷ ps) qs e = ap (max (suc p)) (passes_same ps qs e)
 
 -- ---- a state that backs the view
 
-full : (c : ℕ) (b : Bool) → c ≤ one b → (b ≡ true → 0 < c) → c ≡ one b
-full c true l f = let p : 0 < c = f refl in omega arith
-full c false l f = omega arith
-
 is_below : (i n : ℕ) → ltb i n ≡ true → i < n
 is_below i n e = ltb_less i n (let x : ℕ = one (ltb i n) in let f : x ≡ 1 = ap one e in omega arith)
 
@@ -141,9 +137,6 @@ left_true false b e = e
 right_true : (a b : Bool) → both a b ≡ true → b ≡ true
 right_true true b e = e
 right_true false b e = absurd (true≢false (sym e))
-
-is_session : (z : Sizes) (j : ℕ) → both (ltb 0 j) (ltb j (suc z.sessions)) ≡ true → IsSession z.sessions j
-is_session z j e = record { first = is_below 0 j (left_true _ _ e); last = let l : j < suc z.sessions = is_below j (suc z.sessions) (right_true (ltb 0 j) _ e) in omega arith }
 
 module _ (z : Sizes) (n : ℕ) (v : View) (k : IsBacked z n v) (ended : IsEnded z v) (committed : 0 < count commit_key v.parts) where
   abbrev s : CoreState

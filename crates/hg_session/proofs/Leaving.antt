@@ -22,7 +22,7 @@ use Rattle.hg_rule.specs.Reading.{chosen, seek, passes_in}
 use Rattle.hg_rule.specs.Views.{number, pass, others, number_in, session_there, pass_there, first_in, after_first, HasPass}
 use Rattle.hg_rule.specs.Places.{arriving}
 use Rattle.hg_rule.proofs.Counts.{key_self}
-use Rattle.hg_rule.proofs.Lists.{starts_same, starts_on}
+use Rattle.hg_rule.proofs.Lists.{starts_on}
 use Rattle.hg_tracker.specs.Begun.{gathering, HasGathered}
 use Rattle.hg_headline.specs.Totalled.{LeavesCut, HasCut, WasLeftCut}
 use Rattle.hg_session.specs.Ended.{logs_in, visits_in, IsEnded}
@@ -86,9 +86,6 @@ quiet z v g own h ended whole =
     }
 
 -- ---- one bucket more
-
-pub cuts_none : (z : Sizes) (mark : ℕ) (v : View) → HasPass v → CutsBuckets z mark v 0 v
-cuts_none z mark v own = record { visits = []; cut = λ b l. absurd (omega arith); only = tt; parts = own; kept = starts_same v.sights }
 
 last_or_before : (b n : ℕ) → b < suc n → (b ≡ n) ⊎ (b < n)
 last_or_before zero zero l = inl refl

@@ -32,6 +32,7 @@ use Rattle.hg_tracker.specs.Begun.{AtMost}
 use Rattle.hg_store.specs.Ends.{HasNoEnd}
 use Rattle.hg_group.specs.declared.receipt.Receipt.{Receipt}
 use Rattle.hg_headline.specs.Timely.{snapshot_in, newer_in, commit_in}
+use Rattle.hg_headline.proofs.Rounds.{if_some_none as if_none}
 use Rattle.hg_session.specs.declared.answers.PutRefusal.{PutRefusal}
 use Rattle.hg_session.specs.declared.answers.PutRefusal.TheVariants as put
 use Rattle.hg_session.specs.Gains.{Gains, Stays, IsAfter, IsRefusedBy, entries_of, number_in}
@@ -88,9 +89,6 @@ pub record Writing (z : Sizes) (s : Statement) (u : Unprinted) (own : List Write
   pub none_opened : (at : Option ℕ) (w : Writer) → commit_in s (record { at = at; answer = answers.OpenBy w; number = None }) ≡ None
   pub none_newer : (at : Option ℕ) (n : ℕ) → commit_in s (record { at = at; answer = answers.Newer n; number = None }) ≡ None
   pub goes : (v : View) → GoesOn z v a
-
-if_none : {X : Type 0} (o : Option X) (P : X → Type 0) → o ≡ None → IfSome o P
-if_none o P e = subst (λ p. IfSome p P) (sym e) tt
 
 module _ (z : Sizes) (s : Statement) (u : Unprinted) (v w : View) (rid : Rid) (image : Image) (seen : List LogEntry) (a : Answer) (k : Writing z s u (own_writes (session v).log) rid image seen a) where
   inside_now : (c : Snapshot) → current (session v).log ≡ Some c → reading.is_alone (current (session v).log) s ≡ false

@@ -7,13 +7,12 @@ use Rattle.hg_core.specs.declared.register.Register.{Register}
 use Rattle.hg_core.specs.declared.register.Register.TheVariants as registers
 use Rattle.hg_core.specs.declared.phase.Phase.TheVariants as phases
 use Rattle.hg_core.specs.declared.log.LogEntry.{LogEntry}
-use Rattle.hg_core.specs.declared.log.LogEntry.TheVariants.{Began, Saw as Read, Refused, Outside, Wrote, Undid, Published, Over}
 use Rattle.hg_core.specs.Logs.{current, has_begun, newest_number, newest_of, UpTo}
 use Rattle.hg_core.specs.Phases.{IsSession, IsEntering, snapshot_in}
 use Rattle.hg_core.specs.Passes.{PassRecord, found}
 use Rattle.hg_core.specs.Reach.{Says, Reaches, StandsIn}
 use Rattle.hg_core.specs.State.{CoreState}
-use Rattle.hg_core.proofs.Bounded.{mark_told}
+use Rattle.hg_core.proofs.Bounded.{mark_told, newest_most}
 use Rattle.hg_rule.specs.declared.view.PassPart.{PassPart}
 use Rattle.hg_rule.specs.declared.view.Part.{Part}
 use Rattle.hg_rule.specs.declared.view.Part.TheVariants.{OfSession, OfBucket, OfCommit, OfPass}
@@ -93,17 +92,6 @@ up_to_whole n j log xs h (inl e) = subst (UpTo n) (sym e) tt
 up_to_whole n j log xs h (inr a) = each_among n (Heard j log) xs h a
 
 -- ---- no number of the logs is over the mark
-
-newest_most : (n : ℕ) (log : List LogEntry) → UpTo n log → newest_number log ≤ n
-newest_most n [] u = omega arith
-newest_most n (Published m ∷ log) u = omega (arith, u.0, newest_most n log u.1)
-newest_most n (Began at scope ∷ log) u = newest_most n log u.1
-newest_most n (Refused r answer ∷ log) u = newest_most n log u.1
-newest_most n (Read t low high b rows ∷ log) u = newest_most n log u
-newest_most n (Outside t ∷ log) u = newest_most n log u
-newest_most n (Wrote r image ∷ log) u = newest_most n log u
-newest_most n (Undid r ∷ log) u = newest_most n log u
-newest_most n (Over ∷ log) u = newest_most n log u
 
 all_most : (n m : ℕ) (logs : ℕ → List LogEntry) → ((j : ℕ) → IsSession n j → UpTo m (logs j)) → newest_of n logs ≤ m
 all_most zero m logs u = omega arith

@@ -7,7 +7,6 @@ use Rattle.hg_base.specs.declared.statement.Statement.{Statement}
 use Rattle.hg_base.specs.declared.statement.Statement.TheVariants as say
 use Rattle.hg_base.specs.declared.line.Answer.{Answer}
 use Rattle.hg_base.specs.declared.line.Answer.TheVariants as answers
-use Rattle.hg_base.specs.declared.line.Reply.{Reply}
 use Rattle.hg_base.specs.Lists.{Each}
 use Rattle.hg_base.specs.Transcript.{only, table_of, stored_by}
 use Rattle.hg_core.specs.declared.log.LogEntry.{LogEntry}
@@ -17,7 +16,7 @@ use Rattle.hg_core.specs.Reading.{Unprinted, own_entries, close, is_access, log_
 use Rattle.hg_core.specs.Reading as reading
 use Rattle.hg_rule.specs.declared.view.Sizes.{Sizes}
 use Rattle.hg_rule.specs.declared.view.View.{View}
-use Rattle.hg_rule.specs.Views.{number, session}
+use Rattle.hg_rule.specs.Views.{session}
 use Rattle.hg_tracker.specs.Begun.{AtMost}
 use Rattle.hg_headline.specs.Timely.{snapshot_in, newer_in, commit_in}
 use Rattle.std.proofs.lemmas.Nat.{pow_pos}
@@ -51,9 +50,6 @@ answers_inside z v w s a u alone g fits snapshot commit newer goes = record {
   goes_on = goes;
 }
 
-alone_reply : ℕ → Answer → Option ℕ → Reply
-alone_reply at a number = record { at = Some at; answer = a; number = number }
-
 is_alone_now : (log : List LogEntry) (s : Statement) → current log ≡ None → IsTrue (is_access s) → reading.is_alone (current log) s ≡ true
 is_alone_now log s e i = ap (λ o. reading.is_alone o s) e ∙ i
 
@@ -75,10 +71,6 @@ answers_alone z v w s a at n u none access g stored fits snapshot commit most ne
     }
 
 -- ---- a get
-
-pub get_entries_are : (buckets : ℕ) (u : Unprinted) (rid : Rid) (row : Option (List ℤ)) → own_entries buckets u (say.Get rid) (row_answer row) ≡ saw buckets rid (rows_at rid.key row) ∷ []
-get_entries_are buckets u rid None = refl
-get_entries_are buckets u rid (Some row) = refl
 
 pub get_inside : (z : Sizes) (v w : View) (c : Snapshot) (rid : Rid) (row : Option (List ℤ)) → current (session v).log ≡ Some c → Gains v (saw z.buckets rid (rows_at rid.key row) ∷ []) w → Answers z v (say.Get rid) (inside (row_answer row)) w
 get_inside z v w c rid None e g = answers_inside z v w (say.Get rid) answers.Nothing nothing_more (ap (λ o. reading.is_alone o (say.Get rid)) e) g tt tt tt tt tt

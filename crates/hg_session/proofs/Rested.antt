@@ -1,10 +1,9 @@
 -- New sessions are at rest.
-use Rattle.std.proofs.Common.{◌≡◌, ℕ, zero, suc, ◌<◌, ◌≤◌, List, [], ◌∷◌, length, slice_index_or, None, ap, arith}
+use Rattle.std.proofs.Common.{ℕ, zero, suc, ◌<◌, ◌≤◌, List, [], ◌∷◌, length, slice_index_or, ap, arith}
 use Rattle.hg_core.specs.Logs.{current}
 use Rattle.hg_rule.specs.New.{Row}
 use Rattle.hg_session.specs.declared.engine.Engine.{Engine}
 use Rattle.hg_session.specs.declared.session.Session.{Session}
-use Rattle.hg_session.specs.Sessions.{left_of}
 use Rattle.hg_session.specs.Opened.{IsNewOf}
 use Rattle.hg_session.specs.Resting.{MayRun}
 

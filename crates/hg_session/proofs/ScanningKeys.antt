@@ -20,7 +20,6 @@ use Rattle.hg_rule.specs.Rules.{IsBacked}
 use Rattle.hg_rule.specs.Views.{first_in}
 use Rattle.hg_rule.specs.Holding.{bucket, beyond}
 use Rattle.hg_rule.specs.Places.{HoldsBucket}
-use Rattle.hg_store.specs.Kept.{NoneBetween}
 use Rattle.hg_store.proofs.Holding.{look_none, second_shown, parts_are}
 use Rattle.hg_session.specs.Scans.{IsOwnKey, AreOwn, HasVersion, LeadsOn, read_of}
 
@@ -101,17 +100,6 @@ leads_through P Q from first high (Some next) w a n = λ k l h q. n k (a k l h (
 
 none_has : (content : Content) (table : TableId) (key : ℕ) → look (record_at table key) content ≡ [] → HasVersion content table key → ⊥
 none_has content table key e has = let l : 0 < 0 = subst (λ (vs : List Version). 0 < length vs) e has in omega (arith, l)
-
--- the least key, where it is of the range
-pub leads_kept : (content : Content) (table : TableId) (from high key : ℕ) → NoneBetween content table from (Some key) → LeadsOn (HasVersion content table) from high (Some key)
-leads_kept content table from high key n = λ k l h has. cases (nat_lt k key)
-    (λ t. let less : k < key = grind (arith, nat_tests, t) in absurd (none_has content table k (n k l less) has))
-    (λ f. grind (arith, nat_tests, f))
-
--- where it is over the range, and where there is none
-pub leads_nowhere : (content : Content) (table : TableId) (from high : ℕ) (found : Option ℕ) → ((key : ℕ) → found ≡ Some key → high < key) → NoneBetween content table from found → LeadsOn (HasVersion content table) from high None
-leads_nowhere content table from high None over n = λ k l h has. none_has content table k (n k l tt) has
-leads_nowhere content table from high (Some key) over n = λ k l h has. let o = over key refl in none_has content table k (n k l (omega (arith, h, o))) has
 
 -- ---- a bucket has its own records alone
 

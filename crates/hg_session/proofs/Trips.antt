@@ -5,7 +5,6 @@ use Rattle.hg_base.specs.declared.image.Image.{Image}
 use Rattle.hg_core.specs.declared.ask.Ask.{Ask}
 use Rattle.hg_core.specs.declared.log.LogEntry.TheVariants.{Wrote, Undid, Over}
 use Rattle.hg_core.specs.declared.phase.Phase.TheVariants.{Idle}
-use Rattle.hg_rule.specs.declared.passes.SessionPass.{SessionPass}
 use Rattle.hg_rule.specs.declared.view.SessionPart.{SessionPart}
 use Rattle.hg_rule.specs.declared.view.BucketPart.{BucketPart}
 use Rattle.hg_rule.specs.declared.view.Part.{Part}
@@ -13,16 +12,14 @@ use Rattle.hg_rule.specs.declared.view.Part.TheVariants.{OfSession, OfBucket}
 use Rattle.hg_rule.specs.declared.view.Sight.{Sight}
 use Rattle.hg_rule.specs.declared.view.Sight.TheVariants.{Heard}
 use Rattle.hg_rule.specs.declared.view.View.{View}
-use Rattle.hg_rule.specs.declared.view.Sizes.{Sizes}
 use Rattle.hg_rule.specs.Facts.{StartsWith, IsAmong}
 use Rattle.hg_rule.specs.Views.{number, number_in, session, session_there, others, first_in, after_first, seeing, HasSession, HasOnlySession}
 use Rattle.hg_rule.specs.Steps.{logging, Ends}
 use Rattle.hg_rule.specs.Holding.{bucket_number, bucket, beyond, writer}
 use Rattle.hg_rule.specs.Writes.{with_log, with_entry, log_asked, Looks, Installs, Undoes, installing, undoing}
 use Rattle.hg_rule.specs.Places.{without_bucket}
-use Rattle.hg_rule.specs.Seats.{TableId, session_view, session_rest, IsSeatOf, IsSessionOf}
 use Rattle.hg_rule.proofs.Growing.{among_later}
-use Rattle.hg_rule.proofs.Holders.{still_session, session_arrives, session_departs}
+use Rattle.hg_rule.proofs.Holders.{session_arrives, session_departs}
 use Rattle.hg_store.specs.Stores.{Takes}
 use Rattle.hg_session.specs.Gains.{Alone}
 
@@ -135,7 +132,3 @@ ended v w only k = (
 )
 
 -- ---- the pass
-
--- a pass of this board with a bucket is one still
-pub beside_pass : (t : TableId) (z : Sizes) (p q : SessionPass) (b : ℕ) (old : List Sight) → IsSessionOf t z p → IsSeatOf t q.seat → session_rest q ≡ session_rest p → Beside (number (session_view p)) (session (session_view p)) b old (session_view q) → IsSessionOf t z q
-beside_pass t z p q b old own seat rest h = still_session t z p q _ own seat rest h.parts

@@ -4,22 +4,21 @@ use Rattle.std.specs.Prelude.{is_some, ◌||◌, Err, ⊤}
 use Rattle.std.specs.List.{list_any}
 use Rattle.hg_base.specs.declared.rid.Rid.{Rid}
 use Rattle.hg_base.specs.declared.image.Image.{Image}
-use Rattle.hg_base.specs.declared.scope.Scope.{Scope}
 use Rattle.hg_base.specs.declared.scope.Snapshot.{Snapshot}
 use Rattle.hg_base.specs.History.{same_rid, is_among, NoneTwice}
 use Rattle.hg_base.proofs.HistoryFacts.{same_rid_equal}
-use Rattle.hg_headline.proofs.Words.{same_rid_turned}
-use Rattle.hg_core.specs.declared.phase.Phase.TheVariants.{Idle, Live}
+use Rattle.hg_core.specs.declared.phase.Phase.TheVariants.{Idle}
 use Rattle.hg_core.specs.declared.log.LogEntry.{LogEntry}
 use Rattle.hg_core.specs.declared.log.LogEntry.TheVariants.{Began, Saw, Refused, Outside, Wrote, Undid, Published, Over}
 use Rattle.hg_core.specs.Logs.{open_in}
 use Rattle.hg_base.specs.declared.line.Answer.TheVariants as answers
+use Rattle.hg_base.proofs.RidOrder.{same_back as same_rid_turned}
 use Rattle.hg_bucket.specs.declared.refusal.WriteRefusal.{WriteRefusal}
 use Rattle.hg_bucket.specs.declared.refusal.WriteRefusal.TheVariants.{Open, Newer, NoMemory}
-use Rattle.hg_session.specs.Gains.{entries_of}
 use Rattle.hg_rule.specs.declared.view.SessionPart.{SessionPart}
 use Rattle.hg_rule.specs.Steps.{logging}
 use Rattle.hg_rule.specs.Writes.{with_log, with_entry, with_published}
+use Rattle.hg_session.specs.Gains.{entries_of}
 use Rattle.hg_session.specs.Ties.{AreWritten, Ties}
 
 module _ (each : ℕ) (opened : Option Snapshot) (written : List Rid) (part : SessionPart) where
@@ -42,22 +41,6 @@ module _ (each : ℕ) (opened : Option Snapshot) (written : List Rid) (part : Se
 
   pub ties_unwritten : (left : ℕ) → Ties each opened written left 0 1 part → Ties each opened written left 0 0 part
   ties_unwritten left t = ties_less left 0 1 0 0 (omega arith) (omega arith) t
-
--- a transaction begins
-pub ties_began : (each left writes at : ℕ) (scope : Scope) (written : List Rid) (part : SessionPart) → Ties each None written left 1 writes part → Ties each (Some (record { at = at; scope = scope })) [] left 0 writes (logging (Began at scope) (Live at scope) part)
-ties_began each left writes at scope written part t =
-    let b = t.begun in
-    let w = t.wrote in
-    record {
-      phase = refl;
-      unstamped = t.unstamped;
-      opens = refl;
-      plain = refl;
-      written_is = record { once = tt; each = λ r. refl };
-      rests = λ e. refl;
-      begun = omega (arith, b);
-      wrote = w;
-    }
 
 -- ---- entries that change nothing of this
 

@@ -1,18 +1,18 @@
 -- A transaction that is rolled back.
-use Rattle.std.proofs.Common.{◌≡◌, ◌⊎◌, ℕ, List, [], ◌∷◌, ◌++◌, map, Bool, true, false, cond, Option, Some, None, refl, sym, ap, ◌∙◌, subst, inl, inr, arith}
+use Rattle.std.proofs.Common.{◌≡◌, ℕ, List, [], ◌∷◌, ◌++◌, map, Bool, true, false, cond, Option, Some, None, refl, sym, ap, ◌∙◌, subst, inl, inr, arith}
 use Rattle.std.specs.Prelude.{is_some, IsTrue, ◌||◌}
 use Rattle.hg_base.specs.declared.rid.Rid.{Rid}
 use Rattle.hg_base.specs.declared.image.Image.{Image}
 use Rattle.hg_base.specs.declared.scope.Snapshot.{Snapshot}
 use Rattle.hg_base.specs.History.{same_rid, is_among, NoneTwice}
 use Rattle.hg_base.proofs.HistoryFacts.{same_rid_itself}
+use Rattle.hg_base.proofs.RidOrder.{same_back as same_rid_turned}
 use Rattle.hg_core.specs.declared.log.LogEntry.{LogEntry}
 use Rattle.hg_core.specs.declared.log.LogEntry.TheVariants.{Undid, Over}
 use Rattle.hg_core.specs.declared.phase.Phase.TheVariants.{Idle}
 use Rattle.hg_core.specs.Logs.{begans, wrotes, is_plain, open_in, own_writes}
 use Rattle.hg_core.specs.Reading.{UndoesAll}
 use Rattle.hg_core.proofs.NewGroup.{image_open}
-use Rattle.hg_headline.proofs.Words.{same_rid_turned}
 use Rattle.hg_rule.specs.declared.view.SessionPart.{SessionPart}
 use Rattle.hg_rule.specs.declared.view.Part.TheVariants.{OfSession}
 use Rattle.hg_rule.specs.declared.view.Sight.{Sight}
@@ -78,22 +78,6 @@ undid_once v u u' w b rid only t k e =
       alone = departed (number v) _ b v.sights u' w d.0 e;
       heard = inr (subst (IsAmong (Heard (number v) (Undid rid ∷ (session v).log))) (sym (ap (λ (x : View). x.sights) e)) d.1);
     }
-
-pub undid_more : (v u w : View) (rids : List Rid) (rid : Rid) → HasUndone v rids u → HasUndone u (rid ∷ []) w → HasUndone v (rid ∷ rids) w
-undid_more v u w rids rid a b =
-    let n = first_number u (number v) _ [] a.alone.parts in
-    let s = first_session u (number v) _ [] a.alone.parts in record {
-      alone = record {
-        parts = b.alone.parts ∙ (λ i. OfSession (n i) (with_log (Undid rid ∷ (s i).log) (s i)) ∷ []);
-        kept = starts_on w.sights u.sights v.sights a.alone.kept b.alone.kept;
-      };
-      heard = go b.heard n s;
-    }
-  where
-    go : ((rid ∷ [] ≡ []) ⊎ IsAmong (Heard (number u) (Undid rid ∷ (session u).log)) w.sights) → number u ≡ number v → session u ≡ with_log (map Undid rids ++ (session v).log) (session v)
-        → (rid ∷ rids ≡ []) ⊎ IsAmong (Heard (number v) (Undid rid ∷ (map Undid rids ++ (session v).log))) w.sights
-    go (inl e) n s = absurd (let k = e in cc)
-    go (inr m) n s = inr (subst (λ x. IsAmong x w.sights) (λ i. Heard (n i) (Undid rid ∷ (s i).log)) m)
 
 pub undone_only : (v u : View) (rids : List Rid) → HasUndone v rids u → HasOnlySession u
 undone_only v u rids a = alone_only u (number v) _ v.sights a.alone

@@ -26,7 +26,7 @@ use Rattle.hg_rule.specs.Moves.{put_in}
 use Rattle.hg_rule.specs.Holding.{bucket, commit, beyond}
 use Rattle.hg_rule.specs.Places.{arrive_first, depart, without_bucket, HoldsCommit}
 use Rattle.hg_rule.specs.Reading.{chosen, seek, passes_in}
-use Rattle.hg_rule.proofs.Lists.{starts_same, starts_on}
+use Rattle.hg_rule.proofs.Lists.{starts_on}
 use Rattle.hg_store.specs.Kept.{AreCountsOf}
 use Rattle.hg_store.specs.Stores.{Takes}
 use Rattle.hg_headline.specs.Logged.{Logged}
@@ -162,10 +162,6 @@ module _ (v u x : View) (n : ℕ) (own : HasPass v) (h : HasVisited v n u) (take
     kept = subst (λ l. StartsWith l v.sights) (sym (ap (λ (y : View). y.sights) after ∙ ap (λ (y : View). y.sights) takes.after)) (starts_on _ u.sights v.sights h.kept (takes.seen, refl));
     events = ap (λ (y : View). y.events) after ∙ ap (λ (y : View). y.events) takes.after ∙ h.events;
   }
-
--- none yet
-pub none_visited : (v : View) → HasPass v → HasVisited v 0 v
-none_visited v own = record { contents = []; each = refl; parts = own; kept = starts_same v.sights; events = refl }
 
 -- ---- what stays of a view whose pass visited buckets
 

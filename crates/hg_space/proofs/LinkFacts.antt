@@ -80,9 +80,6 @@ image_set s p to f t h =
     let same : count_by is_free (set s p (Taken to)) ≡ count_by is_free s = let e = recount s p (Taken was.0) (Taken to) was.1 in omega (arith, e) in
     subst (λ n. AreLinked (set s p (Taken to)) n f) (sym same) (kept s p was.0 (Taken to) was.1 _ f h)
 
-pub image_count : (s : List Place) (p : ℕ) (to : Oldest) → IsSome (slice_index_or (map seen s) p free) → count_by is_free (set s p (Taken to)) ≡ count_by is_free s
-image_count s p to t = let was = is_taken s p t in let e = recount s p (Taken was.0) (Taken to) was.1 in omega (arith, e)
-
 -- a place given back
 pub freed_count : (s : List Place) (p : ℕ) (f : Option ℕ) → IsSome (slice_index_or (map seen s) p free) → count_by is_free (set s p (Free f)) ≡ suc (count_by is_free s)
 freed_count s p f t = let was = is_taken s p t in let e = recount s p (Taken was.0) (Free f) was.1 in omega (arith, e)

@@ -40,9 +40,6 @@ parts_are b v h = h.0 ∙ ap (λ ps. first_in v.parts ∷ ps) h.1.0
 pub number_is : (b : ℕ) (v : View) → HoldsBucket b v → bucket_number v ≡ b
 number_is b v h = ap number_in h.1.0
 
-pub first_shown : (P : Part → Type 0) (ps rest : List Part) (p q : Part) → ps ≡ p ∷ q ∷ rest → Each P ps → P p
-first_shown P ps rest p q e h = (subst (Each P) e h).0
-
 pub second_shown : (P : Part → Type 0) (ps rest : List Part) (p q : Part) → ps ≡ p ∷ q ∷ rest → Each P ps → P q
 second_shown P ps rest p q e h = (subst (Each P) e h).1.0
 

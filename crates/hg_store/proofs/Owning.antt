@@ -20,7 +20,7 @@ use Rattle.hg_core.specs.Logs.{begans, begun_in, open_in}
 use Rattle.hg_core.specs.OpenWrites.{writer_of}
 use Rattle.hg_core.specs.Phases.{IsSession}
 use Rattle.hg_core.specs.Replies.{same_writer, refused_over, refused_by, refusal}
-use Rattle.hg_core.proofs.Replies.{writer_itself}
+use Rattle.hg_core.proofs.Replies.{writer_itself, writer_same as same_writers}
 use Rattle.hg_bucket.specs.declared.refusal.WriteRefusal.{WriteRefusal}
 use Rattle.hg_bucket.specs.declared.refusal.WriteRefusal.TheVariants.{Open, Newer, NoMemory}
 use Rattle.hg_bucket.specs.Conflicts as bucket_words
@@ -48,17 +48,6 @@ use Rattle.hg_store.proofs.Storing.{writer_same_after, content_after}
 use Rattle.hg_store.proofs.Mine.{mine_unstamped, mine_logged}
 
 -- ---- whether a write adds a version
-
-same_writers : (a b : Writer) → same_writer a b ≡ true → a ≡ b
-same_writers a b e = go (a.session == b.session) (a.transaction == b.transaction) refl refl e
-  where
-    go : (x y : Bool) → (a.session == b.session) ≡ x → (a.transaction == b.transaction) ≡ y → same_writer a b ≡ true → a ≡ b
-    go true true p q e =
-        let s : a.session ≡ b.session = grind (arith, nat_tests, p) in
-        let t : a.transaction ≡ b.transaction = grind (arith, nat_tests, q) in
-        (λ i. record { session = s i; transaction = t i })
-    go true false p q e = absurd (let k = (λ i. both (sym p i) (sym q i)) ∙ e in cc)
-    go false y p q e = absurd (let k = (λ i. both (sym p i) (sym q i)) ∙ e in cc)
 
 open_back : (w : Writer) (vs : List Version) → IsTrue (begins_open w (map kept vs)) → IsOpenBy w vs
 open_back w [] o = absurd (let k = o in cc)

@@ -100,15 +100,3 @@ install_holds n v w h h' r image hold same free o step here others counters =
     subst (λ x. Holds x h') (sym step) (session_holds h' (number v) (bucket_number v) _ (installing (writer v) r image (bucket v)) (beyond v) _ _ (number_is (held_number h) v hold.has ∙ sym same)
     (install_kept n (held_records h) (held_records h') (bucket v) r image (writer v) free hold.keeps here others counters)
     (ordered_stored (bucket v).content r (installed (writer v) image (held v r)) n hold.ordered (installed_ordered n (writer v) image (held v r) free o)))
-
-pub stored_writes : {S T : Type 0} (n : ℕ) (v w x : View) (r : Rid) (image : Image) (found : Result S WriteRefusal) (y : S) (answer : Result T WriteRefusal) (u : T) → Looks v (Write r) n w → found ≡ Ok y → answer ≡ Ok u → IfSome (refused_at n v r) (λ e. found ≡ Err e) → Installs w r image x → Writes v r image answer x
-stored_writes n v w x r image found y answer u k is same told step = record {
-  mark = n;
-  looked = w;
-  looks = k;
-  refuses = subst (λ o. IfSome o (λ e. answer ≡ Err e)) (sym (not_refused (refused_at n v r) found y is told)) tt;
-  cause = subst (λ a. IfErr a (IsCause n v r)) (sym same) tt;
-  goes_on = subst (λ a. IfErr a (OwnerGoesOn v.sights)) (sym same) tt;
-  stored = subst (λ a. OnOk a (Installs w r image x)) (sym same) step;
-  stays = subst (λ a. OnErr a (x ≡ w)) (sym same) tt;
-}

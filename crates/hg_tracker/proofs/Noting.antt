@@ -16,7 +16,7 @@ use Rattle.hg_base.specs.declared.report.Entry.{Entry}
 use Rattle.hg_base.specs.Transcript.{has}
 use Rattle.hg_core.specs.declared.register.Register.{Register}
 use Rattle.hg_core.specs.declared.register.Register.TheVariants.{Idle, Entering, Live}
-use Rattle.hg_core.specs.Passes.{live_numbers, if_live, least, horizon, recorded, all_recorded, table_bound, group_bound}
+use Rattle.hg_core.specs.Passes.{live_numbers, if_live, least, recorded, all_recorded, table_bound, group_bound}
 use Rattle.hg_rule.specs.declared.view.PassPart.{PassPart}
 use Rattle.hg_rule.specs.Facts.{record_of}
 use Rattle.hg_tracker.specs.declared.gathered.Gathered.{Gathered}
@@ -85,14 +85,6 @@ push_in false e es = refl
 times_filter : (n : ℕ) (test : Entry → Bool) (es : List Entry) → times n (map (λ (x : Entry). x.number) (filter test es)) ≡ sum_by (weight n test) es
 times_filter n test [] = refl
 times_filter n test (e ∷ es) = ap (times n) (push_in (test e) e (filter test es)) ∙ (picked n (test e) e.number (map (λ (x : Entry). x.number) (filter test es)) (sum_by (weight n test) es) (times_filter n test es) ∙ sym (sum_by-cons (weight n test) e es))
-
-times_append : (n : ℕ) (xs ys : List ℕ) → times n (xs ++ ys) ≡ times n xs + times n ys
-times_append n [] ys = omega arith
-times_append n (x ∷ xs) ys = go (x == n) (times_append n xs ys)
-  where
-    go : (b : Bool) → times n (xs ++ ys) ≡ times n xs + times n ys → (if b then suc (times n (xs ++ ys)) else times n (xs ++ ys)) ≡ (if b then suc (times n xs) else times n xs) + times n ys
-    go true e = omega (arith, e)
-    go false e = omega (arith, e)
 
 -- ---- what a record's registers count
 
@@ -209,9 +201,6 @@ mapped_rises es h i j d le l =
     let b : ℕ = (get_or es j some_entry).number in
     let c : a ≤ b = h i j some_entry le below in
     omega (arith, mapped_at es i d some_entry (omega arith), mapped_at es j d some_entry below)
-
-pub horizon_is : (sessions : ℕ) (part : PassPart) (g : Gathered) → IsGatherOf sessions part g → g.horizon ≡ horizon (record_of part)
-horizon_is sessions part g h = h.noted.1
 
 shuffled_of : (sessions : ℕ) (part : PassPart) (g : Gathered) → IsGatherOf sessions part g → IsPermutation (entries_of part.loaded) g.ranked.items
 shuffled_of sessions part g h = subst (λ es. IsPermutation es g.ranked.items) h.noted.2 h.shuffled

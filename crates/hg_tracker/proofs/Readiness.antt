@@ -1,21 +1,14 @@
 -- A new board's sessions are at rest.
-use Rattle.std.proofs.Common.{◌≡◌, ℕ, zero, suc, ◌+◌, ◌<◌, ◌≤◌, List, [], ◌∷◌, length, All, refl, sym, ap, ◌∙◌, subst, arith, None}
-use Rattle.hg_base.specs.declared.rid.Rid.{Rid}
-use Rattle.hg_base.specs.declared.scope.Scope.{Scope}
-use Rattle.hg_core.specs.declared.phase.Phase.TheVariants.{Idle, Live}
-use Rattle.hg_core.specs.declared.log.LogEntry.TheVariants.{Began, Over}
-use Rattle.hg_core.specs.Logs.{begans, open_in}
+use Rattle.std.proofs.Common.{◌≡◌, ℕ, zero, suc, ◌+◌, ◌<◌, ◌≤◌, List, [], ◌∷◌, length, All, refl, sym, ap, ◌∙◌, subst, arith}
+use Rattle.hg_core.specs.Logs.{begans}
 use Rattle.hg_core.specs.Phases.{IsSession}
 use Rattle.hg_rule.specs.declared.passes.SessionPass.{SessionPass}
 use Rattle.hg_rule.specs.declared.view.View.{View}
-use Rattle.hg_rule.specs.declared.view.Part.{Part}
 use Rattle.hg_rule.specs.declared.view.Sizes.{Sizes}
 use Rattle.hg_rule.specs.Views.{number, session, seeing, HasSession, HasOnlySession}
 use Rattle.hg_rule.specs.Moves.{session_part}
-use Rattle.hg_rule.specs.Steps.{logging, Ends}
 use Rattle.hg_rule.specs.Seats.{TableId, session_view}
 use Rattle.hg_rule.specs.New.{Row, IsNewSession}
-use Rattle.hg_tracker.specs.Begun.{HasBegun}
 use Rattle.hg_tracker.specs.Ready.{IsReady}
 
 pub new_ready : (t : TableId) (z : Sizes) (times j : ℕ) (p : SessionPass) → IsNewSession t j p → 0 < j → j ≤ z.sessions → times ≤ z.each → IsReady t z times p
@@ -37,15 +30,6 @@ pub all_ready : (t : TableId) (z : Sizes) (times j : ℕ) (ps : List SessionPass
 all_ready t z times j [] h low high few k d l = absurd (omega arith)
 all_ready t z times j (p ∷ ps) h low high few zero d l = new_ready t z times j p h.0 low (omega arith) few
 all_ready t z times j (p ∷ ps) h low high few (suc k) d l = all_ready t z times (suc j) ps h.1 (omega arith) (omega arith) few k d (omega arith)
-
-pub begun_session : (v w : View) (at : ℕ) (scope : Scope) → HasBegun v at scope w → session w ≡ logging (Began at scope) (Live at scope) (session v)
-begun_session v w at scope h = ap (λ (ps : List Part). session (seeing ps [] [])) h.parts
-
-pub none_open_yet : (v w : View) (at : ℕ) (scope : Scope) → HasBegun v at scope w → (rid : Rid) → open_in rid (session w).log ≡ None
-none_open_yet v w at scope h rid = ap (λ s. open_in rid s.log) (begun_session v w at scope h)
-
-pub ended_session : (v w : View) → Ends v w → session w ≡ logging Over Idle (session v)
-ended_session v w is = ap session is
 
 pub only_session : (t : TableId) (j : ℕ) (p : SessionPass) → IsNewSession t j p → HasOnlySession (session_view p)
 only_session t j p h = subst HasOnlySession (sym (ap (λ m. m.0) h.2.1)) refl

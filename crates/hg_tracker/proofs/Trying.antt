@@ -23,7 +23,7 @@ use Rattle.hg_rule.specs.declared.view.Part.{Part}
 use Rattle.hg_rule.specs.declared.view.Part.TheVariants.{OfPass}
 use Rattle.hg_rule.specs.declared.view.Event.TheVariants.{Move}
 use Rattle.hg_rule.specs.declared.view.View.{View}
-use Rattle.hg_rule.specs.Views.{number, pass, others, seeing, HasPass}
+use Rattle.hg_rule.specs.Views.{number, pass, others, seeing}
 use Rattle.hg_rule.specs.Steps.{IsMovable, after_try, Moves}
 use Rattle.hg_tracker.specs.declared.gathered.Gathered.{Gathered}
 use Rattle.hg_tracker.specs.Tries.{is_long, tries_of, moved_by, successes, HasTried}
@@ -32,10 +32,6 @@ use Rattle.hg_tracker.specs.Gathers.{IsNotedOf, IsLoaded, StandsAt}
 use Rattle.hg_tracker.proofs.After.{first_key, none_past}
 
 -- ---- an entry's register
-
-head_is : (x : Entry) (e : Entry) (n : ℕ) → ((d : Entry) → get_or (x ∷ []) n d ≡ e) → n < 1 → x ≡ e
-head_is x e zero at l = at x
-head_is x e (suc n) at l = absurd (omega arith)
 
 -- an entry of a list's end stands before it, or is it
 split_at : (xs : List Entry) (y e : Entry) (i : ℕ) → StandsAt i e (xs ++ y ∷ []) → StandsAt i e xs ⊎ ((i ≡ length xs) × (y ≡ e))
@@ -219,9 +215,6 @@ tried_one v w w' es c e b h is = subst (HasTried v (es ++ e ∷ []) (if b then s
   where
     same : number w ≡ number v
     same = ap (λ (ps : List Part). number (seeing ps [] [])) h.parts
-
-pub tried_none : (v : View) → HasPass v → HasTried v [] 0 v
-tried_none v is = record { outcomes = []; each = refl; count_is = refl; parts = is; sights = refl; events = sym (append-nil v.events) }
 
 pub mark_tried : (v w : View) (es : List Entry) (c : ℕ) → HasTried v es c w → (pass w).mark ≡ (pass v).mark
 mark_tried v w es c h = ap (λ (ps : List Part). (pass (seeing ps [] [])).mark) h.parts
