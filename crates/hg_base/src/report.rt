@@ -95,6 +95,14 @@ impl From<Vec<Told>> for ToldList {
 }
 
 impl ToldList {
+    pub fn push(&mut self, told: Told) -> Result<(), NoMemory>
+        ensures ok { OnOk result (self.new ≡ self.old ++ told ∷ []) }
+        ensures err { OnErr result (self.new ≡ self.old) }
+    {
+        self.told.push(told)?;
+        Ok(())
+    }
+
     pub fn as_slice(&self) -> &[Told]
         ensures { result.now ≡ self.now }
     {

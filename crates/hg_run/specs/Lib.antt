@@ -1,9 +1,9 @@
 -- What a replay knows and prints, and when each status comes. A reader meets the definitions in this order.
 pub mod Words
 pub mod Status
-pub mod Page
 pub mod Heard
 pub mod Listed
 pub mod Asked
 pub mod Closed
+pub mod Printing
 pub mod Serving

@@ -2,18 +2,14 @@
 use Rattle.std.specs.Prelude.{◌≡◌, ℕ, ◌+◌, ◌<◌, ◌≤◌, ◌⊎◌, List, length, take, Bool, true, false, Option, Some, None, IsTrue, IsFalse, ⊤}
 use Rattle.std.specs.Io.KnownBytes.{Appends, Consumes, IsAtEnd}
 use Rattle.hg_base.specs.declared.limits.TheConstants.{MOST_SCRIPT_BYTES}
-use Rattle.hg_base.specs.declared.line.Printed.{Printed}
 use Rattle.hg_base.specs.Faults.{Rose}
-use Rattle.hg_base.specs.Script.{replay}
-use Rattle.hg_base.specs.Sound.{IsSound}
-use Rattle.hg_base.specs.Text.{text_of}
 use Rattle.hg_script.specs.declared.code.Code.{Code}
 use Rattle.hg_script.specs.Fields.{rows_of}
 use Rattle.hg_script.specs.Meaning.{refusal_of, script_of}
 use Rattle.hg_run.specs.declared.status.Status.{Status}
 use Rattle.hg_run.specs.declared.status.Status.TheVariants.{Done, Usage, BadScript, ReadFault, WriteFault, TooLong, NoMemory}
 use Rattle.hg_run.specs.Words.{are_accepted}
-use Rattle.hg_run.specs.Page.{record_bytes}
+use Rattle.hg_run.specs.Printing.{IsPrintedFor}
 
 -- ---- what a source and a sink tell of a call
 
@@ -39,12 +35,10 @@ pub record Gives (source : Change) (bytes : List ℕ) : Type 0 where
 
 -- ---- what the bytes of a script mean
 
--- a text that a script may print: that of a printed value which is sound for the script that the bytes mean
+-- a text that the script which the bytes mean may print
 pub record IsTextFor (bytes text : List ℕ) : Type 0 where
   pub valid : refusal_of (rows_of bytes) ≡ None
-  pub printed : Printed
-  pub sound : IsSound replay (script_of (rows_of bytes)) printed
-  pub same : text ≡ text_of record_bytes (script_of (rows_of bytes)) printed
+  pub printed : IsPrintedFor (script_of (rows_of bytes)) text
 
 -- the bytes are all that the source had, and no more than a script may have
 pub record ReadsAll (source : Change) (bytes : List ℕ) : Type 0 where

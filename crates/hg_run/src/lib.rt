@@ -6,8 +6,7 @@
 //!     are_accepted    the words          leave to go on     Usage
 //!     read_all        the source         all its bytes      ReadFault, TooLong
 //!     read_script     the bytes          a script           BadScript
-//!     replay          the script         what is printed
-//!     text_of         what is printed    one text
+//!     replay          the script         one text
 //!     write_all       the text           Done               WriteFault
 //!
 //! Want of memory may end every step but the first and the last. The text is whole before its first byte is written. So
@@ -19,14 +18,12 @@
 
 mod asking;
 mod closing;
-mod page;
 mod playing;
 mod reading;
 mod replay;
 mod replying;
 mod serving;
 mod status;
-mod text;
 mod turning;
 mod words;
 mod writing;

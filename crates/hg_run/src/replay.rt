@@ -1,13 +1,12 @@
 //! The run of a script on one thread.
 
 ghost use Rattle.std.specs.Prelude.{◌≡◌, IfOk, length};
-ghost use Rattle.hg_base.specs.Script.{replay};
-ghost use Rattle.hg_base.specs.Sound.{IsSound};
 ghost use Rattle.hg_script.specs.Lawful.{IsLawful};
+ghost use Rattle.hg_run.specs.Printing.{IsPrintedFor};
 
 use crate::closing::close;
 use crate::playing::play;
-use hg_base::{DEFAULT_BUCKETS, NoMemory, Printed};
+use hg_base::{DEFAULT_BUCKETS, NoMemory};
 use hg_script::Script;
 use hg_session::{Engine, TableDecl};
 use hg_tracker::Gathered;
@@ -27,10 +26,10 @@ fn declared(alloc: Global, script: &Script) -> Result<Vec<TableDecl>, NoMemory>
     Ok(tables)
 }
 
-/// Runs a script on one thread, record by record, and gives what is printed for it.
-pub(crate) fn replay<R: Wait>(rt: &R, alloc: Global, script: &Script) -> Result<Printed, NoMemory>
+/// Runs a script on one thread, record by record, and gives the text that is printed for it.
+pub(crate) fn replay<R: Wait>(rt: &R, alloc: Global, script: &Script) -> Result<Vec<u8>, NoMemory>
     requires { IsLawful script.now }
-    ensures { IfOk result (λ printed. IsSound replay script.now printed) }
+    ensures { IfOk result (λ text. IsPrintedFor script.now text.items) }
 {
     let tables = declared(alloc, script)?;
     let sessions = script.sessions();
@@ -39,7 +38,8 @@ pub(crate) fn replay<R: Wait>(rt: &R, alloc: Global, script: &Script) -> Result<
     let mut gathered = Gathered::new(alloc, sessions, tables.len() as u32)?;
     let (engine, list, passes) = Engine::open(alloc, sessions, &tables, DEFAULT_BUCKETS, each)?;
     let mut list = list.into_vec();
-    let lines = play(rt, alloc, &engine, &mut list, script)?;
+    let transcript = play(rt, alloc, &engine, &mut list, script)?;
     let totals = close(rt, &engine, list, passes, &mut gathered);
-    Ok(Printed { lines, totals })
+    let text = transcript.with_totals(&totals)?;
+    Ok(text)
 }

@@ -10,7 +10,6 @@ ghost use Rattle.hg_run.specs.Serving.{Answers, Comes, Gives, HasFailed, IsTextF
 use crate::reading::read_all;
 use crate::replay::replay;
 use crate::status::Status;
-use crate::text::text_of;
 use crate::words::are_accepted;
 use crate::writing::write_all;
 use hg_base::{Failed, Gate, MOST_SCRIPT_BYTES, Sink, Source};
@@ -25,8 +24,7 @@ fn text_of_bytes<R: Wait>(rt: &R, alloc: Global, bytes: &[u8]) -> Result<Vec<u8>
     ensures refused { IfErr result (RefusesBytes bytes.now) }
 {
     let script = read_script(alloc, bytes)?;
-    let printed = replay(rt, alloc, &script)?;
-    let text = text_of(alloc, &script, &printed)?;
+    let text = replay(rt, alloc, &script)?;
     Ok(text)
 }
 

@@ -3,11 +3,11 @@
 ghost use Rattle.std.specs.Prelude.{◌<◌};
 
 use super::*;
-use crate::text::text_of;
 use hg_base::{
     Answer, Kind, Line, LineList, MemorySink, MemorySource, NoGate, NoMemory, Printed, Reply, Row,
     RowList, Sweep, TableId, Told, ToldList, Totals, Writer,
 };
+use hg_report::text_of;
 use hg_script::read_script;
 use std::alloc::Global;
 use std::sync::Wait;

@@ -56,6 +56,7 @@ mod word;
 
 pub use code::Code;
 pub use law::{numbers_are_decimal, scopes_have_what_is_named};
+pub use number::{Integer, Natural, read_integer, read_natural};
 pub use reader::read_script;
 pub use refusal::ScriptRefusal;
 pub use script::Script;

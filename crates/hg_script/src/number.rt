@@ -16,7 +16,7 @@ pub enum Natural {
 
 /// What a field is as a number of 64 bits that may have a minus.
 #[derive(Clone, Copy, Debug, PartialEq, Eq)]
-pub(crate) enum Integer {
+pub enum Integer {
     No,
     Over,
     Is(i64),
@@ -54,7 +54,7 @@ impl Natural {
     }
 
     /// The number, and 0 where it is none.
-    pub(crate) fn value(self) -> u64
+    pub fn value(self) -> u64
         ensures { result ≡ value_of self }
     {
         match self {
@@ -117,7 +117,8 @@ fn is_written_well(text: &[u8]) -> bool
     !leads_with_zero && has_digits_alone(text)
 }
 
-pub(crate) fn read_natural(text: &[u8]) -> Natural
+/// Reads a number of 64 bits without a sign.
+pub fn read_natural(text: &[u8]) -> Natural
     ensures { result ≡ natural_of text.now }
 {
     if !is_written_well(text) {
@@ -134,7 +135,8 @@ pub(crate) fn read_natural(text: &[u8]) -> Natural
     Natural::Is(value)
 }
 
-pub(crate) fn read_integer(text: &[u8]) -> Integer
+/// Reads a number of 64 bits that may have a minus.
+pub fn read_integer(text: &[u8]) -> Integer
     ensures { result ≡ integer_of text.now }
 {
     if text.len() > 0 && text[0] == b'-' {

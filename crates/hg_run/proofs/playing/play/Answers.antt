@@ -7,6 +7,7 @@ use Rattle.hg_base.specs.declared.statement.Record.{Record}
 use Rattle.hg_core.specs.Logs.{current}
 use Rattle.hg_script.specs.Lawful.{MayStand}
 use Rattle.hg_session.specs.Finished.{logs_of}
+use Rattle.hg_report.specs.LinesText.{Shown}
 use Rattle.hg_run.specs.Asked.{IsOnTables}
 use Rattle.hg_run.proofs.Going.{Going, going_first, going_on, going_last, ready_less, may_stand, on_tables}
 use Rattle.hg_run.proofs.playing.play.Goals as goal
@@ -18,15 +19,16 @@ next xs i x less e =
     let plus : suc i ≡ i + 1 = omega arith in
     step ∙ (λ j. sym e j ∷ drop (plus j) xs)
 
-here : (g : _) (c : goal.After-answer-arg-1 g) → Going c.args.engine.now c.loop-record.list.items c.loop-record.last c.loop-record.lines (c.record-item.result ∷ drop (c.loop-record.record-index + 1) c.records-record-items.result.now) c.args.script.now
+here : (g : _) (c : goal.After-answer-arg-1 g) → Going c.args.engine.now c.loop-record.list.items c.loop-record.last c.loop-record.transcript.lines (c.record-item.result ∷ drop (c.loop-record.record-index + 1) c.records-record-items.result.now) c.args.script.now
 here g c =
     let items = c.records-record-items.result.now in
     let less : c.loop-record.record-index < length items = omega arith in
-    subst (λ rs. Going c.args.engine.now c.loop-record.list.items c.loop-record.last c.loop-record.lines rs c.args.script.now) (next items c.loop-record.record-index c.record-item.result less c.record-item.is) c.loop-record.invariant.going
+    subst (λ rs. Going c.args.engine.now c.loop-record.list.items c.loop-record.last c.loop-record.transcript.lines rs c.args.script.now) (next items c.loop-record.record-index c.record-item.result less c.record-item.is) c.loop-record.invariant.going
 
 pub loop-record-init : goal.loop-record-init
 loop-record-init g c = record {
-  going = rw (c.new-lines.ensures, c.records-record-items.ensures.same) (going_first c.args.engine.now c.args.list.now.items c.args.script.now c.requires.sessions c.requires.lawful c.requires.ready c.requires.none);
+  tables = rw c.new-transcript.ensures refl;
+  going = rw (c.new-transcript.ensures, c.records-record-items.ensures.same) (going_first c.args.engine.now c.args.list.now.items c.args.script.now c.requires.sessions c.requires.lawful c.requires.ready c.requires.none);
 }
 
 -- the place of its session
@@ -54,7 +56,7 @@ unfolding here
 answer-requires-clause-may g c =
     let r = c.record-item.result in
     subst (λ j. MayStand (is_some (current (logs_of c.loop-record.list.items j))) r.statement) (sym (placed g c))
-    (may_stand c.args.engine.now c.loop-record.list.items c.loop-record.last c.loop-record.lines r (drop (c.loop-record.record-index + 1) c.records-record-items.result.now) c.args.script.now (here g c))
+    (may_stand c.args.engine.now c.loop-record.list.items c.loop-record.last c.loop-record.transcript.lines r (drop (c.loop-record.record-index + 1) c.records-record-items.result.now) c.args.script.now (here g c))
 
 pub answer-requires-clause-tables : goal.answer-requires-clause-tables
 unfolding here
@@ -66,26 +68,27 @@ loop-record-preserved g c =
     let rest = drop (c.loop-record.record-index + 1) c.records-record-items.result.now in
     let items = c.records-record-items.result.now in
     let less : c.loop-record.record-index < length items = omega arith in
-    let going : Going c.args.engine.now c.loop-record.list.items c.loop-record.last c.loop-record.lines (r ∷ rest) c.args.script.now = subst (λ rs. Going c.args.engine.now c.loop-record.list.items c.loop-record.last c.loop-record.lines rs c.args.script.now) (next items c.loop-record.record-index r less c.record-item.is) c.loop-record.invariant.going in
+    let going : Going c.args.engine.now c.loop-record.list.items c.loop-record.last c.loop-record.transcript.lines (r ∷ rest) c.args.script.now = subst (λ rs. Going c.args.engine.now c.loop-record.list.items c.loop-record.last c.loop-record.transcript.lines rs c.args.script.now) (next items c.loop-record.record-index r less c.record-item.is) c.loop-record.invariant.going in
     let some = going.coming.0.stands.some in
     let is : suc (r.session - 1) ≡ r.session = omega (arith, some) in
     let line : Line = record { session = r.session; place = r.place; reply = c.in_ok-reply.reply } in
     record {
+      tables = subst (λ (t : Shown). t.tables ≡ c.args.script.now.tables) (sym c.in_ok-push.ensures.ok) c.loop-record.invariant.tables;
       going =
-          subst (λ ls. Going c.args.engine.now c.answer.new.list.items (r.session - 1) ls rest c.args.script.now) (sym c.in_ok-push.ensures.ok)
-          (going_on c.args.engine.now c.loop-record.list.items c.answer.new.list.items c.loop-record.last (r.session - 1) c.loop-record.lines r rest c.args.script.now line going is refl refl c.in_ok-reply.ensures.replied c.in_ok-reply.ensures.ready);
+          subst (λ (t : Shown). Going c.args.engine.now c.answer.new.list.items (r.session - 1) t.lines rest c.args.script.now) (sym c.in_ok-push.ensures.ok)
+          (going_on c.args.engine.now c.loop-record.list.items c.answer.new.list.items c.loop-record.last (r.session - 1) c.loop-record.transcript.lines r rest c.args.script.now line going is refl refl c.in_ok-reply.ensures.replied c.in_ok-reply.ensures.ready);
     }
 
 pub returns-clause-following : goal.returns-clause-following
 returns-clause-following g c =
     let items = c.records-record-items.result.now in
     let over : length items ≤ c.loop-record.record-index = omega arith in
-    let going : Going c.args.engine.now c.loop-record.list.items c.loop-record.last c.loop-record.lines [] c.args.script.now = subst (λ rs. Going c.args.engine.now c.loop-record.list.items c.loop-record.last c.loop-record.lines rs c.args.script.now) (drop_all c.loop-record.record-index items over) c.loop-record.invariant.going in
-    going_last c.args.engine.now c.loop-record.list.items c.loop-record.last c.loop-record.lines c.args.script.now going
+    let going : Going c.args.engine.now c.loop-record.list.items c.loop-record.last c.loop-record.transcript.lines [] c.args.script.now = subst (λ rs. Going c.args.engine.now c.loop-record.list.items c.loop-record.last c.loop-record.transcript.lines rs c.args.script.now) (drop_all c.loop-record.record-index items over) c.loop-record.invariant.going in
+    going_last c.args.engine.now c.loop-record.list.items c.loop-record.last c.loop-record.transcript.lines c.args.script.now going
 
 pub returns-clause-ready : goal.returns-clause-ready
 returns-clause-ready g c =
     let items = c.records-record-items.result.now in
     let over : length items ≤ c.loop-record.record-index = omega arith in
-    let going : Going c.args.engine.now c.loop-record.list.items c.loop-record.last c.loop-record.lines [] c.args.script.now = subst (λ rs. Going c.args.engine.now c.loop-record.list.items c.loop-record.last c.loop-record.lines rs c.args.script.now) (drop_all c.loop-record.record-index items over) c.loop-record.invariant.going in
+    let going : Going c.args.engine.now c.loop-record.list.items c.loop-record.last c.loop-record.transcript.lines [] c.args.script.now = subst (λ rs. Going c.args.engine.now c.loop-record.list.items c.loop-record.last c.loop-record.transcript.lines rs c.args.script.now) (drop_all c.loop-record.record-index items over) c.loop-record.invariant.going in
     (c.loop-record.last, going.ready)

@@ -42,7 +42,11 @@ play-requires-clause-none g c =
 pub returns : goal.returns
 returns g c =
     let z = engine_sizes c.in_ok-engine.engine in
-    let f = c.in_ok-lines.ensures.following in
+    let shown = c.in_ok-transcript.transcript in
+    let f = c.in_ok-transcript.ensures.following in
     let t = c.close-totals.ensures in
-    let printed : Printed = record { lines = c.in_ok-lines.lines; totals = c.close-totals.result } in
-    following_last z.buckets z.sessions 0 f.0 t.history (logs_of c.play.new.list.items) t.closed c.args.script.now printed f.1 t.closes t.logged (omega arith) (order_quiet [] c.args.script.now.records c.requires.order) t.counted
+    let printed : Printed = record { lines = shown.lines; totals = c.close-totals.result } in
+    let sound =
+    following_last z.buckets z.sessions 0 f.0 t.history (logs_of c.play.new.list.items) t.closed c.args.script.now printed f.1 t.closes t.logged (omega arith) (order_quiet [] c.args.script.now.records c.requires.order) t.counted in
+    let same = c.in_ok-text.ensures c.args.script.now (sym c.in_ok-transcript.ensures.tables) in
+    record { printed = printed; sound = sound; same = same }

@@ -1,0 +1,263 @@
+-- Whatever is guessed fits the script: where it is written as the record stands there, the record may come next.
+use Rattle.std.proofs.Common.{◌≡◌, ◌<◌, ◌≤◌, ◌+◌, ◌^◌, ℕ, zero, suc, ℤ, pos, neg_ℤ, List, [], ◌∷◌, ◌++◌, length, length-append, drop, get_or, false, ◌==◌, ◌&&◌, Option, Some, None, nat_lt, nat_le, refl, arith}
+use Rattle.std.specs.Prelude.{IsTrue, IfSome, is_some, option_map, option_and_then, codes, ⊤}
+use Rattle.std.specs.Str.Parse.{digits_value}
+use Rattle.std.proofs.lemmas.Bool.{and_parts as both, ltb-true, leb-true, cond_both}
+use Rattle.std.proofs.lemmas.Bool.Decides.{nat_tests}
+use lib.Signed.{mag}
+use Rattle.hg_base.specs.declared.rid.TableId.{TableId}
+use Rattle.hg_base.specs.declared.rid.Rid.{Rid}
+use Rattle.hg_base.specs.declared.statement.Statement.{Statement}
+use Rattle.hg_base.specs.declared.statement.Statement.TheVariants.{Begin, Get, Put, Del, Scan, Commit as CommitIt, Rollback, Gc}
+use Rattle.hg_base.specs.declared.report.Told.{Told}
+use Rattle.hg_base.specs.declared.report.Sweep.{Sweep}
+use Rattle.hg_base.specs.declared.line.Answer.{Answer}
+use Rattle.hg_base.specs.declared.line.Answer.TheVariants.{Stored, Found, Nothing, Gone, Rows, Committed, Ended, Newer, OpenBy, Undeclared, Swept, Beside}
+use Rattle.hg_base.specs.declared.line.Reply.{Reply}
+use Rattle.hg_base.specs.declared.line.Totals.{Totals}
+use Rattle.hg_base.specs.Lists.{Each}
+use Rattle.hg_base.specs.Script.{Declaration, Script}
+use Rattle.hg_base.specs.Transcript.{table_of}
+use Rattle.hg_base.specs.Text.{Field, Fits64, Fits32, FitsRow, FitsPut, FitsDel, FitsSweep, FitsAnswer, FitsReply, Fits, columns_of, is_write}
+use Rattle.hg_script.specs.declared.number.Natural.{Natural}
+use Rattle.hg_script.specs.declared.number.Natural.TheVariants as n
+use Rattle.hg_script.specs.declared.number.Integer.{Integer}
+use Rattle.hg_script.specs.declared.number.Integer.TheVariants as signed
+use Rattle.hg_script.specs.Number.{natural_of, value_of, plus, minus, is_natural}
+use Rattle.hg_report.specs.declared.piece.Piece.{Piece}
+use Rattle.hg_report.specs.declared.piece.Piece.TheVariants as piece
+use Rattle.hg_report.specs.declared.progress.Open.{Open}
+use Rattle.hg_report.specs.declared.progress.Open.TheVariants as opens
+use Rattle.hg_report.specs.Fields.{nth, says, number_in, session_in, narrow, integer_in, integer_value, values_in, row_in}
+use Rattle.hg_report.specs.Guess.{answer_guess, answer_place, answered_guess, at_guess, first_guess, head_guess, held_guess, number_guess, piece_of, refusal_guess, row_guess, statement_at, sweep_guess, table_columns}
+use Rattle.hg_report.specs.Progress.{guess_after, scan_line, sweep_line}
+
+-- ---- the numbers of fields have their widths
+
+natural_fits : (text : List ℕ) → value_of (natural_of text) < 2 ^ 64
+natural_fits text = cond_both (is_natural text) _ n.No (λ (x : Natural). value_of x < 2 ^ 64)
+    (λ e. cond_both (nat_lt (digits_value 10 text) (2 ^ 64)) (n.Is (digits_value 10 text)) n.Over (λ (x : Natural). value_of x < 2 ^ 64) (λ f. ltb-true _ _ f) (λ f. omega arith))
+    (λ e. omega arith)
+
+pub number_fits : (fields : List Field) (i : ℕ) → Fits64 (number_in fields i)
+number_fits fields i = natural_fits (nth fields i)
+
+narrow_fits : (k : ℕ) → narrow k < 2 ^ 32
+narrow_fits k = cond_both (nat_lt k (2 ^ 32)) k 0 (λ x. x < 2 ^ 32) (λ e. ltb-true _ _ e) (λ e. omega arith)
+
+pub session_fits : (fields : List Field) (i : ℕ) → Fits32 (session_in fields i)
+session_fits fields i = narrow_fits (number_in fields i)
+
+abbrev IsNarrow : Integer → Type 0
+IsNarrow x = mag (integer_value x) < 2 ^ 63
+
+plus_fits : (x : Natural) → IsNarrow (plus x)
+plus_fits n.No = omega arith
+plus_fits n.Over = omega arith
+plus_fits (n.Is k) = cond_both (nat_lt k (2 ^ 63)) (signed.Is (pos k)) signed.Over IsNarrow (λ e. ltb-true _ _ e) (λ e. omega arith)
+
+negative_fits : (k : ℕ) → k ≤ 2 ^ 63 → mag (neg_ℤ (pos k)) < 2 ^ 63
+negative_fits zero h = omega arith
+negative_fits (suc k) h = omega arith
+
+minus_fits : (x : Natural) → IsNarrow (minus x)
+minus_fits n.No = omega arith
+minus_fits n.Over = omega arith
+minus_fits (n.Is k) = cond_both (k == 0) signed.No _ IsNarrow (λ e. omega arith)
+    (λ e. cond_both (nat_le k (2 ^ 63)) (signed.Is (neg_ℤ (pos k))) signed.Over IsNarrow (λ f. negative_fits k (leb-true _ _ f)) (λ f. omega arith))
+
+integer_fits : (fields : List Field) (i : ℕ) → mag (integer_in fields i) < 2 ^ 63
+integer_fits fields i =
+    let text = nth fields i in
+    cond_both (get_or text 0 0 == 45) (minus (natural_of (drop 1 text))) (plus (natural_of text)) IsNarrow (λ e. minus_fits (natural_of (drop 1 text))) (λ e. plus_fits (natural_of text))
+
+abbrev pub AreWide : List ℤ → Type 0
+AreWide row = Each (λ v. mag v < 2 ^ 63) row
+
+wide_more : (row : List ℤ) (v : ℤ) → AreWide row → mag v < 2 ^ 63 → AreWide (row ++ v ∷ [])
+wide_more [] v h k = (k, tt)
+wide_more (x ∷ xs) v h k = (h.0, wide_more xs v h.1 k)
+
+values_fit : (fields : List Field) (i count : ℕ) → (length (values_in fields i count) ≡ count) × AreWide (values_in fields i count)
+unfolding values_in
+values_fit fields i zero = (refl, tt)
+values_fit fields i (suc k) =
+    let before = values_fit fields i k in
+    (simp length-append (omega (arith, before.0)), wide_more (values_in fields i k) (integer_in fields (i + k)) before.1 (integer_fits fields (i + k)))
+
+-- ---- a row of so many columns
+
+abbrev IsRow : ℕ → Option (List ℤ) → Type 0
+IsRow columns o = IfSome o (λ row. (length row ≡ columns) × AreWide row)
+
+row_fits : (fields : List Field) (i columns : ℕ) → IsRow columns (row_in fields i columns)
+row_fits fields i columns = cond_both (nat_le 1 columns && nat_le columns 8) (Some (values_in fields i columns)) None (IsRow columns) (λ e. values_fit fields i columns) (λ e. tt)
+
+-- a row with its key
+abbrev pub FitsKey : ℕ → ℕ × List ℤ → Type 0
+FitsKey columns p = Fits64 p.0 × (length p.1 ≡ columns) × AreWide p.1
+
+-- ---- answers
+
+-- what is guessed of an answer, whose rows or held snapshots come later
+abbrev IsBegun : Answer → Type 0
+IsBegun (Rows rows) = rows ≡ []
+IsBegun (Swept sweep) = sweep.held ≡ []
+IsBegun _ = ⊤
+
+abbrev IsGuess : List Declaration → Statement → Answer → Type 0
+IsGuess tables statement answer = FitsAnswer tables statement answer × IsBegun answer
+
+sweep_fits : (fields : List Field) (i : ℕ) → FitsSweep (sweep_guess fields i)
+sweep_fits fields i = (number_fits fields (i + 2), number_fits fields (i + 3), number_fits fields (i + 4), tt)
+
+-- a refusal is no scan and no report
+abbrev IsRefusal : TableId → Answer → Type 0
+IsRefusal table answer = FitsPut table answer × FitsDel table answer × IsBegun answer
+
+refusal_fits : (table : TableId) (fields : List Field) (i : ℕ) → IsRefusal table (refusal_guess table fields i)
+refusal_fits table fields i = cond_both (says fields (i + 1) (codes "newer")) (Newer (number_in fields (i + 2))) _ (IsRefusal table)
+    (λ e. (number_fits fields (i + 2), number_fits fields (i + 2), tt))
+    (λ e. cond_both (says fields (i + 1) (codes "open")) (OpenBy (record { session = session_in fields (i + 2); transaction = number_in fields (i + 3) })) (Undeclared table) (IsRefusal table)
+    (λ f. ((session_fits fields (i + 2), number_fits fields (i + 3)), (session_fits fields (i + 2), number_fits fields (i + 3)), tt))
+    (λ f. (refl, refl, tt)))
+
+found_fits : (tables : List Declaration) (r : Rid) (o : Option (List ℤ)) → IsRow (columns_of tables r.table) o → IfSome (option_map Found o) (IsGuess tables (Get r))
+found_fits tables r None h = tt
+found_fits tables r (Some row) h = (h, tt)
+
+answer_fits : (tables : List Declaration) (statement : Statement) (fields : List Field) (i : ℕ) → IfSome (answer_guess tables statement fields i) (IsGuess tables statement)
+answer_fits tables (Begin scope) fields i = (number_fits fields (i + 1), tt)
+answer_fits tables (Get r) fields i =
+    let P = λ (o : Option Answer). IfSome o (IsGuess tables (Get r)) in
+    cond_both (says fields i (codes "row")) _ _ P (λ e. found_fits tables r _ (row_fits fields (i + 1) (columns_of tables r.table)))
+    (λ e. cond_both (says fields i (codes "none")) (Some Nothing) (Some (Undeclared r.table)) P (λ f. (tt, tt)) (λ f. (refl, tt)))
+answer_fits tables (Put r row) fields i =
+    let refused = refusal_fits r.table fields i in
+    cond_both (says fields i (codes "stored")) Stored (refusal_guess r.table fields i) (IsGuess tables (Put r row)) (λ e. (tt, tt)) (λ e. (refused.0, refused.2))
+answer_fits tables (Del r) fields i =
+    let refused = refusal_fits r.table fields i in
+    cond_both (says fields i (codes "gone")) Gone _ (IsGuess tables (Del r)) (λ e. (tt, tt))
+    (λ e. cond_both (says fields i (codes "none")) Nothing (refusal_guess r.table fields i) (IsGuess tables (Del r)) (λ f. (tt, tt)) (λ f. (refused.1, refused.2)))
+answer_fits tables (Scan table low high) fields i =
+    cond_both (says fields i (codes "rows")) (Rows []) (Undeclared table) (IsGuess tables (Scan table low high)) (λ e. ((omega arith, tt), refl)) (λ e. (refl, tt))
+answer_fits tables CommitIt fields i =
+    cond_both (says fields i (codes "committed")) (Committed (number_in fields (i + 1))) Ended (IsGuess tables CommitIt) (λ e. (number_fits fields (i + 1), tt)) (λ e. (tt, tt))
+answer_fits tables Rollback fields i = (tt, tt)
+answer_fits tables (Gc kind) fields i =
+    cond_both (says fields i (codes "beside")) Beside (Swept (sweep_guess fields i)) (IsGuess tables (Gc kind)) (λ e. (tt, tt)) (λ e. (sweep_fits fields i, refl))
+
+-- ---- the first record of a line
+
+-- an answer of one record
+abbrev pub IsShort : Answer → Type 0
+IsShort (Rows rows) = ⊥
+IsShort (Swept sweep) = ⊥
+IsShort _ = ⊤
+
+abbrev pub FitsHead : Script → Piece → Type 0
+FitsHead script (piece.Line line) = Fits script line × IsShort line.reply.answer
+FitsHead script (piece.Scan session place at columns left) = (rows : List (ℕ × List ℤ)) → length rows ≡ left → Each (FitsKey columns) rows → Fits script (scan_line session place at rows)
+FitsHead script (piece.Sweep session place sweep) = (sweep.held ≡ []) × Fits script (sweep_line session place sweep)
+FitsHead script _ = ⊥
+
+rows_fit : (tables : List Declaration) (table : TableId) (rows : List (ℕ × List ℤ)) → Each (FitsKey (columns_of tables table)) rows → Each (λ p. Fits64 p.0 × FitsRow tables table p.1) rows
+rows_fit tables table [] h = tt
+rows_fit tables table (p ∷ ps) h = ((h.0.0, (h.0.1, h.0.2)), rows_fit tables table ps h.1)
+
+number_fits_write : (answer : Answer) (fields : List Field) (i : ℕ) → IfSome (number_guess answer fields i) (λ c. Fits64 c × IsTrue (is_write answer))
+number_fits_write answer fields i = cond_both (is_write answer && says fields (i + 1) (codes "committed")) (Some (number_in fields (i + 2))) None (λ (o : Option ℕ). IfSome o (λ c. Fits64 c × IsTrue (is_write answer)))
+    (λ e. (number_fits fields (i + 2), (both _ _ e).0)) (λ e. tt)
+
+rows_fit_statement : (tables : List Declaration) (statement : Statement) (rows more : List (ℕ × List ℤ)) → FitsAnswer tables statement (Rows rows) → Fits64 (length more) → Each (FitsKey (table_columns tables statement)) more → FitsAnswer tables statement (Rows more)
+rows_fit_statement tables (Scan table low high) rows more h many each = (many, rows_fit tables table more each)
+rows_fit_statement tables statement rows more h many each = absurd h
+
+module _ (script : Script) (session place : ℕ) (narrow_session : Fits32 session) (wide_place : Fits64 place) (some : (session == 0) ≡ false) (statement : Statement) (is : statement_at script.records session place ≡ Some statement) where
+  line_fits : (reply : Reply) → FitsReply script.tables statement reply → Fits script (record { session = session; place = place; reply = reply })
+  line_fits reply h = record { session = narrow_session; place = wide_place; reply = rw (some, is) h }
+
+  module _ (fields : List Field) (at : Option ℕ) (wide_at : IfSome at (λ s. Fits64 s × IsTrue (is_some (table_of statement)))) (i : ℕ) where
+    short_fits : (answer : Answer) → FitsAnswer script.tables statement answer → Fits script (record { session = session; place = place; reply = record { at = at; answer = answer; number = number_guess answer fields i } })
+    short_fits answer h = line_fits _ (record { at = wide_at; answer = h; number = number_fits_write answer fields i })
+
+    scan_fits : (rows more : List (ℕ × List ℤ)) → FitsAnswer script.tables statement (Rows rows) → Fits64 (length more) → Each (FitsKey (table_columns script.tables statement)) more → FitsAnswer script.tables statement (Rows more)
+    scan_fits rows more h many each = rows_fit_statement script.tables statement rows more h many each
+
+    head_fits : (answer : Answer) → IsGuess script.tables statement answer → FitsHead script (piece_of script.tables statement session place at fields i answer)
+    head_fits (Rows rows) h = λ more many each. line_fits _ (record { at = wide_at; answer = scan_fits rows more h.0 (rw many (number_fits fields (i + 1))) each; number = tt })
+    head_fits (Swept sweep) h = (h.1, line_fits _ (record { at = tt; answer = h.0; number = tt }))
+    head_fits answer h = (short_fits answer h.0, tt)
+
+    pub answered_fits : (o : Option Answer) → IfSome o (IsGuess script.tables statement) → IfSome (option_map (piece_of script.tables statement session place at fields i) o) (FitsHead script)
+    answered_fits None h = tt
+    answered_fits (Some answer) h = head_fits answer h
+
+at_fits : (statement : Statement) (fields : List Field) → IfSome (at_guess statement fields) (λ s. Fits64 s × IsTrue (is_some (table_of statement)))
+at_fits statement fields = cond_both (is_some (table_of statement) && says fields 2 (codes "at")) (Some (number_in fields 3)) None (λ (o : Option ℕ). IfSome o (λ s. Fits64 s × IsTrue (is_some (table_of statement))))
+    (λ e. (number_fits fields 3, (both _ _ e).0)) (λ e. tt)
+
+module _ (script : Script) (fields : List Field) where
+  abbrev replied : ℕ → ℕ → Option Statement → Option Piece
+  replied session place o = option_and_then (λ statement. answered_guess script.tables statement session place (at_guess statement fields) fields) o
+
+  reply_fits : (session place : ℕ) → Fits32 session → Fits64 place → (session == 0) ≡ false → (o : Option Statement) → statement_at script.records session place ≡ o → IfSome (replied session place o) (FitsHead script)
+  reply_fits session place h k some None is = tt
+  reply_fits session place h k some (Some statement) is =
+      let at = at_guess statement fields in
+      answered_fits script session place h k some statement is fields at (at_fits statement fields) (answer_place at) (answer_guess script.tables statement fields (answer_place at)) (answer_fits script.tables statement fields (answer_place at))
+
+  report_fits : Fits script (sweep_line 0 (number_in fields 1) (sweep_guess fields 2))
+  report_fits = record { session = omega arith; place = number_fits fields 1; reply = record { at = refl; answer = sweep_fits fields 2; number = refl } }
+
+  pub head_is_fit : IfSome (head_guess script fields) (FitsHead script)
+  head_is_fit = cond_both (session_in fields 0 == 0) (Some (piece.Sweep 0 (number_in fields 1) (sweep_guess fields 2))) _ (λ (o : Option Piece). IfSome o (FitsHead script))
+      (λ e. (refl, report_fits))
+      (λ e. reply_fits (session_in fields 0) (number_in fields 1) (session_fits fields 0) (number_fits fields 1) e _ refl)
+
+-- ---- the next record
+
+-- no totals, and no scan with rows to come
+abbrev pub IsFree : Open → Type 0
+IsFree opens.Nothing = ⊤
+IsFree (opens.Scan session place at columns left rows) = left ≡ 0
+IsFree (opens.Sweep session place sweep) = ⊤
+IsFree (opens.Totals told totals) = ⊥
+
+abbrev pub FitsFirst : Script → Piece → Type 0
+FitsFirst script (piece.Total told number) = (told ≡ 0) × Fits64 number
+FitsFirst script next = FitsHead script next
+
+abbrev pub FitsTold : Told → Type 0
+FitsTold told = Fits32 told.session × Fits64 told.number
+
+pub data FitsNext (script : Script) : Open → Piece → Type 0 where
+  comes_first : (state : Open) (next : Piece) → IsFree state → FitsFirst script next → FitsNext script state next
+  comes_row : (session place : ℕ) (at : Option ℕ) (columns left : ℕ) (rows : List (ℕ × List ℤ)) (key : ℕ) (values : List ℤ) → 0 < left → FitsKey columns (key, values) → FitsNext script (opens.Scan session place at columns left rows) (piece.Row session place key values)
+  comes_held : (session place : ℕ) (sweep : Sweep) (told : Told) → FitsTold told → FitsNext script (opens.Sweep session place sweep) (piece.Held session place told)
+  comes_total : (told : ℕ) (totals : Totals) (number : ℕ) → told < 6 → Fits64 number → FitsNext script (opens.Totals told totals) (piece.Total told number)
+
+module _ (script : Script) (fields : List Field) where
+  first_of_head : (state : Open) → IsFree state → (o : Option Piece) → IfSome o (FitsHead script) → IfSome o (FitsNext script state)
+  first_of_head state free None h = tt
+  first_of_head state free (Some (piece.Total told number)) h = absurd h
+  first_of_head state free (Some next) h = comes_first state next free h
+
+  first_fits : (state : Open) → IsFree state → IfSome (first_guess script fields) (FitsNext script state)
+  first_fits state free = cond_both (says fields 0 (codes "total")) (Some (piece.Total 0 (number_in fields 2))) (head_guess script fields) (λ (o : Option Piece). IfSome o (FitsNext script state))
+      (λ e. comes_first state _ free (refl, number_fits fields 2)) (λ e. first_of_head state free _ (head_is_fit script fields))
+
+  row_guess_fits : (session place : ℕ) (at : Option ℕ) (columns left : ℕ) (rows : List (ℕ × List ℤ)) → 0 < left → (o : Option (List ℤ)) → IsRow columns o
+      → IfSome (option_map (λ values. piece.Row session place (number_in fields 3) values) o) (FitsNext script (opens.Scan session place at columns left rows))
+  row_guess_fits session place at columns left rows some None h = tt
+  row_guess_fits session place at columns left rows some (Some values) h = comes_row session place at columns left rows (number_in fields 3) values some (number_fits fields 3, h.0, h.1)
+
+  pub guess_fits : (state : Open) → IfSome (guess_after script state fields) (FitsNext script state)
+  guess_fits opens.Nothing = first_fits opens.Nothing tt
+  guess_fits (opens.Scan session place at columns left rows) = cond_both (nat_lt 0 left) (row_guess session place columns fields) (first_guess script fields) (λ (o : Option Piece). IfSome o (FitsNext script (opens.Scan session place at columns left rows)))
+      (λ e. row_guess_fits session place at columns left rows (ltb-true 0 left e) _ (row_fits fields 4 columns))
+      (λ e. first_fits (opens.Scan session place at columns left rows) (grind (arith, nat_tests, e)))
+  guess_fits (opens.Sweep session place sweep) = cond_both (says fields 2 (codes "held")) (Some (held_guess session place fields)) (first_guess script fields) (λ (o : Option Piece). IfSome o (FitsNext script (opens.Sweep session place sweep)))
+      (λ e. comes_held session place sweep _ (session_fits fields 3, number_fits fields 4)) (λ e. first_fits (opens.Sweep session place sweep) tt)
+  guess_fits (opens.Totals told totals) = cond_both (nat_lt told 6) (Some (piece.Total told (number_in fields 2))) None (λ (o : Option Piece). IfSome o (FitsNext script (opens.Totals told totals)))
+      (λ e. comes_total told totals (number_in fields 2) (ltb-true told 6 e) (number_fits fields 2)) (λ e. tt)

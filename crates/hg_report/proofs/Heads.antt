@@ -1,0 +1,152 @@
+-- The first record of a line is guessed as that line.
+use Rattle.std.proofs.Common.{◌≡◌, ◌<◌, ◌+◌, ◌∙◌, ℕ, zero, suc, ℤ, List, [], ◌∷◌, ◌++◌, length, map, get_or, Option, Some, None, refl, sym, ap, arith}
+use Rattle.std.specs.Prelude.{IsTrue, IfSome, codes, option_map}
+use Rattle.std.specs.Fmt.{signed_decimal}
+use Rattle.std.proofs.lemmas.Bool.{false≢true}
+use Rattle.hg_base.specs.declared.rid.TableId.{TableId}
+use Rattle.hg_base.specs.declared.scope.Scope.{Scope}
+use Rattle.hg_base.specs.declared.statement.Statement.{Statement}
+use Rattle.hg_base.specs.declared.statement.Statement.TheVariants.{Begin, Get, Put, Del, Scan, Commit as CommitIt, Rollback, Gc}
+use Rattle.hg_base.specs.declared.report.Kind.{Kind}
+use Rattle.hg_base.specs.declared.report.Kind.TheVariants as kinds
+use Rattle.hg_base.specs.declared.report.Sweep.{Sweep}
+use Rattle.hg_base.specs.declared.writer.Writer.{Writer}
+use Rattle.hg_base.specs.declared.line.Answer.{Answer}
+use Rattle.hg_base.specs.declared.line.Answer.TheVariants.{Begun, Stored, Found, Nothing, Gone, Rows, Committed, Ended, Undone, Newer, OpenBy, Undeclared, Swept, Beside}
+use Rattle.hg_base.specs.Script.{Declaration}
+use Rattle.hg_base.specs.Text.{Field, Fits64, FitsRefusal, FitsBegin, FitsGet, FitsPut, FitsDel, FitsScan, FitsCommit, FitsRollback, FitsSweep, FitsGc, FitsAnswer, answer_fields, kind_word, told_as, columns_of, is_write}
+use Rattle.hg_report.specs.Fields.{nth}
+use Rattle.hg_report.specs.Guess.{answer_guess, get_guess, put_guess, del_guess, scan_guess, commit_guess, gc_guess, refusal_guess, sweep_guess, kind_guess, number_guess}
+use Rattle.hg_report.proofs.ReadBack.{number_read, session_read, row_read}
+use Rattle.hg_report.proofs.Columns.{HasColumns, IsNarrow}
+
+-- an answer without its rows or held snapshots
+abbrev pub emptied : Answer → Answer
+emptied (Rows rows) = Rows []
+emptied (Swept sweep) = Swept (record sweep { held = [] })
+emptied answer = answer
+
+kind_read : (fields : List Field) (i : ℕ) (kind : Kind) → nth fields i ≡ kind_word kind → kind_guess fields i ≡ kind
+kind_read fields i kinds.Group e = rw e refl
+kind_read fields i kinds.Table e = rw e refl
+kind_read fields i kinds.Interval e = rw e refl
+
+abbrev make : Kind → ℕ → ℕ → ℕ → Sweep
+make kind mark horizon removed = record { kind = kind; mark = mark; horizon = horizon; removed = removed; held = [] }
+
+same_make : (k k' : Kind) (m m' h h' r r' : ℕ) → k ≡ k' → m ≡ m' → h ≡ h' → r ≡ r' → make k m h r ≡ make k' m' h' r'
+same_make k k' m m' h h' r r' a b c d = ap (λ x. make x m h r) a ∙ ap (λ x. make k' x h r) b ∙ ap (λ x. make k' m' x r) c ∙ ap (λ x. make k' m' h' x) d
+
+get-or-front : (xs ys : List Field) (k : ℕ) → k < length xs → get_or (xs ++ ys) k [] ≡ get_or xs k []
+get-or-front [] ys k h = absurd (omega arith)
+get-or-front (x ∷ xs) ys zero h = refl
+get-or-front (x ∷ xs) ys (suc k) h = get-or-front xs ys k (omega arith)
+
+length_texts : (row : List ℤ) → length (map signed_decimal row) ≡ length row
+length_texts [] = refl
+length_texts (v ∷ vs) = ap suc (length_texts vs)
+
+-- the fields from i on are these
+pub record AreFrom (fields : List Field) (i : ℕ) (rest : List Field) : Type 0 where
+  pub first : nth fields i ≡ nth rest 0
+  pub later : (k : ℕ) → nth fields (i + k) ≡ nth rest k
+
+module _ (tables : List Declaration) (fields : List Field) (i : ℕ) (tail : List Field) where
+  abbrev pub Answers : Answer → Type 0
+  Answers answer = AreFrom fields i (answer_fields tables answer ++ tail)
+
+  pub sweep_read : (sweep : Sweep) → Answers (Swept sweep) → FitsSweep sweep → sweep_guess fields i ≡ record sweep { held = [] }
+  sweep_read sweep are h = same_make _ _ _ _ _ _ _ _ (kind_read fields (i + 1) sweep.kind (are.later 1)) (number_read fields (i + 2) sweep.mark h.0 (are.later 2)) (number_read fields (i + 3) sweep.horizon h.1 (are.later 3)) (number_read fields (i + 4) sweep.removed h.2 (are.later 4))
+
+  same_writer : (a b : ℕ) (writer : Writer) → a ≡ writer.session → b ≡ writer.transaction → OpenBy (record { session = a; transaction = b }) ≡ OpenBy writer
+  same_writer a b writer e f = ap (λ x. OpenBy (record { session = x; transaction = b })) e ∙ ap (λ x. OpenBy (record { session = writer.session; transaction = x })) f
+
+  undeclared : (table other : TableId) → other.0 ≡ table.0 → Undeclared table ≡ Undeclared other
+  undeclared table other h = ap (λ n. Undeclared (record { 0 = n })) (sym h)
+
+  refused_first : (table : TableId) (answer : Answer) → FitsRefusal table answer → nth (answer_fields tables answer ++ tail) 0 ≡ codes "refused"
+  refused_first table (Newer c) h = refl
+  refused_first table (OpenBy writer) h = refl
+  refused_first table (Undeclared other) h = refl
+  refused_first table answer h = absurd h
+
+  refusal_same : (table : TableId) (answer : Answer) → FitsRefusal table answer → answer ≡ emptied answer
+  refusal_same table (Newer c) h = refl
+  refusal_same table (OpenBy writer) h = refl
+  refusal_same table (Undeclared other) h = refl
+  refusal_same table answer h = absurd h
+
+  refusal_read : (table : TableId) (answer : Answer) → Answers answer → FitsRefusal table answer → refusal_guess table fields i ≡ answer
+  refusal_read table (Newer c) are h = rw (are.later 1) (ap Newer (number_read fields (i + 2) c h (are.later 2)))
+  refusal_read table (OpenBy writer) are h = rw (are.later 1) (same_writer _ _ writer (session_read fields (i + 2) writer.session h.0 (are.later 2)) (number_read fields (i + 3) writer.transaction h.1 (are.later 3)))
+  refusal_read table (Undeclared other) are h = rw (are.later 1) (undeclared table other h)
+  refusal_read table answer are h = absurd h
+
+  begin_read : (scope : Scope) (answer : Answer) → Answers answer → FitsBegin answer → answer_guess tables (Begin scope) fields i ≡ Some (emptied answer)
+  begin_read scope (Begun s) are h = ap (λ n. Some (Begun n)) (number_read fields (i + 1) s h (are.later 1))
+  begin_read scope answer are h = absurd h
+
+  row_field : (row : List ℤ) → Answers (Found row) → (k : ℕ) → k < length row → nth fields ((i + 1) + k) ≡ get_or (map signed_decimal row) k []
+  row_field row are k h =
+      let at : (i + 1) + k ≡ i + suc k = omega arith in
+      ap (nth fields) at ∙ are.later (suc k) ∙ get-or-front (map signed_decimal row) tail k (rw length_texts h)
+
+  get_read : (table : TableId) (answer : Answer) → Answers answer → IsNarrow (columns_of tables table) → FitsGet tables table answer → get_guess tables table fields i ≡ Some (emptied answer)
+  get_read table (Found row) are narrow h = rw are.first (ap (λ o. option_map Found o) (row_read fields (i + 1) row h.1 (row_field row are) (columns_of tables table) h.0 narrow.some narrow.most))
+  get_read table Nothing are narrow h = rw are.first refl
+  get_read table (Undeclared other) are narrow h = rw are.first (ap Some (undeclared table other h))
+  get_read table answer are narrow h = absurd h
+
+  put_refused : (table : TableId) (answer : Answer) → Answers answer → FitsRefusal table answer → put_guess table fields i ≡ emptied answer
+  put_refused table answer are h = rw (are.first ∙ refused_first table answer h) (refusal_read table answer are h ∙ refusal_same table answer h)
+
+  put_read : (table : TableId) (answer : Answer) → Answers answer → FitsPut table answer → put_guess table fields i ≡ emptied answer
+  put_read table Stored are h = rw are.first refl
+  put_read table answer are h = put_refused table answer are h
+
+  del_refused : (table : TableId) (answer : Answer) → Answers answer → FitsRefusal table answer → del_guess table fields i ≡ emptied answer
+  del_refused table answer are h = rw (are.first ∙ refused_first table answer h) (refusal_read table answer are h ∙ refusal_same table answer h)
+
+  del_read : (table : TableId) (answer : Answer) → Answers answer → FitsDel table answer → del_guess table fields i ≡ emptied answer
+  del_read table Gone are h = rw are.first refl
+  del_read table Nothing are h = rw are.first refl
+  del_read table answer are h = del_refused table answer are h
+
+  scan_read : (table : TableId) (answer : Answer) → Answers answer → FitsScan tables table answer → scan_guess table fields i ≡ emptied answer
+  scan_read table (Rows rows) are h = rw are.first refl
+  scan_read table (Undeclared other) are h = rw are.first (undeclared table other h)
+  scan_read table answer are h = absurd h
+
+  commit_read : (answer : Answer) → Answers answer → FitsCommit answer → commit_guess fields i ≡ emptied answer
+  commit_read (Committed c) are h = rw are.first (ap Committed (number_read fields (i + 1) c h (are.later 1)))
+  commit_read Ended are h = rw are.first refl
+  commit_read answer are h = absurd h
+
+  rollback_read : (answer : Answer) → FitsRollback answer → Undone ≡ emptied answer
+  rollback_read Undone h = refl
+  rollback_read answer h = absurd h
+
+  gc_read : (answer : Answer) → Answers answer → FitsGc answer → gc_guess fields i ≡ emptied answer
+  gc_read Beside are h = rw are.first refl
+  gc_read (Swept sweep) are h = rw are.first (ap Swept (sweep_read sweep are h))
+  gc_read answer are h = absurd h
+
+  pub answer_read : (statement : Statement) (answer : Answer) → Answers answer → HasColumns tables statement → FitsAnswer tables statement answer → answer_guess tables statement fields i ≡ Some (emptied answer)
+  answer_read (Begin scope) answer are narrow h = begin_read scope answer are h
+  answer_read (Get r) answer are narrow h = get_read r.table answer are narrow h
+  answer_read (Put r row) answer are narrow h = ap Some (put_read r.table answer are h)
+  answer_read (Del r) answer are narrow h = ap Some (del_read r.table answer are h)
+  answer_read (Scan table low high) answer are narrow h = ap Some (scan_read table answer are h)
+  answer_read CommitIt answer are narrow h = ap Some (commit_read answer are h)
+  answer_read Rollback answer are narrow h = ap Some (rollback_read answer h)
+  answer_read (Gc kind) answer are narrow h = ap Some (gc_read answer are h)
+
+-- the commit number behind a stored write
+pub number_behind : (tables : List Declaration) (fields : List Field) (i : ℕ) (answer : Answer) (number : Option ℕ) → Answers tables fields i (told_as (codes "committed") number) answer → IfSome number (λ c. Fits64 c × IsTrue (is_write answer))
+    → number_guess answer fields i ≡ number
+number_behind tables fields i Stored None are h = rw (are.later 1) refl
+number_behind tables fields i Stored (Some c) are h = rw (are.later 1) (ap Some (number_read fields (i + 2) c h.0 (are.later 2)))
+number_behind tables fields i Gone None are h = rw (are.later 1) refl
+number_behind tables fields i Gone (Some c) are h = rw (are.later 1) (ap Some (number_read fields (i + 2) c h.0 (are.later 2)))
+number_behind tables fields i answer None are h = refl
+number_behind tables fields i answer (Some c) are h = absurd (false≢true h.1)

@@ -1,0 +1,16 @@
+pub mod Walks
+pub mod RecordBytes
+pub mod ValuesIn
+pub mod Places
+pub mod Fitting
+pub mod Stands
+pub mod ReadBack
+pub mod Columns
+pub mod Heads
+pub mod Running
+pub mod Following
+pub mod Taking
+pub mod Looping
+pub mod Marked
+pub mod Answering
+pub mod Shorter

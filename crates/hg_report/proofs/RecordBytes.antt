@@ -1,0 +1,68 @@
+-- The bytes of a record are those of its first field, of the others, and a line feed.
+use Rattle.std.proofs.Common.{◌≡◌, ◌<◌, ◌+◌, length, take, get_or, ◌∙◌, ℕ, ℤ, map, List, [], ◌∷◌, ◌++◌, ◌==◌, inl, inr, refl, sym, ap, append_assoc}
+use Rattle.std.proofs.lemmas.Bool.{cases_Bool}
+use Rattle.std.proofs.lemmas.List.{take_more, map-append, append-nil}
+use Rattle.std.proofs.lemmas.List.Concat.{flat_map-append}
+use Rattle.std.specs.Fmt.{signed_decimal}
+use Rattle.std.specs.List.{flat_map}
+use Rattle.csv.specs.Writing.{escaped, fields_text, is_blank, row_text, default_writer, field_text}
+use Rattle.hg_base.specs.Text.{Field}
+use Rattle.hg_report.specs.Bytes.{flexible_writer, record_bytes, field_bytes, further_bytes}
+
+-- one more byte
+pub escaped-more : (field : Field) (b : ℕ) → escaped flexible_writer (field ++ b ∷ []) ≡ escaped flexible_writer field ++ escaped flexible_writer (b ∷ [])
+unfolding escaped
+escaped-more [] b = refl
+escaped-more (c ∷ cs) b = elim (cases_Bool (c == 34)) [
+  | inl same ↦ rw (same, escaped-more cs b) refl
+  | inr other ↦ rw (other, escaped-more cs b) refl
+]
+
+fields-are : (fields : List Field) → fields_text flexible_writer fields ≡ flat_map further_bytes fields
+unfolding fields_text further_bytes
+fields-are [] = refl
+fields-are (f ∷ fs) = rw (fields-are fs) refl
+
+-- a record of two fields or more
+pub record_is : (x y : Field) (more : List Field) → record_bytes (x ∷ y ∷ more) ≡ (field_bytes x ++ flat_map further_bytes (y ∷ more)) ++ 10 ∷ []
+unfolding is_blank record_bytes field_bytes
+record_is x y more = ap (λ bytes. (field_bytes x ++ bytes) ++ 10 ∷ []) (fields-are (y ∷ more))
+
+-- a record that is begun, goes on and is ended
+pub ended : (old begun full now : List ℕ) (x y : Field) (more : List Field) → begun ≡ old ++ (field_bytes x ++ further_bytes y) → full ≡ begun ++ flat_map further_bytes more → now ≡ full ++ 10 ∷ []
+    → now ≡ old ++ record_bytes (x ∷ y ∷ more)
+ended old begun full now x y more e f g = rw (record_is, g, f, e) (simp append_assoc)
+
+-- one more value
+pub values_more : (old front now : List ℕ) (row : List ℤ) (i : ℕ) (d : ℤ) → i < length row → front ≡ old ++ flat_map further_bytes (map signed_decimal (take i row)) → now ≡ front ++ further_bytes (signed_decimal (get_or row i d))
+    → now ≡ old ++ flat_map further_bytes (map signed_decimal (take (i + 1) row))
+values_more old front now row i d h e f = rw (f, e, take_more row i d h, map-append, flat_map-append) (simp (append_assoc, append-nil))
+
+-- whether lengths may differ changes no text
+escaped-same : (field : Field) → escaped flexible_writer field ≡ escaped default_writer field
+unfolding escaped
+escaped-same [] = refl
+escaped-same (b ∷ rest) = rw (escaped-same rest) refl
+
+field-same : (field : Field) → field_text flexible_writer field ≡ field_text default_writer field
+field-same field = rw (escaped-same field) refl
+
+fields-same : (fields : List Field) → fields_text flexible_writer fields ≡ fields_text default_writer fields
+unfolding fields_text
+fields-same [] = refl
+fields-same (f ∷ fs) = rw (fields-same fs, escaped-same f) refl
+
+pub record-same : (x y : Field) (more : List Field) → record_bytes (x ∷ y ∷ more) ≡ row_text default_writer (x ∷ y ∷ more)
+unfolding is_blank record_bytes
+record-same x y more = rw (fields-same (y ∷ more), escaped-same x) refl
+
+pub escaped_more_of : (old front now field : List ℕ) (i : ℕ) → i < length field → front ≡ old ++ escaped flexible_writer (take i field) → now ≡ front ++ escaped flexible_writer (get_or field i 0 ∷ [])
+    → now ≡ old ++ escaped flexible_writer (take (i + 1) field)
+escaped_more_of old front now field i h e f =
+    let up = ap (escaped flexible_writer) (take_more field i 0 h) ∙ escaped-more (take i field) (get_or field i 0) in
+    f ∙ ap (λ (bytes : List ℕ). bytes ++ escaped flexible_writer (get_or field i 0 ∷ [])) e ∙ append_assoc old (escaped flexible_writer (take i field)) (escaped flexible_writer (get_or field i 0 ∷ []))
+    ∙ ap (λ (bytes : List ℕ). old ++ bytes) (sym up)
+
+pub escaped_none : escaped flexible_writer [] ≡ []
+unfolding escaped
+escaped_none = refl

@@ -1,0 +1,333 @@
+-- The records of a text that fits are taken one by one, and give what was printed.
+use Rattle.std.proofs.Common.{◌≡◌, ◌<◌, ◌+◌, ◌-◌, ◌∙◌, ℕ, suc, ℤ, List, [], ◌∷◌, ◌++◌, length, map, get_or, Bool, true, false, ◌==◌, ◌&&◌, Option, Some, None, nat_lt, refl, sym, ap, subst, append_assoc, inl, inr, arith}
+use Rattle.std.specs.Prelude.{IsTrue, IfSome, MatchOption, codes, decimal, is_some, is_none, option_map, option_and_then, bytes_eq, if◌then◌else◌}
+use Rattle.std.specs.List.{flat_map}
+use Rattle.std.specs.Fmt.{signed_decimal}
+use Rattle.std.proofs.lemmas.Bool.{false≢true, cond-false, cond-true, MatchBool-at_true, MatchBool-at_false, eqb-true, lt-ltb, cases_Bool}
+use Rattle.std.proofs.lemmas.Bool.Decides.{nat_tests}
+use Rattle.std.proofs.lemmas.List.{append-nil}
+use Rattle.hg_base.specs.declared.rid.TableId.{TableId}
+use Rattle.hg_base.specs.declared.statement.Statement.{Statement}
+use Rattle.hg_base.specs.declared.statement.Statement.TheVariants.{Scan, Gc}
+use Rattle.hg_base.specs.declared.report.Told.{Told}
+use Rattle.hg_base.specs.declared.report.Sweep.{Sweep}
+use Rattle.hg_base.specs.declared.line.Answer.{Answer}
+use Rattle.hg_base.specs.declared.line.Answer.TheVariants.{Rows, Swept}
+use Rattle.hg_base.specs.declared.line.Line.{Line}
+use Rattle.hg_base.specs.declared.line.Totals.{Totals}
+use Rattle.hg_base.specs.declared.line.Printed.{Printed}
+use Rattle.hg_base.specs.Lists.{Each}
+use Rattle.hg_base.specs.Script.{Declaration, Script}
+use Rattle.hg_base.specs.Transcript.{table_of}
+use Rattle.hg_base.specs.Text.{Field, Fits64, Fits32, Fits, FitsRow, FitTotals, IsFit, FitsAnswer, FitsReply, FitsReport, FitsSweep, asked, columns_of, answer_fields, held_fields, row_fields, told_as, line_records, total_fields, totals_records, text_records, is_write}
+use Rattle.hg_base.proofs.TextNumbers.{number_is_no_word}
+use Rattle.hg_base.proofs.TextReplies.{answer_begins, behind_at}
+use Rattle.hg_script.specs.Lawful.{IsLawful}
+use Rattle.hg_report.specs.declared.piece.Piece.{Piece}
+use Rattle.hg_report.specs.declared.piece.Piece.TheVariants as piece
+use Rattle.hg_report.specs.declared.progress.Open.{Open}
+use Rattle.hg_report.specs.declared.progress.Open.TheVariants as opens
+use Rattle.hg_report.specs.declared.progress.Progress.{Progress}
+use Rattle.hg_report.specs.Fields.{says, number_in, session_in}
+use Rattle.hg_report.specs.Guess.{behind, total_word, answer_place, answered_guess, at_guess, first_guess, head_guess, reply_guess, piece_of, statement_at, sweep_guess, table_columns}
+use Rattle.hg_report.specs.Progress.{guess_after, sweep_line, lines_of, no_totals, totals_of, with_total, after, at_start, IsNext, Runs}
+use Rattle.hg_report.proofs.Fitting.{IsFree, IsShort, FitsKey, FitsTold}
+use Rattle.hg_report.proofs.Stands.{row_records}
+use Rattle.hg_report.proofs.ReadBack.{number_read, session_read, row_read}
+use Rattle.hg_report.proofs.Columns.{HasColumns, IsNarrow, columns_fit}
+use Rattle.hg_report.proofs.Heads.{Answers, emptied, answer_read, sweep_read, number_behind}
+
+-- ---- one step, and then others
+
+pub runs_append : (script : Script) (a b c : Progress) (xs ys : List (List Field)) → Runs script a xs b → Runs script b ys c → Runs script a (xs ++ ys) c
+runs_append script a b c [] ys h k = subst (λ (p : Progress). Runs script p ys c) h k
+runs_append script a b c (x ∷ xs) ys (next, is, more) k = (next, is, runs_append script (after a next) b c xs ys more k)
+
+one : (script : Script) (a : Progress) (fields : List Field) (next : Piece) → IsNext script a fields next → Runs script a (fields ∷ []) (after a next)
+one script a fields next h = (next, h, refl)
+
+-- a record that is no held snapshot's is the first of a line or of the totals
+free_guess : (script : Script) (state : Open) (fields : List Field) → IsFree state → says fields 2 (codes "held") ≡ false → guess_after script state fields ≡ first_guess script fields
+free_guess script opens.Nothing fields free h = refl
+free_guess script (opens.Scan session place at columns left rows) fields free h = let none : nat_lt 0 left ≡ false = grind (arith, nat_tests, free) in rw none refl
+free_guess script (opens.Sweep session place sweep) fields free h = rw h refl
+free_guess script (opens.Totals told totals) fields free h = absurd free
+
+free_totals : (state : Open) → IsFree state → totals_of state ≡ no_totals
+free_totals opens.Nothing free = refl
+free_totals (opens.Scan session place at columns left rows) free = refl
+free_totals (opens.Sweep session place sweep) free = refl
+free_totals (opens.Totals told totals) free = absurd free
+
+-- ---- the totals
+
+abbrev record_of : ℕ → ℕ → ℕ → ℕ → ℕ → ℕ → Totals
+record_of made undone group table interval left = record { made = made; undone = undone; group = group; table = table; interval = interval; left = left }
+
+row_fields_at : (s p w k : Field) (rest : List Field) (i : ℕ) → get_or (s ∷ p ∷ w ∷ k ∷ rest) (4 + i) [] ≡ get_or rest i []
+row_fields_at s p w k rest i = let at : 4 + i ≡ suc (suc (suc (suc i))) = omega arith in ap (λ n. get_or (s ∷ p ∷ w ∷ k ∷ rest) n []) at
+
+two_fields_at : (s p : Field) (rest : List Field) (i : ℕ) → get_or (s ∷ p ∷ rest) (2 + i) [] ≡ get_or rest i []
+two_fields_at s p rest i = let at : 2 + i ≡ suc (suc i) = omega arith in ap (λ n. get_or (s ∷ p ∷ rest) n []) at
+
+and_none : (b : Bool) → (b && false) ≡ false
+and_none true = refl
+and_none false = refl
+
+-- the first record of a scan's rows has no number behind it
+scan_head : (session place left : ℕ) (at : Option ℕ) → behind session place (told_as (codes "at") at ++ codes "rows" ∷ decimal left ∷ []) ≡ behind session place ((told_as (codes "at") at ++ codes "rows" ∷ decimal left ∷ []) ++ [])
+scan_head session place left None = refl
+scan_head session place left (Some s) = refl
+
+record ScanFacts (columns : ℕ) (rows : List (ℕ × List ℤ)) : Type 0 where
+  narrow : IsNarrow columns
+  many : Fits64 (length rows)
+  each : Each (FitsKey columns) rows
+
+keys_fit : (tables : List Declaration) (table : TableId) (rows : List (ℕ × List ℤ)) → Each (λ p. Fits64 p.0 × FitsRow tables table p.1) rows → Each (FitsKey (columns_of tables table)) rows
+keys_fit tables table [] h = tt
+keys_fit tables table (p ∷ ps) h = ((h.0.0, h.0.1.0, h.0.1.1), keys_fit tables table ps h.1)
+
+scan_facts : (tables : List Declaration) (statement : Statement) (rows : List (ℕ × List ℤ)) → FitsAnswer tables statement (Rows rows) → HasColumns tables statement → ScanFacts (table_columns tables statement) rows
+scan_facts tables (Scan table low high) rows h narrow = record { narrow = narrow; many = h.0; each = keys_fit tables table rows h.1 }
+scan_facts tables statement rows h narrow = absurd h
+
+sweep_facts : (tables : List Declaration) (statement : Statement) (sweep : Sweep) → FitsAnswer tables statement (Swept sweep) → FitsSweep sweep × (table_of statement ≡ None)
+sweep_facts tables (Gc kind) sweep h = (h, refl)
+sweep_facts tables statement sweep h = absurd h
+
+moved_read : (moved : Bool) → bytes_eq (if moved then codes "moved" else codes "unmoved") (codes "moved") ≡ moved
+moved_read true = refl
+moved_read false = refl
+
+abbrev make_told : ℕ → ℕ → Bool → Told
+make_told session number moved = record { session = session; number = number; moved = moved }
+
+same_told : (s s' n n' : ℕ) (m m' : Bool) → s ≡ s' → n ≡ n' → m ≡ m' → make_told s n m ≡ make_told s' n' m'
+same_told s s' n n' m m' a b c = ap (λ x. make_told x n m) a ∙ ap (λ x. make_told s' x m) b ∙ ap (λ x. make_told s' n' x) c
+
+module _ (script : Script) where
+  abbrev telling : List Line → ℕ → Totals → Progress
+  telling lines told totals = record { lines = lines; last = opens.Totals told totals }
+
+  total_step : (lines : List Line) (told number : ℕ) (t : Totals) (rest : List (List Field)) (end : Progress) → told < 6 → Fits64 number
+      → Runs script (telling lines (told + 1) (with_total told number t)) rest end → Runs script (telling lines told t) (total_fields (total_word told) number ∷ rest) end
+  total_step lines told number t rest end h k runs =
+      let fields = total_fields (total_word told) number in
+      let guess : guess_after script (opens.Totals told t) fields ≡ Some (piece.Total told number) =
+      rw (lt-ltb told 6 h) (ap (λ n. Some (piece.Total told n)) (number_read fields 2 number k refl)) in
+      (piece.Total told number, record { guess = guess; is = refl }, subst (λ (lines : List Line). Runs script (telling lines (told + 1) (with_total told number t)) rest end) (sym (append-nil lines)) runs)
+
+  total_first : (progress : Progress) (number : ℕ) (rest : List (List Field)) (end : Progress) → IsFree progress.last → Fits64 number
+      → Runs script (telling (lines_of progress) 1 (with_total 0 number no_totals)) rest end → Runs script progress (total_fields (codes "made") number ∷ rest) end
+  total_first progress number rest end free k runs =
+      let fields = total_fields (codes "made") number in
+      let guess : guess_after script progress.last fields ≡ Some (piece.Total 0 number) =
+      free_guess script progress.last fields free (number_is_no_word number 104 _ k (omega arith)) ∙ ap (λ n. Some (piece.Total 0 n)) (number_read fields 2 number k refl) in
+      (piece.Total 0 number, record { guess = guess; is = refl }, subst (λ (t : Totals). Runs script (telling (lines_of progress) 1 (with_total 0 number t)) rest end) (sym (free_totals progress.last free)) runs)
+
+  totals_run : (progress : Progress) (t : Totals) → IsFree progress.last → FitTotals t → Runs script progress (totals_records t) (telling (lines_of progress) 6 t)
+  totals_run progress t free h =
+      let lines = lines_of progress in
+      let end = telling lines 6 t in
+      let some = λ (made undone group table interval left : ℕ). record_of made undone group table interval left in
+      let r5 = total_step lines 5 t.left (some t.made t.undone t.group t.table t.interval 0) [] end (omega arith) h.left refl in
+      let r4 = total_step lines 4 t.interval (some t.made t.undone t.group t.table 0 0) (total_fields (codes "left") t.left ∷ []) end (omega arith) h.interval r5 in
+      let r3 = total_step lines 3 t.table (some t.made t.undone t.group 0 0 0) (total_fields (codes "interval") t.interval ∷ total_fields (codes "left") t.left ∷ []) end (omega arith) h.table r4 in
+      let r2 = total_step lines 2 t.group (some t.made t.undone 0 0 0 0) (total_fields (codes "table") t.table ∷ total_fields (codes "interval") t.interval ∷ total_fields (codes "left") t.left ∷ []) end (omega arith) h.group r3 in
+      let r1 = total_step lines 1 t.undone (some t.made 0 0 0 0 0) (total_fields (codes "group") t.group ∷ total_fields (codes "table") t.table ∷ total_fields (codes "interval") t.interval ∷ total_fields (codes "left") t.left ∷ []) end (omega arith) h.undone r2 in
+      total_first progress t.made (total_fields (codes "undone") t.undone ∷ total_fields (codes "group") t.group ∷ total_fields (codes "table") t.table ∷ total_fields (codes "interval") t.interval ∷ total_fields (codes "left") t.left ∷ []) end free h.made r1
+
+  -- ---- rows and held snapshots
+
+  abbrev scanning : List Line → ℕ → ℕ → Option ℕ → ℕ → ℕ → List (ℕ × List ℤ) → Progress
+  scanning lines session place at columns left rows = record { lines = lines; last = opens.Scan session place at columns left rows }
+
+  rows_run : (lines : List Line) (session place : ℕ) (at : Option ℕ) (columns : ℕ) (done rows : List (ℕ × List ℤ)) → IsNarrow columns → Each (FitsKey columns) rows
+      → Runs script (scanning lines session place at columns (length rows) done) (row_records session place rows) (scanning lines session place at columns 0 (done ++ rows))
+  rows_run lines session place at columns done [] narrow h = ap (scanning lines session place at columns 0) (append-nil done)
+  rows_run lines session place at columns done (p ∷ ps) narrow h =
+      let fields = behind session place (row_fields p) in
+      let state = opens.Scan session place at columns (length (p ∷ ps)) done in
+      let key : number_in fields 3 ≡ p.0 = number_read fields 3 p.0 h.0.0 refl in
+      let values = row_read fields 4 p.1 h.0.2 (λ k lt. row_fields_at _ _ _ _ (map signed_decimal p.1) k) columns h.0.1 narrow.some narrow.most in
+      let guess : guess_after script state fields ≡ Some (piece.Row session place p.0 p.1) =
+      rw (lt-ltb 0 (length (p ∷ ps)) (omega arith)) (ap (λ o. option_map (λ row. piece.Row session place (number_in fields 3) row) o) values ∙ ap (λ k. Some (piece.Row session place k p.1)) key) in
+      let count : length (p ∷ ps) - 1 ≡ length ps = omega arith in
+      let rest = rows_run lines session place at columns (done ++ p ∷ []) ps narrow h.1 in (
+        piece.Row session place p.0 p.1,
+        record { guess = guess; is = refl },
+        subst (λ (n : ℕ). Runs script (scanning lines session place at columns n (done ++ p ∷ [])) (row_records session place ps) (scanning lines session place at columns 0 (done ++ p ∷ ps))) (sym count)
+            (subst (λ (rows : List (ℕ × List ℤ)). Runs script (scanning lines session place at columns (length ps) (done ++ p ∷ [])) (row_records session place ps) (scanning lines session place at columns 0 rows)) (append_assoc done (p ∷ []) ps) rest),
+      )
+
+  abbrev reporting : List Line → ℕ → ℕ → Sweep → List Told → Progress
+  reporting lines session place sweep held = record { lines = lines; last = opens.Sweep session place (record sweep { held = held }) }
+
+  held_run : (lines : List Line) (session place : ℕ) (sweep : Sweep) (done held : List Told) → Each FitsTold held
+      → Runs script (reporting lines session place sweep done) (map (behind session place) (map held_fields held)) (reporting lines session place sweep (done ++ held))
+  held_run lines session place sweep done [] h = ap (reporting lines session place sweep) (append-nil done)
+  held_run lines session place sweep done (told ∷ others) h =
+      let fields = behind session place (held_fields told) in
+      let told_same = same_told (session_in fields 3) told.session (number_in fields 4) told.number (says fields 5 (codes "moved")) told.moved (session_read fields 3 told.session h.0.0 refl) (number_read fields 4 told.number h.0.1 refl) (moved_read told.moved) in
+      let guess : guess_after script (opens.Sweep session place (record sweep { held = done })) fields ≡ Some (piece.Held session place told) = ap (λ t. Some (piece.Held session place t)) told_same in
+      let rest = held_run lines session place sweep (done ++ told ∷ []) others h.1 in (
+        piece.Held session place told,
+        record { guess = guess; is = refl },
+        subst (λ (held : List Told). Runs script (reporting lines session place sweep (done ++ told ∷ [])) (map (behind session place) (map held_fields others)) (reporting lines session place sweep held)) (append_assoc done (told ∷ []) others) rest,
+      )
+
+  -- ---- a line
+
+  record LineRuns (progress : Progress) (line : Line) : Type 0 where
+    end : Progress
+    runs : Runs script progress (line_records script.tables line) end
+    free : IsFree end.last
+    lines : lines_of end ≡ lines_of progress ++ line ∷ []
+
+  abbrev head_fields : Line → List Field
+  head_fields line = behind line.session line.place (told_as (codes "at") line.reply.at ++ answer_fields script.tables line.reply.answer ++ told_as (codes "committed") line.reply.number)
+
+  head_guess_of : (progress : Progress) (line : Line) → IsFree progress.last → Fits32 line.session → guess_after script progress.last (head_fields line) ≡ head_guess script (head_fields line)
+  head_guess_of progress line free h =
+      let tail = told_as (codes "committed") line.reply.number in
+      let no_held = behind_at (decimal line.session) (decimal line.place) (answer_fields script.tables line.reply.answer) tail line.reply.at (answer_begins script.tables line.reply.answer tail).1 in
+      let no_total : says (head_fields line) 0 (codes "total") ≡ false = number_is_no_word line.session 116 _ (omega (arith, h)) (omega arith) in
+      free_guess script progress.last (head_fields line) free no_held ∙ cond-false _ _ _ no_total
+
+  -- a report
+  sweep_runs : (progress : Progress) (session place : ℕ) (sweep : Sweep) → guess_after script progress.last (head_fields (sweep_line session place sweep)) ≡ Some (piece.Sweep session place (record sweep { held = [] })) → FitsSweep sweep
+      → LineRuns progress (sweep_line session place sweep)
+  sweep_runs progress session place sweep guess h = record {
+    end = reporting (lines_of progress) session place sweep sweep.held;
+    runs = (piece.Sweep session place (record sweep { held = [] }), record { guess = guess; is = refl }, held_run (lines_of progress) session place sweep [] sweep.held h.3);
+    free = tt;
+    lines = refl;
+  }
+
+  report_runs : (progress : Progress) (session place : ℕ) (at : Option ℕ) (answer : Answer) (number : Option ℕ) → IsFree progress.last → (session == 0) ≡ true → Fits64 place
+      → IsTrue (is_none at) → FitsReport answer → IsTrue (is_none number) → LineRuns progress (record { session = session; place = place; reply = record { at = at; answer = answer; number = number } })
+  report_runs progress session place (Some s) answer number free zeroth wide a h n = absurd (false≢true a)
+  report_runs progress session place None answer (Some c) free zeroth wide a h n = absurd (false≢true n)
+  report_runs progress session place None (Swept sweep) None free zeroth wide a h n =
+      let fields = head_fields (sweep_line session place sweep) in
+      let none : session ≡ 0 = eqb-true session 0 zeroth in
+      let small : Fits32 session = omega (arith, none) in
+      let read : session_in fields 0 ≡ 0 = session_read fields 0 session small refl ∙ none in
+      let are : Answers script.tables fields 2 [] (Swept sweep) = record { first = refl; later = two_fields_at (decimal session) (decimal place) (answer_fields script.tables (Swept sweep)) } in
+      let guess : guess_after script progress.last fields ≡ Some (piece.Sweep session place (record sweep { held = [] })) =
+      head_guess_of progress (sweep_line session place sweep) free small
+      ∙ cond-true (session_in fields 0 == 0) _ _ (ap (λ s. s == 0) read)
+      ∙ ap (λ s. Some (piece.Sweep s (number_in fields 1) (sweep_guess fields 2))) (sym none)
+      ∙ ap (λ p. Some (piece.Sweep session p (sweep_guess fields 2))) (number_read fields 1 place wide refl)
+      ∙ ap (λ sweep. Some (piece.Sweep session place sweep)) (sweep_read script.tables fields 2 [] sweep are h) in
+      sweep_runs progress session place sweep guess h
+  report_runs progress session place None answer None free zeroth wide a h n = absurd h
+
+  module _ (progress : Progress) (free : IsFree progress.last) (session place : ℕ) (small : Fits32 session) (wide : Fits64 place) (some : (session == 0) ≡ false) (statement : Statement) (is : statement_at script.records session place ≡ Some statement) (narrow : HasColumns script.tables statement) where
+    abbrev line_of : Option ℕ → Answer → Option ℕ → Line
+    line_of at answer number = record { session = session; place = place; reply = record { at = at; answer = answer; number = number } }
+
+    abbrev IsAt : Option ℕ → Type 0
+    IsAt at = IfSome at (λ s. Fits64 s × IsTrue (is_some (table_of statement)))
+
+    at_read : (at : Option ℕ) (answer : Answer) (number : Option ℕ) → IsAt at → at_guess statement (head_fields (line_of at answer number)) ≡ at
+    at_read None answer number h =
+        let none = (answer_begins script.tables answer (told_as (codes "committed") number)).0 in
+        cond-false _ _ _ (ap (λ b. is_some (table_of statement) && b) none ∙ and_none (is_some (table_of statement)))
+    at_read (Some s) answer number h =
+        let fields = head_fields (line_of (Some s) answer number) in
+        cond-true (is_some (table_of statement) && true) _ _ (ap (λ b. b && true) h.1) ∙ ap Some (number_read fields 3 s h.0 refl)
+
+    answer_from : (at : Option ℕ) (answer : Answer) (number : Option ℕ) → Answers script.tables (head_fields (line_of at answer number)) (answer_place at) (told_as (codes "committed") number) answer
+    answer_from None answer number = record { first = refl; later = two_fields_at (decimal session) (decimal place) (answer_fields script.tables answer ++ told_as (codes "committed") number) }
+    answer_from (Some s) answer number = record { first = refl; later = row_fields_at (decimal session) (decimal place) (codes "at") (decimal s) (answer_fields script.tables answer ++ told_as (codes "committed") number) }
+
+    replied : (at : Option ℕ) (answer : Answer) (number : Option ℕ) → IsAt at → FitsAnswer script.tables statement answer
+        → guess_after script progress.last (head_fields (line_of at answer number)) ≡ Some (piece_of script.tables statement session place at (head_fields (line_of at answer number)) (answer_place at) (emptied answer))
+    replied at answer number h k =
+        let line = line_of at answer number in
+        let fields = head_fields line in
+        head_guess_of progress line free small
+        ∙ ap (λ s. if s == 0 then Some (piece.Sweep 0 (number_in fields 1) (sweep_guess fields 2)) else reply_guess script s (number_in fields 1) fields) (session_read fields 0 session small refl)
+        ∙ cond-false (session == 0) _ _ some
+        ∙ ap (λ p. reply_guess script session p fields) (number_read fields 1 place wide refl)
+        ∙ ap (λ o. option_and_then (λ statement. answered_guess script.tables statement session place (at_guess statement fields) fields) o) is
+        ∙ ap (λ at. answered_guess script.tables statement session place at fields) (at_read at answer number h)
+        ∙ ap (λ o. option_map (piece_of script.tables statement session place at fields (answer_place at)) o)
+        (answer_read script.tables fields (answer_place at) (told_as (codes "committed") number) statement answer (answer_from at answer number) narrow k)
+
+    scan_line_runs : (at : Option ℕ) (rows : List (ℕ × List ℤ)) → IsAt at → FitsAnswer script.tables statement (Rows rows) → LineRuns progress (line_of at (Rows rows) None)
+    scan_line_runs at rows h k =
+        let fields = head_fields (line_of at (Rows rows) None) in
+        let columns = table_columns script.tables statement in
+        let facts = scan_facts script.tables statement rows k narrow in
+        let count : number_in fields (answer_place at + 1) ≡ length rows = number_read fields (answer_place at + 1) (length rows) facts.many ((answer_from at (Rows rows) None).later 1) in
+        let guess : guess_after script progress.last fields ≡ Some (piece.Scan session place at columns (length rows)) = replied at (Rows rows) None h k ∙ ap (λ n. Some (piece.Scan session place at columns n)) count in
+        record {
+          end = scanning (lines_of progress) session place at columns 0 rows;
+          runs = (piece.Scan session place at columns (length rows), record { guess = guess; is = scan_head session place (length rows) at }, rows_run (lines_of progress) session place at columns [] rows facts.narrow facts.each);
+          free = refl;
+          lines = refl;
+        }
+
+    short_runs : (at : Option ℕ) (answer : Answer) (number : Option ℕ) → IsShort answer → IsAt at → FitsAnswer script.tables statement answer → IfSome number (λ c. Fits64 c × IsTrue (is_write answer)) → LineRuns progress (line_of at answer number)
+    short_runs at (Rows rows) number short h k m = absurd short
+    short_runs at (Swept sweep) number short h k m = absurd short
+    short_runs at answer number short h k m =
+        let line = line_of at answer number in
+        let same = number_behind script.tables (head_fields line) (answer_place at) answer number (answer_from at answer number) m in
+        record {
+          end = record { lines = lines_of progress ++ line ∷ []; last = opens.Nothing };
+          runs = (piece.Line line, record { guess = replied at answer number h k ∙ ap (λ n. Some (piece.Line (line_of at answer n))) same; is = refl }, refl);
+          free = tt;
+          lines = append-nil (lines_of progress ++ line ∷ []);
+        }
+
+    reply_runs : (at : Option ℕ) (answer : Answer) (number : Option ℕ) → IsAt at → FitsAnswer script.tables statement answer → IfSome number (λ c. Fits64 c × IsTrue (is_write answer)) → LineRuns progress (line_of at answer number)
+    reply_runs at (Rows rows) None h k m = scan_line_runs at rows h k
+    reply_runs at (Rows rows) (Some c) h k m = absurd (false≢true m.1)
+    reply_runs None (Swept sweep) None h k m = sweep_runs progress session place sweep (replied None (Swept sweep) None h k) (sweep_facts script.tables statement sweep k).0
+    reply_runs (Some s) (Swept sweep) number h k m = absurd (false≢true (subst (λ (o : Option TableId). IsTrue (is_some o)) (sweep_facts script.tables statement sweep k).1 h.1))
+    reply_runs at (Swept sweep) (Some c) h k m = absurd (false≢true m.1)
+    reply_runs at answer number h k m = short_runs at answer number tt h k m
+
+  asked_runs : (progress : Progress) (line : Line) → IsFree progress.last → Fits32 line.session → Fits64 line.place → (line.session == 0) ≡ false → (o : Option Statement) → asked script.records line ≡ o → IfSome o (HasColumns script.tables)
+      → MatchOption o ⊥ (λ statement. FitsReply script.tables statement line.reply) → LineRuns progress line
+  asked_runs progress line free small wide some None is narrow h = absurd h
+  asked_runs progress line free small wide some (Some statement) is narrow h = reply_runs progress free line.session line.place small wide some statement is narrow line.reply.at line.reply.answer line.reply.number h.at h.answer h.number
+
+  line_runs : IsLawful script → (progress : Progress) (line : Line) → IsFree progress.last → Fits script line → LineRuns progress line
+  line_runs lawful progress line free h = elim (cases_Bool (line.session == 0)) [
+    | inl zeroth ↦
+        let report = MatchBool-at_true _ _ zeroth h.reply in
+        report_runs progress line.session line.place line.reply.at line.reply.answer line.reply.number free zeroth h.place report.at report.answer report.number
+    | inr some ↦
+        asked_runs progress line free h.session h.place some (asked script.records line) refl (columns_fit script line.session line.place lawful) (MatchBool-at_false _ _ some h.reply)
+  ]
+
+  -- ---- all lines, and the totals
+
+  record LinesRun (progress : Progress) (lines : List Line) : Type 0 where
+    end : Progress
+    runs : Runs script progress (flat_map (line_records script.tables) lines) end
+    free : IsFree end.last
+    lines_are : lines_of end ≡ lines_of progress ++ lines
+
+  lines_run : IsLawful script → (progress : Progress) (lines : List Line) → IsFree progress.last → Each (Fits script) lines → LinesRun progress lines
+  lines_run lawful progress [] free h = record { end = progress; runs = refl; free = free; lines_are = sym (append-nil (lines_of progress)) }
+  lines_run lawful progress (line ∷ lines) free h =
+      let one = line_runs lawful progress line free h.0 in
+      let others = lines_run lawful one.end lines one.free h.1 in record {
+        end = others.end;
+        runs = runs_append script progress one.end others.end (line_records script.tables line) (flat_map (line_records script.tables) lines) one.runs others.runs;
+        free = others.free;
+        lines_are = others.lines_are ∙ ap (λ all. all ++ lines) one.lines ∙ append_assoc (lines_of progress) (line ∷ []) lines;
+      }
+
+  pub text_runs : (printed : Printed) → IsLawful script → IsFit script printed → Runs script at_start (text_records script printed) (telling printed.lines 6 printed.totals)
+  text_runs printed lawful h =
+      let all = lines_run lawful at_start printed.lines tt h.lines in
+      let totals = totals_run all.end printed.totals all.free h.totals in
+      let end = subst (λ (lines : List Line). Runs script all.end (totals_records printed.totals) (telling lines 6 printed.totals)) all.lines_are totals in
+      runs_append script at_start all.end (telling printed.lines 6 printed.totals) (flat_map (line_records script.tables) printed.lines) (totals_records printed.totals) all.runs end

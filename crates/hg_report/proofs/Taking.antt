@@ -1,0 +1,42 @@
+-- One record is taken where its bytes are those of the guess.
+use Rattle.std.proofs.Common.{◌≡◌, ◌<◌, ◌∙◌, ℕ, List, ◌++◌, Option, Some, None, sym, ap, subst, arith}
+use Rattle.std.specs.Prelude.{IfSome, ⊤}
+use Rattle.hg_base.specs.Script.{Script}
+use Rattle.hg_base.specs.Text.{Field}
+use Rattle.hg_report.specs.declared.piece.Piece.{Piece}
+use Rattle.hg_report.specs.declared.piece.Piece.TheVariants as piece
+use Rattle.hg_report.specs.declared.progress.Open.{Open}
+use Rattle.hg_report.specs.declared.progress.Progress.{Progress}
+use Rattle.hg_report.specs.Bytes.{record_bytes}
+use Rattle.hg_report.specs.Guess.{piece_fields}
+use Rattle.hg_report.specs.Progress.{guess_after, Takes}
+use Rattle.hg_report.proofs.Fitting.{FitsFirst, FitsNext, comes_first, comes_row, comes_held, comes_total, guess_fits}
+
+same_piece : (a b : Piece) → Some a ≡ Some b → a ≡ b
+same_piece a b e = cc e
+
+pub takes_none : (script : Script) (old new : Progress) (fields : List Field) (bytes text : List ℕ) (guessed : Piece) → Some guessed ≡ guess_after script old.last fields → text ≡ record_bytes (piece_fields script.tables guessed)
+    → ((rest : List ℕ) → bytes ≡ text ++ rest → ⊥) → Takes script old fields bytes new None
+takes_none script old new fields bytes text guessed g w without next is rest e =
+    let same : Some guessed ≡ Some next = g ∙ is.guess in
+    without rest (e ∙ ap (λ (f : List Field). record_bytes f ++ rest) (sym is.is ∙ ap (piece_fields script.tables) (sym (same_piece guessed next same))) ∙ ap (λ (t : List ℕ). t ++ rest) (sym w))
+
+abbrev BelowSix : Piece → Type 0
+BelowSix (piece.Total told number) = told < 6
+BelowSix _ = ⊤
+
+first_below : (script : Script) (next : Piece) → FitsFirst script next → BelowSix next
+first_below script (piece.Total told number) h = omega (arith, h.0)
+first_below script next h = tt
+
+below : (script : Script) (state : Open) (next : Piece) → FitsNext script state next → BelowSix next
+below script _ _ (comes_first state next free h) = first_below script next h
+below script _ _ (comes_row session place at columns left rows key values some h) = tt
+below script _ _ (comes_held session place sweep told h) = tt
+below script _ _ (comes_total told totals number h k) = h
+
+-- at most six totals are told
+pub total_below : (script : Script) (state : Open) (fields : List Field) (next : Piece) → Some next ≡ guess_after script state fields → (told number : ℕ) → next ≡ piece.Total told number → told < 6
+total_below script state fields next g told number e =
+    let fits : FitsNext script state next = subst (λ (o : Option Piece). IfSome o (FitsNext script state)) (sym g) (guess_fits script fields state) in
+    subst BelowSix e (below script state next fits)

@@ -1,0 +1,138 @@
+-- What a record says if it may come next. A guess need not be right: it is, where the record is the one that would be written for it.
+use Rattle.std.specs.Prelude.{ℕ, ◌+◌, List, [], ◌∷◌, ◌++◌, ◌==◌, ◌&&◌, Option, Some, None, find, is_some, option_map, option_and_then, codes, decimal, if◌then◌else◌}
+use Rattle.std.specs.Option.{option_map_or}
+use Rattle.hg_base.specs.declared.rid.TableId.{TableId}
+use Rattle.hg_base.specs.declared.statement.Statement.{Statement}
+use Rattle.hg_base.specs.declared.statement.Statement.TheVariants.{Begin, Get, Put, Del, Scan, Commit as CommitIt, Rollback, Gc}
+use Rattle.hg_base.specs.declared.statement.Record.{Record}
+use Rattle.hg_base.specs.declared.report.Kind.{Kind}
+use Rattle.hg_base.specs.declared.report.Kind.TheVariants as kinds
+use Rattle.hg_base.specs.declared.report.Sweep.{Sweep}
+use Rattle.hg_base.specs.declared.line.Answer.{Answer}
+use Rattle.hg_base.specs.declared.line.Answer.TheVariants.{Begun, Stored, Found, Nothing, Gone, Rows, Committed, Ended, Undone, Newer, OpenBy, Undeclared, Swept, Beside}
+use Rattle.hg_base.specs.Script.{Declaration, Script}
+use Rattle.hg_base.specs.Transcript.{table_of}
+use Rattle.hg_base.specs.Text.{Field, columns_of, answer_fields, held_fields, row_fields, told_as, total_fields, is_write}
+use Rattle.hg_report.specs.declared.piece.Piece.{Piece}
+use Rattle.hg_report.specs.declared.piece.Piece.TheVariants as piece
+use Rattle.hg_report.specs.Fields.{says, number_in, session_in, row_in}
+
+-- ---- a piece of a text is one record
+
+-- behind the session and the place
+abbrev pub behind : ℕ → ℕ → List Field → List Field
+behind session place fields = decimal session ∷ decimal place ∷ fields
+
+-- the word of each of the totals
+abbrev pub total_word : ℕ → Field
+total_word told =
+    if told == 0 then codes "made" else if told == 1 then codes "undone" else if told == 2 then codes "group"
+    else if told == 3 then codes "table" else if told == 4 then codes "interval" else codes "left"
+
+-- the fields of a piece. A line stands here for its first record.
+abbrev pub piece_fields : List Declaration → Piece → List Field
+piece_fields tables (piece.Line line) = behind line.session line.place (told_as (codes "at") line.reply.at ++ answer_fields tables line.reply.answer ++ told_as (codes "committed") line.reply.number)
+piece_fields tables (piece.Scan session place at columns left) = behind session place (told_as (codes "at") at ++ codes "rows" ∷ decimal left ∷ [])
+piece_fields tables (piece.Sweep session place sweep) = behind session place (answer_fields tables (Swept sweep))
+piece_fields tables (piece.Row session place key row) = behind session place (row_fields (key, row))
+piece_fields tables (piece.Held session place told) = behind session place (held_fields told)
+piece_fields tables (piece.Total told number) = total_fields (total_word told) number
+
+-- ---- the guess of an answer, whose first field is field i
+
+abbrev pub kind_guess : List Field → ℕ → Kind
+kind_guess fields i = if says fields i (codes "group") then kinds.Group else if says fields i (codes "table") then kinds.Table else kinds.Interval
+
+-- a report with no held snapshot yet
+abbrev pub sweep_guess : List Field → ℕ → Sweep
+sweep_guess fields i = record { kind = kind_guess fields (i + 1); mark = number_in fields (i + 2); horizon = number_in fields (i + 3); removed = number_in fields (i + 4); held = [] }
+
+abbrev pub refusal_guess : TableId → List Field → ℕ → Answer
+refusal_guess table fields i =
+    if says fields (i + 1) (codes "newer") then Newer (number_in fields (i + 2))
+    else if says fields (i + 1) (codes "open") then OpenBy (record { session = session_in fields (i + 2); transaction = number_in fields (i + 3) })
+    else Undeclared table
+
+-- by the statement; the rows of a scan come later
+abbrev pub get_guess : List Declaration → TableId → List Field → ℕ → Option Answer
+get_guess tables table fields i =
+    if says fields i (codes "row") then option_map Found (row_in fields (i + 1) (columns_of tables table))
+    else if says fields i (codes "none") then Some Nothing else Some (Undeclared table)
+
+abbrev pub put_guess : TableId → List Field → ℕ → Answer
+put_guess table fields i = if says fields i (codes "stored") then Stored else refusal_guess table fields i
+
+abbrev pub del_guess : TableId → List Field → ℕ → Answer
+del_guess table fields i = if says fields i (codes "gone") then Gone else if says fields i (codes "none") then Nothing else refusal_guess table fields i
+
+abbrev pub scan_guess : TableId → List Field → ℕ → Answer
+scan_guess table fields i = if says fields i (codes "rows") then Rows [] else Undeclared table
+
+abbrev pub commit_guess : List Field → ℕ → Answer
+commit_guess fields i = if says fields i (codes "committed") then Committed (number_in fields (i + 1)) else Ended
+
+abbrev pub gc_guess : List Field → ℕ → Answer
+gc_guess fields i = if says fields i (codes "beside") then Beside else Swept (sweep_guess fields i)
+
+abbrev pub answer_guess : List Declaration → Statement → List Field → ℕ → Option Answer
+answer_guess tables (Begin scope) fields i = Some (Begun (number_in fields (i + 1)))
+answer_guess tables (Get r) fields i = get_guess tables r.table fields i
+answer_guess tables (Put r row) fields i = Some (put_guess r.table fields i)
+answer_guess tables (Del r) fields i = Some (del_guess r.table fields i)
+answer_guess tables (Scan table low high) fields i = Some (scan_guess table fields i)
+answer_guess tables CommitIt fields i = Some (commit_guess fields i)
+answer_guess tables Rollback fields i = Some Undone
+answer_guess tables (Gc kind) fields i = Some (gc_guess fields i)
+
+-- ---- the guess of a line's first record
+
+-- the snapshot of a statement on a table
+abbrev pub at_guess : Statement → List Field → Option ℕ
+at_guess statement fields = if is_some (table_of statement) && says fields 2 (codes "at") then Some (number_in fields 3) else None
+
+-- where the answer begins
+abbrev pub answer_place : Option ℕ → ℕ
+answer_place at = if is_some at then 4 else 2
+
+-- the commit number behind a stored write
+abbrev pub number_guess : Answer → List Field → ℕ → Option ℕ
+number_guess answer fields i = if is_write answer && says fields (i + 1) (codes "committed") then Some (number_in fields (i + 2)) else None
+
+abbrev pub table_columns : List Declaration → Statement → ℕ
+table_columns tables statement = option_map_or (λ table. columns_of tables table) (table_of statement) 0
+
+-- the piece that an answer is
+abbrev pub piece_of : List Declaration → Statement → ℕ → ℕ → Option ℕ → List Field → ℕ → Answer → Piece
+piece_of tables statement session place at fields i (Rows rows) = piece.Scan session place at (table_columns tables statement) (number_in fields (i + 1))
+piece_of tables statement session place at fields i (Swept sweep) = piece.Sweep session place sweep
+piece_of tables statement session place at fields i answer =
+    piece.Line (record { session = session; place = place; reply = record { at = at; answer = answer; number = number_guess answer fields i } })
+
+abbrev pub answered_guess : List Declaration → Statement → ℕ → ℕ → Option ℕ → List Field → Option Piece
+answered_guess tables statement session place at fields =
+    option_map (piece_of tables statement session place at fields (answer_place at)) (answer_guess tables statement fields (answer_place at))
+
+-- the statement of that session and place
+abbrev pub statement_at : List Record → ℕ → ℕ → Option Statement
+statement_at records session place = option_map_or (λ r. Some r.statement) (find (λ r. (r.place == place) && (r.session == session)) records) None
+
+abbrev pub reply_guess : Script → ℕ → ℕ → List Field → Option Piece
+reply_guess script session place fields =
+    option_and_then (λ statement. answered_guess script.tables statement session place (at_guess statement fields) fields) (statement_at script.records session place)
+
+-- a report of a run where the session is 0, and else a reply
+abbrev pub head_guess : Script → List Field → Option Piece
+head_guess script fields =
+    if session_in fields 0 == 0 then Some (piece.Sweep 0 (number_in fields 1) (sweep_guess fields 2))
+    else reply_guess script (session_in fields 0) (number_in fields 1) fields
+
+-- the first of the totals, or a line
+abbrev pub first_guess : Script → List Field → Option Piece
+first_guess script fields = if says fields 0 (codes "total") then Some (piece.Total 0 (number_in fields 2)) else head_guess script fields
+
+-- the rows and held snapshots of a line of that session and place
+abbrev pub row_guess : ℕ → ℕ → ℕ → List Field → Option Piece
+row_guess session place columns fields = option_map (λ row. piece.Row session place (number_in fields 3) row) (row_in fields 4 columns)
+
+abbrev pub held_guess : ℕ → ℕ → List Field → Piece
+held_guess session place fields = piece.Held session place (record { session = session_in fields 3; number = number_in fields 4; moved = says fields 5 (codes "moved") })

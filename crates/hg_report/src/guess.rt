@@ -1,0 +1,407 @@
+//! What a record says if it may come next.
+
+ghost use Rattle.std.specs.Prelude.{◌≡◌, ℕ, ◌<◌, ◌≤◌, IfOk, get_or, length, map, option_map};
+ghost use Rattle.csv.specs.Records.{fields_of};
+ghost use Rattle.hg_base.specs.Lists.{Ascends};
+ghost use Rattle.hg_base.specs.declared.statement.Record.{Record};
+ghost use Rattle.hg_base.specs.Text.{columns_of, is_write};
+ghost use Rattle.hg_base.specs.Transcript.{table_of};
+ghost use Rattle.hg_report.specs.Guess.{answer_guess, answer_place, answered_guess, at_guess, commit_guess, del_guess, first_guess, gc_guess, get_guess, head_guess, held_guess, kind_guess, number_guess, piece_of, put_guess, refusal_guess, reply_guess, row_guess, scan_guess, statement_at, sweep_guess, table_columns};
+
+use crate::fields::{number_in, row_in, says, session_in};
+use crate::piece::Piece;
+use csv::ByteRecord;
+use hg_base::{
+    Answer, Kind, Line, NoMemory, Record, Reply, RowList, Statement, Sweep, TableId, Told,
+    ToldList, Writer,
+};
+use hg_script::{Script, Table};
+use std::alloc::Global;
+
+fn columns_of(tables: &[Table], table: TableId) -> u8
+    ensures { result ≡ columns_of tables.now table }
+{
+    match tables.get(table.0 as usize) {
+        Some(table) => table.columns(),
+        None => 0,
+    }
+}
+
+fn kind_guess(row: &ByteRecord, i: usize) -> Kind
+    ensures { result ≡ kind_guess (fields_of row.now) i }
+{
+    if says(row, i, b"group") {
+        Kind::Group
+    } else if says(row, i, b"table") {
+        Kind::Table
+    } else {
+        Kind::Interval
+    }
+}
+
+fn sweep_guess(alloc: Global, row: &ByteRecord, i: usize) -> Sweep
+    requires { i ≤ 4 }
+    ensures { result ≡ sweep_guess (fields_of row.now) i }
+{
+    Sweep {
+        kind: kind_guess(row, i + 1),
+        mark: number_in(row, i + 2),
+        horizon: number_in(row, i + 3),
+        removed: number_in(row, i + 4),
+        held: ToldList::from(Vec::new(alloc)),
+    }
+}
+
+fn refusal_guess(table: TableId, row: &ByteRecord, i: usize) -> Answer
+    requires { i ≤ 4 }
+    ensures { result ≡ refusal_guess table (fields_of row.now) i }
+{
+    if says(row, i + 1, b"newer") {
+        Answer::Newer(number_in(row, i + 2))
+    } else if says(row, i + 1, b"open") {
+        Answer::OpenBy(Writer {
+            session: session_in(row, i + 2),
+            transaction: number_in(row, i + 3),
+        })
+    } else {
+        Answer::Undeclared(table)
+    }
+}
+
+fn get_guess(
+    alloc: Global,
+    tables: &[Table],
+    table: TableId,
+    row: &ByteRecord,
+    i: usize,
+) -> Result<Option<Answer>, NoMemory>
+    requires { i ≤ 4 }
+    ensures { IfOk result (λ o. o ≡ get_guess tables.now table (fields_of row.now) i) }
+{
+    if says(row, i, b"row") {
+        return match row_in(alloc, row, i + 1, columns_of(tables, table))? {
+            Some(values) => Ok(Some(Answer::Found(values))),
+            None => Ok(None),
+        };
+    }
+    if says(row, i, b"none") {
+        return Ok(Some(Answer::Nothing));
+    }
+    Ok(Some(Answer::Undeclared(table)))
+}
+
+fn put_guess(table: TableId, row: &ByteRecord, i: usize) -> Answer
+    requires { i ≤ 4 }
+    ensures { result ≡ put_guess table (fields_of row.now) i }
+{
+    if says(row, i, b"stored") {
+        Answer::Stored
+    } else {
+        refusal_guess(table, row, i)
+    }
+}
+
+fn del_guess(table: TableId, row: &ByteRecord, i: usize) -> Answer
+    requires { i ≤ 4 }
+    ensures { result ≡ del_guess table (fields_of row.now) i }
+{
+    if says(row, i, b"gone") {
+        Answer::Gone
+    } else if says(row, i, b"none") {
+        Answer::Nothing
+    } else {
+        refusal_guess(table, row, i)
+    }
+}
+
+fn scan_guess(alloc: Global, table: TableId, row: &ByteRecord, i: usize) -> Answer
+    ensures { result ≡ scan_guess table (fields_of row.now) i }
+{
+    if says(row, i, b"rows") {
+        Answer::Rows(RowList::from(Vec::new(alloc)))
+    } else {
+        Answer::Undeclared(table)
+    }
+}
+
+fn commit_guess(row: &ByteRecord, i: usize) -> Answer
+    requires { i ≤ 4 }
+    ensures { result ≡ commit_guess (fields_of row.now) i }
+{
+    if says(row, i, b"committed") {
+        Answer::Committed(number_in(row, i + 1))
+    } else {
+        Answer::Ended
+    }
+}
+
+fn gc_guess(alloc: Global, row: &ByteRecord, i: usize) -> Answer
+    requires { i ≤ 4 }
+    ensures { result ≡ gc_guess (fields_of row.now) i }
+{
+    if says(row, i, b"beside") {
+        Answer::Beside
+    } else {
+        Answer::Swept(sweep_guess(alloc, row, i))
+    }
+}
+
+fn answer_guess(
+    alloc: Global,
+    tables: &[Table],
+    statement: &Statement,
+    row: &ByteRecord,
+    i: usize,
+) -> Result<Option<Answer>, NoMemory>
+    requires { i ≤ 4 }
+    ensures { IfOk result (λ o. o ≡ answer_guess tables.now statement.now (fields_of row.now) i) }
+{
+    match statement {
+        Statement::Begin(_) => Ok(Some(Answer::Begun(number_in(row, i + 1)))),
+        Statement::Get(r) => get_guess(alloc, tables, r.table, row, i),
+        Statement::Put(r, _) => Ok(Some(put_guess(r.table, row, i))),
+        Statement::Del(r) => Ok(Some(del_guess(r.table, row, i))),
+        Statement::Scan { table, .. } => Ok(Some(scan_guess(alloc, *table, row, i))),
+        Statement::Commit => Ok(Some(commit_guess(row, i))),
+        Statement::Rollback => Ok(Some(Answer::Undone)),
+        Statement::Gc(_) => Ok(Some(gc_guess(alloc, row, i))),
+    }
+}
+
+fn table_of(statement: &Statement) -> Option<TableId>
+    ensures { result ≡ table_of statement.now }
+{
+    match statement {
+        Statement::Get(r) => Some(r.table),
+        Statement::Put(r, _) => Some(r.table),
+        Statement::Del(r) => Some(r.table),
+        Statement::Scan { table, .. } => Some(*table),
+        _ => None,
+    }
+}
+
+fn at_guess(statement: &Statement, row: &ByteRecord) -> Option<u64>
+    ensures { result ≡ at_guess statement.now (fields_of row.now) }
+{
+    if table_of(statement).is_some() && says(row, 2, b"at") {
+        Some(number_in(row, 3))
+    } else {
+        None
+    }
+}
+
+fn table_columns(tables: &[Table], statement: &Statement) -> u8
+    ensures { result ≡ table_columns tables.now statement.now }
+{
+    match table_of(statement) {
+        Some(table) => columns_of(tables, table),
+        None => 0,
+    }
+}
+
+fn is_write(answer: &Answer) -> bool
+    ensures { result ≡ is_write answer.now }
+{
+    match answer {
+        Answer::Stored => true,
+        Answer::Gone => true,
+        _ => false,
+    }
+}
+
+fn number_guess(answer: &Answer, row: &ByteRecord, i: usize) -> Option<u64>
+    requires { i ≤ 4 }
+    ensures { result ≡ number_guess answer.now (fields_of row.now) i }
+{
+    if is_write(answer) && says(row, i + 1, b"committed") {
+        Some(number_in(row, i + 2))
+    } else {
+        None
+    }
+}
+
+fn answer_place(at: Option<u64>) -> usize
+    ensures same { result ≡ answer_place at }
+    ensures small { result ≤ 4 }
+{
+    if at.is_some() { 4 } else { 2 }
+}
+
+// The piece that an answer is.
+fn piece_of(
+    tables: &[Table],
+    statement: &Statement,
+    session: u32,
+    place: u64,
+    at: Option<u64>,
+    row: &ByteRecord,
+    i: usize,
+    answer: Answer,
+) -> Piece
+    requires { i ≤ 4 }
+    ensures { result ≡ piece_of tables.now statement.now session place at (fields_of row.now) i answer }
+{
+    match answer {
+        Answer::Rows(_) => Piece::Scan {
+            session,
+            place,
+            at,
+            columns: table_columns(tables, statement),
+            left: number_in(row, i + 1),
+        },
+        Answer::Swept(sweep) => Piece::Sweep {
+            session,
+            place,
+            sweep,
+        },
+        answer => {
+            let number = number_guess(&answer, row, i);
+            Piece::Line(Line {
+                session,
+                place,
+                reply: Reply { at, answer, number },
+            })
+        }
+    }
+}
+
+fn answered_guess(
+    alloc: Global,
+    tables: &[Table],
+    statement: &Statement,
+    session: u32,
+    place: u64,
+    row: &ByteRecord,
+) -> Result<Option<Piece>, NoMemory>
+    ensures { IfOk result (λ o. o ≡ answered_guess tables.now statement.now session place (at_guess statement.now (fields_of row.now)) (fields_of row.now)) }
+{
+    let at = at_guess(statement, row);
+    let i = answer_place(at);
+    match answer_guess(alloc, tables, statement, row, i)? {
+        Some(answer) => Ok(Some(piece_of(tables, statement, session, place, at, row, i, answer))),
+        None => Ok(None),
+    }
+}
+
+// How many records come before that place. Places ascend.
+fn count_before(records: &[Record], place: u64) -> usize
+    requires { Ascends (map (λ r. r.place) records.now) }
+    ensures most { result ≤ length records.now }
+    ensures before { (k : ℕ) (d : Record) → k < result → (get_or records.now k d).place < place }
+    ensures behind { (k : ℕ) (d : Record) → result ≤ k → k < length records.now → place ≤ (get_or records.now k d).place }
+{
+    let mut low = 0;
+    let mut high = records.len();
+    while low < high {
+        let middle = low + (high - low) / 2;
+        if records[middle].place < place {
+            low = middle + 1;
+        } else {
+            high = middle;
+        }
+    }
+    low
+}
+
+// The statement of that session and place.
+fn statement_at(records: &[Record], session: u32, place: u64) -> Option<&Statement>
+    requires { Ascends (map (λ r. r.place) records.now) }
+    ensures { option_map (λ s. s.now) result ≡ statement_at records.now session place }
+{
+    let i = count_before(records, place);
+    if i == records.len() {
+        return None;
+    }
+    let record = &records[i];
+    if record.place == place && record.session == session {
+        Some(&record.statement)
+    } else {
+        None
+    }
+}
+
+fn reply_guess(
+    alloc: Global,
+    script: &Script,
+    session: u32,
+    place: u64,
+    row: &ByteRecord,
+) -> Result<Option<Piece>, NoMemory>
+    requires { Ascends (map (λ r. r.place) script.now.records) }
+    ensures { IfOk result (λ o. o ≡ reply_guess script.now session place (fields_of row.now)) }
+{
+    match statement_at(script.records(), session, place) {
+        Some(statement) => answered_guess(alloc, script.tables(), statement, session, place, row),
+        None => Ok(None),
+    }
+}
+
+fn head_guess(alloc: Global, script: &Script, row: &ByteRecord) -> Result<Option<Piece>, NoMemory>
+    requires { Ascends (map (λ r. r.place) script.now.records) }
+    ensures { IfOk result (λ o. o ≡ head_guess script.now (fields_of row.now)) }
+{
+    let session = session_in(row, 0);
+    let place = number_in(row, 1);
+    if session == 0 {
+        return Ok(Some(Piece::Sweep {
+            session: 0,
+            place,
+            sweep: sweep_guess(alloc, row, 2),
+        }));
+    }
+    reply_guess(alloc, script, session, place, row)
+}
+
+/// The first of the totals, or a line's first record.
+pub(crate) fn first_guess(
+    alloc: Global,
+    script: &Script,
+    row: &ByteRecord,
+) -> Result<Option<Piece>, NoMemory>
+    requires { Ascends (map (λ r. r.place) script.now.records) }
+    ensures { IfOk result (λ o. o ≡ first_guess script.now (fields_of row.now)) }
+{
+    if says(row, 0, b"total") {
+        return Ok(Some(Piece::Total {
+            told: 0,
+            number: number_in(row, 2),
+        }));
+    }
+    head_guess(alloc, script, row)
+}
+
+/// A row of a scan.
+pub(crate) fn row_guess(
+    alloc: Global,
+    session: u32,
+    place: u64,
+    columns: u8,
+    row: &ByteRecord,
+) -> Result<Option<Piece>, NoMemory>
+    ensures { IfOk result (λ o. o ≡ row_guess session place columns (fields_of row.now)) }
+{
+    match row_in(alloc, row, 4, columns)? {
+        Some(values) => Ok(Some(Piece::Row {
+            session,
+            place,
+            key: number_in(row, 3),
+            row: values,
+        })),
+        None => Ok(None),
+    }
+}
+
+/// A held snapshot of a report.
+pub(crate) fn held_guess(session: u32, place: u64, row: &ByteRecord) -> Piece
+    ensures { result ≡ held_guess session place (fields_of row.now) }
+{
+    Piece::Held {
+        session,
+        place,
+        told: Told {
+            session: session_in(row, 3),
+            number: number_in(row, 4),
+            moved: says(row, 5, b"moved"),
+        },
+    }
+}

@@ -1,0 +1,266 @@
+//! How far a reader has come.
+
+ghost use Rattle.std.specs.Prelude.{◌≡◌, ℕ, ◌<◌, map, IfOk, OnOk};
+ghost use Rattle.csv.specs.Records.{fields_of};
+ghost use Rattle.hg_base.specs.Lists.{Ascends};
+ghost use Rattle.hg_report.specs.Progress.{after, at_start, guess_after, lines_of, no_totals, totals_of, with_held, with_row, with_total};
+ghost use Rattle.hg_report.specs.declared.progress.Open.TheVariants as opens;
+ghost use Rattle.hg_report.specs.declared.piece.Piece.TheVariants as pieces;
+
+use crate::fields::{number_in, says};
+use crate::guess::{first_guess, held_guess, row_guess};
+use crate::piece::Piece;
+use csv::ByteRecord;
+use hg_base::{Answer, Line, LineList, NoMemory, Reply, Row, RowList, Sweep, Told, Totals};
+use hg_script::Script;
+use std::alloc::Global;
+use std::mem;
+
+/// The line, or the totals, whose records may go on.
+#[derive(Debug, Drop)]
+pub enum Open {
+    Nothing,
+    /// A scan, of which so many rows are to come.
+    Scan {
+        session: u32,
+        place: u64,
+        at: Option<u64>,
+        columns: u8,
+        left: u64,
+        rows: RowList,
+    },
+    /// A report, of which any number of held snapshots may come.
+    Sweep {
+        session: u32,
+        place: u64,
+        sweep: Sweep,
+    },
+    /// The totals, of which so many were told.
+    Totals {
+        told: u8,
+        totals: Totals,
+    },
+}
+
+/// The lines that are whole, and what may go on.
+#[derive(Debug, Drop)]
+pub struct Progress {
+    pub(crate) lines: LineList,
+    pub(crate) last: Open,
+}
+
+fn with_total(told: u8, number: u64, totals: Totals) -> Totals
+    ensures { result ≡ with_total told number totals }
+{
+    match told {
+        0 => Totals {
+            made: number,
+            ..totals
+        },
+        1 => Totals {
+            undone: number,
+            ..totals
+        },
+        2 => Totals {
+            group: number,
+            ..totals
+        },
+        3 => Totals {
+            table: number,
+            ..totals
+        },
+        4 => Totals {
+            interval: number,
+            ..totals
+        },
+        _ => Totals {
+            left: number,
+            ..totals
+        },
+    }
+}
+
+impl Open {
+    fn totals(&self) -> Totals
+        ensures { result ≡ totals_of self.now }
+    {
+        match self {
+            Open::Totals { totals, .. } => *totals,
+            _ => Totals {
+                made: 0,
+                undone: 0,
+                group: 0,
+                table: 0,
+                interval: 0,
+                left: 0,
+            },
+        }
+    }
+
+    fn add_row(&mut self, key: u64, row: Row) -> Result<(), NoMemory>
+        ensures { OnOk result (self.new ≡ with_row self.old (key, row)) }
+    {
+        if let Open::Scan { left, rows, .. } = self {
+            rows.push(key, row)?;
+            *left = left.saturating_sub(1);
+        }
+        Ok(())
+    }
+
+    fn add_held(&mut self, told: Told) -> Result<(), NoMemory>
+        ensures { OnOk result (self.new ≡ with_held self.old told) }
+    {
+        if let Open::Sweep { sweep, .. } = self {
+            sweep.held.push(told)?;
+        }
+        Ok(())
+    }
+
+    /// What the record says if it may come next.
+    pub(crate) fn guess(
+        &self,
+        alloc: Global,
+        script: &Script,
+        row: &ByteRecord,
+    ) -> Result<Option<Piece>, NoMemory>
+        requires { Ascends (map (λ r. r.place) script.now.records) }
+        ensures { IfOk result (λ o. o ≡ guess_after script.now self.now (fields_of row.now)) }
+    {
+        match self {
+            Open::Nothing => first_guess(alloc, script, row),
+            Open::Scan {
+                session,
+                place,
+                columns,
+                left,
+                ..
+            } => {
+                if *left > 0 {
+                    row_guess(alloc, *session, *place, *columns, row)
+                } else {
+                    first_guess(alloc, script, row)
+                }
+            }
+            Open::Sweep { session, place, .. } => {
+                if says(row, 2, b"held") {
+                    Ok(Some(held_guess(*session, *place, row)))
+                } else {
+                    first_guess(alloc, script, row)
+                }
+            }
+            Open::Totals { told, .. } => {
+                if *told < 6 {
+                    Ok(Some(Piece::Total {
+                        told: *told,
+                        number: number_in(row, 2),
+                    }))
+                } else {
+                    Ok(None)
+                }
+            }
+        }
+    }
+}
+
+impl Progress {
+    pub(crate) fn new(alloc: Global) -> Progress
+        ensures { result ≡ at_start }
+    {
+        Progress {
+            lines: LineList::new(alloc),
+            last: Open::Nothing,
+        }
+    }
+
+    // Ends the line that is open.
+    fn close(&mut self) -> Result<(), NoMemory>
+        ensures { OnOk result (self.new ≡ record { lines = lines_of self.old; last = opens.Nothing }) }
+    {
+        match mem::replace(&mut self.last, Open::Nothing) {
+            Open::Nothing => {}
+            Open::Scan {
+                session,
+                place,
+                at,
+                rows,
+                ..
+            } => self.lines.push(Line {
+                session,
+                place,
+                reply: Reply {
+                    at,
+                    answer: Answer::Rows(rows),
+                    number: None,
+                },
+            })?,
+            Open::Sweep {
+                session,
+                place,
+                sweep,
+            } => self.lines.push(Line {
+                session,
+                place,
+                reply: Reply {
+                    at: None,
+                    answer: Answer::Swept(sweep),
+                    number: None,
+                },
+            })?,
+            Open::Totals { .. } => {}
+        }
+        Ok(())
+    }
+
+    /// Takes a record.
+    pub(crate) fn take(&mut self, alloc: Global, piece: Piece) -> Result<(), NoMemory>
+        requires { (told number : ℕ) → piece ≡ pieces.Total told number → told < 6 }
+        ensures { OnOk result (self.new ≡ after self.old piece) }
+    {
+        match piece {
+            Piece::Line(line) => {
+                self.close()?;
+                self.lines.push(line)?;
+            }
+            Piece::Scan {
+                session,
+                place,
+                at,
+                columns,
+                left,
+            } => {
+                self.close()?;
+                self.last = Open::Scan {
+                    session,
+                    place,
+                    at,
+                    columns,
+                    left,
+                    rows: RowList::from(Vec::new(alloc)),
+                };
+            }
+            Piece::Sweep {
+                session,
+                place,
+                sweep,
+            } => {
+                self.close()?;
+                self.last = Open::Sweep {
+                    session,
+                    place,
+                    sweep,
+                };
+            }
+            Piece::Row { key, row, .. } => self.last.add_row(key, row)?,
+            Piece::Held { told, .. } => self.last.add_held(told)?,
+            Piece::Total { told, number } => {
+                let totals = with_total(told, number, self.last.totals());
+                self.close()?;
+                self.last = Open::Totals {
+                    told: told + 1,
+                    totals,
+                };
+            }
+        }
+        Ok(())
+    }
+}

@@ -1,0 +1,42 @@
+//! Lines that only proofs see.
+
+ghost use Rattle.std.specs.Prelude.{◌≡◌, ◌++◌, ◌∷◌, [], List};
+ghost use base.Fml.{ftrue};
+ghost use Rattle.hg_base.specs.declared.line.Line.{Line};
+ghost use Rattle.hg_report.specs.LineCode.{lines_code};
+
+use hg_base::Line;
+use std::marker::Model;
+
+/// Lines in the order in which they are printed. It has no bytes, and its calls do nothing when they run.
+#[derive(Drop)]
+pub(crate) struct ToldLines {
+    ghost lines: { List Line } by { lines_code },
+}
+
+impl Model for ToldLines {
+    ghost also_owns = { λ _. ftrue };
+}
+
+// It owns nothing.
+unsafe impl Send for ToldLines {}
+
+impl ToldLines {
+    pub(crate) fn new() -> ToldLines
+        ensures { result.lines ≡ [] }
+    {
+        ToldLines {}
+    }
+
+    pub(crate) fn then(&self, _line: &Line) -> ToldLines
+        ensures { result.lines ≡ self.now.lines ++ _line.now ∷ [] }
+    {
+        ToldLines {}
+    }
+
+    pub(crate) fn followed(&self, _others: &ToldLines) -> ToldLines
+        ensures { result.lines ≡ self.now.lines ++ _others.now.lines }
+    {
+        ToldLines {}
+    }
+}
