@@ -1,4 +1,15 @@
 pub mod Recording
-pub mod Numbering
 pub mod Contexts
-pub mod Committing
+pub mod Ordering
+pub mod Popping
+pub mod Returning
+pub mod Batching
+pub mod Grouped
+pub mod Stamped
+pub mod Whole
+pub mod Laying_down
+pub mod Joint
+pub mod Bound
+pub mod Collecting
+pub mod Back
+pub mod Through

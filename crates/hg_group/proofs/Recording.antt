@@ -3,15 +3,10 @@ use Rattle.std.proofs.Common.{◌≡◌, ℕ, zero, suc, ◌+◌, ◌<◌, List,
 use Rattle.std.specs.Prelude.{◌||◌, ◌&&◌, ◌==◌}
 use Rattle.std.proofs.lemmas.Bool.Decides.{nat_tests}
 use Rattle.hg_base.specs.declared.rid.Rid.{Rid}
-use Rattle.hg_base.specs.Lists.{Each}
 use Rattle.hg_base.specs.History.{NoneTwice, same_rid, is_among}
 use Rattle.hg_base.proofs.ListFacts.{cases, false_true}
 use Rattle.hg_base.proofs.HistoryFacts.{same_rid_equal, same_rid_itself}
 use Rattle.hg_base.proofs.RidOrder.{same_back}
-use Rattle.hg_core.specs.Contents.{is_stamped}
-use Rattle.hg_rule.specs.declared.view.SessionPart.{SessionPart}
-use Rattle.hg_rule.specs.Writes.{with_stamp, with_published}
-use Rattle.hg_group.specs.Committing.{flagged, listed}
 
 or_true : (a : Bool) → (a || true) ≡ true
 or_true true = refl
@@ -40,39 +35,3 @@ take_next (x ∷ xs) (suc i) d h = let less : i < length xs = omega (arith, h) i
   where
     more : (i : ℕ) → suc i + 1 ≡ suc (i + 1)
     more i = omega arith
-
--- ---- what is stamped so far
-
-pub listed_more : (j : ℕ) (xs : List Rid) (r : Rid) (list : List (ℕ × Rid)) → listed j (xs ++ r ∷ []) list ≡ (j, r) ∷ listed j xs list
-listed_more j [] r list = refl
-listed_more j (x ∷ xs) r list = listed_more j xs r ((j, x) ∷ list)
-
-pub listed_has : (j : ℕ) (xs : List Rid) (r : Rid) (list : List (ℕ × Rid)) → is_stamped j r (listed j xs list) ≡ (is_among r xs || is_stamped j r list)
-listed_has j [] r list = refl
-listed_has j (x ∷ xs) r list =
-    let here : (j == j) ≡ true = grind (arith, nat_tests) in
-    listed_has j xs r ((j, x) ∷ list) ∙ (λ i. is_among r xs || ((here i && same_back x r i) || is_stamped j r list)) ∙ turn (is_among r xs) (same_rid r x) (is_stamped j r list)
-  where
-    turn : (a b c : Bool) → (a || (b || c)) ≡ ((b || a) || c)
-    turn true true c = refl
-    turn true false c = refl
-    turn false true c = refl
-    turn false false c = refl
-
-pub listed_own : (j : ℕ) (xs : List Rid) (list : List (ℕ × Rid)) → Each (λ e. e.0 ≡ j) list → Each (λ e. e.0 ≡ j) (listed j xs list)
-listed_own j [] list own = own
-listed_own j (x ∷ xs) list own = listed_own j xs ((j, x) ∷ list) (refl, own)
-
--- ---- the session's part
-
-pub flagged_more : (xs : List Rid) (r : Rid) (part : SessionPart) → flagged (xs ++ r ∷ []) part ≡ with_stamp (flagged xs part)
-flagged_more [] r part = refl
-flagged_more (x ∷ xs) r part = refl
-
-pub same_log : (xs : List Rid) (part : SessionPart) → (flagged xs part).log ≡ part.log
-same_log [] part = refl
-same_log (x ∷ xs) part = refl
-
-pub same_published : (n : ℕ) (xs : List Rid) (part : SessionPart) → with_published n (flagged xs part) ≡ with_published n part
-same_published n [] part = refl
-same_published n (x ∷ xs) part = refl

@@ -1,8 +1,11 @@
--- A list of records, as clauses see it.
-pub mod Rids
--- What waits under the commit lock for a collector.
+-- What lies under the commit lock, and what a commit makes of a view.
 pub mod Contexts
 pub mod Places
 pub mod Lists
--- What a commit is of, and what it makes of a view.
-pub mod Committing
+pub mod Order
+pub mod Batch
+pub mod Leading
+pub mod Founded
+pub mod Submitting
+pub mod Pushing
+pub mod Keeping

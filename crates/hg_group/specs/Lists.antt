@@ -1,19 +1,24 @@
--- What a clause says of a list of groups, and of one whose lock is held.
-use Rattle.std.specs.Prelude.{List}
-use Rattle.hg_lock.specs.Locks.{tag_of}
+-- What a clause says of the locks of group commit.
+use Rattle.std.specs.Prelude.{◌≡◌, ℕ, List, [], ◌∷◌, ◌++◌}
+use Rattle.hg_lock.specs.Locks.{tag_of, place_of, IsLoanOf}
 use Rattle.hg_rule.specs.Seats.{TableId}
-use Rattle.hg_group.specs.declared.context.GroupContext.{GroupContext}
 use Rattle.hg_group.specs.declared.group_list.GroupList.{GroupList}
-use Rattle.hg_group.specs.declared.held_list.HeldList.{HeldList}
-use Rattle.hg_group.specs.Places.{seat_table}
+use Rattle.hg_group.specs.Founded.{founding_table}
+use Rattle.hg_group.specs.Pushing.{PusherFits}
+use Rattle.hg_group.specs.declared.submitted.Submitted.{Submitted}
+use Rattle.hg_queue.specs.Queues.{known}
 
--- the board of a list
+-- the board, and how many sessions there are
 abbrev pub groups_table : GroupList → TableId
-groups_table list = seat_table (tag_of list.locks).value
+groups_table q = founding_table (tag_of q.batches).value
 
--- the board of a list whose lock is held, and the contexts that wait there
-abbrev pub held_table : HeldList → TableId
-held_table h = seat_table (tag_of h.locks.now).value
+abbrev pub groups_sessions : GroupList → ℕ
+groups_sessions q = q.sessions
 
-abbrev pub held_contexts : HeldList → List GroupContext
-held_contexts h = h.contexts.items
+-- it holds a lock of these, and what it has may lie there again
+abbrev pub IsSubmittedTo : GroupList → Submitted → Type 0
+IsSubmittedTo q s = IsLoanOf q.pushers s.loan × PusherFits (tag_of q.pushers) (place_of s.loan) s.pusher
+
+-- the last pair that it knows is this one
+abbrev pub has_pushed : ℕ → ℕ → Submitted → Type 0
+has_pushed j x s = (before : List (ℕ × ℕ)) × ((known s.pusher.line).pairs ≡ before ++ (j, x) ∷ [])

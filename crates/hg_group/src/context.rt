@@ -1,6 +1,6 @@
 //! What is kept of a group.
 
-use crate::rid_list::RidList;
+use hg_queue::RidList;
 
 /// A group that was published, with the records that it wrote, for the collector that goes by groups.
 #[derive(Debug, Drop)]

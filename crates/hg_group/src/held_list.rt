@@ -3,40 +3,58 @@
 ghost use Rattle.std.specs.Prelude.{◌≡◌};
 ghost use Rattle.hg_lock.specs.Locks.{IsLoanOf};
 
-use crate::commits::Commits;
+use crate::batch::{Batches, Founding};
 use crate::context::GroupContext;
 use crate::group_list::GroupList;
+use crate::laid::Laid;
 use hg_lock::{Loan, Locks};
+use hg_queue::{LinePass, OpenTx};
 use hg_rule::CommitSeat;
 use std::collections::VecDeque;
 use std::snapshot::Snapshot;
 use std::sync::Wait;
 
-/// A list whose lock was taken: nobody publishes meanwhile. It has no `Drop`: it ends in `give`.
+/// What lies under the commit lock but for the committer's seat: nobody publishes meanwhile. It has no `Drop`: it ends in `give`.
 pub struct HeldList<'a> {
-    pub(crate) locks: &'a Locks<Commits>,
-    pub(crate) loan: Loan<Commits, Snapshot<CommitSeat>>,
+    pub(crate) locks: &'a Locks<Batches>,
+    pub(crate) loan: Loan<Batches, Snapshot<Founding>>,
+    pub(crate) line: LinePass,
+    pub(crate) popped: Vec<OpenTx>,
+    pub(crate) laid: Vec<Option<Laid>>,
     pub(crate) contexts: VecDeque<GroupContext>,
+    pub(crate) count: u64,
     ghost lent: { IsLoanOf locks.now loan },
 }
 
 impl GroupList {
     ghost use Rattle.hg_rule.specs.Seats.{IsCommitOf};
-    ghost use Rattle.hg_group.specs.Places.{part_in, IsListed};
-    ghost use Rattle.hg_group.specs.Lists.{groups_table, held_table, held_contexts};
+    ghost use Rattle.hg_group.specs.Places.{part_in};
+    ghost use Rattle.hg_group.specs.Lists.{groups_table};
+    ghost use Rattle.hg_group.specs.Keeping.{held_table, KeepsBeside};
 
     /// Waits for the commit lock, and lends the committer's seat.
     pub fn take<R: Wait>(&self, rt: &R) -> (HeldList<'_>, CommitSeat)
         ensures table { held_table result.0 ≡ groups_table self.now }
         ensures seat { IsCommitOf (groups_table self.now) result.1 }
-        ensures listed { IsListed (part_in result.1) (held_contexts result.0) }
+        ensures kept { KeepsBeside result.0 (part_in result.1) }
     {
-        let (commits, loan) = self.locks.take(rt, 0);
-        let Commits { contexts, seat } = commits;
-        let held = HeldList {
-            locks: &self.locks,
-            loan,
+        let (kept, loan) = self.batches.take(rt, 0);
+        let Batches {
+            seat,
+            line,
+            popped,
+            laid,
             contexts,
+            count,
+        } = kept;
+        let held = HeldList {
+            locks: &self.batches,
+            loan,
+            line,
+            popped,
+            laid,
+            contexts,
+            count,
         };
         (held, seat)
     }
@@ -44,19 +62,33 @@ impl GroupList {
 
 impl<'a> HeldList<'a> {
     ghost use Rattle.hg_rule.specs.Seats.{IsCommitOf};
-    ghost use Rattle.hg_group.specs.Places.{part_in, IsListed};
-    ghost use Rattle.hg_group.specs.Lists.{held_table, held_contexts};
+    ghost use Rattle.hg_group.specs.Places.{part_in};
+    ghost use Rattle.hg_group.specs.Keeping.{held_table, KeepsBeside};
 
     /// The seat comes back, and the lock is free. It waits for nobody.
     pub fn give(self, seat: CommitSeat)
         requires seat { IsCommitOf (held_table self) seat }
-        requires listed { IsListed (part_in seat) (held_contexts self) }
+        requires kept { KeepsBeside self (part_in seat) }
     {
         let HeldList {
             locks,
             loan,
+            line,
+            popped,
+            laid,
             contexts,
+            count,
         } = self;
-        locks.give(Commits { contexts, seat }, loan);
+        locks.give(
+            Batches {
+                seat,
+                line,
+                popped,
+                laid,
+                contexts,
+                count,
+            },
+            loan,
+        );
     }
 }

@@ -9,11 +9,11 @@ use Rattle.hg_core.specs.State.{CoreState}
 use Rattle.hg_core.specs.Invariant.{IsSteady}
 use Rattle.hg_rule.specs.declared.view.SessionPart.{SessionPart}
 use Rattle.hg_rule.specs.declared.view.Part.{Part}
-use Rattle.hg_rule.specs.declared.view.Part.TheVariants.{OfSession, OfBucket, OfCommit, OfPass}
+use Rattle.hg_rule.specs.declared.view.Part.TheVariants.{OfSession, OfBucket, OfCommit, OfPass, Away, Lent}
 use Rattle.hg_rule.specs.declared.view.Sight.{Sight}
 use Rattle.hg_rule.specs.declared.view.Sight.TheVariants.{Saw, Heard, Took, Did}
 use Rattle.hg_rule.specs.declared.view.Event.{Event}
-use Rattle.hg_rule.specs.declared.view.Event.TheVariants.{Probe, Enter, Fix, GoLive, End, Look, Install, Undo, Stamp, Publish, Mark, Sample, Move, Reclaim, Take}
+use Rattle.hg_rule.specs.declared.view.Event.TheVariants.{Probe, Enter, Fix, GoLive, End, Look, Install, Undo, Stamp, Publish, Mark, Sample, Move, Reclaim, Take, HandOver, HandBack, PublishAll}
 use Rattle.hg_rule.specs.declared.view.View.{View}
 use Rattle.hg_rule.specs.declared.view.Sizes.{Sizes}
 use Rattle.hg_rule.specs.Facts.{heard, HasBegun, Shown, Known, Stands}
@@ -39,6 +39,9 @@ event_agrees s j part is (Mark p n) h = tt
 event_agrees s j part is (Move p k n done) h = tt
 event_agrees s j part is (Reclaim p kind rid n) h = tt
 event_agrees s j part is (Take p n) h = tt
+event_agrees s j part is (HandOver k n) h = tt
+event_agrees s j part is (HandBack k) h = tt
+event_agrees s j part is (PublishAll n) h = tt
 
 sight_agrees : (s : CoreState) (j : ℕ) (part : SessionPart) → s.log j ≡ part.log → (x : Sight) → Known s x → SightAgrees j part x
 sight_agrees s j part is (Saw h) k = tt
@@ -50,6 +53,8 @@ part_agrees : (s : CoreState) → IsSteady s → (j : ℕ) (part : SessionPart) 
 part_agrees s v j part is (OfSession i t) h = tt
 part_agrees s v j part is (OfBucket b t) h = tt
 part_agrees s v j part is (OfCommit t) h = tt
+part_agrees s v j part is (Away i t n) h = tt
+part_agrees s v j part is (Lent i t) h = tt
 part_agrees s v j part is (OfPass p r) h = record {
   known = subst (λ l. heard j r.seen ≤ length l) is.1.0 (subst (λ (x : PassRecord). x.known j ≤ length (s.log j)) h.0 (v.records_reach_logs.known p j));
   reaches = subst (λ l. IfSome (found j r.loaded) (λ register. StandsIn (heard j r.seen) register l part.phase)) is.1.0
@@ -68,6 +73,8 @@ agrees_at z n v b (OfSession j part) is = let s = b.state in record {
 agrees_at z n v b (OfBucket i c) is = tt
 agrees_at z n v b (OfCommit h) is = tt
 agrees_at z n v b (OfPass p r) is = tt
+agrees_at z n v b (Away i t m) is = tt
+agrees_at z n v b (Lent i t) is = tt
 
 pub met : (z : Sizes) (n : ℕ) (v : View) → IsBacked z n v → IsMet z v
 met z n v b = record { mark = n; backed = b; agreed = each_map (Shown b.state) (AgreesAt v) (agrees_at z n v b) v.parts b.true_of.parts }

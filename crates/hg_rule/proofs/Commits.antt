@@ -1,5 +1,5 @@
 -- Publishing a group, and counting one as taken, are allowed.
-use Rattle.std.proofs.Common.{◌≡◌, ℕ, suc, ◌+◌, ◌<◌, Bool, true, false, List, [], ◌∷◌, ◌++◌, length, get_or, set, ◌==◌, refl, sym, ap, ◌∙◌, subst, arith, length-set, get_or-set_other, get_or-set_same}
+use Rattle.std.proofs.Common.{◌≡◌, ℕ, suc, ◌+◌, ◌<◌, ◌≤◌, Bool, true, false, List, [], ◌∷◌, ◌++◌, length, get_or, set, ◌==◌, refl, sym, ap, ◌∙◌, subst, arith, length-set, get_or-set_other, get_or-set_same, le_refl}
 use Rattle.std.specs.Prelude.{if◌then◌else◌, IsSome, IsTrue, ◌||◌}
 use Rattle.std.proofs.lemmas.Bool.Decides.{nat_tests}
 use mathlib.Core.Option.{none}
@@ -36,6 +36,7 @@ use Rattle.hg_rule.specs.Holding.{beyond, HasCommit, commit}
 use Rattle.hg_rule.specs.Writes.{with_published, publishing, published}
 use Rattle.hg_rule.specs.Removes.{taking, took}
 use Rattle.hg_rule.proofs.Lists.{starts_same, ends_same}
+use Rattle.hg_rule.proofs.Counts.{away_same}
 use Rattle.hg_rule.proofs.Keeps.{keep}
 use Rattle.hg_rule.proofs.Registers.{loaded_words}
 use Rattle.hg_rule.proofs.Owned.{Leaves, leaves_only, not_first, own_second}
@@ -78,21 +79,21 @@ log_grown log j n k = go (is_in (j ∷ []) k)
     go false = ends_same (log k)
 
 -- the words after the mark was stored
-marked_words : (z : Sizes) (c d : CoreState) (ws : List ℕ) (x : ℕ) → d.mark ≡ x → d.register ≡ c.register → ShowsWords z c ws → ShowsWords z d (set ws 0 x)
+pub marked_words : (z : Sizes) (c d : CoreState) (ws : List ℕ) (x : ℕ) → d.mark ≡ x → d.register ≡ c.register → ShowsWords z c ws → ShowsWords z d (set ws 0 x)
 marked_words z c d ws x is same w = record {
   count = length-set ws 0 x ∙ w.count;
   mark = get_or-set_same ws 0 x 0 (let n : ℕ = length ws in let e : n ≡ z.sessions + 1 = w.count in omega arith) ∙ sym is;
   registers = λ j h. get_or-set_other ws 0 j x 0 (λ (e : j ≡ 0). let l = h.first in omega arith) ∙ (w.registers j h ∙ ap (λ (f : ℕ → Register). word_of (f j)) (sym same));
 }
 
-history_is : (v : View) (n : ℕ) (h g : History) → h ≡ g → IsHistoryAt v n h → IsHistoryAt v (length g) g
+pub history_is : (v : View) (n : ℕ) (h g : History) → h ≡ g → IsHistoryAt v n h → IsHistoryAt v (length g) g
 history_is v n h g e is = subst (λ g. IsHistoryAt v (length g) g) e (subst (λ n. IsHistoryAt v n h) (sym is.is_length) is)
 
 -- ---- a group
 
 publish_leaves : (c d : CoreState) (j n : ℕ) (old : SessionPart) (h : CommitPart) → d.phase ≡ c.phase → d.log ≡ published_logs c.log (j ∷ []) n → d.stamped_list ≡ [] → Each (λ e. e.0 ≡ j) c.stamped_list
-    → d.bucket ≡ c.bucket → d.counters ≡ c.counters → d.taken ≡ c.taken → d.pass ≡ c.pass → d.visits ≡ c.visits → Leaves c d (OfSession j old ∷ OfCommit h ∷ [])
-publish_leaves c d j n old h phase logs list alone bucket counters taken pass visits = record {
+    → d.bucket ≡ c.bucket → d.counters ≡ c.counters → d.taken ≡ c.taken → d.pass ≡ c.pass → d.visits ≡ c.visits → c.mark ≤ d.mark → Leaves c d (OfSession j old ∷ OfCommit h ∷ [])
+publish_leaves c d j n old h phase logs list alone bucket counters taken pass visits more = record {
   phase = λ k away i. phase i k;
   log = λ k away. (λ i. logs i k) ∙ log_else c.log j n k (not_first j k _ away);
   stamped = λ k away. ap (has_stamped k) list ∙ sym (none_else j k c.stamped_list (not_first j k _ away) alone);
@@ -103,6 +104,7 @@ publish_leaves c d j n old h phase logs list alone bucket counters taken pass vi
   taken = λ away. taken;
   pass = λ p away i. pass i p;
   visits = λ p away i. visits i p;
+  home = λ k part m away s. away_same c d k part m (λ i. phase i k) ((λ i. logs i k) ∙ log_else c.log j n k (not_first j k _ away)) more s;
 }
 
 pub publishes : (z : Sizes) (slots id x : ℕ) (m : Seated) → HasRoom z → HasSession m.0 → IsSome (snapshot_in (session m.0).phase) → IsTrue (is_plain (session m.0).log) → HasCommit m.0
@@ -141,7 +143,7 @@ publishes z slots id x m room is live plain held next stamped alone every t r de
             passes = refl;
             shows = marked_words z c d t.words x mark refl r.words;
             grows = record { history = (new_group c.log (j ∷ []) ∷ [], refl); logs = λ k. log_grown c.log j (suc c.mark) k; taken = omega arith };
-            only = leaves_only c d _ (publish_leaves c d j (suc c.mark) (session v) h refl refl refl alone' refl refl refl refl refl);
+            only = leaves_only c d _ (publish_leaves c d j (suc c.mark) (session v) h refl refl refl alone' refl refl refl refl refl (omega arith));
             counts = λ k. refl;
             shared = refl;
             shown = ((own.0, (log, refl)), ((history, (refl, list.1.1)), tt));
@@ -153,9 +155,9 @@ publishes z slots id x m room is live plain held next stamped alone every t r de
 
 -- ---- a group is taken
 
-take_leaves : (c d : CoreState) (p : ℕ) (old : PassPart) (h : CommitPart) → d.phase ≡ c.phase → d.log ≡ c.log → d.stamped_list ≡ c.stamped_list → d.bucket ≡ c.bucket → d.counters ≡ c.counters → d.history ≡ c.history → d.pass ≡ c.pass → d.visits ≡ c.visits
+take_leaves : (c d : CoreState) (p : ℕ) (old : PassPart) (h : CommitPart) → d.phase ≡ c.phase → d.log ≡ c.log → d.stamped_list ≡ c.stamped_list → d.bucket ≡ c.bucket → d.counters ≡ c.counters → d.history ≡ c.history → d.pass ≡ c.pass → d.visits ≡ c.visits → c.mark ≤ d.mark
     → Leaves c d (OfPass p old ∷ OfCommit h ∷ [])
-take_leaves c d p old h phase logs list bucket counters history pass visits = record {
+take_leaves c d p old h phase logs list bucket counters history pass visits more = record {
   phase = λ k away i. phase i k;
   log = λ k away i. logs i k;
   stamped = λ k away. ap (has_stamped k) list;
@@ -166,6 +168,7 @@ take_leaves c d p old h phase logs list bucket counters history pass visits = re
   taken = λ away. absurd (omega (arith, away));
   pass = λ p away i. pass i p;
   visits = λ p away i. visits i p;
+  home = λ k part n away s. away_same c d k part n (λ i. phase i k) (λ i. logs i k) more s;
 }
 
 pub takes : (z : Sizes) (slots id : ℕ) (m : Seated) → HasRoom z → HasPass m.0 → HasCommit m.0 → (commit m.0).taken < length (commit m.0).history.list → Allows (Rule z) slots id m 0 (λ n. n) (took (step slots 0 0 0 none) m)
@@ -192,7 +195,7 @@ takes z slots id m room is held left t r deep at small =
             passes = refl;
             shows = record { count = w.count; mark = w.mark; registers = w.registers };
             grows = record { history = grows.history; logs = grows.logs; taken = omega arith };
-            only = leaves_only c d _ (take_leaves c d p (pass v) h refl refl refl refl refl refl refl refl);
+            only = leaves_only c d _ (take_leaves c d p (pass v) h refl refl refl refl refl refl refl refl (le_refl _));
             counts = λ k. refl;
             shared = refl;
             shown = (own, ((list.0, (list.1.0, more)), tt));

@@ -1,16 +1,17 @@
 -- How many parts of a key there are in lists and views, and what the shares add up to.
-use Rattle.std.proofs.Common.{◌≡◌, ◌≢◌, ℕ, zero, suc, ◌+◌, ◌<◌, ◌≤◌, Bool, true, false, eqb, ltb, List, [], ◌∷◌, ◌++◌, set, refl, sym, ap, ◌∙◌, arith, le_refl, eq-eqb, ne_eqb, true≢false}
+use Rattle.std.proofs.Common.{◌≡◌, ◌≢◌, ℕ, zero, suc, ◌+◌, ◌<◌, ◌≤◌, Bool, true, false, eqb, ltb, List, [], ◌∷◌, ◌++◌, set, refl, sym, ap, ◌∙◌, subst, arith, le_refl, eq-eqb, ne_eqb, true≢false}
 use mathlib.Core.Option.{some, some-injective, some-ne-none}
 use native.Mathlib.Decide.{ℕ_discrete}
 use lib.ListN.{get_elem?}
 use Rattle.hg_base.specs.Lists.{Each}
 use Rattle.hg_core.specs.State.{CoreState}
 use Rattle.hg_rule.specs.declared.view.Part.{Part}
-use Rattle.hg_rule.specs.declared.view.Part.TheVariants.{OfSession, OfBucket, OfCommit, OfPass}
+use Rattle.hg_rule.specs.declared.view.Part.TheVariants.{OfSession, OfBucket, OfCommit, OfPass, Away, Lent}
 use Rattle.hg_rule.specs.declared.view.View.{View}
 use Rattle.hg_rule.specs.declared.view.Sizes.{Sizes}
-use Rattle.hg_rule.specs.Keys.{Key, session_key, bucket_key, commit_key, pass_key, key_of, both, same_key, has, one, count, tally, share_of, shares, all_shares, expected}
-use Rattle.hg_rule.specs.Facts.{Shown, new_part}
+use Rattle.hg_rule.specs.Keys.{Key, session_key, bucket_key, commit_key, pass_key, home_key, key_of, both, same_key, has, one, count, tally, share_of, shares, all_shares, expected}
+use Rattle.hg_rule.specs.declared.view.SessionPart.{SessionPart}
+use Rattle.hg_rule.specs.Facts.{IsLeft, Shown, new_part}
 
 -- ---- keys
 
@@ -26,12 +27,26 @@ key_self (session_key j) = eq-eqb j j refl
 key_self (bucket_key j) = eq-eqb j j refl
 key_self commit_key = refl
 key_self (pass_key j) = eq-eqb j j refl
+key_self (home_key j) = eq-eqb j j refl
 
 pub new_key : (k : Key) → key_of (new_part k) ≡ k
 new_key (session_key j) = refl
 new_key (bucket_key j) = refl
 new_key commit_key = refl
 new_key (pass_key j) = refl
+new_key (home_key j) = refl
+
+-- a part has its own key
+pub has_self : (p : Part) → has (key_of p) p ≡ true
+has_self (OfSession j s) = eq-eqb j j refl
+has_self (OfBucket b c) = eq-eqb b b refl
+has_self (OfCommit h) = refl
+has_self (OfPass p r) = eq-eqb p p refl
+has_self (Away j s n) = eq-eqb j j refl
+has_self (Lent j s) = eq-eqb j j refl
+
+pub has_new : (k : Key) → has k (new_part k) ≡ true
+has_new k = ap (λ h. has h (new_part k)) (sym (new_key k)) ∙ has_self (new_part k)
 
 -- ---- counts
 
@@ -44,13 +59,14 @@ expected_small z n (session_key j) = one_small (both (ltb 0 j) (ltb j (suc z.ses
 expected_small z n (bucket_key j) = one_small (ltb j z.buckets)
 expected_small z n commit_key = le_refl _
 expected_small z n (pass_key j) = one_small (ltb j n)
+expected_small z n (home_key j) = one_small (both (ltb 0 j) (ltb j (suc z.sessions)))
 
 pub count_append : (k : Key) (ps qs : List Part) → count k (ps ++ qs) ≡ count k ps + count k qs
 count_append k [] qs = omega arith
 count_append k (p ∷ ps) qs = let a : ℕ = one (has k p) in let b : ℕ = count k (ps ++ qs) in let c : ℕ = count k ps in let d : ℕ = count k qs in let e : b ≡ c + d = count_append k ps qs in omega arith
 
 pub count_self : (p : Part) (ps : List Part) → 0 < count (key_of p) (p ∷ ps)
-count_self p ps = let x : ℕ = one (has (key_of p) p) in let y : ℕ = count (key_of p) ps in let e : x ≡ 1 = ap one (key_self (key_of p)) in omega arith
+count_self p ps = let x : ℕ = one (has (key_of p) p) in let y : ℕ = count (key_of p) ps in let e : x ≡ 1 = ap one (has_self p) in omega arith
 
 -- f of each view, added up
 module _ (f : View → ℕ) where
@@ -121,6 +137,8 @@ no_share s p [] h none = refl
 no_share s p (OfSession j t ∷ ps) h none = add_none _ _ refl (no_share s p ps h.1 (lose_none _ none))
 no_share s p (OfBucket b c ∷ ps) h none = add_none _ _ refl (no_share s p ps h.1 (lose_none _ none))
 no_share s p (OfCommit c ∷ ps) h none = add_none _ _ refl (no_share s p ps h.1 (lose_none _ none))
+no_share s p (Away j t n ∷ ps) h none = add_none _ _ refl (no_share s p ps h.1 (lose_none _ none))
+no_share s p (Lent j t ∷ ps) h none = add_none _ _ refl (no_share s p ps h.1 (lose_none _ none))
 no_share s p (OfPass q r ∷ ps) h none = absurd (let a : ℕ = r.share in let b : ℕ = shares ps in let c : a + b ≡ 0 = none in let d : 0 < a = h.0.1.1 in omega arith)
 
 -- ---- what stays
@@ -139,3 +157,7 @@ stay c d qs (p ∷ ps) only apart h = (
 -- another number, where the count of one part of a key is 0
 pub another : (i j : ℕ) → one (eqb i j) + 0 ≡ 0 → j ≡ i → ⊥
 another i j z e = let x : ℕ = one (eqb i j) in let t : x ≡ 1 = ap one (eq-eqb i j (sym e)) in let z' : x + 0 ≡ 0 = z in omega arith
+
+-- a part that is away is so still where its session's phase and log stay
+pub away_same : (c d : CoreState) (k : ℕ) (part : SessionPart) (n : ℕ) → d.phase k ≡ c.phase k → d.log k ≡ c.log k → c.mark ≤ d.mark → Shown c (Away k part n) → Shown d (Away k part n)
+away_same c d k part n phase log more s = (phase ∙ s.0, (omega (arith, more, s.1.0), subst (IsLeft n part.log) (sym log) s.1.1))

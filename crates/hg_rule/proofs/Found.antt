@@ -1,7 +1,7 @@
 -- The state of the rule is the one that is read.
 use Rattle.std.proofs.Common.{◌≡◌, ℕ, zero, suc, ◌+◌, ◌<◌, ◌≤◌, Bool, true, false, eqb, ltb, List, [], ◌∷◌, length, refl, sym, ap, ◌∙◌, subst, arith, true≢false, eq-eqb}
 use Rattle.std.proofs.lemmas.Bool.{lt-ltb, le-ltb}
-use Rattle.std.specs.Prelude.{max, slice_index, if◌then◌else◌}
+use Rattle.std.specs.Prelude.{max, slice_index, if◌then◌else◌, ⊤}
 use mathlib.Core.Option.{some}
 use native.Mathlib.Decide.{dec_le}
 use lib.ListN.{get_elem?}
@@ -17,15 +17,15 @@ use Rattle.hg_core.specs.Words.{register_of}
 use Rattle.hg_core.specs.State.{CoreState}
 use Rattle.hg_core.specs.Invariant.{IsSteady}
 use Rattle.hg_rule.specs.declared.view.Part.{Part}
-use Rattle.hg_rule.specs.declared.view.Part.TheVariants.{OfSession, OfBucket, OfCommit, OfPass}
+use Rattle.hg_rule.specs.declared.view.Part.TheVariants.{OfSession, OfBucket, OfCommit, OfPass, Away, Lent}
 use Rattle.hg_rule.specs.declared.view.View.{View}
 use Rattle.hg_rule.specs.declared.view.Sizes.{Sizes}
-use Rattle.hg_rule.specs.Keys.{Key, session_key, bucket_key, commit_key, pass_key, both, same_key, has, one, count, tally, expected}
+use Rattle.hg_rule.specs.Keys.{Key, session_key, bucket_key, commit_key, pass_key, home_key, both, has, one, count, tally, expected}
 use Rattle.hg_rule.specs.Facts.{record_of, Shown, new_part}
 use Rattle.hg_rule.specs.Rules.{IsSized, HasRoom, Rule, IsBacked}
 use Rattle.hg_rule.specs.Views.{session_there, bucket_there, commit_there, pass_there}
 use Rattle.hg_rule.specs.Reading.{chosen, seek, passes_in, state_of, all_parts, registers_in, read, HasAll, AllRest, own_state}
-use Rattle.hg_rule.proofs.Counts.{same_number, key_self, new_key, count_append}
+use Rattle.hg_rule.proofs.Counts.{same_number, has_new, count_append}
 use Rattle.hg_rule.proofs.Lists.{each_append}
 use Rattle.hg_rule.proofs.Registers.{word_back, register_small}
 
@@ -40,7 +40,7 @@ pick s k p q true e h f = (e, h)
 pick s k p q false e h f = f refl
 
 sought : (s : CoreState) (k : Key) (ps : List Part) → Each (Shown s) ps → (count k ps ≡ 0 → Shown s (new_part k)) → Right s k (seek k ps)
-sought s k [] h f = (ap (λ x. same_key x k) (new_key k) ∙ key_self k, f refl)
+sought s k [] h f = (has_new k, f refl)
 sought s k (p ∷ ps) h f = pick s k p (seek k ps) (has k p) refl h.0 (λ e. sought s k ps h.1 (λ z. f (let x : ℕ = one (has k p) in let y : ℕ = count k ps in let e' : x ≡ 0 = ap one e in let z' : y ≡ 0 = z in omega arith)))
 
 session_right : (s : CoreState) (j : ℕ) (p : Part) → Right s (session_key j) p → (s.phase j ≡ (session_there p).phase) × (s.log j ≡ (session_there p).log)
@@ -48,23 +48,31 @@ session_right s j (OfSession i t) h = let e = sym (same_number i j h.0) in (ap s
 session_right s j (OfBucket b t) h = absurd (true≢false (sym h.0))
 session_right s j (OfCommit t) h = absurd (true≢false (sym h.0))
 session_right s j (OfPass p t) h = absurd (true≢false (sym h.0))
+session_right s j (Away i t n) h = absurd (true≢false (sym h.0))
+session_right s j (Lent i t) h = let e = sym (same_number i j h.0) in (ap s.phase e ∙ h.1.0, ap s.log e ∙ h.1.1.0)
 
 bucket_right : (s : CoreState) (b : ℕ) (p : Part) → Right s (bucket_key b) p → (s.bucket b ≡ (bucket_there p).content) × (s.counters b ≡ (bucket_there p).counters)
 bucket_right s b (OfSession i t) h = absurd (true≢false (sym h.0))
 bucket_right s b (OfBucket i t) h = let e = sym (same_number i b h.0) in (ap s.bucket e ∙ h.1.0, ap s.counters e ∙ h.1.1)
 bucket_right s b (OfCommit t) h = absurd (true≢false (sym h.0))
 bucket_right s b (OfPass p t) h = absurd (true≢false (sym h.0))
+bucket_right s b (Away i t n) h = absurd (true≢false (sym h.0))
+bucket_right s b (Lent i t) h = absurd (true≢false (sym h.0))
 
 commit_right : (s : CoreState) (p : Part) → Right s commit_key p → (s.history ≡ (commit_there p).history.list) × ((s.stamped_list ≡ (commit_there p).stamped) × (s.taken ≡ (commit_there p).taken))
 commit_right s (OfSession i t) h = absurd (true≢false (sym h.0))
 commit_right s (OfBucket b t) h = absurd (true≢false (sym h.0))
 commit_right s (OfCommit t) h = h.1
 commit_right s (OfPass p t) h = absurd (true≢false (sym h.0))
+commit_right s (Away i t n) h = absurd (true≢false (sym h.0))
+commit_right s (Lent i t) h = absurd (true≢false (sym h.0))
 
 pass_right : (s : CoreState) (q : ℕ) (p : Part) → Right s (pass_key q) p → (s.pass q ≡ record_of (pass_there p)) × (s.visits q ≡ (pass_there p).visits)
 pass_right s q (OfSession i t) h = absurd (true≢false (sym h.0))
 pass_right s q (OfBucket b t) h = absurd (true≢false (sym h.0))
 pass_right s q (OfCommit t) h = absurd (true≢false (sym h.0))
+pass_right s q (Away i t n) h = absurd (true≢false (sym h.0))
+pass_right s q (Lent i t) h = absurd (true≢false (sym h.0))
 pass_right s q (OfPass i t) h = let e = sym (same_number i q h.0) in (ap s.pass e ∙ h.1.0, ap s.visits e ∙ h.1.1.0)
 
 -- ---- how many passes there are
@@ -84,6 +92,14 @@ pass_below (OfCommit h ∷ ps) q l = pass_below ps q (less _ l)
   where
     less : (n : ℕ) → 0 < 0 + n → 0 < n
     less n l = omega arith
+pass_below (Away j s n ∷ ps) q l = pass_below ps q (less _ l)
+  where
+    less : (n : ℕ) → 0 < 0 + n → 0 < n
+    less n l = omega arith
+pass_below (Lent j s ∷ ps) q l = pass_below ps q (less _ l)
+  where
+    less : (n : ℕ) → 0 < 0 + n → 0 < n
+    less n l = omega arith
 pass_below (OfPass p r ∷ ps) q l = go (eqb p q) refl (λ m. pass_below ps q m)
   where
     m : ℕ
@@ -98,6 +114,8 @@ pass_most n [] f = omega arith
 pass_most n (OfSession j s ∷ ps) f = pass_most n ps (λ q l. f q (let y : ℕ = count (pass_key q) ps in let l' : 0 < y = l in omega arith))
 pass_most n (OfBucket b c ∷ ps) f = pass_most n ps (λ q l. f q (let y : ℕ = count (pass_key q) ps in let l' : 0 < y = l in omega arith))
 pass_most n (OfCommit h ∷ ps) f = pass_most n ps (λ q l. f q (let y : ℕ = count (pass_key q) ps in let l' : 0 < y = l in omega arith))
+pass_most n (Away j s m ∷ ps) f = pass_most n ps (λ q l. f q (let y : ℕ = count (pass_key q) ps in let l' : 0 < y = l in omega arith))
+pass_most n (Lent j s ∷ ps) f = pass_most n ps (λ q l. f q (let y : ℕ = count (pass_key q) ps in let l' : 0 < y = l in omega arith))
 pass_most n (OfPass p r ∷ ps) f =
     let m : ℕ = passes_in ps in
     let a : m ≤ n = pass_most n ps (λ q l. f q (let x : ℕ = one (eqb p q) in let y : ℕ = count (pass_key q) ps in let l' : 0 < y = l in omega arith)) in
@@ -127,8 +145,16 @@ passes_are n ps f = go n refl
 
 -- ---- the whole state
 
+-- the keys whose parts make up the state; where a session's part has its place is none of it
+abbrev pub HasPart : Key → Type 0
+HasPart (session_key j) = ⊤
+HasPart (bucket_key b) = ⊤
+HasPart commit_key = ⊤
+HasPart (pass_key p) = ⊤
+HasPart (home_key j) = ⊥
+
 pub state_is : (z : Sizes) (s : CoreState) (n : ℕ) (register : ℕ → Register) (ps : List Part) → IsSized z s → Each (Shown s) ps
-    → ((k : Key) → count k ps ≡ expected z s.passes k)
+    → ((k : Key) → HasPart k → count k ps ≡ expected z s.passes k)
     → ((k : Key) → expected z s.passes k ≡ 0 → Shown s (new_part k))
     → s.mark ≡ n → ((j : ℕ) → s.register j ≡ register j) → s ≡ state_of z n register ps
 state_is z s n register ps sized shown counts outside mark registers = λ i. record {
@@ -136,22 +162,22 @@ state_is z s n register ps sized shown counts outside mark registers = λ i. rec
   tables = sized.tables i;
   buckets = sized.buckets i;
   each = sized.each i;
-  passes = sym (passes_are s.passes ps (λ q. counts (pass_key q))) i;
+  passes = sym (passes_are s.passes ps (λ q. counts (pass_key q) tt)) i;
   mark = mark i;
   register = λ j. registers j i;
-  history = (commit_right s _ (right commit_key)).0 i;
-  stamped_list = (commit_right s _ (right commit_key)).1.0 i;
-  taken = (commit_right s _ (right commit_key)).1.1 i;
-  phase = λ j. (session_right s j _ (right (session_key j))).0 i;
-  log = λ j. (session_right s j _ (right (session_key j))).1 i;
-  bucket = λ b. (bucket_right s b _ (right (bucket_key b))).0 i;
-  counters = λ b. (bucket_right s b _ (right (bucket_key b))).1 i;
-  pass = λ p. (pass_right s p _ (right (pass_key p))).0 i;
-  visits = λ p. (pass_right s p _ (right (pass_key p))).1 i;
+  history = (commit_right s _ (right commit_key tt)).0 i;
+  stamped_list = (commit_right s _ (right commit_key tt)).1.0 i;
+  taken = (commit_right s _ (right commit_key tt)).1.1 i;
+  phase = λ j. (session_right s j _ (right (session_key j) tt)).0 i;
+  log = λ j. (session_right s j _ (right (session_key j) tt)).1 i;
+  bucket = λ b. (bucket_right s b _ (right (bucket_key b) tt)).0 i;
+  counters = λ b. (bucket_right s b _ (right (bucket_key b) tt)).1 i;
+  pass = λ p. (pass_right s p _ (right (pass_key p) tt)).0 i;
+  visits = λ p. (pass_right s p _ (right (pass_key p) tt)).1 i;
 }
   where
-    right : (k : Key) → Right s k (seek k ps)
-    right k = sought s k ps shown (λ e. outside k (sym (counts k) ∙ e))
+    right : (k : Key) → HasPart k → Right s k (seek k ps)
+    right k part = sought s k ps shown (λ e. outside k (sym (counts k part) ∙ e))
 
 -- ---- the state that words and views show
 
@@ -185,7 +211,7 @@ outside_idle z t r j e = idle_shows r.state.tables (r.state.register j) (r.state
 
 pub reads : (z : Sizes) (t : State ℕ View) → HasRoom z → (r : Rule z t) → r.state ≡ read z t.words t.views
 reads z t room r = state_is z r.state (slice_index t.words 0) (registers_in z t.words) (all_parts t.views) r.sized (all_shown r.state t.views (λ i v e. (r.shown i v e).parts))
-    (λ k. tally_all k t.views ∙ r.exact k) r.outside (sym r.words.mark) (λ j. go j (both (ltb 0 j) (ltb j (suc z.sessions))) refl)
+    (λ k part. tally_all k t.views ∙ r.exact k) r.outside (sym r.words.mark) (λ j. go j (both (ltb 0 j) (ltb j (suc z.sessions))) refl)
   where
     go : (j : ℕ) (b : Bool) → both (ltb 0 j) (ltb j (suc z.sessions)) ≡ b → r.state.register j ≡ (if b then register_of (slice_index t.words j) else registers.Idle)
     go j true e = sym (ap register_of (r.words.registers j (inside_is z j e)) ∙ word_back (r.state.register j) (register_small z r.state j room r.sized r.steady))
@@ -200,11 +226,12 @@ full c false l f = omega arith
 less_is : (i n : ℕ) → ltb i n ≡ true → i < n
 less_is i n e = ltb_less i n (let x : ℕ = one (ltb i n) in let f : x ≡ 1 = ap one e in omega arith)
 
-has_all : (z : Sizes) (n : ℕ) (v : View) (b : IsBacked z n v) → HasAll z v → (k : Key) → count k v.parts ≡ expected z b.state.passes k
-has_all z n v b h (session_key j) = full (count (session_key j) v.parts) (both (ltb 0 j) (ltb j (suc z.sessions))) (b.most (session_key j)) (λ e. h.sessions j (inside_is z j e))
-has_all z n v b h (bucket_key i) = full (count (bucket_key i) v.parts) (ltb i z.buckets) (b.most (bucket_key i)) (λ e. h.buckets i (less_is i z.buckets e))
-has_all z n v b h commit_key = let a : ℕ = count commit_key v.parts in let c : 0 < a = h.commit in let d : a ≤ 1 = b.most commit_key in omega arith
-has_all z n v b h (pass_key p) = b.alone h.passes p
+has_all : (z : Sizes) (n : ℕ) (v : View) (b : IsBacked z n v) → HasAll z v → (k : Key) → HasPart k → count k v.parts ≡ expected z b.state.passes k
+has_all z n v b h (home_key j) part = absurd part
+has_all z n v b h (session_key j) part = full (count (session_key j) v.parts) (both (ltb 0 j) (ltb j (suc z.sessions))) (b.most (session_key j)) (λ e. h.sessions j (inside_is z j e))
+has_all z n v b h (bucket_key i) part = full (count (bucket_key i) v.parts) (ltb i z.buckets) (b.most (bucket_key i)) (λ e. h.buckets i (less_is i z.buckets e))
+has_all z n v b h commit_key part = let a : ℕ = count commit_key v.parts in let c : 0 < a = h.commit in let d : a ≤ 1 = b.most commit_key in omega arith
+has_all z n v b h (pass_key p) part = b.alone h.passes p
 
 pub owned : (z : Sizes) (n : ℕ) (v : View) → IsBacked z n v → HasAll z v → AllRest v → IsSteady (own_state z v) × (n ≡ (own_state z v).mark)
 owned z n v b h rest = (subst IsSteady same b.steady, sym b.mark_is ∙ mark)
@@ -212,15 +239,15 @@ owned z n v b h rest = (subst IsSteady same b.steady, sym b.mark_is ∙ mark)
     s : CoreState
     s = b.state
 
-    counts : (k : Key) → count k v.parts ≡ expected z s.passes k
+    counts : (k : Key) → HasPart k → count k v.parts ≡ expected z s.passes k
     counts = has_all z n v b h
 
-    right : (k : Key) → Right s k (seek k v.parts)
-    right k = sought s k v.parts b.true_of.parts (λ e. b.outside k (sym (counts k) ∙ e))
+    right : (k : Key) → HasPart k → Right s k (seek k v.parts)
+    right k part = sought s k v.parts b.true_of.parts (λ e. b.outside k (sym (counts k part) ∙ e))
 
     mark : s.mark ≡ length (commit_there (seek commit_key v.parts)).history.list
-    mark = b.steady.mark_is_length.is_length ∙ ap length (commit_right s _ (right commit_key)).0
+    mark = b.steady.mark_is_length.is_length ∙ ap length (commit_right s _ (right commit_key tt)).0
 
     same : s ≡ own_state z v
     same = state_is z s _ (λ _. registers.Idle) v.parts b.sized b.true_of.parts counts b.outside mark
-        (λ j. idle_shows s.tables (s.register j) (s.phase j) (b.steady.registers_agree.shows j) ((session_right s j _ (right (session_key j))).0 ∙ rest j))
+        (λ j. idle_shows s.tables (s.register j) (s.phase j) (b.steady.registers_agree.shows j) ((session_right s j _ (right (session_key j) tt)).0 ∙ rest j))

@@ -11,6 +11,8 @@ pub mod Looks
 pub mod Works
 pub mod Commits
 pub mod Reclaims
+pub mod Handing
+pub mod Grouping
 pub mod Holders
 pub mod Unrefused
 pub mod Agreements

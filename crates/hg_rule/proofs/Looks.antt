@@ -1,5 +1,5 @@
 -- A look finds what the bucket held shows, and is allowed.
-use Rattle.std.proofs.Common.{◌≡◌, ℕ, ℤ, zero, suc, ◌+◌, ◌-◌, ◌<◌, ◌≤◌, inl, inr, ◌⊎◌, ⊎_elim, Bool, true, false, List, [], ◌∷◌, length, map, get_or, set, ◌==◌, Option, Some, None, refl, sym, ap, ◌∙◌, subst, arith, get_or-set_same}
+use Rattle.std.proofs.Common.{le_refl, ◌≡◌, ℕ, ℤ, zero, suc, ◌+◌, ◌-◌, ◌<◌, ◌≤◌, inl, inr, ◌⊎◌, ⊎_elim, Bool, true, false, List, [], ◌∷◌, length, map, get_or, set, ◌==◌, Option, Some, None, refl, sym, ap, ◌∙◌, subst, arith, get_or-set_same}
 use Rattle.std.specs.Prelude.{if◌then◌else◌, IsSome, IsTrue, ◌||◌}
 use Rattle.std.specs.List.{list_any}
 use Rattle.std.proofs.lemmas.Bool.Decides.{nat_tests}
@@ -43,6 +43,7 @@ use Rattle.hg_rule.specs.Steps.{Seated}
 use Rattle.hg_rule.specs.Holding.{bucket_number, bucket, writer, snapshot, tables, held}
 use Rattle.hg_rule.specs.Writes.{with_log, MayAsk, AreShown, log_asked, asked}
 use Rattle.hg_rule.proofs.Lists.{starts_same, ends_same}
+use Rattle.hg_rule.proofs.Counts.{away_same}
 use Rattle.hg_rule.proofs.Keeps.{Table, keep, backs}
 use Rattle.hg_rule.proofs.Registers.{loaded_words}
 use Rattle.hg_rule.proofs.Owned.{Leaves, leaves_only, not_first, log_put, own_second, held_versions, live_is, writer_is, snapshot_is}
@@ -163,6 +164,7 @@ look_leaves c j ask b rows old = record {
   taken = λ away. refl;
   pass = λ p away. refl;
   visits = λ p away. refl;
+  home = λ k part n away s. away_same c (happens c (Look j ask b rows)) k part n refl (put_else c.log j k _ (not_first j k 0 away)) (le_refl _) s;
 }
 
 -- what is asked, as the state has it

@@ -1,5 +1,5 @@
 -- A new board, and the dealing of its seats.
-use Rattle.std.proofs.Common.{◌≡◌, ℕ, zero, suc, ◌+◌, ◌<◌, ◌≤◌, false, eqb, ltb, List, [], ◌∷◌, ◌++◌, length, drop, replicate, refl, sym, ap, ◌∙◌, subst, arith, eq-eqb, ne_eqb}
+use Rattle.std.proofs.Common.{◌≡◌, ℕ, zero, suc, ◌+◌, ◌<◌, ◌≤◌, false, eqb, ltb, List, [], ◌∷◌, ◌++◌, length, drop, replicate, refl, sym, ap, ◌∙◌, subst, arith, eq-eqb, ne_eqb, inl}
 use Rattle.std.proofs.lemmas.Bool.{lt-ltb, le-ltb}
 use Rattle.std.proofs.lemmas.List.{get_or-replicate}
 use mathlib.Core.Option.{some, some-injective, some-ne-none}
@@ -12,7 +12,7 @@ use Rattle.hg_core.proofs.Runs.{steady_after}
 use Rattle.hg_rule.specs.declared.view.Part.{Part}
 use Rattle.hg_rule.specs.declared.view.View.{View}
 use Rattle.hg_rule.specs.declared.view.Sizes.{Sizes}
-use Rattle.hg_rule.specs.Keys.{Key, session_key, bucket_key, commit_key, pass_key, both, has, one, count, share_of, shares, whole_share, expected}
+use Rattle.hg_rule.specs.Keys.{Key, session_key, bucket_key, commit_key, pass_key, home_key, both, has, one, count, share_of, shares, whole_share, expected}
 use Rattle.hg_rule.specs.Facts.{Shown, new_part}
 use Rattle.hg_rule.specs.Rules.{IsTrueOf, Rule}
 use Rattle.hg_rule.specs.Views.{seeing, after_first}
@@ -61,12 +61,16 @@ both_is zero n = let x : ℕ = one (ltb 0 (suc n)) in let e : x ≡ 1 = ap one (
 both_is (suc j) n = let x : ℕ = one (both (ltb 0 (suc j)) (ltb (suc j) (suc n))) in let y : ℕ = one (ltb (suc j) 1) in let z : ℕ = one (ltb (suc j) (suc n)) in
     let e : x ≡ z = ap (λ b. one (both b (ltb (suc j) (suc n)))) (lt-ltb 0 (suc j) (omega arith)) in let l : y ≡ 0 = ap one (le-ltb (suc j) 1 (omega arith)) in omega arith
 
-from_one : (j n : ℕ) → count (session_key j) (run session_part 1 n) ≡ one (both (ltb 0 j) (ltb j (suc n)))
-from_one j n = let a : ℕ = count (session_key j) (run session_part 1 n) in let b : ℕ = one (ltb j 1) in let c : ℕ = one (ltb j (1 + n)) in let d : ℕ = one (ltb j (suc n)) in let x : ℕ = one (both (ltb 0 j) (ltb j (suc n))) in
-    let h : a + b ≡ c = run_one session_key session_part (λ i j. refl) j 1 n in let e : c ≡ d = ap (λ (m : ℕ). one (ltb j m)) (one_more n) in let f : x + b ≡ d = both_is j n in omega arith
+-- the same of either key of a session
+one_from : (key : ℕ → Key) → ((i j : ℕ) → has (key j) (session_part i) ≡ eqb i j) → (j n : ℕ) → count (key j) (run session_part 1 n) ≡ one (both (ltb 0 j) (ltb j (suc n)))
+one_from key is j n = let a : ℕ = count (key j) (run session_part 1 n) in let b : ℕ = one (ltb j 1) in let c : ℕ = one (ltb j (1 + n)) in let d : ℕ = one (ltb j (suc n)) in let x : ℕ = one (both (ltb 0 j) (ltb j (suc n))) in
+    let h : a + b ≡ c = run_one key session_part is j 1 n in let e : c ≡ d = ap (λ (m : ℕ). one (ltb j m)) (one_more n) in let f : x + b ≡ d = both_is j n in omega arith
   where
     one_more : (n : ℕ) → 1 + n ≡ suc n
     one_more n = omega arith
+
+from_one : (j n : ℕ) → count (session_key j) (run session_part 1 n) ≡ one (both (ltb 0 j) (ltb j (suc n)))
+from_one j n = one_from session_key (λ i j. refl) j n
 
 first_count : (z : Sizes) (k : Key) → count k (first_view z).parts ≡ count k (run session_part 1 z.sessions) + (count k (run bucket_part 0 z.buckets) + (count k (run pass_part 0 3) + count k (new_part commit_key ∷ [])))
 first_count z k = let s = run session_part 1 z.sessions in let b = run bucket_part 0 z.buckets in let p = run pass_part 0 3 in let c = new_part commit_key ∷ [] in
@@ -75,6 +79,8 @@ first_count z k = let s = run session_part 1 z.sessions in let b = run bucket_pa
 all_once : (z : Sizes) (k : Key) → count k (first_view z).parts ≡ expected z 3 k
 all_once z (session_key j) = let k = session_key j in let t : ℕ = count k (first_view z).parts in let a : ℕ = count k (run session_part 1 z.sessions) in let b : ℕ = count k (run bucket_part 0 z.buckets) in let c : ℕ = count k (run pass_part 0 3) in let x : ℕ = one (both (ltb 0 j) (ltb j (suc z.sessions))) in
     let e : t ≡ a + (b + (c + 0)) = first_count z k in let f : b ≡ 0 = run_none k bucket_part (λ i. refl) 0 z.buckets in let g : c ≡ 0 = run_none k pass_part (λ i. refl) 0 3 in let h : a ≡ x = from_one j z.sessions in omega arith
+all_once z (home_key j) = let k = home_key j in let t : ℕ = count k (first_view z).parts in let a : ℕ = count k (run session_part 1 z.sessions) in let b : ℕ = count k (run bucket_part 0 z.buckets) in let c : ℕ = count k (run pass_part 0 3) in let x : ℕ = one (both (ltb 0 j) (ltb j (suc z.sessions))) in
+    let e : t ≡ a + (b + (c + 0)) = first_count z k in let f : b ≡ 0 = run_none k bucket_part (λ i. refl) 0 z.buckets in let g : c ≡ 0 = run_none k pass_part (λ i. refl) 0 3 in let h : a ≡ x = one_from home_key (λ i j. refl) j z.sessions in omega arith
 all_once z (bucket_key j) = let k = bucket_key j in let t : ℕ = count k (first_view z).parts in let a : ℕ = count k (run session_part 1 z.sessions) in let b : ℕ = count k (run bucket_part 0 z.buckets) in let c : ℕ = count k (run pass_part 0 3) in let x : ℕ = one (ltb j z.buckets) in
     let e : t ≡ a + (b + (c + 0)) = first_count z k in let f : a ≡ 0 = run_none k session_part (λ i. refl) 1 z.sessions in let g : c ≡ 0 = run_none k pass_part (λ i. refl) 0 3 in let h : b ≡ x = from_zero bucket_key bucket_part (λ i j. refl) j z.buckets in omega arith
 all_once z commit_key = let k = commit_key in let t : ℕ = count k (first_view z).parts in let a : ℕ = count k (run session_part 1 z.sessions) in let b : ℕ = count k (run bucket_part 0 z.buckets) in let c : ℕ = count k (run pass_part 0 3) in
@@ -118,6 +124,7 @@ opens z = record {
     new_shown (bucket_key b) = (refl, refl)
     new_shown commit_key = (refl, (refl, refl))
     new_shown (pass_key p) = (refl, (refl, omega arith))
+    new_shown (home_key j) = (refl, (omega arith, inl refl))
 
     base : IsTrueOf s (first_view z)
     base = record {

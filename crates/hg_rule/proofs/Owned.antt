@@ -19,10 +19,11 @@ use Rattle.hg_core.specs.Events.{put}
 use Rattle.hg_core.specs.Invariant.{IsSteady}
 use Rattle.hg_core.proofs.Indices.{by_number}
 use Rattle.hg_rule.specs.declared.view.Part.{Part}
-use Rattle.hg_rule.specs.declared.view.Part.TheVariants.{OfSession, OfBucket, OfCommit, OfPass}
+use Rattle.hg_rule.specs.declared.view.Part.TheVariants.{OfSession, OfBucket, OfCommit, OfPass, Away, Lent}
 use Rattle.hg_rule.specs.declared.view.View.{View}
 use Rattle.hg_rule.specs.declared.view.Sizes.{Sizes}
-use Rattle.hg_rule.specs.Keys.{session_key, bucket_key, commit_key, pass_key, one, count}
+use Rattle.hg_rule.specs.declared.view.SessionPart.{SessionPart}
+use Rattle.hg_rule.specs.Keys.{session_key, bucket_key, commit_key, pass_key, home_key, one, count}
 use Rattle.hg_rule.specs.Facts.{Shown, EndsWith}
 use Rattle.hg_rule.specs.Rules.{Rule}
 use Rattle.hg_rule.specs.Views.{number, session, others}
@@ -45,12 +46,15 @@ pub record Leaves (c d : CoreState) (qs : List Part) : Type 0 where
   pub taken : count commit_key qs ≡ 0 → d.taken ≡ c.taken
   pub pass : (p : ℕ) → count (pass_key p) qs ≡ 0 → d.pass p ≡ c.pass p
   pub visits : (p : ℕ) → count (pass_key p) qs ≡ 0 → d.visits p ≡ c.visits p
+  pub home : (k : ℕ) (part : SessionPart) (n : ℕ) → count (home_key k) qs ≡ 0 → Shown c (Away k part n) → Shown d (Away k part n)
 
 pub leaves_only : (c d : CoreState) (qs : List Part) → Leaves c d qs → Only c d qs
 leaves_only c d qs h (OfSession k t) away s = (h.phase k away ∙ s.0, (h.log k away ∙ s.1.0, h.stamped k away ∙ s.1.1))
 leaves_only c d qs h (OfBucket b t) away s = (h.bucket b away ∙ s.0, h.counters b away ∙ s.1)
 leaves_only c d qs h (OfCommit t) away s = (h.history away ∙ s.0, (h.list away ∙ s.1.0, h.taken away ∙ s.1.1))
 leaves_only c d qs h (OfPass p t) away s = (h.pass p away ∙ s.0, (h.visits p away ∙ s.1.0, s.1.1))
+leaves_only c d qs h (Away k t n) away s = h.home k t n away s
+leaves_only c d qs h (Lent k t) away s = (h.phase k away ∙ s.0, (h.log k away ∙ s.1.0, h.stamped k away ∙ s.1.1))
 
 -- another number, where a list that begins with a part of a number has none of it, or one whose second part does
 pub not_first : (i k n : ℕ) → one (eqb i k) + n ≡ 0 → k ≡ i → ⊥

@@ -1,5 +1,5 @@
 -- Each kind of step is allowed.
-use Rattle.std.proofs.Common.{◌≡◌, ◌≢◌, ℕ, ◌+◌, ◌<◌, Bool, true, false, eqb, List, [], ◌∷◌, ◌++◌, length, get_or, set, Option, Some, None, refl, sym, ap, ◌∙◌, subst, arith, eq-eqb, ne_eqb, inl, inr, length-append}
+use Rattle.std.proofs.Common.{◌≡◌, ◌≢◌, ℕ, ◌+◌, ◌<◌, Bool, true, false, eqb, List, [], ◌∷◌, ◌++◌, length, get_or, set, Option, Some, None, refl, sym, ap, ◌∙◌, subst, arith, eq-eqb, ne_eqb, inl, inr, length-append, le_refl}
 use Rattle.std.specs.Prelude.{if◌then◌else◌, IsSome, IsNone, max, ◌≤◌, ◌==◌, ◌^◌}
 use Rattle.std.proofs.Math.Nat.{pow-le-pow_right}
 use Rattle.std.proofs.lemmas.Bool.Decides.{nat_tests}
@@ -37,7 +37,7 @@ use Rattle.hg_core.proofs.Gathers.{mark_kept, sample_kept, move_kept}
 use Rattle.hg_rule.specs.declared.view.SessionPart.{SessionPart}
 use Rattle.hg_rule.specs.declared.view.PassPart.{PassPart}
 use Rattle.hg_rule.specs.declared.view.Part.{Part}
-use Rattle.hg_rule.specs.declared.view.Part.TheVariants.{OfSession, OfBucket, OfCommit, OfPass}
+use Rattle.hg_rule.specs.declared.view.Part.TheVariants.{OfSession, OfBucket, OfCommit, OfPass, Away, Lent}
 use Rattle.hg_rule.specs.declared.view.Sight.{Sight}
 use Rattle.hg_rule.specs.declared.view.Sight.TheVariants as sights
 use Rattle.hg_rule.specs.declared.view.Event.TheVariants as events
@@ -50,7 +50,7 @@ use Rattle.hg_rule.specs.Holding.{beyond, commit}
 use Rattle.hg_rule.specs.Places.{HoldsCommit}
 use Rattle.hg_rule.specs.Views.{first_in, number, session, pass, others, HasSession, HasPass, then_has}
 use Rattle.hg_rule.specs.Steps.{Within, IsHistoryAt, in_phase, logging, loaded_in, IsMovable, beginning, loading, moving, after_try, probed, entered, fixed, went_live, ended, marked, sampled, tried, looked}
-use Rattle.hg_rule.proofs.Counts.{another}
+use Rattle.hg_rule.proofs.Counts.{another, away_same}
 use Rattle.hg_rule.proofs.Lists.{starts_same, ends_same, each_map}
 use Rattle.hg_rule.proofs.Growing.{Grows}
 use Rattle.hg_rule.proofs.Keeps.{Table, keep, backs}
@@ -119,12 +119,15 @@ record Sessional (c d : CoreState) (j : ℕ) : Type 0 where
   pub taken : d.taken ≡ c.taken
   pub pass : d.pass ≡ c.pass
   pub visits : d.visits ≡ c.visits
+  pub mark : c.mark ≤ d.mark
 
 session_only : (c d : CoreState) (j : ℕ) (old : SessionPart) → Sessional c d j → (p : Part) → count (key_of p) (OfSession j old ∷ []) ≡ 0 → Shown c p → Shown d p
 session_only c d j old h (OfSession k t) away s = let n = another j k away in (h.phase k n ∙ s.0, (h.log k n ∙ s.1.0, ap (has_stamped k) h.stamped ∙ s.1.1))
 session_only c d j old h (OfBucket b t) away s = ((λ i. h.bucket i b) ∙ s.0, (λ i. h.counters i b) ∙ s.1)
 session_only c d j old h (OfCommit t) away s = (h.history ∙ s.0, (h.stamped ∙ s.1.0, h.taken ∙ s.1.1))
 session_only c d j old h (OfPass p t) away s = ((λ i. h.pass i p) ∙ s.0, ((λ i. h.visits i p) ∙ s.1.0, s.1.1))
+session_only c d j old h (Away k t m) away s = let n = another j k away in away_same c d k t m (h.phase k n) (h.log k n) h.mark s
+session_only c d j old h (Lent k t) away s = let n = another j k away in (h.phase k n ∙ s.0, (h.log k n ∙ s.1.0, ap (has_stamped k) h.stamped ∙ s.1.1))
 
 -- only the phase, or the log too
 pub log_stays : (c : CoreState) → Grows c c
@@ -153,7 +156,7 @@ probes z slots id m room is inside rests fewer t r deep at small =
         passes = refl;
         shows = record { count = w.count; mark = w.mark; registers = w.registers };
         grows = record { history = grows.history; logs = grows.logs; taken = grows.taken };
-        only = session_only c d j (session v) record { phase = λ k other. put_else c.phase j k (Probed c.mark) other; log = λ k other. refl; bucket = refl; counters = refl; history = refl; stamped = refl; taken = refl; pass = refl; visits = refl };
+        only = session_only c d j (session v) record { phase = λ k other. put_else c.phase j k (Probed c.mark) other; log = λ k other. refl; bucket = refl; counters = refl; history = refl; stamped = refl; taken = refl; pass = refl; visits = refl; mark = le_refl _ };
         counts = λ k. refl;
         shared = refl;
         shown = ((put_here c.phase j (Probed c.mark) ∙ ap Probed (sym r.words.mark), own.1), tt);
@@ -185,7 +188,7 @@ fixes z slots id f m room is was t r deep at small =
         passes = refl;
         shows = record { count = w.count; mark = w.mark; registers = w.registers };
         grows = record { history = grows.history; logs = grows.logs; taken = grows.taken };
-        only = session_only c d j (session v) record { phase = λ k other. put_else c.phase j k (Fixed f c.mark) other; log = λ k other. refl; bucket = refl; counters = refl; history = refl; stamped = refl; taken = refl; pass = refl; visits = refl };
+        only = session_only c d j (session v) record { phase = λ k other. put_else c.phase j k (Fixed f c.mark) other; log = λ k other. refl; bucket = refl; counters = refl; history = refl; stamped = refl; taken = refl; pass = refl; visits = refl; mark = le_refl _ };
         counts = λ k. refl;
         shared = refl;
         shown = ((put_here c.phase j (Fixed f c.mark) ∙ (λ i. Fixed (same i) (sym r.words.mark i)), own.1), tt);
@@ -217,7 +220,7 @@ enters z slots id f i x m is inside was there value t r deep at small =
         passes = refl;
         shows = subst (λ i. ShowsWords z d (set t.words i x)) (sym there) (record { count = w.count; mark = w.mark; registers = w.registers });
         grows = record { history = grows.history; logs = grows.logs; taken = grows.taken };
-        only = session_only c d j (session v) record { phase = λ k other. put_else c.phase j k (Entered f) other; log = λ k other. refl; bucket = refl; counters = refl; history = refl; stamped = refl; taken = refl; pass = refl; visits = refl };
+        only = session_only c d j (session v) record { phase = λ k other. put_else c.phase j k (Entered f) other; log = λ k other. refl; bucket = refl; counters = refl; history = refl; stamped = refl; taken = refl; pass = refl; visits = refl; mark = le_refl _ };
         counts = λ k. refl;
         shared = refl;
         shown = ((put_here c.phase j (Entered f) ∙ ap Entered same, own.1), tt);
@@ -257,7 +260,7 @@ goes_live z slots id f n i x scope m room is inside was few below there value t 
         passes = refl;
         shows = subst (λ i. ShowsWords z d (set t.words i x)) (sym there) (record { count = w.count; mark = w.mark; registers = w.registers });
         grows = record { history = grows.history; logs = log_grows c j (Began n scope); taken = grows.taken };
-        only = session_only c d j (session v) record { phase = λ k other. put_else c.phase j k (Live n scope) other; log = λ k other. put_else c.log j k (Began n scope ∷ c.log j) other; bucket = refl; counters = refl; history = refl; stamped = refl; taken = refl; pass = refl; visits = refl };
+        only = session_only c d j (session v) record { phase = λ k other. put_else c.phase j k (Live n scope) other; log = λ k other. put_else c.log j k (Began n scope ∷ c.log j) other; bucket = refl; counters = refl; history = refl; stamped = refl; taken = refl; pass = refl; visits = refl; mark = le_refl _ };
         counts = λ k. refl;
         shared = refl;
         shown = ((put_here c.phase j (Live n scope) ∙ (λ i. Live (same i) (back i)), (log, own.1.1)), tt);
@@ -288,7 +291,7 @@ ends z slots id i m is inside live none_open there t r deep at small =
         passes = refl;
         shows = subst (λ i. ShowsWords z d (set t.words i 0)) (sym there) (record { count = w.count; mark = w.mark; registers = w.registers });
         grows = record { history = grows.history; logs = log_grows c j Over; taken = grows.taken };
-        only = session_only c d j (session v) record { phase = λ k other. put_else c.phase j k Idle other; log = λ k other. put_else c.log j k (Over ∷ c.log j) other; bucket = refl; counters = refl; history = refl; stamped = refl; taken = refl; pass = refl; visits = refl };
+        only = session_only c d j (session v) record { phase = λ k other. put_else c.phase j k Idle other; log = λ k other. put_else c.log j k (Over ∷ c.log j) other; bucket = refl; counters = refl; history = refl; stamped = refl; taken = refl; pass = refl; visits = refl; mark = le_refl _ };
         counts = λ k. refl;
         shared = refl;
         shown = ((put_here c.phase j Idle, (log, own.1.1)), tt);
@@ -311,11 +314,14 @@ record Collecting (c d : CoreState) (p : ℕ) : Type 0 where
   pub stamped : d.stamped_list ≡ c.stamped_list
   pub taken : d.taken ≡ c.taken
   pub visits : d.visits ≡ c.visits
+  pub mark : c.mark ≤ d.mark
 
 pass_only : (c d : CoreState) (p : ℕ) (old : PassPart) → Collecting c d p → (q : Part) → count (key_of q) (OfPass p old ∷ []) ≡ 0 → Shown c q → Shown d q
 pass_only c d p old h (OfSession k t) away s = ((λ i. h.phase i k) ∙ s.0, ((λ i. h.log i k) ∙ s.1.0, ap (has_stamped k) h.stamped ∙ s.1.1))
 pass_only c d p old h (OfBucket b t) away s = ((λ i. h.bucket i b) ∙ s.0, (λ i. h.counters i b) ∙ s.1)
 pass_only c d p old h (OfCommit t) away s = (h.history ∙ s.0, (h.stamped ∙ s.1.0, h.taken ∙ s.1.1))
+pass_only c d p old h (Away k t m) away s = away_same c d k t m (λ i. h.phase i k) (λ i. h.log i k) h.mark s
+pass_only c d p old h (Lent k t) away s = ((λ i. h.phase i k) ∙ s.0, ((λ i. h.log i k) ∙ s.1.0, ap (has_stamped k) h.stamped ∙ s.1.1))
 pass_only c d p old h (OfPass q t) away s = (h.pass q (another p q away) ∙ s.0, ((λ i. h.visits i q) ∙ s.1.0, s.1.1))
 
 -- what was heard of a log is no longer than the log
@@ -356,7 +362,7 @@ marks z slots id m room is t r deep at small =
         passes = refl;
         shows = record { count = w.count; mark = w.mark; registers = w.registers };
         grows = record { history = grows.history; logs = grows.logs; taken = grows.taken };
-        only = pass_only c d p (pass v) record { pass = λ q other. put_else c.pass p q _ other; phase = refl; log = refl; bucket = refl; counters = refl; history = refl; stamped = refl; taken = refl; visits = refl };
+        only = pass_only c d p (pass v) record { pass = λ q other. put_else c.pass p q _ other; phase = refl; log = refl; bucket = refl; counters = refl; history = refl; stamped = refl; taken = refl; visits = refl; mark = le_refl _ };
         counts = λ k. refl;
         shared = refl;
         shown = ((put_here c.pass p _ ∙ (λ i. record { mark = sym r.words.mark i; known = known; loaded = [] }), own.1), tt);
@@ -411,7 +417,7 @@ samples z slots id j m room is inside fresh t r deep at small =
         passes = refl;
         shows = record { count = w.count; mark = w.mark; registers = w.registers };
         grows = record { history = grows.history; logs = grows.logs; taken = grows.taken };
-        only = pass_only c d p (pass v) record { pass = λ q other. put_else c.pass p q _ other; phase = refl; log = refl; bucket = refl; counters = refl; history = refl; stamped = refl; taken = refl; visits = refl };
+        only = pass_only c d p (pass v) record { pass = λ q other. put_else c.pass p q _ other; phase = refl; log = refl; bucket = refl; counters = refl; history = refl; stamped = refl; taken = refl; visits = refl; mark = le_refl _ };
         counts = λ k. refl;
         shared = refl;
         shown = ((put_here c.pass p _ ∙ (λ i. record (own.0 i) { loaded = (j, back i) ∷ (own.0 i).loaded }), own.1), tt);
@@ -445,7 +451,7 @@ tries z slots id j old new n mask m room is inside few has_it was becomes t r de
             passes = refl;
             shows = record { count = w.count; mark = w.mark; registers = w.registers };
             grows = record { history = grows.history; logs = grows.logs; taken = grows.taken };
-            only = pass_only c d p (pass v) record { pass = λ q other. put_else c.pass p q _ other; phase = refl; log = refl; bucket = refl; counters = refl; history = refl; stamped = refl; taken = refl; visits = refl };
+            only = pass_only c d p (pass v) record { pass = λ q other. put_else c.pass p q _ other; phase = refl; log = refl; bucket = refl; counters = refl; history = refl; stamped = refl; taken = refl; visits = refl; mark = le_refl _ };
             counts = λ k. refl;
             shared = refl;
             shown = ((put_here c.pass p _ ∙ (λ i. record (own.0 i) { loaded = moved_in j (own.0 i).loaded }), own.1), tt);

@@ -1,5 +1,5 @@
 -- A pass with a whole record may take versions away in the bucket that it visits.
-use Rattle.std.proofs.Common.{◌≡◌, ℕ, ◌-◌, List, [], ◌∷◌, length, get_or, refl, sym, ap, ◌∙◌, subst}
+use Rattle.std.proofs.Common.{◌≡◌, ℕ, ◌-◌, ◌≤◌, List, [], ◌∷◌, length, get_or, refl, sym, ap, ◌∙◌, subst, le_refl}
 use mathlib.Core.Option.{none}
 use Rattle.atomic_table.specs.Table.{step, keeps, Allows}
 use Rattle.hg_base.specs.declared.rid.Rid.{Rid}
@@ -26,6 +26,7 @@ use Rattle.hg_rule.specs.Views.{number, pass, HasPass, then_has}
 use Rattle.hg_rule.specs.Steps.{Seated}
 use Rattle.hg_rule.specs.Holding.{beyond, bucket_number, bucket, HasBucket, held}
 use Rattle.hg_rule.specs.Removes.{left_of, removed_of, shortening, visiting, removed}
+use Rattle.hg_rule.proofs.Counts.{away_same}
 use Rattle.hg_rule.proofs.Keeps.{keep}
 use Rattle.hg_rule.proofs.Registers.{loaded_words}
 use Rattle.hg_rule.proofs.Owned.{Leaves, leaves_only, not_first, not_second, own_second, held_versions, stored_here, stored_else}
@@ -33,9 +34,9 @@ use Rattle.hg_rule.proofs.Playing.{own_pass, log_stays}
 use Rattle.hg_rule.proofs.Works.{counters_else}
 
 reclaim_leaves : (c d : CoreState) (p b : ℕ) (old : PassPart) (part : BucketPart) → d.phase ≡ c.phase → d.log ≡ c.log → d.stamped_list ≡ c.stamped_list
-    → ((k : ℕ) → (k ≡ b → ⊥) → d.bucket k ≡ c.bucket k) → ((k : ℕ) → (k ≡ b → ⊥) → d.counters k ≡ c.counters k) → d.history ≡ c.history → d.taken ≡ c.taken → d.pass ≡ c.pass → ((q : ℕ) → (q ≡ p → ⊥) → d.visits q ≡ c.visits q)
+    → ((k : ℕ) → (k ≡ b → ⊥) → d.bucket k ≡ c.bucket k) → ((k : ℕ) → (k ≡ b → ⊥) → d.counters k ≡ c.counters k) → d.history ≡ c.history → d.taken ≡ c.taken → d.pass ≡ c.pass → ((q : ℕ) → (q ≡ p → ⊥) → d.visits q ≡ c.visits q) → c.mark ≤ d.mark
     → Leaves c d (OfPass p old ∷ OfBucket b part ∷ [])
-reclaim_leaves c d p b old part phase logs list bucket counters history taken pass visits = record {
+reclaim_leaves c d p b old part phase logs list bucket counters history taken pass visits more = record {
   phase = λ k away i. phase i k;
   log = λ k away i. logs i k;
   stamped = λ k away i. has_stamped k (list i);
@@ -46,6 +47,7 @@ reclaim_leaves c d p b old part phase logs list bucket counters history taken pa
   taken = λ away. taken;
   pass = λ p away i. pass i p;
   visits = λ q away. visits q (not_first p q _ away);
+  home = λ k part n away s. away_same c d k part n (λ i. phase i k) (λ i. logs i k) more s;
 }
 
 pub reclaims : (z : Sizes) (slots id : ℕ) (rid : Rid) (kind : Kind) (m : Seated) → HasPass m.0 → IsWhole z.sessions (record_of (pass m.0)) → HasBucket m.0 → bucket_of z.buckets rid ≡ bucket_number m.0 → IsVisiting (bucket_number m.0) (pass m.0).visits
@@ -86,7 +88,7 @@ reclaims z slots id rid kind m is whole bucketed place here t r deep at small =
             shows = record { count = words.count; mark = words.mark; registers = words.registers };
             grows = record { history = grows.history; logs = grows.logs; taken = grows.taken };
             only = leaves_only c d _ (reclaim_leaves c d p b (pass v) (bucket v) refl refl refl (λ k other. stored_else c.buckets c.bucket rid _ b k place' other) (λ k other. counters_else c.counters _ b k _ place' other) refl refl refl
-                (λ q other. put_else c.visits p q _ other));
+                (λ q other. put_else c.visits p q _ other) (le_refl _));
             counts = λ k. refl;
             shared = refl;
             shown = ((own.0, (visits, own.1.1)), ((content, counts), tt));

@@ -87,15 +87,15 @@ deals z id v = cut z id v (left_tail v) (right_first v) record {
   right = λ s h. record { parts = (first_each (Shown s) v.parts h.parts).1; sights = h.sights; events = tt };
 }
 
-second_count : (k : Key) (ps : List Part) → count k (but_second ps) + count k (second_of ps) ≡ count k ps
+pub second_count : (k : Key) (ps : List Part) → count k (but_second ps) + count k (second_of ps) ≡ count k ps
 second_count k [] = refl
 second_count k (p ∷ ps) = let a : ℕ = one (has k p) in let b : ℕ = count k ps in let x : ℕ = count k (after_first ps) in let y : ℕ = count k (first_of ps) in let e : x + y ≡ b = first_count k ps in omega arith
 
-second_shares : (ps : List Part) → shares (but_second ps) + shares (second_of ps) ≡ shares ps
+pub second_shares : (ps : List Part) → shares (but_second ps) + shares (second_of ps) ≡ shares ps
 second_shares [] = refl
 second_shares (p ∷ ps) = let a : ℕ = share_of p in let b : ℕ = shares ps in let x : ℕ = shares (after_first ps) in let y : ℕ = shares (first_of ps) in let e : x + y ≡ b = first_shares ps in omega arith
 
-second_each : (P : Part → Type 0) (ps : List Part) → Each P ps → Each P (but_second ps) × Each P (second_of ps)
+pub second_each : (P : Part → Type 0) (ps : List Part) → Each P ps → Each P (but_second ps) × Each P (second_of ps)
 second_each P [] e = (tt, tt)
 second_each P (p ∷ ps) e = let r = first_each P ps e.1 in ((e.0, r.0), r.1)
 

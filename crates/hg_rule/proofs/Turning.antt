@@ -21,7 +21,7 @@ use Rattle.hg_rule.specs.declared.view.BucketPart.{BucketPart}
 use Rattle.hg_rule.specs.declared.view.CommitPart.{CommitPart}
 use Rattle.hg_rule.specs.declared.view.PassPart.{PassPart}
 use Rattle.hg_rule.specs.declared.view.Part.{Part}
-use Rattle.hg_rule.specs.declared.view.Part.TheVariants.{OfSession, OfBucket, OfCommit, OfPass}
+use Rattle.hg_rule.specs.declared.view.Part.TheVariants.{OfSession, OfBucket, OfCommit, OfPass, Away, Lent}
 use Rattle.hg_rule.specs.declared.view.View.{View}
 use Rattle.hg_rule.specs.declared.view.Sizes.{Sizes}
 use Rattle.hg_rule.specs.Keys.{Key, bucket_key, pass_key, key_of, has, one, count, tally, share_of, shares, expected}
@@ -62,6 +62,8 @@ visits_only : (c : CoreState) (p : ℕ) (old : PassPart) (visits : List Visit) (
 visits_only c p old visits (OfSession k t) away s = s
 visits_only c p old visits (OfBucket b t) away s = s
 visits_only c p old visits (OfCommit t) away s = s
+visits_only c p old visits (Away k t n) away s = s
+visits_only c p old visits (Lent k t) away s = s
 visits_only c p old visits (OfPass q t) away s = (s.0, (put_else c.visits p q visits (another p q away) ∙ s.1.0, s.1.1))
 
 turned : (z : Sizes) (t : Table) (r : Rule z t) (id : ℕ) (v : View) (p : ℕ) (part : PassPart) (ps : List Part) (visits : List Visit) → get_elem? t.views id ≡ some v → v.parts ≡ OfPass p part ∷ ps
@@ -105,6 +107,8 @@ arrived z t id v b [] at is r l = same_view z t id v [] at is r
 arrived z t id v b (OfSession j s ∷ ps) at is r l = same_view z t id v (OfSession j s ∷ ps) at is r
 arrived z t id v b (OfBucket c s ∷ ps) at is r l = same_view z t id v (OfBucket c s ∷ ps) at is r
 arrived z t id v b (OfCommit s ∷ ps) at is r l = same_view z t id v (OfCommit s ∷ ps) at is r
+arrived z t id v b (Away j s n ∷ ps) at is r l = same_view z t id v (Away j s n ∷ ps) at is r
+arrived z t id v b (Lent j s ∷ ps) at is r l = same_view z t id v (Lent j s ∷ ps) at is r
 arrived z t id v b (OfPass p part ∷ ps) at is r l =
     let c = r.state in
     let own : Shown c (OfPass p part) = (subst (Each (Shown c)) is (r.shown id v at).parts).0 in
@@ -119,6 +123,8 @@ departed : (z : Sizes) (t : Table) (id : ℕ) (v : View) (b : ℕ) (part : Bucke
 departed z t id v b part ps (OfSession j s) at is r l = same_view z t id v (OfSession j s ∷ OfBucket b part ∷ ps) at is r
 departed z t id v b part ps (OfBucket c s) at is r l = same_view z t id v (OfBucket c s ∷ OfBucket b part ∷ ps) at is r
 departed z t id v b part ps (OfCommit s) at is r l = same_view z t id v (OfCommit s ∷ OfBucket b part ∷ ps) at is r
+departed z t id v b part ps (Away j s n) at is r l = same_view z t id v (Away j s n ∷ OfBucket b part ∷ ps) at is r
+departed z t id v b part ps (Lent j s) at is r l = same_view z t id v (Lent j s ∷ OfBucket b part ∷ ps) at is r
 departed z t id v b part ps (OfPass p s) at is r l =
     let c = r.state in
     let own : Each (Shown c) (OfPass p s ∷ OfBucket b part ∷ ps) = subst (Each (Shown c)) is (r.shown id v at).parts in
@@ -199,6 +205,8 @@ holds_bucket v w u b part first only e = subst (HoldsBucket b) (sym e) (go v.par
     here (OfBucket c s) b = tt
     here (OfCommit s) b = tt
     here (OfPass q s) b = (refl, refl)
+    here (Away j s n) b = tt
+    here (Lent j s) b = tt
 
     go : (ps qs : List Part) → ps ≡ first_in v.parts ∷ others v → qs ≡ OfBucket b part ∷ [] → HoldsBucket b (seeing (put_in (arrive_first (number_in qs) ps) qs) (v.sights ++ w.sights) v.events)
     go ps qs is is' = subst (λ (ps : List Part). HoldsBucket b (seeing (put_in (arrive_first (number_in qs) ps) qs) (v.sights ++ w.sights) v.events)) (sym is)

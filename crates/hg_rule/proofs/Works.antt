@@ -1,5 +1,5 @@
 -- A write, taking it back, and giving it the next number are allowed.
-use Rattle.std.proofs.Common.{◌≡◌, ℕ, suc, ◌+◌, ◌<◌, ◌≤◌, Bool, true, false, List, [], ◌∷◌, length, get_or, ◌==◌, Some, refl, sym, ap, ◌∙◌, subst, arith}
+use Rattle.std.proofs.Common.{◌≡◌, ℕ, suc, ◌+◌, ◌<◌, ◌≤◌, Bool, true, false, List, [], ◌∷◌, length, get_or, ◌==◌, Some, refl, sym, ap, ◌∙◌, subst, arith, le_refl}
 use Rattle.std.specs.Prelude.{if◌then◌else◌, nat_le, IsSome, IsTrue, IfSome, ◌||◌}
 use Rattle.std.proofs.lemmas.Bool.Decides.{nat_tests}
 use mathlib.Core.Option.{none}
@@ -44,6 +44,7 @@ use Rattle.hg_rule.specs.Steps.{Seated}
 use Rattle.hg_rule.specs.Holding.{beyond, farther, bucket_number, bucket, HasBucket, HasBoth, commit_behind, writer, snapshot, tables, held}
 use Rattle.hg_rule.specs.Writes.{with_entry, with_stamp, IsOwnOrSeen, installing, undoing, stamping, listing, wrote, undid, numbered}
 use Rattle.hg_rule.proofs.Lists.{starts_same, ends_same}
+use Rattle.hg_rule.proofs.Counts.{away_same}
 use Rattle.hg_rule.proofs.Keeps.{keep}
 use Rattle.hg_rule.proofs.Registers.{loaded_words}
 use Rattle.hg_rule.proofs.Owned.{Leaves, leaves_only, not_first, not_second, log_put, own_second, own_third, held_versions, stored_here, stored_else, live_is, writer_is}
@@ -83,9 +84,9 @@ snapshot_low mark p at scope e h = subst (PhaseUpTo mark) e h
 -- ---- what a write changes
 
 entry_leaves : (c d : CoreState) (j b : ℕ) (old : SessionPart) (part : BucketPart) (log : List LogEntry) → d.phase ≡ c.phase → d.log ≡ put c.log j log → d.stamped_list ≡ c.stamped_list
-    → ((k : ℕ) → (k ≡ b → ⊥) → d.bucket k ≡ c.bucket k) → ((k : ℕ) → (k ≡ b → ⊥) → d.counters k ≡ c.counters k) → d.history ≡ c.history → d.taken ≡ c.taken → d.pass ≡ c.pass → d.visits ≡ c.visits
+    → ((k : ℕ) → (k ≡ b → ⊥) → d.bucket k ≡ c.bucket k) → ((k : ℕ) → (k ≡ b → ⊥) → d.counters k ≡ c.counters k) → d.history ≡ c.history → d.taken ≡ c.taken → d.pass ≡ c.pass → d.visits ≡ c.visits → c.mark ≤ d.mark
     → Leaves c d (OfSession j old ∷ OfBucket b part ∷ [])
-entry_leaves c d j b old part log phase logs list bucket counters history taken pass visits = record {
+entry_leaves c d j b old part log phase logs list bucket counters history taken pass visits more = record {
   phase = λ k away i. phase i k;
   log = λ k away. (λ i. logs i k) ∙ put_else c.log j k log (not_first j k _ away);
   stamped = λ k away. ap (has_stamped k) list;
@@ -96,6 +97,7 @@ entry_leaves c d j b old part log phase logs list bucket counters history taken 
   taken = λ away. taken;
   pass = λ p away i. pass i p;
   visits = λ p away i. visits i p;
+  home = λ k part n away s. away_same c d k part n (λ i. phase i k) ((λ i. logs i k) ∙ put_else c.log j k log (not_first j k _ away)) more s;
 }
 
 pub counters_else : (counters : ℕ → Counters) (at b k : ℕ) (new : Counters) → at ≡ b → (k ≡ b → ⊥) → put counters at new k ≡ counters k
@@ -146,7 +148,7 @@ installs z slots id rid image m is live plain unstamped bucketed place table low
         passes = refl;
         shows = record { count = words.count; mark = words.mark; registers = words.registers };
         grows = record { history = starts_same c.history; logs = log_put c j _ (entries.Wrote rid image ∷ [], refl); taken = omega arith };
-        only = leaves_only c d _ (entry_leaves c d j b (session v) (bucket v) _ refl refl refl (λ k other. stored_else c.buckets c.bucket rid _ b k place' other) (λ k other. counters_else c.counters _ b k _ place' other) refl refl refl refl);
+        only = leaves_only c d _ (entry_leaves c d j b (session v) (bucket v) _ refl refl refl (λ k other. stored_else c.buckets c.bucket rid _ b k place' other) (λ k other. counters_else c.counters _ b k _ place' other) refl refl refl refl (le_refl _));
         counts = λ k. refl;
         shared = refl;
         shown = ((own.0, (log, own.1.1)), ((content, counts), tt));
@@ -188,7 +190,7 @@ undoes z slots id rid m is unstamped bucketed place mine t r deep at small =
         passes = refl;
         shows = record { count = words.count; mark = words.mark; registers = words.registers };
         grows = record { history = starts_same c.history; logs = log_put c j _ (entries.Undid rid ∷ [], refl); taken = omega arith };
-        only = leaves_only c d _ (entry_leaves c d j b (session v) (bucket v) _ refl refl refl (λ k other. stored_else c.buckets c.bucket rid _ b k place' other) (λ k other. counters_else c.counters _ b k _ place' other) refl refl refl refl);
+        only = leaves_only c d _ (entry_leaves c d j b (session v) (bucket v) _ refl refl refl (λ k other. stored_else c.buckets c.bucket rid _ b k place' other) (λ k other. counters_else c.counters _ b k _ place' other) refl refl refl refl (le_refl _));
         counts = λ k. refl;
         shared = refl;
         shown = ((own.0, (log, own.1.1)), ((content, counts), tt));
@@ -207,9 +209,9 @@ unlike : (j k : ℕ) → (k ≡ j → ⊥) → (j == k) ≡ false
 unlike j k other = grind (arith, nat_tests)
 
 stamp_leaves : (c d : CoreState) (j b : ℕ) (old : SessionPart) (part : BucketPart) (h : CommitPart) (rid : Rid) → d.phase ≡ c.phase → d.log ≡ c.log → d.stamped_list ≡ (j, rid) ∷ c.stamped_list
-    → ((k : ℕ) → (k ≡ b → ⊥) → d.bucket k ≡ c.bucket k) → d.counters ≡ c.counters → d.history ≡ c.history → d.taken ≡ c.taken → d.pass ≡ c.pass → d.visits ≡ c.visits
+    → ((k : ℕ) → (k ≡ b → ⊥) → d.bucket k ≡ c.bucket k) → d.counters ≡ c.counters → d.history ≡ c.history → d.taken ≡ c.taken → d.pass ≡ c.pass → d.visits ≡ c.visits → c.mark ≤ d.mark
     → Leaves c d (OfSession j old ∷ OfBucket b part ∷ OfCommit h ∷ [])
-stamp_leaves c d j b old part h rid phase logs list bucket counters history taken pass visits = record {
+stamp_leaves c d j b old part h rid phase logs list bucket counters history taken pass visits more = record {
   phase = λ k away i. phase i k;
   log = λ k away i. logs i k;
   stamped = λ k away. ap (has_stamped k) list ∙ ap (λ x. x || has_stamped k c.stamped_list) (unlike j k (not_first j k _ away));
@@ -220,6 +222,7 @@ stamp_leaves c d j b old part h rid phase logs list bucket counters history take
   taken = λ away. taken;
   pass = λ p away i. pass i p;
   visits = λ p away i. visits i p;
+  home = λ k part n away s. away_same c d k part n (λ i. phase i k) (λ i. logs i k) more s;
 }
 
 pub stamps : (z : Sizes) (slots id : ℕ) (rid : Rid) (m : Seated) → HasSession m.0 → IsTrue (is_plain (session m.0).log) → HasBoth m.0 → bucket_of z.buckets rid ≡ bucket_number m.0 → IsOpenBy (writer m.0) (held m.0 rid)
@@ -258,7 +261,7 @@ stamps z slots id rid m is plain both place mine t r deep at small =
             passes = refl;
             shows = record { count = words.count; mark = words.mark; registers = words.registers };
             grows = record { history = grows.history; logs = grows.logs; taken = grows.taken };
-            only = leaves_only c d _ (stamp_leaves c d j b (session v) (bucket v) h rid refl refl refl (λ k other. stored_else c.buckets c.bucket rid _ b k place' other) refl refl refl refl refl);
+            only = leaves_only c d _ (stamp_leaves c d j b (session v) (bucket v) h rid refl refl refl (λ k other. stored_else c.buckets c.bucket rid _ b k place' other) refl refl refl refl refl (le_refl _));
             counts = λ k. refl;
             shared = refl;
             shown = ((own.0, (own.1.0, ap (λ x. x || has_stamped j c.stamped_list) (alike j))), ((content, there.1), ((list.0, (ap (λ l. (j, rid) ∷ l) list.1.0, list.1.1)), tt)));

@@ -7,7 +7,7 @@ use Rattle.hg_core.specs.Reach.{StandsIn}
 use Rattle.hg_rule.specs.declared.view.SessionPart.{SessionPart}
 use Rattle.hg_rule.specs.declared.view.PassPart.{PassPart}
 use Rattle.hg_rule.specs.declared.view.Part.{Part}
-use Rattle.hg_rule.specs.declared.view.Part.TheVariants.{OfSession, OfBucket, OfCommit, OfPass}
+use Rattle.hg_rule.specs.declared.view.Part.TheVariants.{OfSession, OfBucket, OfCommit, OfPass, Away, Lent}
 use Rattle.hg_rule.specs.declared.view.Sight.{Sight}
 use Rattle.hg_rule.specs.declared.view.Sight.TheVariants.{Saw, Heard, Took, Did}
 use Rattle.hg_rule.specs.declared.view.Event.{Event}
@@ -39,6 +39,8 @@ PartAgrees j session (OfSession i s) = ⊤
 PartAgrees j session (OfBucket b c) = ⊤
 PartAgrees j session (OfCommit h) = ⊤
 PartAgrees j session (OfPass p r) = RecordAgrees j session r
+PartAgrees j session (Away i s n) = ⊤
+PartAgrees j session (Lent i s) = ⊤
 
 -- the steps that a view did or knows of, and the records that it has, agree with the log and the phase of session j
 pub record AgreesWith (v : View) (j : ℕ) (session : SessionPart) : Type 0 where
@@ -52,6 +54,8 @@ AgreesAt v (OfSession j session) = AgreesWith v j session
 AgreesAt v (OfBucket b c) = ⊤
 AgreesAt v (OfCommit h) = ⊤
 AgreesAt v (OfPass p r) = ⊤
+AgreesAt v (Away i s n) = ⊤
+AgreesAt v (Lent i s) = ⊤
 
 -- A state that meets the rule backs the view, and what the view says agrees.
 pub record IsMet (z : Sizes) (v : View) : Type 0 where

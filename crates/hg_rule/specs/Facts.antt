@@ -5,7 +5,7 @@ use Rattle.hg_core.specs.declared.register.Register.{Register}
 use Rattle.hg_core.specs.declared.register.Register.TheVariants as registers
 use Rattle.hg_core.specs.declared.phase.Phase.TheVariants as phases
 use Rattle.hg_core.specs.declared.log.LogEntry.{LogEntry}
-use Rattle.hg_core.specs.declared.log.LogEntry.TheVariants.{Began}
+use Rattle.hg_core.specs.declared.log.LogEntry.TheVariants.{Began, Published}
 use Rattle.hg_core.specs.Passes.{PassRecord}
 use Rattle.hg_core.specs.Counters.{no_counters}
 use Rattle.hg_core.specs.Contents.{has_stamped}
@@ -16,12 +16,12 @@ use Rattle.hg_rule.specs.declared.view.BucketPart.{BucketPart}
 use Rattle.hg_rule.specs.declared.view.CommitPart.{CommitPart}
 use Rattle.hg_rule.specs.declared.view.PassPart.{PassPart}
 use Rattle.hg_rule.specs.declared.view.Part.{Part}
-use Rattle.hg_rule.specs.declared.view.Part.TheVariants.{OfSession, OfBucket, OfCommit, OfPass}
+use Rattle.hg_rule.specs.declared.view.Part.TheVariants.{OfSession, OfBucket, OfCommit, OfPass, Away, Lent}
 use Rattle.hg_rule.specs.declared.view.Sight.{Sight}
 use Rattle.hg_rule.specs.declared.view.Sight.TheVariants.{Saw, Heard, Took, Did}
 use Rattle.hg_rule.specs.declared.view.Event.{Event}
 use Rattle.hg_rule.specs.declared.view.Event.TheVariants.{Sample}
-use Rattle.hg_rule.specs.Keys.{Key, session_key, bucket_key, commit_key, pass_key, first_share}
+use Rattle.hg_rule.specs.Keys.{Key, session_key, bucket_key, commit_key, pass_key, home_key, first_share}
 
 -- ---- lists that grow
 
@@ -53,12 +53,18 @@ heard j (Did e ∷ sights) = heard j sights
 abbrev pub record_of : PassPart → PassRecord
 record_of part = record { mark = part.mark; known = λ j. heard j part.seen; loaded = part.loaded }
 
+-- the log is as it was when the mark was n, or has one commit number more, over n
+abbrev pub IsLeft : ℕ → List LogEntry → List LogEntry → Type 0
+IsLeft n was log = (log ≡ was) ⊎ ((c : ℕ) × (n < c) × (log ≡ Published c ∷ was))
+
 -- the part is as it is in the state
 abbrev pub Shown : CoreState → Part → Type 0
 Shown s (OfSession j part) = (s.phase j ≡ part.phase) × ((s.log j ≡ part.log) × (has_stamped j s.stamped_list ≡ part.stamped))
 Shown s (OfBucket b part) = (s.bucket b ≡ part.content) × (s.counters b ≡ part.counters)
 Shown s (OfCommit part) = (s.history ≡ part.history.list) × ((s.stamped_list ≡ part.stamped) × (s.taken ≡ part.taken))
 Shown s (OfPass p part) = (s.pass p ≡ record_of part) × ((s.visits p ≡ part.visits) × (0 < part.share))
+Shown s (Away j part n) = (s.phase j ≡ part.phase) × ((n ≤ s.mark) × IsLeft n part.log (s.log j))
+Shown s (Lent j part) = (s.phase j ≡ part.phase) × ((s.log j ≡ part.log) × (has_stamped j s.stamped_list ≡ part.stamped))
 
 -- the parts of a new board
 abbrev pub new_session : SessionPart
@@ -78,6 +84,7 @@ new_part (session_key j) = OfSession j new_session
 new_part (bucket_key b) = OfBucket b new_bucket
 new_part commit_key = OfCommit new_commit
 new_part (pass_key p) = OfPass p new_pass
+new_part (home_key j) = Away j new_session 0
 
 -- ---- events and sights
 

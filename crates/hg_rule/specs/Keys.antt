@@ -1,13 +1,14 @@
 -- Whose a part is, and how many parts of a key there are.
 use Rattle.std.specs.Prelude.{ℕ, ◌+◌, suc, Bool, true, false, eqb, ltb, List, [], ◌∷◌}
 use Rattle.hg_rule.specs.declared.view.Part.{Part}
-use Rattle.hg_rule.specs.declared.view.Part.TheVariants.{OfSession, OfBucket, OfCommit, OfPass}
+use Rattle.hg_rule.specs.declared.view.Part.TheVariants.{OfSession, OfBucket, OfCommit, OfPass, Away, Lent}
 use Rattle.hg_rule.specs.declared.view.View.{View}
 use Rattle.hg_rule.specs.declared.view.Sizes.{Sizes}
 
--- a session's, a bucket's, the committer's or a collector pass's
+-- a session's, a bucket's, the committer's or a collector pass's; and the place of a session's part, which stays where it is when the part is handed over
 pub data Key : Type 0 where
   session_key : ℕ → Key
+  home_key : ℕ → Key
   bucket_key : ℕ → Key
   commit_key : Key
   pass_key : ℕ → Key
@@ -17,6 +18,8 @@ key_of (OfSession j s) = session_key j
 key_of (OfBucket b c) = bucket_key b
 key_of (OfCommit h) = commit_key
 key_of (OfPass p r) = pass_key p
+key_of (Away j s n) = home_key j
+key_of (Lent j s) = session_key j
 
 abbrev pub both : Bool → Bool → Bool
 both true b = b
@@ -28,18 +31,33 @@ kind_of (session_key j) = 0
 kind_of (bucket_key b) = 1
 kind_of commit_key = 2
 kind_of (pass_key p) = 3
+kind_of (home_key j) = 4
 
 abbrev pub index_of : Key → ℕ
 index_of (session_key j) = j
 index_of (bucket_key b) = b
 index_of commit_key = 0
 index_of (pass_key p) = p
+index_of (home_key j) = j
 
 abbrev pub same_key : Key → Key → Bool
 same_key k h = both (eqb (kind_of k) (kind_of h)) (eqb (index_of k) (index_of h))
 
+-- a session's part at its place counts for both of its keys
+abbrev pub is_sessions : Key → ℕ → Bool
+is_sessions (session_key i) j = eqb j i
+is_sessions (home_key i) j = eqb j i
+is_sessions (bucket_key b) j = false
+is_sessions commit_key j = false
+is_sessions (pass_key p) j = false
+
 abbrev pub has : Key → Part → Bool
-has k p = same_key (key_of p) k
+has k (OfSession j s) = is_sessions k j
+has k (OfBucket b c) = same_key (bucket_key b) k
+has k (OfCommit h) = same_key commit_key k
+has k (OfPass p r) = same_key (pass_key p) k
+has k (Away j s n) = same_key (home_key j) k
+has k (Lent j s) = same_key (session_key j) k
 
 abbrev pub one : Bool → ℕ
 one true = 1
@@ -60,6 +78,8 @@ share_of (OfSession j s) = 0
 share_of (OfBucket b c) = 0
 share_of (OfCommit h) = 0
 share_of (OfPass p r) = r.share
+share_of (Away j s n) = 0
+share_of (Lent j s) = 0
 
 abbrev pub shares : List Part → ℕ
 shares [] = 0
@@ -82,3 +102,4 @@ expected z passes (session_key j) = one (both (ltb 0 j) (ltb j (suc z.sessions))
 expected z passes (bucket_key b) = one (ltb b z.buckets)
 expected z passes commit_key = 1
 expected z passes (pass_key p) = one (ltb p passes)
+expected z passes (home_key j) = one (both (ltb 0 j) (ltb j (suc z.sessions)))

@@ -11,6 +11,7 @@ pub mod Holding
 pub mod Writes
 pub mod Removes
 pub mod Places
+pub mod Handing
 -- Seats.
 pub mod Lending
 pub mod Seats

@@ -5,7 +5,7 @@ use Rattle.hg_core.specs.Counters.{none_removed}
 use Rattle.hg_core.specs.Visits.{IsVisiting, giving}
 use Rattle.hg_rule.specs.declared.view.PassPart.{PassPart}
 use Rattle.hg_rule.specs.declared.view.Part.{Part}
-use Rattle.hg_rule.specs.declared.view.Part.TheVariants.{OfSession, OfBucket, OfCommit, OfPass}
+use Rattle.hg_rule.specs.declared.view.Part.TheVariants.{OfSession, OfBucket, OfCommit, OfPass, Away, Lent}
 use Rattle.hg_rule.specs.declared.view.Sight.TheVariants.{Saw, Took}
 use Rattle.hg_rule.specs.declared.view.View.{View}
 use Rattle.hg_rule.specs.Views.{number_in, first_in, others, seeing}
@@ -27,6 +27,8 @@ arrive b (OfSession j part) = OfSession j part
 arrive b (OfBucket c part) = OfBucket c part
 arrive b (OfCommit part) = OfCommit part
 arrive b (OfPass p part) = OfPass p (arriving b part)
+arrive b (Away j part n) = Away j part n
+arrive b (Lent j part) = Lent j part
 
 abbrev pub arrive_first : ℕ → List Part → List Part
 arrive_first b [] = []
@@ -45,6 +47,8 @@ depart content (OfSession j part) = OfSession j part
 depart content (OfBucket c part) = OfBucket c part
 depart content (OfCommit part) = OfCommit part
 depart content (OfPass p part) = OfPass p (departing content part)
+depart content (Away j part n) = Away j part n
+depart content (Lent j part) = Lent j part
 
 -- v without the bucket that was joined last
 abbrev pub without_bucket : View → View
@@ -56,6 +60,8 @@ IsThere b (OfSession j part) = ⊤
 IsThere b (OfBucket c part) = ⊤
 IsThere b (OfCommit part) = ⊤
 IsThere b (OfPass p part) = IsVisiting b part.visits
+IsThere b (Away j part n) = ⊤
+IsThere b (Lent j part) = ⊤
 
 -- a view whose last joined part is bucket b
 abbrev pub HoldsBucket : ℕ → View → Type 0

@@ -7,7 +7,7 @@ use Rattle.hg_core.specs.Words.{register_of}
 use Rattle.hg_core.specs.Phases.{IsSession}
 use Rattle.hg_core.specs.State.{CoreState}
 use Rattle.hg_rule.specs.declared.view.Part.{Part}
-use Rattle.hg_rule.specs.declared.view.Part.TheVariants.{OfSession, OfBucket, OfCommit, OfPass}
+use Rattle.hg_rule.specs.declared.view.Part.TheVariants.{OfSession, OfBucket, OfCommit, OfPass, Away, Lent}
 use Rattle.hg_rule.specs.declared.view.View.{View}
 use Rattle.hg_rule.specs.declared.view.Sizes.{Sizes}
 use Rattle.hg_rule.specs.Keys.{Key, session_key, bucket_key, commit_key, pass_key, both, has, count, shares, whole_share}
@@ -30,6 +30,8 @@ passes_in (OfSession j s ∷ parts) = passes_in parts
 passes_in (OfBucket b c ∷ parts) = passes_in parts
 passes_in (OfCommit h ∷ parts) = passes_in parts
 passes_in (OfPass p r ∷ parts) = max (suc p) (passes_in parts)
+passes_in (Away j s n ∷ parts) = passes_in parts
+passes_in (Lent j s ∷ parts) = passes_in parts
 
 -- the state with this mark and these registers whose parts are those of a list
 abbrev pub state_of : Sizes → ℕ → (ℕ → Register) → List Part → CoreState

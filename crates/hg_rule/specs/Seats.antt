@@ -9,10 +9,11 @@ use Rattle.hg_rule.specs.declared.passes.SessionPass.{SessionPass}
 use Rattle.hg_rule.specs.declared.passes.CollectorPass.{CollectorPass}
 use Rattle.hg_rule.specs.declared.passes.BucketSeat.{BucketSeat}
 use Rattle.hg_rule.specs.declared.passes.CommitSeat.{CommitSeat}
-use Rattle.hg_rule.specs.declared.view.Part.TheVariants.{OfBucket, OfCommit}
+use Rattle.hg_rule.specs.declared.passes.TxSeat.{TxSeat}
+use Rattle.hg_rule.specs.declared.view.Part.TheVariants.{OfBucket, OfCommit, Lent}
 use Rattle.hg_rule.specs.declared.view.View.{View}
 use Rattle.hg_rule.specs.declared.view.Sizes.{Sizes}
-use Rattle.hg_rule.specs.Views.{number, session, first_in, bucket_there, commit_there, HasSession, HasPass}
+use Rattle.hg_rule.specs.Views.{number, session, first_in, bucket_there, commit_there, HasSession, HasPass, HasAway}
 
 -- a board's identity and its sizes
 abbrev pub table_of : Board → TableId
@@ -69,6 +70,9 @@ bucket_view p = view p.seat
 abbrev pub commit_view : CommitSeat → View
 commit_view p = view p.seat
 
+abbrev pub tx_view : TxSeat → View
+tx_view p = view p.seat
+
 -- the seat is one of the table
 abbrev pub IsSeatOf : TableId → Seat ℕ View → Type 0
 IsSeatOf t s = (s.table_id ≡ t) × (s.me.1 ≡ [])
@@ -92,3 +96,11 @@ IsSessionOf t z p = IsSeatOf t p.seat × IsTied p × IsSession z.sessions (numbe
 -- a collector's pass at a board, whose view begins with its part
 abbrev pub IsPassOf : TableId → CollectorPass → Type 0
 IsPassOf t p = IsSeatOf t p.seat × HasPass (pass_view p)
+
+-- a session's pass at a board whose own part was handed over
+abbrev pub IsAwayOf : TableId → Sizes → SessionPass → Type 0
+IsAwayOf t z p = IsSeatOf t p.seat × IsTied p × IsSession z.sessions (number (session_view p)) × HasAway (session_view p)
+
+-- a seat at a board, which has a session's part that was handed over, and nothing else
+abbrev pub IsTxOf : TableId → TxSeat → Type 0
+IsTxOf t p = IsSeatOf t p.seat × ((tx_view p).parts ≡ Lent p.number (session (tx_view p)) ∷ [])

@@ -5,7 +5,7 @@ use Rattle.hg_rule.specs.declared.view.BucketPart.{BucketPart}
 use Rattle.hg_rule.specs.declared.view.CommitPart.{CommitPart}
 use Rattle.hg_rule.specs.declared.view.PassPart.{PassPart}
 use Rattle.hg_rule.specs.declared.view.Part.{Part}
-use Rattle.hg_rule.specs.declared.view.Part.TheVariants.{OfSession, OfBucket, OfCommit, OfPass}
+use Rattle.hg_rule.specs.declared.view.Part.TheVariants.{OfSession, OfBucket, OfCommit, OfPass, Away, Lent}
 use Rattle.hg_rule.specs.declared.view.Sight.{Sight}
 use Rattle.hg_rule.specs.declared.view.Event.{Event}
 use Rattle.hg_rule.specs.declared.view.View.{View}
@@ -18,30 +18,49 @@ number_in (OfSession j s ∷ parts) = j
 number_in (OfBucket b c ∷ parts) = b
 number_in (OfCommit h ∷ parts) = 0
 number_in (OfPass p r ∷ parts) = p
+number_in (Away j s n ∷ parts) = j
+number_in (Lent j s ∷ parts) = j
 
 abbrev pub session_there : Part → SessionPart
 session_there (OfSession j s) = s
 session_there (OfBucket b c) = new_session
 session_there (OfCommit h) = new_session
 session_there (OfPass p r) = new_session
+session_there (Away j s n) = s
+session_there (Lent j s) = s
 
 abbrev pub bucket_there : Part → BucketPart
 bucket_there (OfSession j s) = new_bucket
 bucket_there (OfBucket b c) = c
 bucket_there (OfCommit h) = new_bucket
 bucket_there (OfPass p r) = new_bucket
+bucket_there (Away j s n) = new_bucket
+bucket_there (Lent j s) = new_bucket
 
 abbrev pub commit_there : Part → CommitPart
 commit_there (OfSession j s) = new_commit
 commit_there (OfBucket b c) = new_commit
 commit_there (OfCommit h) = h
 commit_there (OfPass p r) = new_commit
+commit_there (Away j s n) = new_commit
+commit_there (Lent j s) = new_commit
 
 abbrev pub pass_there : Part → PassPart
 pass_there (OfSession j s) = new_pass
 pass_there (OfBucket b c) = new_pass
 pass_there (OfCommit h) = new_pass
 pass_there (OfPass p r) = r
+pass_there (Away j s n) = new_pass
+pass_there (Lent j s) = new_pass
+
+-- the mark at which a part was handed over
+abbrev pub since_there : Part → ℕ
+since_there (OfSession j s) = 0
+since_there (OfBucket b c) = 0
+since_there (OfCommit h) = 0
+since_there (OfPass p r) = 0
+since_there (Away j s n) = n
+since_there (Lent j s) = 0
 
 abbrev pub first_in : List Part → Part
 first_in [] = OfCommit new_commit
@@ -70,6 +89,13 @@ HasSession v = v.parts ≡ OfSession (number v) (session v) ∷ others v
 
 abbrev pub HasPass : View → Type 0
 HasPass v = v.parts ≡ OfPass (number v) (pass v) ∷ others v
+
+-- the view's own part was handed over
+abbrev pub since : View → ℕ
+since v = since_there (first_in v.parts)
+
+abbrev pub HasAway : View → Type 0
+HasAway v = v.parts ≡ Away (number v) (session v) (since v) ∷ others v
 
 abbrev pub HasOnlySession : View → Type 0
 HasOnlySession v = v.parts ≡ OfSession (number v) (session v) ∷ []

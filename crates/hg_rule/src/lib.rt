@@ -43,6 +43,8 @@ mod calls;
 mod collecting;
 mod dealt;
 mod groups;
+mod publishing;
+mod hands;
 mod joining;
 mod making;
 mod meets;
@@ -60,7 +62,7 @@ pub use groups::Groups;
 pub use hg_core::{Ask, Register};
 pub use meets::state_is_read;
 pub use pass::Pass;
-pub use passes::{BucketSeat, CollectorPass, CommitSeat, SessionPass};
+pub use passes::{BucketSeat, CollectorPass, CommitSeat, SessionPass, TxSeat};
 pub use seats::{BucketSeatList, Seats, SessionPassList};
 pub use view::{BucketPart, CommitPart, Event, Part, PassPart, SessionPart, Sight, Sizes, View};
 

@@ -29,3 +29,10 @@ pub struct BucketSeat {
 pub struct CommitSeat {
     pub(crate) seat: Seat<u8, View>,
 }
+
+/// A session's part that was handed over.
+#[derive(Drop)]
+pub struct TxSeat {
+    pub(crate) number: u32,
+    pub(crate) seat: Seat<u8, View>,
+}

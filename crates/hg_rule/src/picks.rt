@@ -4,7 +4,7 @@ ghost use Rattle.hg_base.specs.declared.rid.Rid.{Rid};
 ghost use Rattle.hg_base.specs.declared.image.Image.{Image};
 ghost use Rattle.hg_base.specs.declared.report.Kind.{Kind};
 ghost use Rattle.hg_base.specs.declared.report.Kind.TheVariants.{Group};
-ghost use Rattle.std.specs.Prelude.{None};
+ghost use Rattle.std.specs.Prelude.{ℕ, None};
 ghost use Rattle.hg_core.specs.declared.ask.Ask.{Ask};
 ghost use Rattle.hg_core.specs.declared.ask.Ask.TheVariants.{Outside};
 ghost use Rattle.hg_rule.specs.declared.view.Sizes.{Sizes};
@@ -66,4 +66,17 @@ impl Removed for Brand {
     ghost removed_rid = { record { table = (record { 0 = 0 }); key = 0 } };
 
     ghost kind = { Group };
+}
+
+/// A session, and a record.
+pub(crate) trait Lent {
+    ghost lent_session: { ℕ };
+
+    ghost lent_rid: { Rid };
+}
+
+impl Lent for Brand {
+    ghost lent_session = { 0 };
+
+    ghost lent_rid = { record { table = (record { 0 = 0 }); key = 0 } };
 }

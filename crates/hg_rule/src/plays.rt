@@ -4,9 +4,10 @@ ghost use Rattle.hg_rule.specs.Steps.{probed, entered, fixed, went_live, ended, 
 ghost use Rattle.hg_rule.specs.Writes.{asked, wrote, undid, numbered, published};
 ghost use Rattle.hg_rule.specs.Removes.{removed, took};
 ghost use Rattle.hg_rule.specs.Places.{with_bucket, without_bucket, bucket_alone, without_commit, commit_alone};
+ghost use Rattle.hg_rule.specs.Handing.{lends, retakes, stamps_lent, publishes_all, received, hands_back};
 ghost use Rattle.hg_rule.specs.Moves.{joined, merged, spent, left_bare, right_given, left_but_second, right_second, left_tail, right_first};
 
-use crate::picks::{Asked, Named, Removed, Sized, Written};
+use crate::picks::{Asked, Lent, Named, Removed, Sized, Written};
 use crate::view::View;
 use atomic_table::{Join, Play, Split};
 use std::marker::PhantomData;
@@ -190,4 +191,50 @@ impl Split<View> for Resigning {
     ghost left = { without_commit };
 
     ghost right = { commit_alone };
+}
+
+/// The own part is handed over, and stands behind its place.
+pub(crate) struct Lending;
+
+impl Play<u8, View> for Lending {
+    ghost then = { lends };
+}
+
+/// It comes back from there.
+pub(crate) struct Retaking;
+
+impl Play<u8, View> for Retaking {
+    ghost then = { retakes };
+}
+
+/// What was handed over comes behind all else.
+pub(crate) struct Receiving;
+
+impl Join<View> for Receiving {
+    ghost both = { received };
+
+    ghost spent = { spent };
+}
+
+/// The part behind the first is handed back.
+pub(crate) struct HandingBack;
+
+impl Split<View> for HandingBack {
+    ghost left = { hands_back };
+
+    ghost right = { right_second };
+}
+
+pub(crate) struct StampingLent<A> {
+    rid: PhantomData<A>,
+}
+
+impl<A: Lent> Play<u8, View> for StampingLent<A> {
+    ghost then = { stamps_lent A.lent_session A.lent_rid };
+}
+
+pub(crate) struct PublishingAll;
+
+impl Play<u8, View> for PublishingAll {
+    ghost then = { publishes_all };
 }

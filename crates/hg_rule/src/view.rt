@@ -42,6 +42,10 @@ pub enum Part {
     OfBucket(u64, BucketPart),
     OfCommit(CommitPart),
     OfPass(u64, PassPart),
+    /// A session's part was handed over as it is here, when the mark was this number.
+    Away(u64, SessionPart, u64),
+    /// A session's part that was handed over.
+    Lent(u64, SessionPart),
 }
 
 /// What was seen, which stays true.
@@ -126,6 +130,17 @@ pub enum Event {
     Take {
         pass: u64,
         mark: u64,
+    },
+    HandOver {
+        session: u64,
+        mark: u64,
+    },
+    HandBack {
+        session: u64,
+    },
+    /// A group of transactions that were handed over.
+    PublishAll {
+        number: u64,
     },
 }
 

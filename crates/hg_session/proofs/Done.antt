@@ -1,5 +1,5 @@
 -- A transaction that ends.
-use Rattle.std.proofs.Common.{◌≡◌, ℕ, ◌≤◌, List, [], ◌∷◌, true, false, length, Some, refl, sym, ap, ◌∙◌, subst, arith, ◌<◌}
+use Rattle.std.proofs.Common.{◌≡◌, inl, inr, ℕ, suc, ◌-◌, ◌≤◌, List, [], ◌∷◌, true, false, length, Some, refl, sym, ap, ◌∙◌, subst, arith, ◌<◌}
 use Rattle.std.specs.Prelude.{is_some, IsTrue, ◌||◌, ◌==◌, if◌then◌else◌}
 use Rattle.std.proofs.lemmas.Bool.Decides.{nat_tests}
 use Rattle.hg_base.specs.declared.rid.Rid.{Rid}
@@ -12,7 +12,20 @@ use Rattle.hg_core.specs.declared.phase.Phase.TheVariants.{Idle}
 use Rattle.hg_core.specs.Logs.{is_plain, own_writes}
 use Rattle.hg_core.proofs.NewGroup.{image_open}
 use Rattle.hg_rule.specs.declared.view.Part.TheVariants.{OfSession}
-use Rattle.hg_rule.specs.declared.view.Sight.TheVariants.{Heard}
+use Rattle.hg_rule.specs.declared.view.Sight.TheVariants.{Saw, Heard, Took, Did}
+use Rattle.hg_rule.specs.declared.view.Sight.{Sight}
+use Rattle.hg_rule.specs.declared.view.SessionPart.{SessionPart}
+use Rattle.hg_rule.specs.Seats.{IsSessionOf}
+use Rattle.hg_base.specs.declared.scope.Snapshot.{Snapshot}
+use Rattle.hg_core.proofs.Groups.{wider}
+use Rattle.hg_queue.specs.declared.open_tx.OpenTx.{OpenTx}
+use Rattle.hg_queue.specs.Handing.{IsOpenTxOf}
+use Rattle.hg_session.specs.declared.engine.Engine.{Engine}
+use Rattle.hg_session.specs.declared.session.Session.{Session}
+use Rattle.hg_session.specs.Engines.{engine_table, engine_sizes}
+use Rattle.hg_session.specs.Sessions.{pass_of, view_of, seen_by, opened_of, written_of, left_of, IsIn}
+use Rattle.hg_session.proofs.Meetings.{among_first}
+use Rattle.hg_session.proofs.Settling.{gained}
 use Rattle.hg_rule.specs.declared.view.View.{View}
 use Rattle.hg_rule.specs.Facts.{IsAmong}
 use Rattle.hg_rule.specs.Views.{number, session}
@@ -23,9 +36,9 @@ use Rattle.hg_rule.proofs.Lists.{starts_on, each_map}
 use Rattle.hg_tracker.specs.Begun.{AtMost}
 use Rattle.hg_tracker.proofs.After.{within_most}
 use Rattle.hg_group.specs.declared.receipt.Receipt.{Receipt}
-use Rattle.hg_group.specs.Committing.{HasCommitted}
-use Rattle.hg_session.specs.Ties.{AreWritten}
-use Rattle.hg_session.specs.Gains.{Alone, IsAfter}
+use Rattle.hg_group.specs.Submitting.{HasCommitted, IsBackAgain}
+use Rattle.hg_session.specs.Ties.{AreWritten, IsHeard, Ties}
+use Rattle.hg_session.specs.Gains.{Alone, Gains, IsAfter}
 use Rattle.hg_session.proofs.Trips.{first_number, first_session, alone_only, ended}
 
 -- ---- what a transaction wrote
@@ -55,8 +68,8 @@ pub record Closed (v : View) (receipt : Receipt) (w : View) : Type 0 where
   pub alone : Alone (number v) (logging Over Idle (with_published receipt.number (session v))) v.sights w
   pub heard : IsAmong (Heard (number v) (Over ∷ Published receipt.number ∷ (session v).log)) w.sights
 
-pub closed : (v u w : View) (records : List Rid) (receipt : Receipt) → HasCommitted v records receipt u → Ends u w → Closed v receipt w
-closed v u w records receipt h k =
+pub closed : (v u w : View) (receipt : Receipt) → HasCommitted v receipt u → Ends u w → Closed v receipt w
+closed v u w receipt h k =
     let n = first_number u (number v) (with_published receipt.number (session v)) [] h.parts in
     let s = first_session u (number v) (with_published receipt.number (session v)) [] h.parts in
     let only = alone_only u (number v) (with_published receipt.number (session v)) v.sights (record { parts = h.parts; kept = h.kept }) in
@@ -68,12 +81,57 @@ closed v u w records receipt h k =
       heard = subst (λ x. IsAmong x w.sights) (λ i. Heard (n i) (Over ∷ (s i).log)) e.1;
     }
 
-pub after : (v u : View) (records : List Rid) (receipt : Receipt) (at : ℕ) → HasCommitted v records receipt u → at ≡ snapshot v → IsAfter v.sights at receipt.number
-after v u records receipt at h e = record {
-  before = length h.history;
-  next = h.number_is;
-  over = each_map (Within h.history) (AtMost (length h.history)) (within_most h.history (length h.history) refl) v.sights h.most;
-  begun = subst (λ n. n ≤ length h.history) (sym e) h.over;
+most_more : (n m : ℕ) → n ≤ m → (x : Sight) → AtMost n x → AtMost m x
+most_more n m l (Saw h) b = omega (arith, b, l)
+most_more n m l (Heard j log) b = wider n m log l b
+most_more n m l (Took k) b = omega (arith, b, l)
+most_more n m l (Did e) b = tt
+
+pub after : (v u : View) (receipt : Receipt) (at : ℕ) → HasCommitted v receipt u → at ≡ snapshot v → IsAfter v.sights at receipt.number
+after v u receipt at h e = record {
+  before = receipt.number - 1;
+  next = up receipt.number (length h.seen) h.over;
+  over = each_map (Within h.seen) (AtMost (receipt.number - 1)) (λ x b. most_more (length h.seen) (receipt.number - 1) (below (length h.seen) receipt.number h.over) x (within_most h.seen (length h.seen) refl x b)) v.sights h.most;
+  begun = below at receipt.number (subst (λ n. n < receipt.number) (sym e) h.begun);
+}
+  where
+    up : (n m : ℕ) → m < n → n ≡ suc (n - 1)
+    up n m l = omega (arith, l)
+
+    below : (m n : ℕ) → m < n → m ≤ n - 1
+    below m n l = omega (arith, l)
+
+-- ---- a refusal, after which the transaction is open still
+
+pub back_gains : (v w : View) → IsBackAgain v w → Gains v [] w
+back_gains v w b = gained v w (session v) [] (record { parts = b.parts; kept = b.kept }) refl
+
+pub back_in : (e : Engine) (v : View) (s : Session) → IsSessionOf (engine_table e) (engine_sizes e) (pass_of s) → IsBackAgain v (view_of s) → Ties (engine_sizes e).each (opened_of s) (written_of s) (left_of s) 0 0 (session v) → IsHeard (number v) (session v).log v.sights → IsIn e 0 0 s
+back_in e v s own b ties heard =
+    let a : Alone (number v) (session v) v.sights (view_of s) = record { parts = b.parts; kept = b.kept } in
+    let n = first_number (view_of s) (number v) (session v) [] b.parts in
+    let p = first_session (view_of s) (number v) (session v) [] b.parts in record {
+      pass = own;
+      only = alone_only (view_of s) (number v) (session v) v.sights a;
+      ties = subst (Ties (engine_sizes e).each (opened_of s) (written_of s) (left_of s) 0 0) (sym p) ties;
+      heard = subst (λ (q : ℕ × SessionPart). IsHeard q.0 q.1.log (seen_by s)) (λ i. (sym n i, sym p i)) (later heard);
+    }
+  where
+    later : IsHeard (number v) (session v).log v.sights → IsHeard (number v) (session v).log (seen_by s)
+    later (inl f) = inl f
+    later (inr m) = inr (subst (IsAmong (Heard (number v) (session v).log)) (sym b.kept.1) (among_first (Heard (number v) (session v).log) v.sights b.kept.0 m))
+
+-- what it lists is what it wrote
+pub ties_back : (each left : ℕ) (opened : Snapshot) (old new : List Rid) (j : ℕ) (part : SessionPart) (tx : OpenTx) → new ≡ tx.records.list → IsOpenTxOf j part tx → Ties each (Some opened) old left 0 0 part → Ties each (Some opened) new left 0 0 part
+ties_back each left opened old new j part tx same o t = record {
+  phase = t.phase;
+  unstamped = t.unstamped;
+  opens = t.opens;
+  plain = t.plain;
+  written_is = subst (λ l. AreWritten l part.log) (sym same) record { once = o.once; each = o.exact };
+  rests = λ z. absurd (let q = z in cc);
+  begun = t.begun;
+  wrote = t.wrote;
 }
 
 -- ---- an empty list

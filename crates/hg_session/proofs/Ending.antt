@@ -11,16 +11,16 @@ use Rattle.hg_core.specs.Phases.{snapshot_in}
 use Rattle.hg_core.specs.Logs.{current, wrotes, newest_of}
 use Rattle.hg_core.specs.State.{CoreState}
 use Rattle.hg_rule.specs.declared.view.Part.{Part}
-use Rattle.hg_rule.specs.declared.view.Part.TheVariants.{OfSession, OfBucket, OfCommit, OfPass}
+use Rattle.hg_rule.specs.declared.view.Part.TheVariants.{OfSession, OfBucket, OfCommit, OfPass, Away, Lent}
 use Rattle.hg_rule.specs.declared.view.View.{View}
 use Rattle.hg_rule.specs.declared.view.Sizes.{Sizes}
-use Rattle.hg_rule.specs.Keys.{Key, session_key, bucket_key, commit_key, pass_key, both, has, one, count, expected}
+use Rattle.hg_rule.specs.Keys.{home_key, Key, session_key, bucket_key, commit_key, pass_key, both, has, one, count, expected}
 use Rattle.hg_rule.specs.Facts.{Shown, new_part}
 use Rattle.hg_rule.specs.Rules.{IsBacked}
 use Rattle.hg_rule.specs.Views.{session_there, bucket_there, commit_there, pass_there}
 use Rattle.hg_rule.specs.Reading.{chosen, seek, passes_in, state_of}
 use Rattle.hg_rule.proofs.Counts.{count_append}
-use Rattle.hg_rule.proofs.Found.{ltb_less, state_is, full, inside_is as is_session}
+use Rattle.hg_rule.proofs.Found.{ltb_less, HasPart, state_is, full, inside_is as is_session}
 use Rattle.hg_rule.proofs.Lists.{each_append}
 use Rattle.hg_base.proofs.ListFacts.{each_keeps}
 use Rattle.hg_headline.specs.Logged.{Logged}
@@ -123,6 +123,8 @@ passes_same [] qs e = e
 passes_same (OfSession j t ∷ ps) qs e = passes_same ps qs e
 passes_same (OfBucket b t ∷ ps) qs e = passes_same ps qs e
 passes_same (OfCommit t ∷ ps) qs e = passes_same ps qs e
+passes_same (Away j t n ∷ ps) qs e = passes_same ps qs e
+passes_same (Lent j t ∷ ps) qs e = passes_same ps qs e
 passes_same (OfPass p t ∷ ps) qs e = ap (max (suc p)) (passes_same ps qs e)
 
 -- ---- a state that backs the view
@@ -151,9 +153,10 @@ module _ (z : Sizes) (n : ℕ) (v : View) (k : IsBacked z n v) (ended : IsEnded 
   sum_none : (a b : ℕ) → b ≡ 0 → a + b ≡ a
   sum_none a b e = omega (arith, e)
 
-  counted : (h : Key) → count h (v.parts ++ more) ≡ expected z s.passes h
-  counted (session_key j) = count_append (session_key j) v.parts more ∙ sum_none _ _ (buckets.sessions j).0 ∙ full (count (session_key j) v.parts) (both (ltb 0 j) (ltb j (suc z.sessions))) (k.most (session_key j)) (λ e. ended.sessions j (is_session z j e))
-  counted (bucket_key i) = count_append (bucket_key i) v.parts more ∙ go (ltb i z.buckets) refl (k.most (bucket_key i))
+  counted : (h : Key) → HasPart h → count h (v.parts ++ more) ≡ expected z s.passes h
+  counted (home_key j) part = absurd part
+  counted (session_key j) part = count_append (session_key j) v.parts more ∙ sum_none _ _ (buckets.sessions j).0 ∙ full (count (session_key j) v.parts) (both (ltb 0 j) (ltb j (suc z.sessions))) (k.most (session_key j)) (λ e. ended.sessions j (is_session z j e))
+  counted (bucket_key i) part = count_append (bucket_key i) v.parts more ∙ go (ltb i z.buckets) refl (k.most (bucket_key i))
     where
       go : (b : Bool) → ltb i z.buckets ≡ b → count (bucket_key i) v.parts ≤ one b → count (bucket_key i) v.parts + count (bucket_key i) more ≡ one b
       go true e most = each_once s v.parts z.buckets i (is_below i z.buckets e) most
@@ -165,8 +168,8 @@ module _ (z : Sizes) (n : ℕ) (v : View) (k : IsBacked z n v) (ended : IsEnded 
               pick : Dec (z.buckets ≤ i) → z.buckets ≤ i
               pick (yes l) = l
               pick (no l) = absurd (true≢false (sym (lt-ltb i z.buckets (omega arith)) ∙ e))
-  counted commit_key = count_append commit_key v.parts more ∙ sum_none _ _ buckets.commit.0 ∙ (let a : ℕ = count commit_key v.parts in let d : a ≤ 1 = k.most commit_key in let c : 0 < a = committed in omega (arith, c, d))
-  counted (pass_key p) = count_append (pass_key p) v.parts more ∙ sum_none _ _ (buckets.passes p).0 ∙ k.alone ended.passes p
+  counted commit_key part = count_append commit_key v.parts more ∙ sum_none _ _ buckets.commit.0 ∙ (let a : ℕ = count commit_key v.parts in let d : a ≤ 1 = k.most commit_key in let c : 0 < a = committed in omega (arith, c, d))
+  counted (pass_key p) part = count_append (pass_key p) v.parts more ∙ sum_none _ _ (buckets.passes p).0 ∙ k.alone ended.passes p
 
   -- the state is the one that the view's parts are, with the buckets that it lacks
   state_read : s ≡ state_of z n s.register (v.parts ++ more)

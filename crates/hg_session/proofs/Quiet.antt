@@ -15,7 +15,7 @@ use Rattle.hg_core.specs.State.{CoreState}
 use Rattle.hg_core.proofs.Bounded.{mark_told, newest_most}
 use Rattle.hg_rule.specs.declared.view.PassPart.{PassPart}
 use Rattle.hg_rule.specs.declared.view.Part.{Part}
-use Rattle.hg_rule.specs.declared.view.Part.TheVariants.{OfSession, OfBucket, OfCommit, OfPass}
+use Rattle.hg_rule.specs.declared.view.Part.TheVariants.{OfSession, OfBucket, OfCommit, OfPass, Away, Lent}
 use Rattle.hg_rule.specs.declared.view.Sight.{Sight}
 use Rattle.hg_rule.specs.declared.view.Sight.TheVariants.{Saw, Heard, Took, Did}
 use Rattle.hg_rule.specs.declared.view.View.{View}
@@ -167,6 +167,19 @@ session_is s j (OfSession i part ∷ ps) h l = go (eqb i j) refl l (session_is s
       where
         less : (n : ℕ) → 0 < 0 + n → 0 < n
         less n l = omega arith
+session_is s j (Lent i part ∷ ps) h l = go (eqb i j) refl l (session_is s j ps h.1)
+  where
+    go : (t : Bool) → eqb i j ≡ t → 0 < one t + count (session_key j) ps → (0 < count (session_key j) ps → (s.phase j ≡ (session_there (seek (session_key j) ps)).phase) × (s.log j ≡ (session_there (seek (session_key j) ps)).log))
+        → (s.phase j ≡ (session_there (chosen t (Lent i part) (seek (session_key j) ps))).phase) × (s.log j ≡ (session_there (chosen t (Lent i part) (seek (session_key j) ps))).log)
+    go true e l ih = let same = sym (same_number i j e) in (ap s.phase same ∙ h.0.0, ap s.log same ∙ h.0.1.0)
+    go false e l ih = ih (less _ l)
+      where
+        less : (n : ℕ) → 0 < 0 + n → 0 < n
+        less n l = omega arith
+session_is s j (Away i part n ∷ ps) h l = session_is s j ps h.1 (less _ l)
+  where
+    less : (n : ℕ) → 0 < 0 + n → 0 < n
+    less n l = omega arith
 session_is s j (OfBucket b part ∷ ps) h l = session_is s j ps h.1 (less _ l)
   where
     less : (n : ℕ) → 0 < 0 + n → 0 < n

@@ -1,7 +1,7 @@
 -- A new engine's sessions.
 use Rattle.std.specs.Prelude.{◌≡◌, ℕ, [], None}
 use Rattle.std.specs.declared.alloc.Global.{Global}
-use Rattle.hg_group.specs.Rids.{no_rids}
+use Rattle.hg_queue.specs.Rids.{no_rids}
 use Rattle.hg_rule.specs.declared.passes.SessionPass.{SessionPass}
 use Rattle.hg_session.specs.declared.engine.Engine.{Engine}
 use Rattle.hg_session.specs.declared.session.Session.{Session}

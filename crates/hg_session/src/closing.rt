@@ -16,7 +16,7 @@ ghost use Rattle.hg_rule.specs.Seats.{session_view, IsSessionOf};
 ghost use Rattle.hg_session.specs.Engines.{engine_table, engine_sizes};
 ghost use Rattle.hg_session.specs.Sessions.{IsIn, IsOf, view_of, log_of, seen_by, open_of, left_of, opened_of, written_of};
 ghost use Rattle.hg_session.specs.Replies.{Answers, inside, commit_answer};
-ghost use Rattle.hg_session.specs.Gains.{Alone, Gains, HasUndone, IsAfter, number_in};
+ghost use Rattle.hg_session.specs.Gains.{Alone, Gains, HasUndone, IsAfter, Stays, number_in};
 
 use crate::answers::Ended;
 use crate::engine::Engine;
@@ -94,7 +94,7 @@ impl Session {
         ensures wrote { IfOk result (λ receipt. is_some receipt ≡ is_written (own_writes (log_of self.old))) }
         ensures after { IfOk result (λ receipt. IfSome (number_in receipt) (IsAfter (seen_by self.old) snapshot.at)) }
         ensures closed { OnOk result (opened_of self.new ≡ None) }
-        ensures refused { OnErr result ((view_of self.new ≡ view_of self.old) × (opened_of self.new ≡ opened_of self.old) × (written_of self.new ≡ written_of self.old)) }
+        ensures refused { OnErr result (Gains (view_of self.old) [] (view_of self.new) × (opened_of self.new ≡ opened_of self.old)) }
         ensures left { left_of self.new ≡ left_of self.old }
         ensures own { IsIn engine.now 0 0 self.new }
     {
@@ -144,7 +144,7 @@ impl Session {
         requires own { IsOf engine.now self.old }
         requires opened { IsSome (open_of self.old) }
         ensures answers { IfOk result (λ ended. Answers (engine_sizes engine.now) (view_of self.old) say.Commit (inside (commit_answer (number_in ended.receipt))) (view_of self.new)) }
-        ensures refused { OnErr result (view_of self.new ≡ view_of self.old) }
+        ensures refused { OnErr result (Stays (view_of self.old) (view_of self.new)) }
         ensures over { OnOk result (open_of self.new ≡ None) }
         ensures left { left_of self.new ≡ left_of self.old }
         ensures own { IsOf engine.now self.new }

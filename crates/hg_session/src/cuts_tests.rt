@@ -37,7 +37,7 @@ fn bring_all(
 fn a_new_engine_is_settled(rt: HostRuntime) -> Result<(), Fail> {
     let (board, seats) = Board::new(rt.alloc(), 1, 2, 2, 1)?;
     let store = Store::new(rt.alloc(), seats.buckets)?;
-    let groups = GroupList::new(rt.alloc(), seats.commit)?;
+    let groups = GroupList::new(rt.alloc(), seats.commit, 1)?;
     let mut pass = seats.table;
     let mut sessions = seats.sessions.into_vec();
     let Some(session) = sessions.pop() else {

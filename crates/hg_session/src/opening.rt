@@ -75,7 +75,7 @@ impl Engine {
             interval,
         } = seats;
         let store = Store::new(alloc, seats)?;
-        let groups = GroupList::new(alloc, commit)?;
+        let groups = GroupList::new(alloc, commit, sessions)?;
         let sessions = seat_all(alloc, places.into_vec(), each)?;
         let engine = Engine {
             trackers: Trackers::new(board),

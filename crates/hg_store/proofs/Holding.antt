@@ -16,7 +16,7 @@ use Rattle.hg_rule.specs.declared.view.SessionPart.{SessionPart}
 use Rattle.hg_rule.specs.declared.view.BucketPart.{BucketPart}
 use Rattle.hg_rule.specs.declared.view.PassPart.{PassPart}
 use Rattle.hg_rule.specs.declared.view.Part.{Part}
-use Rattle.hg_rule.specs.declared.view.Part.TheVariants.{OfSession, OfBucket, OfPass}
+use Rattle.hg_rule.specs.declared.view.Part.TheVariants.{OfSession, OfBucket, OfPass, Away}
 use Rattle.hg_rule.specs.declared.view.Sight.{Sight}
 use Rattle.hg_rule.specs.declared.view.Event.{Event}
 use Rattle.hg_rule.specs.declared.view.View.{View}
@@ -96,6 +96,9 @@ taken_holds z n v w x b part h first only is has told same keeps = record {
 
 pub session_holds : (h : Held) (j b : ℕ) (s : SessionPart) (part : BucketPart) (rest : List Part) (sights : List Sight) (events : List Event) → b ≡ held_number h → Keeps (held_records h) part → AreOrdered part.content → Holds (seeing (OfSession j s ∷ OfBucket b part ∷ rest) sights events) h
 session_holds h j b s part rest sights events same k o = record { has = subst (λ m. HoldsBucket m (seeing (OfSession j s ∷ OfBucket b part ∷ rest) sights events)) same (refl, (refl, tt)); keeps = k; ordered = o }
+
+pub away_holds : (h : Held) (j b n : ℕ) (s : SessionPart) (part : BucketPart) (rest : List Part) (sights : List Sight) (events : List Event) → b ≡ held_number h → Keeps (held_records h) part → AreOrdered part.content → Holds (seeing (Away j s n ∷ OfBucket b part ∷ rest) sights events) h
+away_holds h j b n s part rest sights events same k o = record { has = subst (λ m. HoldsBucket m (seeing (Away j s n ∷ OfBucket b part ∷ rest) sights events)) same (refl, (refl, tt)); keeps = k; ordered = o }
 
 visiting_still : (b n : ℕ) (kind : Kind) (visits : List Visit) → IsVisiting b visits → IsVisiting b (removing kind n visits)
 visiting_still b n kind [] i = i

@@ -26,7 +26,7 @@ use Rattle.hg_store.proofs.Holding.{held_is}
 
 -- ---- of versions
 
-open_of : (mark : ℕ) (w : Writer) (image : Image) (vs : List Version) → unpublished mark vs ≡ Some (w, image) → is_numbered vs ≡ false → IsOpenBy w vs
+pub open_of : (mark : ℕ) (w : Writer) (image : Image) (vs : List Version) → unpublished mark vs ≡ Some (w, image) → is_numbered vs ≡ false → IsOpenBy w vs
 open_of mark w image [] e n = absurd cc
 open_of mark w image (v ∷ vs) e n = go v.stamp e n
   where

@@ -1,6 +1,6 @@
-use Rattle.std.proofs.Common.{◌≡◌, [], None, sym, ◌∙◌, subst, rules}
+use Rattle.std.proofs.Common.{◌≡◌, [], None, refl, sym, ◌∙◌, subst, rules}
 use Rattle.std.specs.Prelude.{length, ◌<◌}
-use Rattle.hg_rule.specs.Views.{session}
+use Rattle.hg_rule.specs.Views.{number, session}
 use Rattle.hg_rule.specs.Holding.{snapshot}
 use Rattle.hg_rule.specs.Seats.{session_view, IsSessionOf}
 use Rattle.hg_core.specs.declared.log.LogEntry.TheVariants.{Over}
@@ -10,7 +10,7 @@ use Rattle.hg_rule.specs.Writes.{with_published}
 use Rattle.hg_session.specs.Ties.{Ties}
 use Rattle.hg_session.specs.Engines.{engine_table, engine_sizes}
 use Rattle.hg_session.proofs.Tying.{ties_committed}
-use Rattle.hg_session.proofs.Done.{unwritten, written_some, closed, after, none_of}
+use Rattle.hg_session.proofs.Done.{unwritten, written_some, closed, after, back_gains, back_in, ties_back, none_of}
 use Rattle.hg_session.proofs.Settling.{settled}
 use Rattle.hg_session.proofs.session.Session.close.Goals as goal
 
@@ -28,13 +28,27 @@ pub returns-in-Ok-clause-after : goal.returns-in-Ok-clause-after
 returns-in-Ok-clause-after g c =
     let v = session_view c.args.self.now.pass in
     let at : c.args.snapshot.at ≡ snapshot v = search rules in
-    after v (session_view c.commit.new.pass) _ c.in-Ok.receipt c.args.snapshot.at c.in-Ok.ensures.committed at
+    after v (session_view c.commit.new.pass) c.in-Ok.receipt c.args.snapshot.at c.in-Ok.ensures.committed at
 
 pub returns-in-Ok-clause-own : goal.returns-in-Ok-clause-own
 returns-in-Ok-clause-own g c =
     let v = session_view c.args.self.now.pass in
-    let k = closed v (session_view c.commit.new.pass) (session_view c.end-in-Ok.new.pass) _ c.in-Ok.receipt c.in-Ok.ensures.committed c.end-in-Ok.ensures.step in
+    let k = closed v (session_view c.commit.new.pass) (session_view c.end-in-Ok.new.pass) c.in-Ok.receipt c.in-Ok.ensures.committed c.end-in-Ok.ensures.step in
     let own : IsSessionOf (engine_table c.args.engine.now) (engine_sizes c.args.engine.now) c.end-in-Ok.new.pass = search rules in
     let none : c.replace-records.new.dest.list ≡ [] = search rules in
     let ties = ties_committed (engine_sizes c.args.engine.now).each c.args.self.now.left 0 0 c.in-Ok.receipt.number _ _ (session v) c.requires.own.ties in
     settled c.args.engine.now 0 0 v _ _ v.sights own k.alone (subst (λ l. Ties (engine_sizes c.args.engine.now).each None l c.args.self.now.left 0 0 (logging Over Idle (with_published c.in-Ok.receipt.number (session v)))) (sym none) ties) k.heard
+
+pub returns-in-Err-clause-refused : goal.returns-in-Err-clause-refused
+returns-in-Err-clause-refused g c = (back_gains (session_view c.args.self.now.pass) (session_view c.commit.new.pass) c.in-Err.ensures.refused.1, refl)
+
+pub returns-in-Err-clause-own : goal.returns-in-Err-clause-own
+returns-in-Err-clause-own g c =
+    let v = session_view c.args.self.now.pass in
+    let each = (engine_sizes c.args.engine.now).each in
+    let old = c.args.self.now.written.list in
+    let left = c.args.self.now.left in
+    let own : IsSessionOf (engine_table c.args.engine.now) (engine_sizes c.args.engine.now) c.commit.new.pass = search rules in
+    let open_ = subst (λ o. Ties each o old left 0 0 (session v)) c.requires.opened c.requires.own.ties in
+    let ties = ties_back each left c.args.snapshot old c.in-Err.tx.records.list (number v) (session v) c.in-Err.tx refl c.in-Err.ensures.refused.0 open_ in
+    back_in c.args.engine.now v _ own c.in-Err.ensures.refused.1 (subst (λ o. Ties each o c.in-Err.tx.records.list left 0 0 (session v)) (sym c.requires.opened) ties) c.requires.own.heard

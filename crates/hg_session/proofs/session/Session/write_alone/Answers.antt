@@ -1,4 +1,4 @@
-use Rattle.std.proofs.Common.{◌≡◌, [], ◌∷◌, ◌++◌, Ok, sym, subst, rules, append_assoc, map}
+use Rattle.std.proofs.Common.{◌≡◌, [], ◌∷◌, ◌++◌, Ok, sym, subst, rules, append_assoc, append-nil, map}
 use Rattle.std.specs.Prelude.{IfSome, IfErr, IfOk, is_some}
 use Rattle.hg_base.specs.Replies.{is_written}
 use Rattle.hg_core.specs.declared.log.LogEntry.TheVariants.{Wrote, Undid, Over}
@@ -51,6 +51,7 @@ returns-in-Err-close-clause-refused g c =
     let r = c.roll_back-in-Err-close.ensures.gains in
     let is : c.write_row.result ≡ Ok tt = search rules in
     let wrote = subst (λ x. Gains v (entries_of c.args.rid c.args.image x) m) is c.write_row.ensures.gains in
-    let same : n ≡ m = search rules in
-    let undid = subst (λ x. Gains x (Over ∷ map Undid r.0) w) same r.1.1 in
-    (map Undid r.0 ++ Wrote c.args.rid c.args.image ∷ [], gains_on v m w (Wrote c.args.rid c.args.image ∷ []) (Over ∷ map Undid r.0) wrote undid (λ l. sym (append_assoc (Over ∷ map Undid r.0) (Wrote c.args.rid c.args.image ∷ []) l)))
+    let back : Gains m [] n = search rules in
+    let undid = gains_on m n w [] (Over ∷ map Undid r.0) back r.1.1 (λ l. sym (append_assoc (Over ∷ map Undid r.0) [] l)) in
+    let same : (Over ∷ map Undid r.0) ++ [] ≡ Over ∷ map Undid r.0 = append-nil (Over ∷ map Undid r.0) in
+    (map Undid r.0 ++ Wrote c.args.rid c.args.image ∷ [], gains_on v m w (Wrote c.args.rid c.args.image ∷ []) (Over ∷ map Undid r.0) wrote (subst (λ es. Gains m es w) same undid) (λ l. sym (append_assoc (Over ∷ map Undid r.0) (Wrote c.args.rid c.args.image ∷ []) l)))

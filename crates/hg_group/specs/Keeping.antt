@@ -1,0 +1,27 @@
+-- What a clause says of a held commit lock.
+use Rattle.std.specs.Prelude.{◌≡◌, ℕ, ◌≤◌, true, false, [], length, vec_capacity}
+use Rattle.hg_lock.specs.Locks.{tag_of}
+use Rattle.hg_rule.specs.declared.view.CommitPart.{CommitPart}
+use Rattle.hg_rule.specs.Seats.{TableId}
+use Rattle.hg_queue.specs.Queues.{IsPassOf, known}
+use Rattle.hg_group.specs.declared.held_list.HeldList.{HeldList}
+use Rattle.hg_group.specs.Contexts.{AreContexts, commits_in}
+use Rattle.hg_group.specs.Order.{FollowsQueue}
+use Rattle.hg_group.specs.Batch.{AreLaid}
+use Rattle.hg_group.specs.Founded.{founding_table}
+
+-- the board
+abbrev pub held_table : HeldList → TableId
+held_table h = founding_table (tag_of h.locks.now).value
+
+-- With this part of the committer's it may lie under the lock again.
+pub record KeepsBeside (h : HeldList) (part : CommitPart) : Type 0 where
+  pub unstamped : part.stamped ≡ []
+  pub taken : part.taken ≤ length part.history.list
+  pub contexts_are : AreContexts part.history.list part.taken h.contexts.items
+  pub count_is : h.count ≡ commits_in part.history.list
+  pub follows : FollowsQueue part.history.list (known h.line).pairs
+  pub line : ((known h.line).opens ≡ false) × (((known h.line).leads ≡ true) × ((known h.line).board.id ≡ held_table h))
+  pub room : (h.popped.items ≡ []) × ((tag_of h.locks.now).value.sessions ≤ vec_capacity h.popped)
+  pub laid : AreLaid (held_table h) 1 h.laid.items × (length h.laid.items ≡ (tag_of h.locks.now).value.sessions)
+  pub pass : IsPassOf (tag_of h.locks.now).value.queue.value h.line

@@ -1,0 +1,121 @@
+//! A leader commits a batch.
+
+ghost use Rattle.std.specs.Prelude.{◌≡◌, ◌<◌, []};
+ghost use Rattle.hg_rule.specs.Views.{others};
+ghost use Rattle.hg_rule.specs.Seats.{table_of, sizes_of, session_view, IsAwayOf};
+ghost use Rattle.hg_store.specs.Stores.{store_table, store_buckets};
+ghost use Rattle.hg_queue.specs.Queues.{IsPassOf};
+ghost use Rattle.hg_group.specs.Leading.{IsKept, Leads};
+
+use crate::context::GroupContext;
+use crate::gathering::gather;
+use crate::laid::Laid;
+use crate::laying::lay;
+use crate::records::make_room;
+use crate::refusing::lay_back;
+use crate::stamping::stamp_batch;
+use hg_lock::Fits;
+use hg_queue::{LinePass, OpenTx, Queue};
+use hg_rule::{Board, CommitSeat, SessionPass};
+use hg_store::Store;
+use std::collections::VecDeque;
+use std::snapshot::Snapshot;
+use std::sync::Wait;
+
+/// What a list of locks is about: the board by its committer's seat, the queue, and how many sessions there are.
+#[derive(Drop)]
+pub struct Founding {
+    pub seat: Snapshot<CommitSeat>,
+    pub queue: Snapshot<Queue>,
+    pub sessions: u32,
+}
+
+/// What lies under the commit lock: the committer's seat, the right to pop, room for a batch, what is laid for each session, the
+/// contexts of groups, oldest first, and how many commits there are.
+#[derive(Drop)]
+pub struct Batches {
+    pub(crate) seat: CommitSeat,
+    pub(crate) line: LinePass,
+    pub(crate) popped: Vec<OpenTx>,
+    pub(crate) laid: Vec<Option<Laid>>,
+    pub(crate) contexts: VecDeque<GroupContext>,
+    pub(crate) count: u64,
+}
+
+impl Fits for Batches {
+    ghost use Rattle.hg_group.specs.Founded.{BatchesFit};
+
+    type Tag = Snapshot<Founding>;
+
+    ghost fits = { BatchesFit };
+}
+
+/// Pops a batch, stamps it, publishes it as one group, and lays down its receipts. Room is made before the first stamp: where it
+/// is refused, each transaction is laid down open. An empty batch changes nothing.
+pub(crate) fn lead<R: Wait>(
+    rt: &R,
+    board: &Board,
+    store: &Store,
+    queue: &Queue,
+    pass: &mut SessionPass,
+    kept: Batches,
+    sessions: usize,
+) -> Batches
+    requires tables { store_table store.now ≡ table_of board.now }
+    requires buckets { (0 < store_buckets store.now) × (store_buckets store.now ≡ (sizes_of board.now).buckets) }
+    requires own { IsAwayOf (table_of board.now) (sizes_of board.now) pass.old }
+    requires alone { others (session_view pass.old) ≡ [] }
+    requires kept { IsKept (table_of board.now) (sizes_of board.now).sessions kept × IsPassOf queue.now kept.line }
+    requires most { sessions ≡ (sizes_of board.now).sessions }
+    ensures kept { IsKept (table_of board.now) (sizes_of board.now).sessions result × IsPassOf queue.now result.line }
+    ensures led { Leads (session_view pass.old) (session_view pass.new) }
+    ensures own { IsAwayOf (table_of board.now) (sizes_of board.now) pass.new × (pass.new.number ≡ pass.old.number) }
+{
+    let Batches {
+        seat,
+        mut line,
+        mut popped,
+        mut laid,
+        mut contexts,
+        count,
+    } = kept;
+    gather(rt, board, queue, pass, &mut line, &mut popped, sessions);
+    if popped.is_empty() {
+        return Batches {
+            seat,
+            line,
+            popped,
+            laid,
+            contexts,
+            count,
+        };
+    }
+    let number = board.join_commit(pass, seat) + 1;
+    let Ok(records) = make_room(&mut contexts, &popped) else {
+        let seat = board.split_commit(pass);
+        lay_back(board, pass, &mut laid, &mut popped);
+        return Batches {
+            seat,
+            line,
+            popped,
+            laid,
+            contexts,
+            count,
+        };
+    };
+    stamp_batch(rt, board, store, pass, popped.as_slice(), number);
+    board.publish_all(pass, number);
+    contexts.push_back_reserved(GroupContext { number, records });
+    let seat = board.split_commit(pass);
+    lay(board, pass, &mut laid, popped.as_slice(), number, count);
+    let count = count + popped.len() as u64;
+    popped.clear();
+    Batches {
+        seat,
+        line,
+        popped,
+        laid,
+        contexts,
+        count,
+    }
+}

@@ -1,0 +1,93 @@
+//! A session waits for what becomes of its transaction, and leads a batch where nobody has.
+
+ghost use Rattle.std.specs.Prelude.{◌≡◌, ℕ, suc, ◌<◌, [], length, IfOk, IfErr, IfSome};
+ghost use Rattle.hg_lock.specs.Locks.{tag_of, count_of};
+ghost use Rattle.hg_rule.specs.Views.{session, others};
+ghost use Rattle.hg_rule.specs.Seats.{TableId, table_of, sizes_of, session_view, IsSessionOf, IsAwayOf};
+ghost use Rattle.hg_store.specs.Stores.{store_table, store_buckets};
+ghost use Rattle.hg_queue.specs.Handing.{MayCommit};
+ghost use Rattle.hg_queue.specs.Queues.{IsPassOf};
+ghost use Rattle.hg_group.specs.Batch.{IsLaid, HasFinished, IsRefused};
+ghost use Rattle.hg_group.specs.Leading.{IsKept, Leads};
+ghost use Rattle.hg_group.specs.Founded.{founding_table};
+
+use crate::batch::{Batches, lead};
+use crate::laid::Laid;
+use crate::receipt::Receipt;
+use crate::taking::take_back;
+use hg_lock::Locks;
+use hg_queue::{OpenTx, Queue};
+use hg_rule::{Board, SessionPass};
+use hg_store::Store;
+use std::sync::Wait;
+
+// A leader's turn, where nothing is laid at this place.
+fn ready<R: Wait>(
+    rt: &R,
+    board: &Board,
+    store: &Store,
+    queue: &Queue,
+    pass: &mut SessionPass,
+    kept: Batches,
+    sessions: u32,
+    place: usize,
+) -> Batches
+    requires tables { store_table store.now ≡ table_of board.now }
+    requires buckets { (0 < store_buckets store.now) × (store_buckets store.now ≡ (sizes_of board.now).buckets) }
+    requires own { IsAwayOf (table_of board.now) (sizes_of board.now) pass.old }
+    requires alone { others (session_view pass.old) ≡ [] }
+    requires kept { IsKept (table_of board.now) (sizes_of board.now).sessions kept × IsPassOf queue.now kept.line }
+    requires sessions { (sessions ≡ (sizes_of board.now).sessions) × (place < sessions) }
+    ensures kept { IsKept (table_of board.now) (sizes_of board.now).sessions result × IsPassOf queue.now result.line }
+    ensures led { Leads (session_view pass.old) (session_view pass.new) }
+    ensures own { IsAwayOf (table_of board.now) (sizes_of board.now) pass.new × (pass.new.number ≡ pass.old.number) }
+{
+    if kept.laid[place].is_none() {
+        return lead(rt, board, store, queue, pass, kept, sessions as usize);
+    }
+    kept
+}
+
+// What is laid at a place is taken from there.
+fn take_laid(kept: &mut Batches, place: usize) -> Option<Laid>
+    requires place { place < length kept.old.laid.items }
+    ensures taken { (t : TableId) (sessions : ℕ) → IsKept t sessions kept.old → IsKept t sessions kept.new × IfSome result (IsLaid t (suc place)) }
+    ensures line { kept.new.line ≡ kept.old.line }
+{
+    kept.laid[place].take()
+}
+
+/// Takes the commit lock. Where nothing is laid for the session, it leads a batch; and then again, until something is.
+pub(crate) fn finish<R: Wait>(
+    rt: &R,
+    board: &Board,
+    store: &Store,
+    queue: &Queue,
+    batches: &Locks<Batches>,
+    pass: &mut SessionPass,
+    sessions: u32,
+) -> Result<Receipt, OpenTx>
+    requires tables { store_table store.now ≡ table_of board.now }
+    requires buckets { (0 < store_buckets store.now) × (store_buckets store.now ≡ (sizes_of board.now).buckets) }
+    requires founded { (founding_table (tag_of batches.now).value ≡ table_of board.now) × ((tag_of batches.now).value.queue.value ≡ queue.now) × ((tag_of batches.now).value.sessions ≡ sessions) }
+    requires one { count_of batches.now ≡ 1 }
+    requires sessions { sessions ≡ (sizes_of board.now).sessions }
+    requires own { IsAwayOf (table_of board.now) (sizes_of board.now) pass.old }
+    requires alone { others (session_view pass.old) ≡ [] }
+    requires may { MayCommit (session (session_view pass.old)) }
+    ensures finished { IfOk result (λ receipt. HasFinished (session_view pass.old) receipt (session_view pass.new)) }
+    ensures refused { IfErr result (λ tx. IsRefused (session_view pass.old) tx (session_view pass.new)) }
+    ensures own { IsSessionOf (table_of board.now) (sizes_of board.now) pass.new × (pass.new.number ≡ pass.old.number) }
+{
+    let place = pass.writer().session as usize - 1;
+    for _ in rt.forever() {
+        let (kept, loan) = batches.take(rt, 0);
+        let mut kept = ready(rt, board, store, queue, pass, kept, sessions, place);
+        let laid = take_laid(&mut kept, place);
+        batches.give(kept, loan);
+        if let Some(laid) = laid {
+            return take_back(board, pass, laid);
+        }
+    }
+    unreachable!()
+}

@@ -1,0 +1,62 @@
+-- The rule of the queue.
+use Rattle.std.specs.Prelude.{◌≡◌, ◌⊎◌, ℕ, Bool, true, false, List, [], ◌∷◌, ◌++◌, map}
+use mathlib.Core.Option.{some}
+use lib.ListN.{get_elem?}
+use Rattle.hg_base.specs.Lists.{Each}
+use Rattle.hg_rule.specs.Facts.{StartsWith}
+use Rattle.hg_rule.specs.Seats.{TableId}
+use Rattle.hg_queue.specs.declared.handed.Handed.{Handed}
+use Rattle.hg_queue.specs.declared.known.Known.{Known}
+use Rattle.hg_queue.specs.Handing.{IsHandedOf}
+
+-- session and transaction
+abbrev pub pair_of : Handed → ℕ × ℕ
+pair_of x = (x.tx.writer.session, x.tx.writer.transaction)
+
+abbrev pub knows : Bool → Bool → TableId → List (ℕ × ℕ) → Known
+knows opens leads t pairs = record { opens = opens; leads = leads; board = record { id = t }; pairs = pairs }
+
+abbrev pub no_board : TableId
+no_board = record { words = 0; slots = 0; views_name = 0; atom = 0; block = 0; offset = 0; slot_names = [] }
+
+-- the first pass of all, before there is a board; then the one that pops, and those that push
+abbrev pub opening : Known
+opening = knows true true no_board []
+
+abbrev pub leader : TableId → Known
+leader t = knows false true t []
+
+abbrev pub pusher : TableId → Known
+pusher t = knows false false t []
+
+-- with the pairs that it knows of now
+abbrev pub with_pairs : List (ℕ × ℕ) → Known → Known
+with_pairs pairs v = record v { pairs = pairs }
+
+-- what the pass at i knows: the one that pops has what was popped, any other a beginning of what was pushed
+pub record Fits (board : TableId) (at : ℕ) (out all : List (ℕ × ℕ)) (i : ℕ) (v : Known) : Type 0 where
+  pub opened : v.opens ≡ false
+  pub board_is : v.board.id ≡ board
+  pub leads : v.leads ≡ true → (i ≡ at) × (v.pairs ≡ out)
+  pub pushes : v.leads ≡ false → StartsWith all v.pairs
+
+-- What was pushed is what was popped and then what the queue holds.
+pub record Queued (items : List Handed) (views : List Known) : Type 0 where
+  pub board : TableId
+  pub at : ℕ
+  pub out : List (ℕ × ℕ)
+  pub good : Each (IsHandedOf board) items
+  pub fits : (i : ℕ) (v : Known) → get_elem? views i ≡ some v → Fits board at out (out ++ map pair_of items) i v
+
+abbrev pub Ordered : List Handed → List Known → Type 0
+Ordered items views = ((items ≡ []) × (views ≡ opening ∷ [])) ⊎ Queued items views
+
+-- ---- what a step tells
+
+-- the list goes on, and ends with the pair that was pushed
+abbrev pub pushed : Known → Handed → Known → Type 0
+pushed v x w = (others : List (ℕ × ℕ)) × (w ≡ with_pairs (v.pairs ++ (others ++ pair_of x ∷ [])) v)
+
+-- one pair more was popped, of a transaction as it was handed over
+abbrev pub popped : Known → Handed → Known → Type 0
+popped v x w = (w ≡ with_pairs (v.pairs ++ pair_of x ∷ []) v) × IsHandedOf v.board.id x

@@ -1,0 +1,11 @@
+-- What a clause says of a queue and its passes.
+use Rattle.crossbeam_queue.specs.SegTies.{IsSegPassOf}
+use Rattle.hg_queue.specs.declared.known.Known.{Known}
+use Rattle.hg_queue.specs.declared.line.LinePass.{LinePass}
+use Rattle.hg_queue.specs.declared.queue.Queue.{Queue}
+
+abbrev pub known : LinePass → Known
+known p = p.pass.me.view.client
+
+abbrev pub IsPassOf : Queue → LinePass → Type 0
+IsPassOf q p = IsSegPassOf q.line p.pass

@@ -1,0 +1,15 @@
+//! What a move is told besides. Each call picks it.
+
+ghost use Rattle.atomic_table.specs.Seated.{TableId};
+ghost use Rattle.std.specs.Prelude.{[]};
+
+use std::marker::Brand;
+
+/// A board.
+pub(crate) trait Boarded {
+    ghost board: { TableId };
+}
+
+impl Boarded for Brand {
+    ghost board = { record { words = 0; slots = 0; views_name = 0; atom = 0; block = 0; offset = 0; slot_names = [] } };
+}

@@ -1,0 +1,83 @@
+//! The queue.
+
+ghost use Rattle.std.specs.Prelude.{◌≡◌, true, false, [], IfOk, OnOk, IfErr, IfSome, IfNone};
+ghost use Rattle.hg_rule.specs.Seats.{commit_seat};
+ghost use Rattle.hg_queue.specs.Handing.{IsHandedOf};
+ghost use Rattle.hg_queue.specs.Lines.{leader, pusher, pushed, popped};
+
+use crate::handed::Handed;
+use crate::line::{Line, LinePass};
+use crate::picks::Boarded;
+use crate::plays::{Opening, Popping, Pushing, Twin};
+use hg_base::NoMemory;
+use hg_rule::CommitSeat;
+use std::alloc::Global;
+use std::marker::Brand;
+use std::sync::Wait;
+
+/// Transactions of one board that wait to be committed.
+pub struct Queue {
+    pub(crate) line: Line,
+}
+
+impl Queue {
+    ghost use Rattle.hg_queue.specs.Queues.{IsPassOf, known};
+
+    fn new_as<A: Boarded>(alloc: Global, _seat: &CommitSeat) -> Result<(Queue, LinePass, LinePass), NoMemory>
+        ensures passes { IfOk result (λ q. IsPassOf q.0 q.1 × IsPassOf q.0 q.2) }
+        ensures known { IfOk result (λ q. (known q.1 ≡ leader A.board) × (known q.2 ≡ pusher A.board)) }
+    {
+        let (line, mut pass) = Line::with_rule(alloc)?;
+        let other = line.another::<Opening<A>>(&mut pass);
+        Ok((Queue { line }, LinePass { pass }, LinePass { pass: other }))
+    }
+
+    /// An empty queue of the seat's board, with the pass that pops and one that pushes.
+    pub fn new(alloc: Global, seat: &CommitSeat) -> Result<(Queue, LinePass, LinePass), NoMemory>
+        ensures passes { IfOk result (λ q. IsPassOf q.0 q.1 × IsPassOf q.0 q.2) }
+        ensures known { IfOk result (λ q. (known q.1 ≡ leader (commit_seat seat.now).table_id) × (known q.2 ≡ pusher (commit_seat seat.now).table_id)) }
+    {
+        Queue::new_as::<Brand>(alloc, seat)
+    }
+
+    /// Another pass that pushes, which knows the same.
+    pub fn twin(&self, pass: &mut LinePass) -> LinePass
+        requires own { IsPassOf self.now pass.old }
+        requires pushes { ((known pass.old).opens ≡ false) × ((known pass.old).leads ≡ false) }
+        ensures own { IsPassOf self.now pass.new × IsPassOf self.now result }
+        ensures same { (known pass.new ≡ known pass.old) × (known result ≡ known pass.old) }
+    {
+        let twin = self.line.another::<Twin>(&mut pass.pass);
+        LinePass { pass: twin }
+    }
+
+    /// The transaction joins at the back, and is the last that the pass knows of. A refusal hands it back.
+    pub fn push<R: Wait>(&self, rt: &R, pass: &mut LinePass, handed: Handed) -> Result<(), Handed>
+        requires own { IsPassOf self.now pass.old }
+        requires pushes { ((known pass.old).opens ≡ false) × ((known pass.old).leads ≡ false) }
+        requires handed { IsHandedOf (known pass.old).board.id handed }
+        ensures pushed { OnOk result (pushed (known pass.old) handed (known pass.new)) }
+        ensures refused { IfErr result (λ x. (x ≡ handed) × (known pass.new ≡ known pass.old)) }
+        ensures own { IsPassOf self.now pass.new }
+    {
+        self.line.push_as::<Pushing, R>(rt, &mut pass.pass, handed)
+    }
+
+    /// The transaction at the front leaves. None only if the queue was empty.
+    pub fn pop<R: Wait>(&self, rt: &R, pass: &mut LinePass) -> Option<Handed>
+        requires own { IsPassOf self.now pass.old }
+        requires pops { ((known pass.old).opens ≡ false) × ((known pass.old).leads ≡ true) }
+        ensures popped { IfSome result (λ x. popped (known pass.old) x (known pass.new)) }
+        ensures none { IfNone result (known pass.new ≡ known pass.old) }
+        ensures own { IsPassOf self.now pass.new }
+    {
+        self.line.pop_as::<Popping, R>(rt, &mut pass.pass)
+    }
+}
+
+impl Drop for Queue {
+    fn drop(self) {
+        let Self { line } = self;
+        line.destroy();
+    }
+}

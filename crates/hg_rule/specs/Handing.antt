@@ -1,0 +1,146 @@
+-- What a session's part becomes when it is handed over, what is done with it there, and how it comes back.
+use Rattle.std.specs.Prelude.{◌≡◌, ◌⊎◌, ℕ, suc, ◌<◌, ◌≤◌, true, List, [], ◌∷◌, ◌++◌, length, map, ◌==◌, if◌then◌else◌, IsSome, IsTrue}
+use Rattle.atomic_table.specs.Table.{Step}
+use Rattle.hg_base.specs.declared.rid.Rid.{Rid}
+use Rattle.hg_base.specs.declared.writer.Writer.{Writer}
+use Rattle.hg_base.specs.History.{Group, History}
+use Rattle.hg_base.specs.Lists.{Each}
+use Rattle.hg_core.specs.declared.log.LogEntry.TheVariants.{Published}
+use Rattle.hg_core.specs.Logs.{begans, is_plain, open_in, is_in, commit_in}
+use Rattle.hg_core.specs.Phases.{snapshot_in}
+use Rattle.hg_core.specs.Contents.{is_stamped}
+use Rattle.hg_rule.specs.declared.view.SessionPart.{SessionPart}
+use Rattle.hg_rule.specs.declared.view.CommitPart.{CommitPart}
+use Rattle.hg_rule.specs.declared.view.Part.{Part}
+use Rattle.hg_rule.specs.declared.view.Part.TheVariants.{OfSession, OfBucket, OfCommit, OfPass, Away, Lent}
+use Rattle.hg_rule.specs.declared.view.Sight.{Sight}
+use Rattle.hg_rule.specs.declared.view.Sight.TheVariants.{Saw, Heard}
+use Rattle.hg_rule.specs.declared.view.Event.TheVariants.{Stamp, HandOver, HandBack, PublishAll}
+use Rattle.hg_rule.specs.declared.view.View.{View}
+use Rattle.hg_rule.specs.Facts.{groups, new_session, IsLeft}
+use Rattle.hg_rule.specs.Views.{number, number_in, session, session_there, since, first_in, others, seeing, then_has}
+use Rattle.hg_rule.specs.Moves.{but_second}
+use Rattle.hg_rule.specs.Steps.{IsHistoryAt, Seated, loaded_in}
+use Rattle.hg_rule.specs.Holding.{bucket_number, bucket, beyond, farther, commit, commit_behind}
+use Rattle.hg_rule.specs.Writes.{stamping, listing, with_stamp, with_published}
+
+-- ---- sessions with their parts
+
+abbrev pub Members : Type 0
+Members = List (ℕ × SessionPart)
+
+-- a part for each, and those of a list of parts
+abbrev pub lent : Members → List Part
+lent [] = []
+lent (m ∷ ms) = Lent m.0 m.1 ∷ lent ms
+
+abbrev pub members : List Part → Members
+members [] = []
+members (OfSession j s ∷ parts) = members parts
+members (OfBucket b c ∷ parts) = members parts
+members (OfCommit h ∷ parts) = members parts
+members (OfPass p r ∷ parts) = members parts
+members (Away j s n ∷ parts) = members parts
+members (Lent j s ∷ parts) = (j, s) ∷ members parts
+
+abbrev pub who : Members → List ℕ
+who ms = map (λ m. m.0) ms
+
+abbrev pub part_of : ℕ → Members → SessionPart
+part_of j [] = new_session
+part_of j (m ∷ ms) = if m.0 == j then m.1 else part_of j ms
+
+abbrev pub writer_at : ℕ → Members → Writer
+writer_at j ms = record { session = j; transaction = begans (part_of j ms).log }
+
+-- session j has a write with the next number
+abbrev pub flag : ℕ → Members → Members
+flag j [] = []
+flag j (m ∷ ms) = (m.0, if m.0 == j then with_stamp m.1 else m.1) ∷ flag j ms
+
+-- each is published under n
+abbrev pub numbered : ℕ → Members → Members
+numbered n [] = []
+numbered n (m ∷ ms) = (m.0, with_published n m.1) ∷ numbered n ms
+
+abbrev pub hears : ℕ → Members → List Sight
+hears n [] = []
+hears n (m ∷ ms) = Heard m.0 (Published n ∷ m.1.log) ∷ hears n ms
+
+-- their transactions, as a group
+abbrev pub group_of : Members → Group
+group_of ms = map (λ m. commit_in m.0 m.1.log) ms
+
+-- Each is live, nothing of its transaction was undone or published, it has a write with the next number, and so has each of its open writes. Nobody else has one.
+pub record MayPublishAll (ms : Members) (list : List (ℕ × Rid)) : Type 0 where
+  pub some : 0 < length ms
+  pub live : Each (λ m. IsSome (snapshot_in m.1.phase)) ms
+  pub plain : Each (λ m. IsTrue (is_plain m.1.log)) ms
+  pub flagged : Each (λ m. m.1.stamped ≡ true) ms
+  pub alone : Each (λ e. IsTrue (is_in (who ms) e.0)) list
+  pub every : Each (λ m. (rid : Rid) → IsSome (open_in rid m.1.log) → IsTrue (is_stamped m.0 rid list)) ms
+
+-- ---- handing over, and back
+
+-- what is behind the first part, as it was lent
+abbrev pub next_lent : View → SessionPart
+next_lent v = session_there (first_in (others v))
+
+-- v after its part was handed over when the mark was n; and before it left
+abbrev pub HandsOver : View → ℕ → View → Type 0
+HandsOver v n w = (h : History) × (IsHistoryAt v n h × (w ≡ then_has v (Away (number v) (session v) n ∷ others v) (Saw (groups h) ∷ []) (HandOver (number v) n)))
+
+abbrev pub Lends : View → ℕ → View → Type 0
+Lends v n w = (h : History) × (IsHistoryAt v n h × ((loaded_in (session v).phase ≤ n) × (w ≡ then_has v (Away (number v) (session v) n ∷ Lent (number v) (session v) ∷ others v) (Saw (groups h) ∷ []) (HandOver (number v) n))))
+
+-- the part alone, which has seen what the view has
+abbrev pub lent_alone : ℕ → SessionPart → View → View
+lent_alone j s w = seeing (Lent j s ∷ []) w.sights []
+
+-- v with what was handed over, behind all else
+abbrev pub received : View → View → View
+received v w = seeing (v.parts ++ w.parts) (v.sights ++ w.sights) v.events
+
+-- v without the part behind its first, which is handed back
+abbrev pub hands_back : View → View
+hands_back v = seeing (but_second v.parts) v.sights (v.events ++ HandBack (number_in (others v)) ∷ [])
+
+-- The part is as it was, or its transaction was published under a number over the mark of that time.
+pub record IsBack (n : ℕ) (was now : SessionPart) : Type 0 where
+  pub phase : now.phase ≡ was.phase
+  pub log : IsLeft n was.log now.log
+
+-- v after its part came back with w
+abbrev pub resuming : View → View → View
+resuming v w = seeing (OfSession (number v) (session w) ∷ others v) (v.sights ++ w.sights) v.events
+
+-- the same once it is joined
+abbrev pub Retakes : View → View → Type 0
+Retakes v w = (w ≡ seeing (OfSession (number v) (next_lent v) ∷ beyond v) v.sights v.events) × IsBack (since v) (session v) (next_lent v)
+
+-- ---- a group
+
+abbrev pub StampsLent : View → ℕ → Rid → ℕ → View → Type 0
+StampsLent v j rid n w = w ≡ then_has v (Away (number v) (session v) (since v) ∷ OfBucket (bucket_number v) (stamping n (writer_at j (members (farther v))) rid (bucket v)) ∷ OfCommit (listing j rid (commit_behind v)) ∷ lent (flag j (members (farther v)))) [] (Stamp j rid n)
+
+abbrev pub publishing_all : Members → CommitPart → CommitPart
+publishing_all ms part = record part { history = groups (part.history.list ++ group_of ms ∷ []); stamped = [] }
+
+-- the history before is the whole one, so n is over all that was seen
+abbrev pub PublishesAll : View → ℕ → View → Type 0
+PublishesAll v n w = IsHistoryAt v (length (commit v).history.list) (commit v).history.list × (w ≡ then_has v (Away (number v) (session v) (since v) ∷ OfCommit (publishing_all (members (beyond v)) (commit v)) ∷ lent (numbered n (members (beyond v))))
+    (Saw (groups ((commit v).history.list ++ group_of (members (beyond v)) ∷ [])) ∷ hears n (members (beyond v))) (PublishAll n))
+
+-- ---- the same as a step of the table tells it
+
+abbrev pub lends : Step ℕ → Seated → ℕ → Seated → Type 0
+lends step m n w = Lends m.0 n w.0 × (w.1 ≡ m.1)
+
+abbrev pub retakes : Step ℕ → Seated → ℕ → Seated → Type 0
+retakes step m n w = Retakes m.0 w.0 × (w.1 ≡ m.1)
+
+abbrev pub stamps_lent : ℕ → Rid → Step ℕ → Seated → ℕ → Seated → Type 0
+stamps_lent j rid step m n w = StampsLent m.0 j rid (suc (length (commit_behind m.0).history.list)) w.0 × (w.1 ≡ m.1)
+
+abbrev pub publishes_all : Step ℕ → Seated → ℕ → Seated → Type 0
+publishes_all step m n w = PublishesAll m.0 n w.0 × (w.1 ≡ m.1)
