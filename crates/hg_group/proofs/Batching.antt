@@ -23,7 +23,7 @@ use Rattle.hg_rule.specs.Moves.{put_in, but_second}
 use Rattle.hg_rule.specs.Holding.{beyond, farther, bucket, bucket_number, commit, commit_behind, held, HasBucket, HasCommit, HasBoth}
 use Rattle.hg_rule.specs.Places.{arrive_first, without_bucket, HoldsBucket}
 use Rattle.hg_rule.specs.Writes.{listing}
-use Rattle.hg_rule.specs.Handing.{Members, members, lent, who, part_of, writer_at, flag, StampsLent, hands_back}
+use Rattle.hg_rule.specs.Handing.{Members, members, lent, who, part_of, writer_at, flag, Stamps, hands_back}
 use Rattle.hg_rule.specs.Seats.{TableId, session_view, session_rest, IsSeatOf, IsAwayOf}
 use Rattle.hg_rule.proofs.Grouping.{each_part, each_lent}
 use Rattle.hg_rule.proofs.Holders.{still_away}
@@ -85,7 +85,7 @@ lent_open z n j b v r k is both hold far among here some none = go (open_in r (p
 
 -- ---- one more
 
-pub stamped_one : (v u w x : View) (b j n : ℕ) (r : Rid) → AwayTaken v b u → StampsLent u j r n w → x ≡ without_bucket w → StampsOne v j r n x
+pub stamped_one : (v u w x : View) (b j n : ℕ) (r : Rid) → AwayTaken v b u → Stamps u j r n w → x ≡ without_bucket w → StampsOne v j r n x
 stamped_one v u w x b j n r t step is = record {
   parts = ap (λ (y : View). y.parts) is ∙ (ap (λ (y : View). (without_bucket y).parts) step ∙ (λ i. Away (t.number_is i) (t.session_is i) (t.since_is i) ∷ OfCommit (listing j r (t.commit_is i)) ∷ lent (flag j (members (t.farther_is i)))));
   kept = (t.kept.0, ap (λ (y : View). y.sights) is ∙ (ap (λ (y : View). y.sights) step ∙ (none u.sights ∙ t.kept.1)));

@@ -22,7 +22,7 @@ use Rattle.hg_rule.specs.Moves.{put_in, joined}
 use Rattle.hg_rule.specs.Holding.{beyond, commit}
 use Rattle.hg_rule.specs.Places.{without_commit, commit_alone}
 use Rattle.hg_rule.specs.Writes.{with_published}
-use Rattle.hg_rule.specs.Handing.{Members, members, lent, who, numbered, hears, group_of, publishing_all, PublishesAll}
+use Rattle.hg_rule.specs.Handing.{Members, members, lent, who, numbered, hears, group_of, publishing, Publishes}
 use Rattle.hg_rule.proofs.Found.{inside_is}
 use Rattle.hg_rule.proofs.Grouping.{there, each_in}
 use Rattle.hg_queue.specs.declared.open_tx.OpenTx.{OpenTx}
@@ -142,7 +142,7 @@ has_batch v w u part ms txs z mark o left told taken = record {
 
 -- ---- the batch is published
 
-module _ (v w x y u : View) (part : CommitPart) (ms : Members) (txs : List OpenTx) (n : ℕ) (o : InHand v w part ms) (s : Stamped w (all_pairs txs) x) (p : PublishesAll x n y) (left : u ≡ without_commit y) where
+module _ (v w x y u : View) (part : CommitPart) (ms : Members) (txs : List OpenTx) (n : ℕ) (o : InHand v w part ms) (s : Stamped w (all_pairs txs) x) (p : Publishes x n y) (left : u ≡ without_commit y) where
   q : OnWay w s.ms s.list x
   q = on_way w x s.ms s.list s.parts
 
@@ -155,8 +155,8 @@ module _ (v w x y u : View) (part : CommitPart) (ms : Members) (txs : List OpenT
   history_is : (commit x).history ≡ part.history
   history_is = ap (λ (c : CommitPart). c.history) (q.commit_is ∙ (λ i. record (o.commit_is i) { stamped = s.list }))
 
-  parts_are : y.parts ≡ Away (number v) (session v) (since v) ∷ OfCommit (publishing_all (members (beyond x)) (commit x)) ∷ lent (numbered n ms)
-  parts_are = ap (λ (z : View). z.parts) p.1 ∙ (λ i. Away ((q.number_is ∙ o.number_is) i) ((q.session_is ∙ o.session_is) i) ((q.since_is ∙ o.since_is) i) ∷ OfCommit (publishing_all (members (beyond x)) (commit x)) ∷ lent (same_of (numbered n) (bare_numbered n) (members (beyond x)) ms alike i))
+  parts_are : y.parts ≡ Away (number v) (session v) (since v) ∷ OfCommit (publishing (members (beyond x)) (commit x)) ∷ lent (numbered n ms)
+  parts_are = ap (λ (z : View). z.parts) p.1 ∙ (λ i. Away ((q.number_is ∙ o.number_is) i) ((q.session_is ∙ o.session_is) i) ((q.since_is ∙ o.since_is) i) ∷ OfCommit (publishing (members (beyond x)) (commit x)) ∷ lent (same_of (numbered n) (bare_numbered n) (members (beyond x)) ms alike i))
 
   -- the committer's part after it
   pub after_is : (commit y).history ≡ groups (part.history.list ++ group ∷ [])

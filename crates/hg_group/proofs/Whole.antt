@@ -15,7 +15,7 @@ use Rattle.hg_rule.specs.declared.view.SessionPart.{SessionPart}
 use Rattle.hg_rule.specs.declared.view.CommitPart.{CommitPart}
 use Rattle.hg_rule.specs.declared.view.View.{View}
 use Rattle.hg_rule.specs.Holding.{beyond, commit}
-use Rattle.hg_rule.specs.Handing.{Members, members, who, MayPublishAll}
+use Rattle.hg_rule.specs.Handing.{Members, members, who, MayPublish}
 use Rattle.hg_rule.proofs.Grouping.{each_two}
 use Rattle.hg_queue.specs.declared.open_tx.OpenTx.{OpenTx}
 use Rattle.hg_group.specs.Batch.{IsTaken, AreTaken, with_session, all_pairs, bare, Stamped}
@@ -97,14 +97,14 @@ first = record { table = record { 0 = 0 }; key = 0 }
 one_open : (tx : OpenTx) (m : ℕ × SessionPart) → IsTaken tx m → HasOpen m.0 m.1.phase m.1.log
 one_open tx m t = (get_or tx.records.list 0 first, sym (t.tx_is.exact (get_or tx.records.list 0 first)) ∙ among_at tx.records.list 0 first t.some)
 
-pub may_all : (v w : View) (txs : List OpenTx) → AreTaken txs (members (beyond v)) → 0 < length txs → Stamped v (all_pairs txs) w → MayPublishAll (members (beyond w)) (commit w).stamped
+pub may_all : (v w : View) (txs : List OpenTx) → AreTaken txs (members (beyond v)) → 0 < length txs → Stamped v (all_pairs txs) w → MayPublish (members (beyond w)) (commit w).stamped
 may_all v w txs taken some s =
     let ms0 : Members = members (beyond v) in
     let o = on_way v w s.ms s.list s.parts in
     let list : (commit w).stamped ≡ s.list = ap (λ (p : CommitPart). p.stamped) o.commit_is in
     let opens : Says HasOpen s.ms = says_same HasOpen s.ms ms0 s.alike (taken_says HasOpen txs ms0 one_open taken) in
     let covers : Says (Covers s.list) s.ms = turned s.list (all_pairs txs) s.exact s.ms (says_same (Covers (all_pairs txs)) s.ms ms0 s.alike (covered txs ms0 taken)) in
-    subst (λ (ms : Members). MayPublishAll ms (commit w).stamped) (sym o.members_are) (subst (λ (l : List (ℕ × Rid)). MayPublishAll s.ms l) (sym list) record {
+    subst (λ (ms : Members). MayPublish ms (commit w).stamped) (sym o.members_are) (subst (λ (l : List (ℕ × Rid)). MayPublish s.ms l) (sym list) record {
       some = let a : ℕ = length s.ms in let b : ℕ = length ms0 in let n : ℕ = length txs in let e : a ≡ b = sym (bare_length s.ms) ∙ (ap length s.alike ∙ bare_length ms0) in let f : n ≡ b = taken_length txs ms0 taken in omega (arith, some);
       live = says_same (λ j phase log. IsSome (snapshot_in phase)) s.ms ms0 s.alike (taken_says (λ j phase log. IsSome (snapshot_in phase)) txs ms0 (λ tx m t. t.may.live) taken);
       plain = says_same (λ j phase log. IsTrue (is_plain log)) s.ms ms0 s.alike (taken_says (λ j phase log. IsTrue (is_plain log)) txs ms0 (λ tx m t. t.may.plain) taken);

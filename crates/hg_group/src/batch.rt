@@ -104,7 +104,7 @@ pub(crate) fn lead<R: Wait>(
         };
     };
     stamp_batch(rt, board, store, pass, popped.as_slice(), number);
-    board.publish_all(pass, number);
+    board.publish(pass, number);
     contexts.push_back_reserved(GroupContext { number, records });
     let seat = board.split_commit(pass);
     lay(board, pass, &mut laid, popped.as_slice(), number, count);

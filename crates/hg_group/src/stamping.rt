@@ -40,7 +40,7 @@ fn stamp_one<R: Wait>(
     ensures own { IsAwayOf (table_of board.now) (sizes_of board.now) pass.new × (pass.new.number ≡ pass.old.number) }
 {
     let mut held = store.take(rt, board, store.bucket_of(rid), pass);
-    held.stamp_lent(board, pass, rid, by, number);
+    held.stamp(board, pass, rid, by, number);
     held.give(board, pass);
 }
 

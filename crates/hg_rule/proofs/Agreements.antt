@@ -13,7 +13,7 @@ use Rattle.hg_rule.specs.declared.view.Part.TheVariants.{OfSession, OfBucket, Of
 use Rattle.hg_rule.specs.declared.view.Sight.{Sight}
 use Rattle.hg_rule.specs.declared.view.Sight.TheVariants.{Saw, Heard, Took, Did}
 use Rattle.hg_rule.specs.declared.view.Event.{Event}
-use Rattle.hg_rule.specs.declared.view.Event.TheVariants.{Probe, Enter, Fix, GoLive, End, Look, Install, Undo, Stamp, Publish, Mark, Sample, Move, Reclaim, Take, HandOver, HandBack, PublishAll}
+use Rattle.hg_rule.specs.declared.view.Event.TheVariants.{Probe, Enter, Fix, GoLive, End, Look, Install, Undo, Stamp, Mark, Sample, Move, Reclaim, Take, HandOver, HandBack, Publish}
 use Rattle.hg_rule.specs.declared.view.View.{View}
 use Rattle.hg_rule.specs.declared.view.Sizes.{Sizes}
 use Rattle.hg_rule.specs.Facts.{heard, HasBegun, Shown, Known, Stands}
@@ -34,14 +34,13 @@ event_agrees s j part is (Look k ask n) h = tt
 event_agrees s j part is (Install k rid image) h = tt
 event_agrees s j part is (Undo k rid) h = tt
 event_agrees s j part is (Stamp k rid n) h = tt
-event_agrees s j part is (Publish k n) h = tt
 event_agrees s j part is (Mark p n) h = tt
 event_agrees s j part is (Move p k n done) h = tt
 event_agrees s j part is (Reclaim p kind rid n) h = tt
 event_agrees s j part is (Take p n) h = tt
 event_agrees s j part is (HandOver k n) h = tt
 event_agrees s j part is (HandBack k) h = tt
-event_agrees s j part is (PublishAll n) h = tt
+event_agrees s j part is (Publish n) h = tt
 
 sight_agrees : (s : CoreState) (j : ℕ) (part : SessionPart) → s.log j ≡ part.log → (x : Sight) → Known s x → SightAgrees j part x
 sight_agrees s j part is (Saw h) k = tt

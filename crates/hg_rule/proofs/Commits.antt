@@ -42,42 +42,6 @@ use Rattle.hg_rule.proofs.Registers.{loaded_words}
 use Rattle.hg_rule.proofs.Owned.{Leaves, leaves_only, not_first, own_second}
 use Rattle.hg_rule.proofs.Playing.{own_session, own_pass, history_at, log_stays}
 
--- ---- whose writes are stamped
-
-alike : (j : ℕ) → (j == j) ≡ true
-alike j = grind (arith, nat_tests)
-
-unlike : (j k : ℕ) → (k ≡ j → ⊥) → (j == k) ≡ false
-unlike j k other = grind (arith, nat_tests)
-
-none_else : (j k : ℕ) (list : List (ℕ × Rid)) → (k ≡ j → ⊥) → Each (λ e. e.0 ≡ j) list → has_stamped k list ≡ false
-none_else j k [] other h = refl
-none_else j k (e ∷ list) other h = ap (λ x. x || has_stamped k list) (ap (λ n. n == k) h.0 ∙ unlike j k other) ∙ none_else j k list other h.1
-
-one_alone : (j k : ℕ) → is_in (j ∷ []) k ≡ (j == k)
-one_alone j k = go (j == k)
-  where
-    go : (b : Bool) → (b || false) ≡ b
-    go true = refl
-    go false = refl
-
-is_one : (j k : ℕ) → IsTrue (is_in (j ∷ []) k) → j ≡ k
-is_one j k e = let x : (j == k) ≡ true = sym (one_alone j k) ∙ e in grind (arith, nat_tests)
-
--- the log of the session that publishes, and of others
-log_here : (log : ℕ → List LogEntry) (j n : ℕ) → published_logs log (j ∷ []) n j ≡ entries.Published n ∷ log j
-log_here log j n = ap (λ x. if x then entries.Published n ∷ log j else log j) (one_alone j j ∙ alike j)
-
-log_else : (log : ℕ → List LogEntry) (j n k : ℕ) → (k ≡ j → ⊥) → published_logs log (j ∷ []) n k ≡ log k
-log_else log j n k other = ap (λ x. if x then entries.Published n ∷ log k else log k) (one_alone j k ∙ unlike j k other)
-
-log_grown : (log : ℕ → List LogEntry) (j n k : ℕ) → EndsWith (published_logs log (j ∷ []) n k) (log k)
-log_grown log j n k = go (is_in (j ∷ []) k)
-  where
-    go : (b : Bool) → EndsWith (if b then entries.Published n ∷ log k else log k) (log k)
-    go true = (entries.Published n ∷ [], refl)
-    go false = ends_same (log k)
-
 -- the words after the mark was stored
 pub marked_words : (z : Sizes) (c d : CoreState) (ws : List ℕ) (x : ℕ) → d.mark ≡ x → d.register ≡ c.register → ShowsWords z c ws → ShowsWords z d (set ws 0 x)
 marked_words z c d ws x is same w = record {
@@ -88,70 +52,6 @@ marked_words z c d ws x is same w = record {
 
 pub history_is : (v : View) (n : ℕ) (h g : History) → h ≡ g → IsHistoryAt v n h → IsHistoryAt v (length g) g
 history_is v n h g e is = subst (λ g. IsHistoryAt v (length g) g) e (subst (λ n. IsHistoryAt v n h) (sym is.is_length) is)
-
--- ---- a group
-
-publish_leaves : (c d : CoreState) (j n : ℕ) (old : SessionPart) (h : CommitPart) → d.phase ≡ c.phase → d.log ≡ published_logs c.log (j ∷ []) n → d.stamped_list ≡ [] → Each (λ e. e.0 ≡ j) c.stamped_list
-    → d.bucket ≡ c.bucket → d.counters ≡ c.counters → d.taken ≡ c.taken → d.pass ≡ c.pass → d.visits ≡ c.visits → c.mark ≤ d.mark → Leaves c d (OfSession j old ∷ OfCommit h ∷ [])
-publish_leaves c d j n old h phase logs list alone bucket counters taken pass visits more = record {
-  phase = λ k away i. phase i k;
-  log = λ k away. (λ i. logs i k) ∙ log_else c.log j n k (not_first j k _ away);
-  stamped = λ k away. ap (has_stamped k) list ∙ sym (none_else j k c.stamped_list (not_first j k _ away) alone);
-  bucket = λ k away i. bucket i k;
-  counters = λ k away i. counters i k;
-  history = λ away. absurd (omega (arith, away));
-  list = λ away. absurd (omega (arith, away));
-  taken = λ away. taken;
-  pass = λ p away i. pass i p;
-  visits = λ p away i. visits i p;
-  home = λ k part m away s. away_same c d k part m (λ i. phase i k) ((λ i. logs i k) ∙ log_else c.log j n k (not_first j k _ away)) more s;
-}
-
-pub publishes : (z : Sizes) (slots id x : ℕ) (m : Seated) → HasRoom z → HasSession m.0 → IsSome (snapshot_in (session m.0).phase) → IsTrue (is_plain (session m.0).log) → HasCommit m.0
-    → x ≡ suc (length (commit m.0).history.list) → (session m.0).stamped ≡ true → Each (λ e. e.0 ≡ number m.0) (commit m.0).stamped
-    → ((rid : Rid) → IsSome (open_in rid (session m.0).log) → IsTrue (is_stamped (number m.0) rid (commit m.0).stamped))
-    → Allows (Rule z) slots id m 0 (λ _. x) (λ _. published (step slots 0 x 0 none) m x)
-publishes z slots id x m room is live plain held next stamped alone every t r deep at small =
-    let v : View = m.0 in
-    let c = r.state in
-    let j : ℕ = number v in
-    let h : CommitPart = commit v in
-    let own = own_session z t r id v at is in
-    let list : Shown c (OfCommit h) = own_second z t r id v at _ _ _ is held in
-    let mark : suc c.mark ≡ x = ap suc (r.steady.mark_is_length.is_length ∙ ap length list.0) ∙ sym next in
-    let d : CoreState = happens c (Publish (j ∷ [])) in
-    let new : SessionPart = with_published x (session v) in
-    let part : CommitPart = publishing j (session v).log h in
-    let log : d.log j ≡ new.log = log_here c.log j (suc c.mark) ∙ (λ i. entries.Published (mark i) ∷ own.1.0 i) in
-    let history : d.history ≡ part.history.list = λ i. list.0 i ++ (commit_in j (own.1.0 i) ∷ []) ∷ [] in
-    let alone' : Each (λ e. e.0 ≡ j) c.stamped_list = subst (Each (λ e. e.0 ≡ j)) (sym list.1.0) alone in (
-      then_has v (OfSession j new ∷ OfCommit part ∷ beyond v) (sights.Saw part.history ∷ sights.Heard j new.log ∷ []) (events.Publish j x),
-      keeps,
-      tt,
-      keep z t r id v (OfSession j (session v) ∷ OfCommit h ∷ []) (OfSession j new ∷ OfCommit part ∷ []) (beyond v) (sights.Saw part.history ∷ sights.Heard j new.log ∷ []) (events.Publish j x) 0 x d at
-          (is ∙ ap (λ (l : List Part). OfSession j (session v) ∷ l) held) record {
-            steady = publish_kept c (j ∷ []) r.steady record {
-              some = omega arith;
-              distinct = (refl, tt);
-              opened = (subst IsSome (sym (r.steady.logs_answer.reads j ∙ ap snapshot_in own.0)) live, tt);
-              plain = (subst (λ l. IsTrue (is_plain l)) (sym own.1.0) plain, tt);
-              stamped = at_index j (λ k. has_stamped k c.stamped_list ≡ is_in (j ∷ []) k) ((own.1.1 ∙ stamped) ∙ sym (one_alone j j ∙ alike j)) (λ k other. none_else j k c.stamped_list other alone' ∙ sym (one_alone j k ∙ unlike j k other));
-              whole = λ k rid among opened. subst (λ n. IsTrue (is_stamped n rid c.stamped_list)) (is_one j k among)
-                  (subst (λ l. IsTrue (is_stamped j rid l)) (sym list.1.0) (every rid (subst (λ l. IsSome (open_in rid l)) own.1.0 (subst (λ n. IsSome (open_in rid (c.log n))) (sym (is_one j k among)) opened))));
-            };
-            sized = record { sessions = r.sized.sessions; tables = r.sized.tables; buckets = r.sized.buckets; each = r.sized.each };
-            passes = refl;
-            shows = marked_words z c d t.words x mark refl r.words;
-            grows = record { history = (new_group c.log (j ∷ []) ∷ [], refl); logs = λ k. log_grown c.log j (suc c.mark) k; taken = omega arith };
-            only = leaves_only c d _ (publish_leaves c d j (suc c.mark) (session v) h refl refl refl alone' refl refl refl refl refl (omega arith));
-            counts = λ k. refl;
-            shared = refl;
-            shown = ((own.0, (log, refl)), ((history, (refl, list.1.1)), tt));
-            known = (subst (λ g. StartsWith d.history g) history (starts_same d.history), (subst (λ l. EndsWith l new.log) (sym log) (ends_same new.log), tt));
-            stands = tt;
-          },
-      ((history_is v (get_or t.words 0 0) c.history h.history.list list.0 (history_at z t r id v room at), refl), refl),
-    )
 
 -- ---- a group is taken
 

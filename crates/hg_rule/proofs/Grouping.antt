@@ -40,7 +40,7 @@ use Rattle.hg_rule.specs.Views.{number, session, since, others, HasAway, then_ha
 use Rattle.hg_rule.specs.Steps.{Seated}
 use Rattle.hg_rule.specs.Holding.{beyond, farther, bucket_number, bucket, HasCommit, HasBoth, commit, commit_behind, held}
 use Rattle.hg_rule.specs.Writes.{with_stamp, with_published, stamping, listing}
-use Rattle.hg_rule.specs.Handing.{Members, lent, members, who, part_of, writer_at, flag, numbered, hears, group_of, MayPublishAll, publishing_all, stamps_lent, publishes_all}
+use Rattle.hg_rule.specs.Handing.{Members, lent, members, who, part_of, writer_at, flag, numbered, hears, group_of, MayPublish, publishing, stamps, publishes}
 use Rattle.hg_rule.proofs.Lists.{starts_same, ends_same}
 use Rattle.hg_rule.proofs.Counts.{away_same, expected_small}
 use Rattle.hg_rule.proofs.Growing.{Grows}
@@ -158,10 +158,10 @@ stamp_leaves c d j b o n was part h rid ms among phase logs list bucket counters
   home = λ k part n away s. away_same c d k part n (λ i. phase i k) (λ i. logs i k) more s;
 }
 
-pub may_stamp_lent : (z : Sizes) (slots id j : ℕ) (rid : Rid) (m : Seated) → HasAway m.0 → HasBoth m.0 → farther m.0 ≡ lent (members (farther m.0)) → IsTrue (is_in (who (members (farther m.0))) j) → IsTrue (is_plain (part_of j (members (farther m.0))).log)
+pub may_stamp : (z : Sizes) (slots id j : ℕ) (rid : Rid) (m : Seated) → HasAway m.0 → HasBoth m.0 → farther m.0 ≡ lent (members (farther m.0)) → IsTrue (is_in (who (members (farther m.0))) j) → IsTrue (is_plain (part_of j (members (farther m.0))).log)
     → bucket_of z.buckets rid ≡ bucket_number m.0 → IsOpenBy (writer_at j (members (farther m.0))) (held m.0 rid)
-    → Allows (Rule z) slots id m 0 (λ n. n) (stamps_lent j rid (step slots 0 0 0 none) m)
-may_stamp_lent z slots id j rid m is both far among plain place mine t r deep at small =
+    → Allows (Rule z) slots id m 0 (λ n. n) (stamps j rid (step slots 0 0 0 none) m)
+may_stamp z slots id j rid m is both far among plain place mine t r deep at small =
     let v : View = m.0 in
     let c = r.state in
     let o : ℕ = number v in
@@ -280,9 +280,9 @@ publish_leaves c d o n was h ms phase logs list alone plain bucket counters take
     out : (k : ℕ) → count (session_key k) (Away o was n ∷ OfCommit h ∷ lent ms) ≡ 0 → is_in (who ms) k ≡ false
     out k away = not_in ms k (let x : ℕ = count (session_key k) (lent ms) in let z : 0 + (0 + x) ≡ 0 = away in omega arith)
 
-pub may_publish_all : (z : Sizes) (slots id x : ℕ) (m : Seated) → HasRoom z → HasAway m.0 → HasCommit m.0 → beyond m.0 ≡ lent (members (beyond m.0)) → x ≡ suc (length (commit m.0).history.list) → MayPublishAll (members (beyond m.0)) (commit m.0).stamped
-    → Allows (Rule z) slots id m 0 (λ _. x) (λ _. publishes_all (step slots 0 x 0 none) m x)
-may_publish_all z slots id x m room is has_it far next may t r deep at small =
+pub may_publish : (z : Sizes) (slots id x : ℕ) (m : Seated) → HasRoom z → HasAway m.0 → HasCommit m.0 → beyond m.0 ≡ lent (members (beyond m.0)) → x ≡ suc (length (commit m.0).history.list) → MayPublish (members (beyond m.0)) (commit m.0).stamped
+    → Allows (Rule z) slots id m 0 (λ _. x) (λ _. publishes (step slots 0 x 0 none) m x)
+may_publish z slots id x m room is has_it far next may t r deep at small =
     let v : View = m.0 in
     let c = r.state in
     let o : ℕ = number v in
@@ -297,7 +297,7 @@ may_publish_all z slots id x m room is has_it far next may t r deep at small =
     let each = each_lent (Shown c) ms all.1.1 in
     let mark : suc c.mark ≡ x = ap suc (r.steady.mark_is_length.is_length ∙ ap length list.0) ∙ sym next in
     let d : CoreState = happens c (Publish js) in
-    let part : CommitPart = publishing_all ms h in
+    let part : CommitPart = publishing ms h in
     let qs' : List Part = first ∷ OfCommit part ∷ lent (numbered x ms) in
     let logs : d.log ≡ published_logs c.log js x = (λ i. published_logs c.log js (mark i)) in
     let history : d.history ≡ part.history.list = (λ i. list.0 i ++ group_is c ms all.1.1 i ∷ []) in
@@ -306,11 +306,11 @@ may_publish_all z slots id x m room is has_it far next may t r deep at small =
     let more : List Sight = sights.Saw part.history ∷ hears x ms in
     let small_counts : (k : ℕ) → count (session_key k) (lent ms) ≤ 1 = (λ k. let a : ℕ = count (session_key k) v.parts in let b : ℕ = count (session_key k) (lent ms) in let f : ℕ = tally (session_key k) t.views in
         let h1 : a ≡ 0 + (0 + b) = ap (count (session_key k)) parts in let h2 : a ≤ f = tally_one (session_key k) t.views id v at in let h3 : f ≤ 1 = subst (λ n. n ≤ 1) (sym (r.exact (session_key k))) (expected_small z c.passes (session_key k)) in omega arith) in (
-      then_has v qs' more (events.PublishAll x),
+      then_has v qs' more (events.Publish x),
       keeps,
       tt,
-      subst (λ (ps : List Part). Rule z record { words = set t.words 0 x; homes = t.homes; views = set t.views id (then_has v ps more (events.PublishAll x)) }) (append-nil qs')
-          (keep z t r id v qs qs' [] more (events.PublishAll x) 0 x d at (parts ∙ sym (append-nil qs)) record {
+      subst (λ (ps : List Part). Rule z record { words = set t.words 0 x; homes = t.homes; views = set t.views id (then_has v ps more (events.Publish x)) }) (append-nil qs')
+          (keep z t r id v qs qs' [] more (events.Publish x) 0 x d at (parts ∙ sym (append-nil qs)) record {
             steady = publish_kept c js r.steady record {
               some = omega (arith, may.some, many ms);
               distinct = none_twice ms small_counts;

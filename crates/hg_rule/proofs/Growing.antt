@@ -7,7 +7,7 @@ use Rattle.hg_core.specs.State.{CoreState}
 use Rattle.hg_rule.specs.declared.view.Sight.{Sight}
 use Rattle.hg_rule.specs.declared.view.Sight.TheVariants.{Saw, Heard, Took, Did}
 use Rattle.hg_rule.specs.declared.view.Event.{Event}
-use Rattle.hg_rule.specs.declared.view.Event.TheVariants.{Probe, Enter, Fix, GoLive, End, Look, Install, Undo, Stamp, Publish, Mark, Sample, Move, Reclaim, Take, HandOver, HandBack, PublishAll}
+use Rattle.hg_rule.specs.declared.view.Event.TheVariants.{Probe, Enter, Fix, GoLive, End, Look, Install, Undo, Stamp, Mark, Sample, Move, Reclaim, Take, HandOver, HandBack, Publish}
 use Rattle.hg_rule.specs.Facts.{StartsWith, EndsWith, IsAmong, HasBegun, Stands, Known}
 use Rattle.hg_rule.proofs.Lists.{starts_on, ends_on}
 
@@ -36,14 +36,13 @@ stands_on c d g (Look j ask n) h = tt
 stands_on c d g (Install j rid image) h = tt
 stands_on c d g (Undo j rid) h = tt
 stands_on c d g (Stamp j rid n) h = tt
-stands_on c d g (Publish j n) h = tt
 stands_on c d g (Mark p n) h = tt
 stands_on c d g (Move p j n done) h = tt
 stands_on c d g (Reclaim p kind rid n) h = tt
 stands_on c d g (Take p n) h = tt
 stands_on c d g (HandOver j n) h = tt
 stands_on c d g (HandBack j) h = tt
-stands_on c d g (PublishAll n) h = tt
+stands_on c d g (Publish n) h = tt
 
 pub known_on : (c d : CoreState) → Grows c d → (x : Sight) → Known c x → Known d x
 known_on c d g (Saw h) k = starts_on d.history c.history h.list k g.history

@@ -15,7 +15,7 @@ use Rattle.hg_rule.specs.declared.view.Part.{Part}
 use Rattle.hg_rule.specs.declared.view.Part.TheVariants.{OfSession, OfBucket, OfCommit, OfPass, Away, Lent}
 use Rattle.hg_rule.specs.declared.view.Sight.{Sight}
 use Rattle.hg_rule.specs.declared.view.Sight.TheVariants.{Saw, Heard}
-use Rattle.hg_rule.specs.declared.view.Event.TheVariants.{Stamp, HandOver, HandBack, PublishAll}
+use Rattle.hg_rule.specs.declared.view.Event.TheVariants.{Stamp, HandOver, HandBack, Publish}
 use Rattle.hg_rule.specs.declared.view.View.{View}
 use Rattle.hg_rule.specs.Facts.{groups, new_session, IsLeft}
 use Rattle.hg_rule.specs.Views.{number, number_in, session, session_there, since, first_in, others, seeing, then_has}
@@ -72,7 +72,7 @@ abbrev pub group_of : Members → Group
 group_of ms = map (λ m. commit_in m.0 m.1.log) ms
 
 -- Each is live, nothing of its transaction was undone or published, it has a write with the next number, and so has each of its open writes. Nobody else has one.
-pub record MayPublishAll (ms : Members) (list : List (ℕ × Rid)) : Type 0 where
+pub record MayPublish (ms : Members) (list : List (ℕ × Rid)) : Type 0 where
   pub some : 0 < length ms
   pub live : Each (λ m. IsSome (snapshot_in m.1.phase)) ms
   pub plain : Each (λ m. IsTrue (is_plain m.1.log)) ms
@@ -120,16 +120,16 @@ Retakes v w = (w ≡ seeing (OfSession (number v) (next_lent v) ∷ beyond v) v.
 
 -- ---- a group
 
-abbrev pub StampsLent : View → ℕ → Rid → ℕ → View → Type 0
-StampsLent v j rid n w = w ≡ then_has v (Away (number v) (session v) (since v) ∷ OfBucket (bucket_number v) (stamping n (writer_at j (members (farther v))) rid (bucket v)) ∷ OfCommit (listing j rid (commit_behind v)) ∷ lent (flag j (members (farther v)))) [] (Stamp j rid n)
+abbrev pub Stamps : View → ℕ → Rid → ℕ → View → Type 0
+Stamps v j rid n w = w ≡ then_has v (Away (number v) (session v) (since v) ∷ OfBucket (bucket_number v) (stamping n (writer_at j (members (farther v))) rid (bucket v)) ∷ OfCommit (listing j rid (commit_behind v)) ∷ lent (flag j (members (farther v)))) [] (Stamp j rid n)
 
-abbrev pub publishing_all : Members → CommitPart → CommitPart
-publishing_all ms part = record part { history = groups (part.history.list ++ group_of ms ∷ []); stamped = [] }
+abbrev pub publishing : Members → CommitPart → CommitPart
+publishing ms part = record part { history = groups (part.history.list ++ group_of ms ∷ []); stamped = [] }
 
 -- the history before is the whole one, so n is over all that was seen
-abbrev pub PublishesAll : View → ℕ → View → Type 0
-PublishesAll v n w = IsHistoryAt v (length (commit v).history.list) (commit v).history.list × (w ≡ then_has v (Away (number v) (session v) (since v) ∷ OfCommit (publishing_all (members (beyond v)) (commit v)) ∷ lent (numbered n (members (beyond v))))
-    (Saw (groups ((commit v).history.list ++ group_of (members (beyond v)) ∷ [])) ∷ hears n (members (beyond v))) (PublishAll n))
+abbrev pub Publishes : View → ℕ → View → Type 0
+Publishes v n w = IsHistoryAt v (length (commit v).history.list) (commit v).history.list × (w ≡ then_has v (Away (number v) (session v) (since v) ∷ OfCommit (publishing (members (beyond v)) (commit v)) ∷ lent (numbered n (members (beyond v))))
+    (Saw (groups ((commit v).history.list ++ group_of (members (beyond v)) ∷ [])) ∷ hears n (members (beyond v))) (Publish n))
 
 -- ---- the same as a step of the table tells it
 
@@ -139,8 +139,8 @@ lends step m n w = Lends m.0 n w.0 × (w.1 ≡ m.1)
 abbrev pub retakes : Step ℕ → Seated → ℕ → Seated → Type 0
 retakes step m n w = Retakes m.0 w.0 × (w.1 ≡ m.1)
 
-abbrev pub stamps_lent : ℕ → Rid → Step ℕ → Seated → ℕ → Seated → Type 0
-stamps_lent j rid step m n w = StampsLent m.0 j rid (suc (length (commit_behind m.0).history.list)) w.0 × (w.1 ≡ m.1)
+abbrev pub stamps : ℕ → Rid → Step ℕ → Seated → ℕ → Seated → Type 0
+stamps j rid step m n w = Stamps m.0 j rid (suc (length (commit_behind m.0).history.list)) w.0 × (w.1 ≡ m.1)
 
-abbrev pub publishes_all : Step ℕ → Seated → ℕ → Seated → Type 0
-publishes_all step m n w = PublishesAll m.0 n w.0 × (w.1 ≡ m.1)
+abbrev pub publishes : Step ℕ → Seated → ℕ → Seated → Type 0
+publishes step m n w = Publishes m.0 n w.0 × (w.1 ≡ m.1)

@@ -24,7 +24,7 @@ use Rattle.hg_rule.specs.declared.view.CommitPart.{CommitPart}
 use Rattle.hg_rule.specs.declared.view.Part.TheVariants.{OfSession, OfBucket, OfCommit}
 use Rattle.hg_rule.specs.declared.view.Sight.{Sight}
 use Rattle.hg_rule.specs.declared.view.Sight.TheVariants.{Saw, Heard, Took, Did}
-use Rattle.hg_rule.specs.declared.view.Event.TheVariants.{Look, Install, Undo, Stamp, Publish}
+use Rattle.hg_rule.specs.declared.view.Event.TheVariants.{Look, Install, Undo}
 use Rattle.hg_rule.specs.declared.view.View.{View}
 use Rattle.hg_rule.specs.declared.view.Sizes.{Sizes}
 use Rattle.hg_rule.specs.Facts.{groups}
@@ -112,22 +112,6 @@ with_published n part = record part { log = entries.Published n ∷ part.log; st
 abbrev pub listing : ℕ → Rid → CommitPart → CommitPart
 listing j rid part = record part { stamped = (j, rid) ∷ part.stamped }
 
--- the history with a group more, which is the transaction of this log
-abbrev pub history_with : ℕ → List LogEntry → History → History
-history_with j log h = h ++ (commit_in j log ∷ []) ∷ []
-
-abbrev pub publishing : ℕ → List LogEntry → CommitPart → CommitPart
-publishing j log part = record part { history = groups (history_with j log part.history.list); stamped = [] }
-
-abbrev pub Stamps : View → Rid → ℕ → View → Type 0
-Stamps v rid n w = w ≡ then_has v (OfSession (number v) (with_stamp (session v)) ∷ OfBucket (bucket_number v) (stamping n (writer v) rid (bucket v)) ∷ OfCommit (listing (number v) rid (commit_behind v)) ∷ farther v) []
-    (Stamp (number v) rid n)
-
--- the history before is the whole one, so n is over all that was seen
-abbrev pub Publishes : View → ℕ → View → Type 0
-Publishes v n w = IsHistoryAt v (length (commit v).history.list) (commit v).history.list × (w ≡ then_has v (OfSession (number v) (with_published n (session v)) ∷ OfCommit (publishing (number v) (session v).log (commit v)) ∷ beyond v)
-    (Saw (groups (history_with (number v) (session v).log (commit v).history.list)) ∷ Heard (number v) (entries.Published n ∷ (session v).log) ∷ []) (Publish (number v) n))
-
 -- ---- the same as a step of the table tells it
 
 -- and the view is true
@@ -139,9 +123,3 @@ wrote rid image step m n w = Installs m.0 rid image w.0 × (w.1 ≡ m.1)
 
 abbrev pub undid : Rid → Step ℕ → Seated → ℕ → Seated → Type 0
 undid rid step m n w = Undoes m.0 rid w.0 × (w.1 ≡ m.1)
-
-abbrev pub numbered : Rid → Step ℕ → Seated → ℕ → Seated → Type 0
-numbered rid step m n w = Stamps m.0 rid (suc (length (commit_behind m.0).history.list)) w.0 × (w.1 ≡ m.1)
-
-abbrev pub published : Step ℕ → Seated → ℕ → Seated → Type 0
-published step m n w = Publishes m.0 n w.0 × (w.1 ≡ m.1)

@@ -69,14 +69,14 @@ impl Removed for Brand {
 }
 
 /// A session, and a record.
-pub(crate) trait Lent {
-    ghost lent_session: { ℕ };
+pub(crate) trait Stamped {
+    ghost stamped_session: { ℕ };
 
-    ghost lent_rid: { Rid };
+    ghost stamped_rid: { Rid };
 }
 
-impl Lent for Brand {
-    ghost lent_session = { 0 };
+impl Stamped for Brand {
+    ghost stamped_session = { 0 };
 
-    ghost lent_rid = { record { table = (record { 0 = 0 }); key = 0 } };
+    ghost stamped_rid = { record { table = (record { 0 = 0 }); key = 0 } };
 }

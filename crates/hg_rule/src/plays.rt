@@ -1,13 +1,13 @@
 //! What each step, and each move of a seat, tells.
 
 ghost use Rattle.hg_rule.specs.Steps.{probed, entered, fixed, went_live, ended, marked, sampled, tried, looked};
-ghost use Rattle.hg_rule.specs.Writes.{asked, wrote, undid, numbered, published};
+ghost use Rattle.hg_rule.specs.Writes.{asked, wrote, undid};
 ghost use Rattle.hg_rule.specs.Removes.{removed, took};
 ghost use Rattle.hg_rule.specs.Places.{with_bucket, without_bucket, bucket_alone, without_commit, commit_alone};
-ghost use Rattle.hg_rule.specs.Handing.{lends, retakes, stamps_lent, publishes_all, received, hands_back};
+ghost use Rattle.hg_rule.specs.Handing.{lends, retakes, stamps, publishes, received, hands_back};
 ghost use Rattle.hg_rule.specs.Moves.{joined, merged, spent, left_bare, right_given, left_but_second, right_second, left_tail, right_first};
 
-use crate::picks::{Asked, Lent, Named, Removed, Sized, Written};
+use crate::picks::{Asked, Named, Removed, Sized, Stamped, Written};
 use crate::view::View;
 use atomic_table::{Join, Play, Split};
 use std::marker::PhantomData;
@@ -138,20 +138,6 @@ impl<A: Named> Play<u8, View> for Undoing<A> {
     ghost then = { undid A.rid };
 }
 
-pub(crate) struct Stamping<A> {
-    rid: PhantomData<A>,
-}
-
-impl<A: Named> Play<u8, View> for Stamping<A> {
-    ghost then = { numbered A.rid };
-}
-
-pub(crate) struct Publishing;
-
-impl Play<u8, View> for Publishing {
-    ghost then = { published };
-}
-
 pub(crate) struct Reclaiming<A> {
     rid: PhantomData<A>,
 }
@@ -225,16 +211,16 @@ impl Split<View> for HandingBack {
     ghost right = { right_second };
 }
 
-pub(crate) struct StampingLent<A> {
+pub(crate) struct Stamping<A> {
     rid: PhantomData<A>,
 }
 
-impl<A: Lent> Play<u8, View> for StampingLent<A> {
-    ghost then = { stamps_lent A.lent_session A.lent_rid };
+impl<A: Stamped> Play<u8, View> for Stamping<A> {
+    ghost then = { stamps A.stamped_session A.stamped_rid };
 }
 
-pub(crate) struct PublishingAll;
+pub(crate) struct Publishing;
 
-impl Play<u8, View> for PublishingAll {
-    ghost then = { publishes_all };
+impl Play<u8, View> for Publishing {
+    ghost then = { publishes };
 }

@@ -101,8 +101,8 @@ pub enum Event {
         rid: Rid,
         number: u64,
     },
+    /// A group of transactions that were handed over.
     Publish {
-        session: u64,
         number: u64,
     },
     Mark {
@@ -137,10 +137,6 @@ pub enum Event {
     },
     HandBack {
         session: u64,
-    },
-    /// A group of transactions that were handed over.
-    PublishAll {
-        number: u64,
     },
 }
 

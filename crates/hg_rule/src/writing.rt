@@ -1,23 +1,23 @@
-//! The steps of a session on contents and on groups. Each call is one event of `hg_core`.
+//! The steps of a session on contents. Each call is one event of `hg_core`.
 
-ghost use Rattle.std.specs.Prelude.{◌≡◌, ◌<◌, true, false, suc, length, IsSome, IsTrue};
+ghost use Rattle.std.specs.Prelude.{◌≡◌, ◌<◌, false, IsSome, IsTrue};
 ghost use Rattle.hg_base.specs.declared.rid.Rid.{Rid};
 ghost use Rattle.hg_base.specs.Lists.{Each};
 ghost use Rattle.hg_base.specs.Transcript.{has};
-ghost use Rattle.hg_core.specs.Logs.{wrotes, is_plain, open_in};
+ghost use Rattle.hg_core.specs.Logs.{wrotes, is_plain};
 ghost use Rattle.hg_core.specs.Phases.{snapshot_in};
 ghost use Rattle.hg_core.specs.Versions.{IsOpenBy};
-ghost use Rattle.hg_core.specs.Contents.{bucket_of, is_stamped};
+ghost use Rattle.hg_core.specs.Contents.{bucket_of};
 ghost use Rattle.hg_rule.specs.Rules.{IsBacked};
-ghost use Rattle.hg_rule.specs.Views.{number as own_number, session};
-ghost use Rattle.hg_rule.specs.Holding.{bucket_number, HasBucket, HasCommit, HasBoth, commit, commit_behind, held, writer, snapshot, tables};
-ghost use Rattle.hg_rule.specs.Writes.{MayAsk, IsOwnOrSeen, Looks, Installs, Undoes, Stamps, Publishes};
+ghost use Rattle.hg_rule.specs.Views.{session};
+ghost use Rattle.hg_rule.specs.Holding.{bucket_number, HasBucket, held, writer, snapshot, tables};
+ghost use Rattle.hg_rule.specs.Writes.{MayAsk, IsOwnOrSeen, Looks, Installs, Undoes};
 ghost use Rattle.hg_rule.specs.Seats.{table_of, sizes_of, session_view, IsSessionOf};
 
 use crate::board::Board;
 use crate::passes::SessionPass;
 use crate::picks::{Asked, Named, Written};
-use crate::plays::{Asking, Installing, Publishing, Stamping, Undoing};
+use crate::plays::{Asking, Installing, Undoing};
 use hg_base::{Image, Rid};
 use hg_core::Ask;
 use std::marker::Brand;
@@ -106,51 +106,5 @@ impl Board {
         ensures own { IsSessionOf (table_of self.now) (sizes_of self.now) pass.new }
     {
         self.undo_as::<Brand>(pass, rid);
-    }
-}
-
-impl Board {
-    fn stamp_as<A: Named>(&self, pass: &mut SessionPass, _rid: Rid, number: u64)
-        requires own { IsSessionOf (table_of self.now) (sizes_of self.now) pass.old }
-        requires plain { IsTrue (is_plain (session (session_view pass.old)).log) }
-        requires held { HasBoth (session_view pass.old) × (bucket_of (sizes_of self.now).buckets A.rid ≡ bucket_number (session_view pass.old)) }
-        requires next { number ≡ suc (length (commit_behind (session_view pass.old)).history.list) }
-        requires mine { IsOpenBy (writer (session_view pass.old)) (held (session_view pass.old) A.rid) }
-        ensures step { Stamps (session_view pass.old) A.rid number (session_view pass.new) }
-        ensures own { IsSessionOf (table_of self.now) (sizes_of self.now) pass.new }
-    {
-        self.table.shared.load::<Stamping<A>>(&mut pass.seat, 0);
-    }
-
-    /// Gives an open write the next number. The committer's part was joined before the bucket's.
-    pub fn stamp(&self, pass: &mut SessionPass, rid: Rid, number: u64)
-        requires own { IsSessionOf (table_of self.now) (sizes_of self.now) pass.old }
-        requires plain { IsTrue (is_plain (session (session_view pass.old)).log) }
-        requires held { HasBoth (session_view pass.old) × (bucket_of (sizes_of self.now).buckets rid ≡ bucket_number (session_view pass.old)) }
-        requires next { number ≡ suc (length (commit_behind (session_view pass.old)).history.list) }
-        requires mine { IsOpenBy (writer (session_view pass.old)) (held (session_view pass.old) rid) }
-        ensures step { Stamps (session_view pass.old) rid number (session_view pass.new) }
-        ensures own { IsSessionOf (table_of self.now) (sizes_of self.now) pass.new }
-    {
-        self.stamp_as::<Brand>(pass, rid, number);
-    }
-
-    /// Stores the next mark. The session's transaction joins the history as a group, and is logged as published. Each of its
-    /// open writes has the number, and no write of another session has.
-    pub fn publish(&self, pass: &mut SessionPass, number: u64)
-        requires own { IsSessionOf (table_of self.now) (sizes_of self.now) pass.old }
-        requires live { IsSome (snapshot_in (session (session_view pass.old)).phase) }
-        requires plain { IsTrue (is_plain (session (session_view pass.old)).log) }
-        requires held { HasCommit (session_view pass.old) }
-        requires next { number ≡ suc (length (commit (session_view pass.old)).history.list) }
-        requires some { (session (session_view pass.old)).stamped ≡ true }
-        requires alone { Each (λ e. e.0 ≡ own_number (session_view pass.old)) (commit (session_view pass.old)).stamped }
-        requires every { (rid : Rid) → IsSome (open_in rid (session (session_view pass.old)).log) → IsTrue (is_stamped (own_number (session_view pass.old)) rid (commit (session_view pass.old)).stamped) }
-        ensures step { Publishes (session_view pass.old) number (session_view pass.new) }
-        ensures own { IsSessionOf (table_of self.now) (sizes_of self.now) pass.new }
-    {
-        self.table
-            .shared
-            .store::<Publishing>(&mut pass.seat, 0, number);
     }
 }

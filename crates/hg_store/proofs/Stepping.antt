@@ -30,8 +30,8 @@ use Rattle.hg_rule.specs.Rules.{IsBacked}
 use Rattle.hg_rule.specs.Views.{number, session, since, pass, others, first_in, then_has, HasPass}
 use Rattle.hg_rule.specs.Holding.{bucket_number, bucket, beyond, farther, commit_behind, held, writer, HasBoth}
 use Rattle.hg_rule.specs.Places.{HasFirst, IsThere as IsVisitedBy}
-use Rattle.hg_rule.specs.Writes.{Looks, Undoes, Stamps, with_log, log_asked, undoing, stamping, listing}
-use Rattle.hg_rule.specs.Handing.{members, lent, flag, writer_at, StampsLent}
+use Rattle.hg_rule.specs.Writes.{Looks, Undoes, with_log, log_asked, undoing, stamping, listing}
+use Rattle.hg_rule.specs.Handing.{members, lent, flag, writer_at, Stamps}
 use Rattle.hg_base.specs.declared.writer.Writer.{Writer}
 use Rattle.hg_rule.specs.Removes.{Reclaims, left_of, removed_of, shortening}
 use Rattle.hg_store.specs.declared.held.Held.{Held}
@@ -91,28 +91,15 @@ over_by z n m v h r w hold k both here mine next =
     subst (λ ks. Each (IsBelow m) (drop 1 ks)) (sym (hold.keeps.versions r))
     (subst (λ x. Each (IsBelow x) (drop 1 (map kept (held v r)))) (ap suc (mark_held z n v k hold.has.0 both) ∙ sym next) (all_below n w (held v r) mine (ordered_at z n (held_number h) v k hold.has r here)))
 
-pub stamp_over : (z : Sizes) (n number : ℕ) (v : View) (h : Held) (r : Rid) → Holds v h → IsBacked z n v → HasBoth v → bucket_of z.buckets r ≡ held_number h → IsOpenBy (writer v) (held v r) → number ≡ suc (length (commit_behind v).history.list) → Each (IsBelow number) (drop 1 (versions_of (held_records h).records r))
-stamp_over z n m v h r hold k both here mine next = over_by z n m v h r (writer v) hold k both here mine next
-
--- the same for a transaction that was handed over
-pub lent_holds : (z : Sizes) (n number j : ℕ) (v x : View) (h h' : Held) (r : Rid) (w : Writer) → w ≡ writer_at j (members (farther v)) → Holds v h → IsBacked z n v → HasBoth v → held_number h' ≡ held_number h → bucket_of z.buckets r ≡ held_number h → IsOpenBy w (held v r) → number ≡ suc (length (commit_behind v).history.list) → StampsLent v j r number x
+pub stamp_holds : (z : Sizes) (n number j : ℕ) (v x : View) (h h' : Held) (r : Rid) (w : Writer) → w ≡ writer_at j (members (farther v)) → Holds v h → IsBacked z n v → HasBoth v → held_number h' ≡ held_number h → bucket_of z.buckets r ≡ held_number h → IsOpenBy w (held v r) → number ≡ suc (length (commit_behind v).history.list) → Stamps v j r number x
     → versions_of (held_records h').records r ≡ bucket_words.stamped w number (versions_of (held_records h).records r) → OthersStay (held_records h).records (held_records h').records r → held_records h' ≡ record (held_records h) { records = (held_records h').records } → Holds x h'
-lent_holds z n m j v x h h' r w is hold k both same here mine next step stored apart counters =
+stamp_holds z n m j v x h h' r w is hold k both same here mine next step stored apart counters =
     let o = (opened_is n w (held v r) mine (ordered_at z n (held_number h) v k hold.has r here)).ordered_stamped in
     let p = subst (λ x. IsOrdered n (stamped x w (held v r))) (ap suc (mark_held z n v k hold.has.0 both) ∙ sym next) o in
     subst (λ x. Holds x h') (sym (step ∙ ap (λ (y : Writer). then_has v (Away (number v) (session v) (since v) ∷ OfBucket (bucket_number v) (stamping m y r (bucket v)) ∷ OfCommit (listing j r (commit_behind v)) ∷ lent (flag j (members (farther v)))) [] (StampEvent j r m)) (sym is)))
     (away_holds h' (number v) (bucket_number v) (since v) (session v) (stamping m w r (bucket v)) _ _ _ (number_is (held_number h) v hold.has ∙ sym same)
     (stamp_kept (held_records h) (held_records h') (bucket v) r m w hold.keeps stored apart counters)
     (ordered_stored (bucket v).content r (stamped m w (held v r)) n hold.ordered p))
-
-pub stamp_holds : (z : Sizes) (n number : ℕ) (v w : View) (h h' : Held) (r : Rid) → Holds v h → IsBacked z n v → HasBoth v → held_number h' ≡ held_number h → bucket_of z.buckets r ≡ held_number h → IsOpenBy (writer v) (held v r) → number ≡ suc (length (commit_behind v).history.list) → Stamps v r number w
-    → versions_of (held_records h').records r ≡ bucket_words.stamped (writer v) number (versions_of (held_records h).records r) → OthersStay (held_records h).records (held_records h').records r → held_records h' ≡ record (held_records h) { records = (held_records h').records } → Holds w h'
-stamp_holds z n m v w h h' r hold k both same here mine next step stored apart counters =
-    let o = (opened_is n (writer v) (held v r) mine (ordered_at z n (held_number h) v k hold.has r here)).ordered_stamped in
-    let p = subst (λ x. IsOrdered n (stamped x (writer v) (held v r))) (ap suc (mark_held z n v k hold.has.0 both) ∙ sym next) o in
-    subst (λ x. Holds x h') (sym step) (session_holds h' (number v) (bucket_number v) _ (stamping m (writer v) r (bucket v)) _ _ _ (number_is (held_number h) v hold.has ∙ sym same)
-    (stamp_kept (held_records h) (held_records h') (bucket v) r m (writer v) hold.keeps stored apart counters)
-    (ordered_stored (bucket v).content r (stamped m (writer v) (held v r)) n hold.ordered p))
 
 -- ---- a reclaim
 

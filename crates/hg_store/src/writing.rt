@@ -9,9 +9,9 @@ ghost use Rattle.hg_core.specs.Versions.{IsOpenBy};
 ghost use Rattle.hg_core.specs.Contents.{bucket_of};
 ghost use Rattle.hg_rule.specs.Views.{number, session};
 ghost use Rattle.hg_rule.specs.Holding.{HasBoth, farther, commit_behind, held, tables, writer as writer_of, snapshot as snapshot_of};
-ghost use Rattle.hg_rule.specs.Writes.{Looks, Undoes, Stamps};
+ghost use Rattle.hg_rule.specs.Writes.{Looks, Undoes};
 ghost use Rattle.hg_rule.specs.Seats.{table_of, sizes_of, session_view, IsSessionOf, IsAwayOf};
-ghost use Rattle.hg_rule.specs.Handing.{lent, members, who, part_of, writer_at, StampsLent};
+ghost use Rattle.hg_rule.specs.Handing.{lent, members, who, part_of, writer_at, Stamps};
 ghost use Rattle.hg_store.specs.Stores.{held_table, held_number, Holds};
 ghost use Rattle.hg_store.specs.Writing.{Writes, IsAnothers};
 
@@ -54,36 +54,9 @@ impl<'a> Held<'a> {
         board.undo(pass, rid);
     }
 
-    /// Gives the transaction's open write of a record the number that the mark will have next. The committer's part was
-    /// joined before the bucket's.
+    /// Gives an open write of a transaction that was handed over to the pass the number that the mark will have next. The
+    /// committer's part was joined before the bucket's.
     pub fn stamp(
-        &mut self,
-        board: &Board,
-        pass: &mut SessionPass,
-        rid: Rid,
-        by: Writer,
-        number: u64,
-    )
-        requires own { IsSessionOf (table_of board.now) (sizes_of board.now) pass.old }
-        requires plain { IsTrue (is_plain (session (session_view pass.old)).log) }
-        requires holds { Holds (session_view pass.old) self.old }
-        requires here { bucket_of (sizes_of board.now).buckets rid ≡ held_number self.old }
-        requires both { HasBoth (session_view pass.old) }
-        requires next { number ≡ suc (length (commit_behind (session_view pass.old)).history.list) }
-        requires by { by ≡ writer_of (session_view pass.old) }
-        requires mine { IsOpenBy (writer_of (session_view pass.old)) (held (session_view pass.old) rid) }
-        ensures step { Stamps (session_view pass.old) rid number (session_view pass.new) }
-        ensures holds { Holds (session_view pass.new) self.new }
-        ensures held { (held_table self.new ≡ held_table self.old) × (held_number self.new ≡ held_number self.old) }
-        ensures own { IsSessionOf (table_of board.now) (sizes_of board.now) pass.new }
-    {
-        board.look_at(pass);
-        self.bucket.stamp(rid, by, number);
-        board.stamp(pass, rid, number);
-    }
-
-    /// The same for a transaction that was handed over to the pass.
-    pub fn stamp_lent(
         &mut self,
         board: &Board,
         pass: &mut SessionPass,
@@ -100,14 +73,14 @@ impl<'a> Held<'a> {
         requires next { number ≡ suc (length (commit_behind (session_view pass.old)).history.list) }
         requires by { by ≡ writer_at by.session (members (farther (session_view pass.old))) }
         requires mine { IsOpenBy by (held (session_view pass.old) rid) }
-        ensures step { StampsLent (session_view pass.old) by.session rid number (session_view pass.new) }
+        ensures step { Stamps (session_view pass.old) by.session rid number (session_view pass.new) }
         ensures holds { Holds (session_view pass.new) self.new }
         ensures held { (held_table self.new ≡ held_table self.old) × (held_number self.new ≡ held_number self.old) }
         ensures own { IsAwayOf (table_of board.now) (sizes_of board.now) pass.new × (pass.new.number ≡ pass.old.number) }
     {
         board.look_at(pass);
         self.bucket.stamp(rid, by, number);
-        board.stamp_lent(pass, by.session, rid, number);
+        board.stamp(pass, by.session, rid, number);
     }
 
     /// Writes an image for the session's open transaction. One look loads the mark, and where the answer is Ok, one install

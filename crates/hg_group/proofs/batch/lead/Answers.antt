@@ -6,7 +6,7 @@ use Rattle.hg_rule.specs.declared.view.View.{View}
 use Rattle.hg_rule.specs.declared.view.Part.TheVariants.{Away}
 use Rattle.hg_rule.specs.Views.{number, session, since, commit_there, first_in}
 use Rattle.hg_rule.specs.Holding.{beyond}
-use Rattle.hg_rule.specs.Handing.{lent, members, who, group_of, MayPublishAll}
+use Rattle.hg_rule.specs.Handing.{lent, members, who, group_of, MayPublish}
 use Rattle.hg_rule.specs.Seats.{table_of, sizes_of, session_view, commit_view}
 use Rattle.hg_queue.specs.declared.open_tx.OpenTx.{OpenTx}
 use Rattle.hg_queue.specs.Queues.{known}
@@ -49,14 +49,14 @@ stamp_batch-requires-clause-taken g c =
       subst (λ ms. NoNumberTwice (who ms)) (sym o.members_are) (once (sizes_of c.args.board.now) c.join_commit-number.result w c.join_commit-number.ensures.told (Away (number v) (session v) (since v)) part h.ms o.parts),
     )
 
-pub publish_all-requires-clause-received : goal.publish_all-requires-clause-received
-publish_all-requires-clause-received g c =
+pub publish-requires-clause-received : goal.publish-requires-clause-received
+publish-requires-clause-received g c =
     let s = c.stamp_batch.ensures.stamped in
     let o = on_way (session_view c.join_commit-number.new.pass) (session_view c.stamp_batch.new.pass) s.ms s.list s.parts in
     o.beyond_is ∙ ap lent (sym o.members_are)
 
-pub publish_all-requires-clause-may : goal.publish_all-requires-clause-may
-publish_all-requires-clause-may g c =
+pub publish-requires-clause-may : goal.publish-requires-clause-may
+publish-requires-clause-may g c =
     let h = c.gather.ensures.gathered in
     let w = session_view c.join_commit-number.new.pass in
     let o = in_hand (session_view c.args.pass.now) (session_view c.gather.new.pass) (commit_view c.args.kept.seat) w (part_in c.args.kept.seat) h.ms h.parts c.requires.kept.0.seat.1 c.join_commit-number.ensures.view in
@@ -75,7 +75,7 @@ lay-requires-clause-group g c =
     let next : n ≡ suc (length part.history.list) = omega (arith, long) in
     let taken : AreTaken c.as_slice.result.now h.ms = subst (λ l. AreTaken l h.ms) (sym c.as_slice.ensures.value) h.taken in
     subst (λ l. HasGroup (sizes_of c.args.board.now).sessions (session_view c.split_commit-seat-2.new.pass) l n c.args.kept.count) (c.as_slice.ensures.value ∙ sym c.as_slice-2.ensures.value)
-    (has_group v w (session_view c.stamp_batch.new.pass) (session_view c.publish_all.new.pass) (session_view c.split_commit-seat-2.new.pass) part h.ms c.as_slice.result.now n o c.stamp_batch.ensures.stamped c.publish_all.ensures.step c.split_commit-seat-2.ensures.view
+    (has_group v w (session_view c.stamp_batch.new.pass) (session_view c.publish.new.pass) (session_view c.split_commit-seat-2.new.pass) part h.ms c.as_slice.result.now n o c.stamp_batch.ensures.stamped c.publish.ensures.step c.split_commit-seat-2.ensures.view
     (sizes_of c.args.board.now) mark c.args.kept.count c.join_commit-number.ensures.told taken next c.requires.kept.0.count_is)
 
 low : (a h b k : ℕ) → a ≤ h → b ≡ a → k ≡ suc h → b ≤ k
@@ -88,15 +88,15 @@ returns-clause-kept g c =
     let kept = c.requires.kept.0 in
     let part = part_in c.args.kept.seat in
     let w = session_view c.join_commit-number.new.pass in
-    let y = session_view c.publish_all.new.pass in
+    let y = session_view c.publish.new.pass in
     let u = session_view c.split_commit-seat-2.new.pass in
     let o = in_hand v (session_view c.gather.new.pass) (commit_view c.args.kept.seat) w part h.ms h.parts kept.seat.1 c.join_commit-number.ensures.view in
     let n : ℕ = c.join_commit-number.result + 1 in
     let txs = c.as_slice.result.now in
     let taken : AreTaken txs h.ms = subst (λ l. AreTaken l h.ms) (sym c.as_slice.ensures.value) h.taken in
     let part_is = ap (λ (t : View). commit_there (first_in t.parts)) c.split_commit-seat-2.ensures.seat in
-    let history : (part_in c.split_commit-seat-2.result).history.list ≡ part.history.list ++ group_of h.ms ∷ [] = ap (λ (q : CommitPart). q.history.list) part_is ∙ ap (λ (gs : Groups). gs.list) (after_is v w (session_view c.stamp_batch.new.pass) y u part h.ms txs n o c.stamp_batch.ensures.stamped c.publish_all.ensures.step c.split_commit-seat-2.ensures.view) in
-    let taken_is : (part_in c.split_commit-seat-2.result).taken ≡ part.taken = ap (λ (q : CommitPart). q.taken) part_is ∙ taken_after v w (session_view c.stamp_batch.new.pass) y u part h.ms txs n o c.stamp_batch.ensures.stamped c.publish_all.ensures.step c.split_commit-seat-2.ensures.view in
+    let history : (part_in c.split_commit-seat-2.result).history.list ≡ part.history.list ++ group_of h.ms ∷ [] = ap (λ (q : CommitPart). q.history.list) part_is ∙ ap (λ (gs : Groups). gs.list) (after_is v w (session_view c.stamp_batch.new.pass) y u part h.ms txs n o c.stamp_batch.ensures.stamped c.publish.ensures.step c.split_commit-seat-2.ensures.view) in
+    let taken_is : (part_in c.split_commit-seat-2.result).taken ≡ part.taken = ap (λ (q : CommitPart). q.taken) part_is ∙ taken_after v w (session_view c.stamp_batch.new.pass) y u part h.ms txs n o c.stamp_batch.ensures.stamped c.publish.ensures.step c.split_commit-seat-2.ensures.view in
     let long : length part.history.list ≡ c.join_commit-number.result = ap (λ (q : CommitPart). length q.history.list) (sym o.commit_is) ∙ c.join_commit-number.ensures.mark.is_length in
     let next : n ≡ suc (length part.history.list) = omega (arith, long) in
     let context : GroupContext = record { number = n; records = c.in-Ok.records } in
@@ -107,7 +107,7 @@ returns-clause-kept g c =
     let follows = follows_group (sizes_of c.args.board.now) c.join_commit-number.result w c.join_commit-number.ensures.told (Away (number v) (session v) (since v)) part h.ms o.parts txs taken (known c.args.kept.line).pairs kept.follows in (
       record {
         seat = c.split_commit-seat-2.ensures.commit;
-        unstamped = ap (λ (q : CommitPart). q.stamped) part_is ∙ none_after v w (session_view c.stamp_batch.new.pass) y u part h.ms txs n o c.stamp_batch.ensures.stamped c.publish_all.ensures.step c.split_commit-seat-2.ensures.view;
+        unstamped = ap (λ (q : CommitPart). q.stamped) part_is ∙ none_after v w (session_view c.stamp_batch.new.pass) y u part h.ms txs n o c.stamp_batch.ensures.stamped c.publish.ensures.step c.split_commit-seat-2.ensures.view;
         taken = low part.taken (length part.history.list) (part_in c.split_commit-seat-2.result).taken (length (part_in c.split_commit-seat-2.result).history.list) kept.taken taken_is (ap length history ∙ length_more part.history.list (group_of h.ms));
         contexts_are = subst (λ (x : History × (ℕ × List GroupContext)). AreContexts x.0 x.1.0 x.1.1) (λ i. (sym history i, (sym taken_is i, sym listed i))) (contexts_more part.history.list part.taken c.args.kept.contexts.items (group_of h.ms) context kept.taken kept.contexts_are (group_context (sizes_of c.args.board.now) c.join_commit-number.result w c.join_commit-number.ensures.told (Away (number v) (session v) (since v)) part h.ms o.parts c.gather.new.popped.items h.taken (suc (length part.history.list)) context next c.in-Ok.ensures.records));
         count_is = search rules;

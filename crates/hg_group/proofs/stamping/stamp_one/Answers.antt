@@ -12,8 +12,8 @@ use Rattle.hg_rule.specs.Seats.{sizes_of, session_view}
 use Rattle.hg_group.proofs.Batching.{away_taken, lent_open}
 use Rattle.hg_group.proofs.stamping.stamp_one.Goals as goal
 
-pub stamp_lent-requires-clause-mine : goal.stamp_lent-requires-clause-mine
-stamp_lent-requires-clause-mine g c =
+pub stamp-requires-clause-mine : goal.stamp-requires-clause-mine
+stamp-requires-clause-mine g c =
     let v = session_view c.args.pass.now in
     let u = session_view c.take-held.new.pass in
     let j = c.args.by.session in

@@ -1,6 +1,0 @@
-use Rattle.std.proofs.Common.{rules}
-use Rattle.hg_rule.proofs.Grouping.{may_publish_all}
-use Rattle.hg_rule.proofs.board.Board.publish_all.Goals as goal
-
-pub store-requires : goal.store-requires
-store-requires c = (search rules, search rules, may_publish_all _ _ _ _ _ c.args.self.now.room c.requires.own.3 c.requires.held c.requires.received c.requires.next c.requires.may)
