@@ -33,7 +33,6 @@ use Rattle.hg_rule.specs.Rules.{HasRoom, ShowsWords, Rule}
 use Rattle.hg_rule.specs.Views.{number, session, pass, HasSession, HasPass, then_has}
 use Rattle.hg_rule.specs.Steps.{Seated, IsHistoryAt}
 use Rattle.hg_rule.specs.Holding.{beyond, HasCommit, commit}
-use Rattle.hg_rule.specs.Writes.{with_published, publishing, published}
 use Rattle.hg_rule.specs.Removes.{taking, took}
 use Rattle.hg_rule.proofs.Lists.{starts_same, ends_same}
 use Rattle.hg_rule.proofs.Counts.{away_same}

@@ -42,7 +42,7 @@ use Rattle.hg_rule.specs.Rules.{Rule}
 use Rattle.hg_rule.specs.Views.{number, session, HasSession, then_has}
 use Rattle.hg_rule.specs.Steps.{Seated}
 use Rattle.hg_rule.specs.Holding.{beyond, farther, bucket_number, bucket, HasBucket, HasBoth, commit_behind, writer, snapshot, tables, held}
-use Rattle.hg_rule.specs.Writes.{with_entry, with_stamp, IsOwnOrSeen, installing, undoing, stamping, listing, wrote, undid, numbered}
+use Rattle.hg_rule.specs.Writes.{with_entry, with_stamp, IsOwnOrSeen, installing, undoing, stamping, listing, wrote, undid}
 use Rattle.hg_rule.proofs.Lists.{starts_same, ends_same}
 use Rattle.hg_rule.proofs.Counts.{away_same}
 use Rattle.hg_rule.proofs.Keeps.{keep}

@@ -1,14 +1,12 @@
 use Rattle.std.proofs.Common.{rules, ◌≡◌, ◌∷◌, sym, ap, ◌∙◌, subst}
 use Rattle.hg_core.specs.Phases.{IsSession}
 use Rattle.hg_core.specs.Logs.{begans}
-use Rattle.hg_rule.specs.declared.view.View.{View}
 use Rattle.hg_rule.specs.declared.view.Part.TheVariants.{OfSession}
 use Rattle.hg_rule.specs.Views.{number, session, others, HasSession}
-use Rattle.hg_rule.specs.Moves.{joined}
 use Rattle.hg_rule.specs.Handing.{resuming}
 use Rattle.hg_rule.specs.Seats.{sizes_of, view, session_view, tx_view}
 use Rattle.hg_rule.proofs.Shifts.{joins}
-use Rattle.hg_rule.proofs.Handing.{Awaiting, awaits, may_retake, resumed, begans_left}
+use Rattle.hg_rule.proofs.Handing.{awaits, may_retake, resumed, begans_left}
 use Rattle.hg_rule.proofs.board.Board.resume.Goals as goal
 
 pub join_seat-requires : goal.join_seat-requires
@@ -37,8 +35,7 @@ returns-clause-own c =
     let is : x ≡ resuming v w = returns-clause-step c in
     let back = returns-clause-told c in
     let n : number x ≡ number v = ap number is in
-    let part : session x ≡ session w = ap session is in
-    (
+    let part : session x ≡ session w = ap session is in (
       (
         search rules,
         (n ∙ c.requires.own.1.0, c.requires.own.1.1 ∙ (sym (begans_left _ _ _ back.log) ∙ ap (λ s. begans s.log) (sym part))),
