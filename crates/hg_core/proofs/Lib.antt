@@ -28,11 +28,14 @@ pub mod Reclaiming
 pub mod Seats
 pub mod Exact
 pub mod Bounded
+pub mod Commits
+pub mod Earlier
 pub mod Settling
 pub mod Remaining
 pub mod Right
 pub mod Answering
 pub mod Runs
+pub mod Alone
 pub mod Worked
 pub mod Counting
 pub mod Words

@@ -65,7 +65,7 @@ judged_longer h more [] k q = tt
 judged_longer h more (e ∷ log) k q = (judge_longer h more e log k q.0, judged_longer h more log k q.1)
 
 -- what holds of each that is listed holds of one that is in
-each_in : (P : ℕ → Type 0) (js : List ℕ) (j : ℕ) → Each P js → is_in js j ≡ true → P j
+pub each_in : (P : ℕ → Type 0) (js : List ℕ) (j : ℕ) → Each P js → is_in js j ≡ true → P j
 each_in P [] j h e = absurd (let k : false ≡ true = e in cc)
 each_in P (i ∷ js) j h e = cases (i == j) (λ q. subst P ((Decides-eqb i j).0 q) h.0) (λ q. each_in P js j h.1 (sym (ap (λ b. b || is_in js j) q) ∙ e))
 

@@ -33,7 +33,7 @@ kept s (Reclaim p kind r) h may = reclaim_kept s p kind r h may
 kept s Take h may = take_kept s h may
 kept s (Look j ask b rows) h may = look_kept s j ask b rows h may
 
-step_kept : (s : CoreState) (e : Step) → IsSteady s → Can s e → IsSteady (step s e)
+pub step_kept : (s : CoreState) (e : Step) → IsSteady s → Can s e → IsSteady (step s e)
 step_kept s (Act event) h may = kept s event h may
 step_kept s (Arrive p b) h may = arrive_kept s p b h may
 step_kept s (Leave p) h may = leave_kept s p h may
@@ -48,7 +48,7 @@ none_removed Group = refl
 none_removed Table = refl
 none_removed Interval = refl
 
-opened_steady : (sessions tables buckets passes each : ℕ) → IsSteady (opened sessions tables buckets passes each)
+pub opened_steady : (sessions tables buckets passes each : ℕ) → IsSteady (opened sessions tables buckets passes each)
 opened_steady sessions tables buckets passes each = record {
   contents_are_placed = λ b. record { bucket = tt; table = tt; once = tt };
   counters_balance = record { made = λ b. sym (sum_none sessions); undone = λ b. sym (sum_none sessions); removed = λ kind b. none_removed kind ∙ sym (below_none passes); balance = λ b. refl };

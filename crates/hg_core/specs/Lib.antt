@@ -27,7 +27,8 @@ pub mod Judged
 pub mod Invariant
 pub mod Reading
 pub mod Answered
--- What follows of gathers, a run, and which steps would be wrong.
+-- What follows of commits and gathers, a run, and which steps would be wrong.
+pub mod Commits
 pub mod Missed
 pub mod Held
 pub mod Worked

@@ -1,6 +1,6 @@
 //! What follows of the laws, in the words of the subject.
 
-ghost use Rattle.std.specs.Prelude.{◌≡◌, ℕ, List, [], ◌∷◌, None, length, filter, map, is_some, if◌then◌else◌, ◌<◌, ◌≤◌, ◌*◌, ◌^◌, ◌++◌, IsTrue};
+ghost use Rattle.std.specs.Prelude.{◌≡◌, ℕ, List, [], ◌∷◌, None, length, filter, map, is_some, if◌then◌else◌, ◌<◌, ◌≤◌, ◌*◌, ◌^◌, ◌++◌, IsSome, IsTrue};
 ghost use Rattle.hg_base.specs.declared.rid.Rid.{Rid};
 ghost use Rattle.hg_base.specs.declared.rid.TableId.{TableId};
 ghost use Rattle.hg_base.specs.declared.scope.Scope.{Scope};
@@ -15,7 +15,8 @@ ghost use Rattle.hg_core.specs.State.{CoreState, opened};
 ghost use Rattle.hg_core.specs.Held.{held, left_by};
 ghost use Rattle.hg_core.specs.Versions.{first_at, unpublished};
 ghost use Rattle.hg_core.specs.Sums.{sum_below};
-ghost use Rattle.hg_core.specs.Logs.{newest_of};
+ghost use Rattle.hg_core.specs.Logs.{current, begans, is_plain, newest_of};
+ghost use Rattle.hg_core.specs.Commits.{commits_in, AreEarlier, AloneHaveLogs};
 ghost use Rattle.hg_base.specs.Lists.{Each};
 ghost use Rattle.hg_base.specs.Counts.{live};
 ghost use Rattle.hg_core.specs.Contents.{bucket_of, versions};
@@ -117,7 +118,19 @@ pub fn mark_is_bounded()
     ensures told { Always (λ s. s.mark ≡ newest_of s.sessions s.log) }
 {}
 
-/// Nor does any count: what was made in all buckets together is at most the number of sessions times how often each may write,
+/// Nor does the number of commits: a session commits a transaction once, and nobody but the board's sessions begins one.
+pub fn commits_are_bounded()
+    ensures most { Always (λ s. commits_in s.history ≤ s.sessions * s.each) }
+    ensures alone { Always (λ s. AloneHaveLogs s.sessions s.log) }
+{}
+
+/// What is open was not committed. After every list of steps, where a session has a transaction open, of which nothing was undone
+/// or published, each commit of that session in the history is of an earlier transaction.
+pub fn what_is_open_is_new()
+    ensures { Always (λ s. (j : ℕ) → IsSome (current (s.log j)) → IsTrue (is_plain (s.log j)) → Each (AreEarlier j (begans (s.log j))) s.history) }
+{}
+
+/// Nor does any count of versions: what was made in all buckets together is at most the number of sessions times how often each may write,
 /// and what was undone, removed and held is what was made.
 pub fn counts_are_bounded()
     ensures { Always (λ s. sum_below s.buckets (λ b. (s.counters b).made) ≤ s.sessions * s.each) }
