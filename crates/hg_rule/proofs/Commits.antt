@@ -1,45 +1,34 @@
--- Publishing a group, and counting one as taken, are allowed.
-use Rattle.std.proofs.Common.{◌≡◌, ℕ, suc, ◌+◌, ◌<◌, ◌≤◌, Bool, true, false, List, [], ◌∷◌, ◌++◌, length, get_or, set, ◌==◌, refl, sym, ap, ◌∙◌, subst, arith, length-set, get_or-set_other, get_or-set_same, le_refl}
-use Rattle.std.specs.Prelude.{if◌then◌else◌, IsSome, IsTrue, ◌||◌}
-use Rattle.std.proofs.lemmas.Bool.Decides.{nat_tests}
+-- The words once the mark is stored; and a group may be counted as taken.
+use Rattle.std.proofs.Common.{◌≡◌, ℕ, suc, ◌+◌, ◌<◌, ◌≤◌, List, [], ◌∷◌, length, get_or, set, refl, sym, ap, ◌∙◌, subst, arith, length-set, get_or-set_other, get_or-set_same, le_refl}
 use mathlib.Core.Option.{none}
 use Rattle.atomic_table.specs.Table.{step, keeps, Allows}
-use Rattle.hg_base.specs.declared.rid.Rid.{Rid}
 use Rattle.hg_base.specs.History.{History}
-use Rattle.hg_base.specs.Lists.{Each}
-use Rattle.hg_core.specs.declared.log.LogEntry.{LogEntry}
-use Rattle.hg_core.specs.declared.log.LogEntry.TheVariants as entries
-use Rattle.hg_core.specs.Logs.{is_plain, open_in, is_in, commit_in, new_group, published_logs}
 use Rattle.hg_core.specs.declared.register.Register.{Register}
 use Rattle.hg_core.specs.Words.{word_of}
-use Rattle.hg_core.specs.Phases.{snapshot_in}
-use Rattle.hg_core.specs.Contents.{is_stamped, has_stamped}
+use Rattle.hg_core.specs.Contents.{has_stamped}
 use Rattle.hg_core.specs.State.{CoreState}
-use Rattle.hg_core.specs.Events.{happens, Publish, Take}
-use Rattle.hg_core.proofs.Indices.{at_index}
-use Rattle.hg_core.proofs.Publishing.{publish_kept}
+use Rattle.hg_core.specs.Events.{happens, Take}
 use Rattle.hg_core.proofs.Looking.{take_kept}
-use Rattle.hg_rule.specs.declared.view.SessionPart.{SessionPart}
 use Rattle.hg_rule.specs.declared.view.CommitPart.{CommitPart}
 use Rattle.hg_rule.specs.declared.view.PassPart.{PassPart}
 use Rattle.hg_rule.specs.declared.view.Part.{Part}
-use Rattle.hg_rule.specs.declared.view.Part.TheVariants.{OfSession, OfCommit, OfPass}
+use Rattle.hg_rule.specs.declared.view.Part.TheVariants.{OfCommit, OfPass}
 use Rattle.hg_rule.specs.declared.view.Sight.TheVariants as sights
 use Rattle.hg_rule.specs.declared.view.Event.TheVariants as events
 use Rattle.hg_rule.specs.declared.view.View.{View}
 use Rattle.hg_rule.specs.declared.view.Sizes.{Sizes}
-use Rattle.hg_rule.specs.Facts.{StartsWith, EndsWith, Shown}
+use Rattle.hg_rule.specs.Facts.{StartsWith, Shown}
 use Rattle.hg_rule.specs.Rules.{HasRoom, ShowsWords, Rule}
-use Rattle.hg_rule.specs.Views.{number, session, pass, HasSession, HasPass, then_has}
+use Rattle.hg_rule.specs.Views.{number, pass, HasPass, then_has}
 use Rattle.hg_rule.specs.Steps.{Seated, IsHistoryAt}
 use Rattle.hg_rule.specs.Holding.{beyond, HasCommit, commit}
 use Rattle.hg_rule.specs.Removes.{taking, took}
-use Rattle.hg_rule.proofs.Lists.{starts_same, ends_same}
+use Rattle.hg_rule.proofs.Lists.{starts_same}
 use Rattle.hg_rule.proofs.Counts.{away_same}
 use Rattle.hg_rule.proofs.Keeps.{keep}
 use Rattle.hg_rule.proofs.Registers.{loaded_words}
-use Rattle.hg_rule.proofs.Owned.{Leaves, leaves_only, not_first, own_second}
-use Rattle.hg_rule.proofs.Playing.{own_session, own_pass, history_at, log_stays}
+use Rattle.hg_rule.proofs.Owned.{Leaves, leaves_only, own_second}
+use Rattle.hg_rule.proofs.Playing.{own_pass, history_at, log_stays}
 
 -- the words after the mark was stored
 pub marked_words : (z : Sizes) (c d : CoreState) (ws : List ℕ) (x : ℕ) → d.mark ≡ x → d.register ≡ c.register → ShowsWords z c ws → ShowsWords z d (set ws 0 x)

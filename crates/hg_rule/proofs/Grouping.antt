@@ -1,18 +1,15 @@
 -- A stamp of what was handed over, and a group of it, are allowed.
-use Rattle.std.proofs.Common.{◌≡◌, inl, inr, ◌⊎◌, ℕ, suc, ◌+◌, ◌<◌, ◌≤◌, Bool, true, false, eqb, List, [], ◌∷◌, ◌++◌, length, map, get_or, set, ◌==◌, refl, sym, ap, ◌∙◌, subst, arith, le_refl, append-nil, eq-eqb, true≢false}
-use Rattle.std.specs.Prelude.{if◌then◌else◌, IsSome, IsTrue, IsFalse, ◌||◌}
+use Rattle.std.proofs.Common.{◌≡◌, inl, inr, ℕ, suc, ◌+◌, ◌<◌, ◌≤◌, Bool, true, false, eqb, List, [], ◌∷◌, ◌++◌, length, get_or, set, ◌==◌, refl, sym, ap, ◌∙◌, subst, arith, le_refl, append-nil, eq-eqb, true≢false}
+use Rattle.std.specs.Prelude.{if◌then◌else◌, IsSome, IsTrue, ◌||◌}
 use Rattle.std.proofs.lemmas.Bool.Decides.{Decides-eqb, nat_tests}
-use mathlib.Core.Option.{none, some}
-use lib.ListN.{get_elem?}
+use mathlib.Core.Option.{none}
 use Rattle.atomic_table.specs.Table.{step, keeps, Allows}
 use Rattle.hg_base.specs.declared.rid.Rid.{Rid}
-use Rattle.hg_base.specs.declared.writer.Writer.{Writer}
 use Rattle.hg_base.specs.Lists.{Each}
 use Rattle.hg_base.specs.History.{NoNumberTwice}
 use Rattle.hg_base.proofs.ListFacts.{cases}
 use Rattle.hg_core.specs.declared.log.LogEntry.{LogEntry}
 use Rattle.hg_core.specs.declared.log.LogEntry.TheVariants as entries
-use Rattle.hg_core.specs.declared.phase.Phase.{Phase}
 use Rattle.hg_core.specs.Logs.{current, begans, is_plain, open_in, is_in, commit_in, new_group, published_logs, begun_in}
 use Rattle.hg_core.specs.Phases.{snapshot_in}
 use Rattle.hg_core.specs.OpenWrites.{writer_of}
@@ -33,18 +30,17 @@ use Rattle.hg_rule.specs.declared.view.Sight.TheVariants as sights
 use Rattle.hg_rule.specs.declared.view.Event.TheVariants as events
 use Rattle.hg_rule.specs.declared.view.View.{View}
 use Rattle.hg_rule.specs.declared.view.Sizes.{Sizes}
-use Rattle.hg_rule.specs.Keys.{Key, session_key, one, has, count, tally, shares, expected}
-use Rattle.hg_rule.specs.Facts.{EndsWith, StartsWith, IsLeft, Shown, Known, groups}
-use Rattle.hg_rule.specs.Rules.{HasRoom, ShowsWords, Rule}
-use Rattle.hg_rule.specs.Views.{number, session, since, others, HasAway, then_has}
+use Rattle.hg_rule.specs.Keys.{Key, session_key, one, has, count, tally, shares}
+use Rattle.hg_rule.specs.Facts.{EndsWith, StartsWith, IsLeft, Shown, Known}
+use Rattle.hg_rule.specs.Rules.{HasRoom, Rule}
+use Rattle.hg_rule.specs.Views.{number, session, since, HasAway, then_has}
 use Rattle.hg_rule.specs.Steps.{Seated}
 use Rattle.hg_rule.specs.Holding.{beyond, farther, bucket_number, bucket, HasCommit, HasBoth, commit, commit_behind, held}
-use Rattle.hg_rule.specs.Writes.{with_stamp, with_published, stamping, listing}
+use Rattle.hg_rule.specs.Writes.{with_stamp, stamping, listing}
 use Rattle.hg_rule.specs.Handing.{Members, lent, members, who, part_of, writer_at, flag, numbered, hears, group_of, MayPublish, publishing, stamps, publishes}
 use Rattle.hg_rule.proofs.Lists.{starts_same, ends_same}
 use Rattle.hg_rule.proofs.Counts.{away_same, expected_small}
-use Rattle.hg_rule.proofs.Growing.{Grows}
-use Rattle.hg_rule.proofs.Keeps.{Table, Changes, keep, tally_one}
+use Rattle.hg_rule.proofs.Keeps.{keep, tally_one}
 use Rattle.hg_rule.proofs.Registers.{loaded_words}
 use Rattle.hg_rule.proofs.Owned.{Leaves, leaves_only, not_second, held_versions, stored_here, stored_else}
 use Rattle.hg_rule.proofs.Playing.{history_at, log_stays}

@@ -1,14 +1,12 @@
 -- A part may be handed over, and come back.
 use Rattle.std.proofs.Common.{◌≡◌, inl, inr, ℕ, eqb, ◌+◌, ◌≤◌, List, [], ◌∷◌, ◌++◌, get_or, refl, sym, ap, ◌∙◌, subst, arith}
-use mathlib.Core.Option.{some, none}
-use lib.ListN.{get_elem?}
+use mathlib.Core.Option.{none}
 use Rattle.atomic_table.specs.Table.{step, keeps, Allows, Splits, Joins}
 use Rattle.hg_base.specs.Lists.{Each}
 use Rattle.hg_core.specs.declared.phase.Phase.{Phase}
 use Rattle.hg_core.specs.declared.phase.Phase.TheVariants.{Idle, Probed, Entered, Fixed, Live}
 use Rattle.hg_core.specs.Marks.{PhaseUpTo}
 use Rattle.hg_core.specs.Logs.{begans}
-use Rattle.hg_core.specs.State.{CoreState}
 use Rattle.hg_core.specs.declared.log.LogEntry.{LogEntry}
 use Rattle.hg_rule.specs.declared.view.SessionPart.{SessionPart}
 use Rattle.hg_rule.specs.declared.view.Part.{Part}
@@ -17,9 +15,9 @@ use Rattle.hg_rule.specs.declared.view.Sight.TheVariants as sights
 use Rattle.hg_rule.specs.declared.view.Event.TheVariants as events
 use Rattle.hg_rule.specs.declared.view.View.{View}
 use Rattle.hg_rule.specs.declared.view.Sizes.{Sizes}
-use Rattle.hg_rule.specs.Keys.{Key, session_key, bucket_key, commit_key, pass_key, home_key, one, has, count, share_of, shares}
+use Rattle.hg_rule.specs.Keys.{Key, session_key, bucket_key, commit_key, pass_key, home_key, one, count, shares}
 use Rattle.hg_rule.specs.Facts.{Shown, Known, Stands, IsLeft, groups}
-use Rattle.hg_rule.specs.Rules.{HasRoom, IsTrueOf, Rule}
+use Rattle.hg_rule.specs.Rules.{HasRoom, Rule}
 use Rattle.hg_rule.specs.Views.{number, session, since, others, seeing, then_has, HasSession, HasAway}
 use Rattle.hg_rule.specs.Moves.{put_in, joined, spent, right_second}
 use Rattle.hg_rule.specs.Steps.{Seated, loaded_in}
@@ -27,8 +25,7 @@ use Rattle.hg_rule.specs.Holding.{beyond}
 use Rattle.hg_rule.specs.Handing.{next_lent, lends, retakes, Retakes, received, hands_back, resuming, IsBack}
 use Rattle.hg_rule.proofs.Counts.{count_append, shares_append}
 use Rattle.hg_rule.proofs.Lists.{starts_same, each_append}
-use Rattle.hg_rule.proofs.Growing.{Grows}
-use Rattle.hg_rule.proofs.Keeps.{Table, keep, turn, true_on, cut, glue}
+use Rattle.hg_rule.proofs.Keeps.{keep, turn, true_on, cut, glue}
 use Rattle.hg_rule.proofs.Registers.{loaded_words}
 use Rattle.hg_rule.proofs.Shifts.{second_count, second_shares, second_each}
 use Rattle.hg_rule.proofs.Playing.{own_session, history_at, log_stays}

@@ -1,7 +1,6 @@
--- A write, taking it back, and giving it the next number are allowed.
-use Rattle.std.proofs.Common.{◌≡◌, ℕ, suc, ◌+◌, ◌<◌, ◌≤◌, Bool, true, false, List, [], ◌∷◌, length, get_or, ◌==◌, Some, refl, sym, ap, ◌∙◌, subst, arith, le_refl}
-use Rattle.std.specs.Prelude.{if◌then◌else◌, nat_le, IsSome, IsTrue, IfSome, ◌||◌}
-use Rattle.std.proofs.lemmas.Bool.Decides.{nat_tests}
+-- A write, and taking it back, are allowed.
+use Rattle.std.proofs.Common.{◌≡◌, ℕ, suc, ◌+◌, ◌<◌, ◌≤◌, Bool, true, false, List, [], ◌∷◌, get_or, Some, refl, sym, ap, ◌∙◌, subst, arith, le_refl}
+use Rattle.std.specs.Prelude.{if◌then◌else◌, nat_le, IsSome, IsTrue, IfSome}
 use mathlib.Core.Option.{none}
 use Rattle.atomic_table.specs.Table.{step, keeps, Allows}
 use Rattle.hg_base.specs.declared.rid.Rid.{Rid}
@@ -21,18 +20,17 @@ use Rattle.hg_core.specs.declared.visit.Counters.{Counters}
 use Rattle.hg_core.specs.Logs.{wrotes, is_plain}
 use Rattle.hg_core.specs.Phases.{snapshot_in}
 use Rattle.hg_core.specs.Marks.{PhaseUpTo}
-use Rattle.hg_core.specs.Versions.{stamp_number, first_at, pair_of, newest_at, installed, undone, stamped, IsFreeFor, IsOpenBy}
+use Rattle.hg_core.specs.Versions.{stamp_number, first_at, pair_of, newest_at, installed, undone, IsFreeFor, IsOpenBy}
 use Rattle.hg_core.specs.Contents.{bucket_of, store, versions, has_stamped}
 use Rattle.hg_core.specs.Counters.{added}
 use Rattle.hg_core.specs.State.{CoreState}
-use Rattle.hg_core.specs.Events.{put, happens, with_made, with_undone, Install, Undo, Stamp as StampIt}
+use Rattle.hg_core.specs.Events.{put, happens, with_made, with_undone, Install, Undo}
 use Rattle.hg_core.proofs.Indices.{put_here, put_else}
-use Rattle.hg_core.proofs.Writing.{install_kept, undo_kept, stamp_kept}
+use Rattle.hg_core.proofs.Writing.{install_kept, undo_kept}
 use Rattle.hg_rule.specs.declared.view.SessionPart.{SessionPart}
 use Rattle.hg_rule.specs.declared.view.BucketPart.{BucketPart}
-use Rattle.hg_rule.specs.declared.view.CommitPart.{CommitPart}
 use Rattle.hg_rule.specs.declared.view.Part.{Part}
-use Rattle.hg_rule.specs.declared.view.Part.TheVariants.{OfSession, OfBucket, OfCommit}
+use Rattle.hg_rule.specs.declared.view.Part.TheVariants.{OfSession, OfBucket}
 use Rattle.hg_rule.specs.declared.view.Sight.TheVariants as sights
 use Rattle.hg_rule.specs.declared.view.Event.TheVariants as events
 use Rattle.hg_rule.specs.declared.view.View.{View}
@@ -41,14 +39,14 @@ use Rattle.hg_rule.specs.Facts.{EndsWith, Shown}
 use Rattle.hg_rule.specs.Rules.{Rule}
 use Rattle.hg_rule.specs.Views.{number, session, HasSession, then_has}
 use Rattle.hg_rule.specs.Steps.{Seated}
-use Rattle.hg_rule.specs.Holding.{beyond, farther, bucket_number, bucket, HasBucket, HasBoth, commit_behind, writer, snapshot, tables, held}
-use Rattle.hg_rule.specs.Writes.{with_entry, with_stamp, IsOwnOrSeen, installing, undoing, stamping, listing, wrote, undid}
+use Rattle.hg_rule.specs.Holding.{beyond, bucket_number, bucket, HasBucket, writer, snapshot, tables, held}
+use Rattle.hg_rule.specs.Writes.{with_entry, IsOwnOrSeen, installing, undoing, wrote, undid}
 use Rattle.hg_rule.proofs.Lists.{starts_same, ends_same}
 use Rattle.hg_rule.proofs.Counts.{away_same}
 use Rattle.hg_rule.proofs.Keeps.{keep}
 use Rattle.hg_rule.proofs.Registers.{loaded_words}
-use Rattle.hg_rule.proofs.Owned.{Leaves, leaves_only, not_first, not_second, log_put, own_second, own_third, held_versions, stored_here, stored_else, live_is, writer_is}
-use Rattle.hg_rule.proofs.Playing.{own_session, log_stays}
+use Rattle.hg_rule.proofs.Owned.{Leaves, leaves_only, not_first, not_second, log_put, own_second, held_versions, stored_here, stored_else, live_is, writer_is}
+use Rattle.hg_rule.proofs.Playing.{own_session}
 
 -- ---- what the condition of a write says at the mark
 

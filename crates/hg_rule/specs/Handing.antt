@@ -1,5 +1,5 @@
 -- What a session's part becomes when it is handed over, what is done with it there, and how it comes back.
-use Rattle.std.specs.Prelude.{◌≡◌, ◌⊎◌, ℕ, suc, ◌<◌, ◌≤◌, true, List, [], ◌∷◌, ◌++◌, length, map, ◌==◌, if◌then◌else◌, IsSome, IsTrue}
+use Rattle.std.specs.Prelude.{◌≡◌, ℕ, suc, ◌<◌, ◌≤◌, true, List, [], ◌∷◌, ◌++◌, length, map, ◌==◌, if◌then◌else◌, IsSome, IsTrue}
 use Rattle.atomic_table.specs.Table.{Step}
 use Rattle.hg_base.specs.declared.rid.Rid.{Rid}
 use Rattle.hg_base.specs.declared.writer.Writer.{Writer}

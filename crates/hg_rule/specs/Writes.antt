@@ -1,5 +1,5 @@
 -- What each step of a session on contents and on groups makes of its view.
-use Rattle.std.specs.Prelude.{◌≡◌, ℕ, ℤ, suc, ◌+◌, ◌≤◌, true, false, List, [], ◌∷◌, ◌++◌, length, IsSome, IsTrue, IsFalse, ⊤}
+use Rattle.std.specs.Prelude.{◌≡◌, ℕ, ℤ, suc, ◌+◌, ◌≤◌, true, false, List, [], ◌∷◌, IsSome, IsTrue, IsFalse, ⊤}
 use Rattle.hg_base.specs.declared.rid.Rid.{Rid}
 use Rattle.hg_base.specs.declared.image.Image.{Image}
 use Rattle.hg_base.specs.declared.writer.Writer.{Writer}
@@ -12,7 +12,7 @@ use Rattle.hg_core.specs.declared.log.LogEntry.{LogEntry}
 use Rattle.hg_core.specs.declared.log.LogEntry.TheVariants as entries
 use Rattle.hg_core.specs.declared.version.Stamp.TheVariants.{Written, Numbered, Oldest}
 use Rattle.hg_core.specs.declared.version.Version.{Version}
-use Rattle.hg_core.specs.Logs.{begans, current, commit_in}
+use Rattle.hg_core.specs.Logs.{begans, current}
 use Rattle.hg_core.specs.Versions.{installed, undone, stamped}
 use Rattle.hg_core.specs.Contents.{bucket_of, look, store}
 use Rattle.hg_core.specs.Counters.{added}
@@ -21,7 +21,7 @@ use Rattle.hg_core.specs.Events.{with_refusal}
 use Rattle.hg_rule.specs.declared.view.SessionPart.{SessionPart}
 use Rattle.hg_rule.specs.declared.view.BucketPart.{BucketPart}
 use Rattle.hg_rule.specs.declared.view.CommitPart.{CommitPart}
-use Rattle.hg_rule.specs.declared.view.Part.TheVariants.{OfSession, OfBucket, OfCommit}
+use Rattle.hg_rule.specs.declared.view.Part.TheVariants.{OfSession, OfBucket}
 use Rattle.hg_rule.specs.declared.view.Sight.{Sight}
 use Rattle.hg_rule.specs.declared.view.Sight.TheVariants.{Saw, Heard, Took, Did}
 use Rattle.hg_rule.specs.declared.view.Event.TheVariants.{Look, Install, Undo}
@@ -32,7 +32,7 @@ use Rattle.hg_rule.specs.Rules.{IsBacked}
 use Rattle.hg_rule.specs.Views.{number, session, others, then_has}
 use Rattle.hg_rule.specs.Steps.{IsHistoryAt, Seated}
 use Rattle.atomic_table.specs.Table.{Step}
-use Rattle.hg_rule.specs.Holding.{bucket_number, bucket, HasBucket, beyond, commit, commit_behind, farther, held, writer, snapshot, tables}
+use Rattle.hg_rule.specs.Holding.{bucket_number, bucket, HasBucket, beyond, held, writer, snapshot, tables}
 
 abbrev pub with_log : List LogEntry → SessionPart → SessionPart
 with_log log part = record part { log = log }

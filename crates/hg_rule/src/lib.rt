@@ -10,6 +10,7 @@
 //!     BucketSeat       records and counters of its bucket
 //!     CommitSeat       history, stamped writes, and how many groups were taken
 //!     CollectorPass    record and visits of its pass
+//!     TxSeat           phase and log of a session that handed them over
 //!
 //! A view is three lists: the parts that the seat has, what it has seen, and the steps that it made. Each part is in exactly
 //! one view. A seat can be joined to another, which then has its parts too, and be split off again. What was seen stays true,
@@ -26,13 +27,25 @@
 //!
 //! A pass takes a bucket by joining its seat (`join_bucket`), and then reads and changes what it holds by steps of its own:
 //! `look`, `install` and `undo` by a session, `reclaim` by a collector, whose visit lasts until it gives the bucket back
-//! (`split_bucket`). A group is published with the committer's part joined (`join_commit`): nobody else stores the mark
-//! meanwhile. `stamp` gives each open write the next number, a bucket at a time, and `publish` stores it.
+//! (`split_bucket`).
 //!
-//!     pass     [ session 2 ]                                        join_commit
-//!              [ session 2 | commit ]                               join_bucket
-//!              [ session 2 | bucket 5 | commit ]   stamp            split_bucket
-//!              [ session 2 | commit ]              publish          split_commit
+//! A group is committed by one session, the leader, for all who handed their parts over. `hand_over` leaves the part's image
+//! at its place (away), with the mark of that moment. No other step of that session is possible then: whoever has the part can
+//! stamp and publish, and nothing else. With the committer's part joined (`join_commit`) nobody else stores the mark. `stamp`
+//! gives an open write the next number, in a bucket that was joined too. `publish` stores that number: the parts behind the
+//! committer's join the history as one group, in their order. So what comes back is what left, or has one commit number more,
+//! over that mark (`resume`).
+//!
+//!     pass of leader 2                               on the way   pass of 5       pass of 3
+//!     [ session 2 ]                                               [ session 5 ]   [ session 3 ]   hand_over by each
+//!     [ away 2 ]                                     5  2  3      [ away 5 ]      [ away 3 ]      receive, three times
+//!     [ away 2 | lent 5 | lent 2 | lent 3 ]                                                       join_commit
+//!     [ away 2 | commit | lent 5 | .. ]                                                           join_bucket
+//!     [ away 2 | bucket 7 | commit | lent 5 | .. ]                                                stamp, split_bucket
+//!     [ away 2 | commit | lent 5 | .. ]                                                           publish, split_commit
+//!     [ away 2 | lent 5 | lent 2 | lent 3 ]                                                       hand_back, three times
+//!     [ away 2 ]                                     5  2  3      [ away 5 ]      [ away 3 ]      resume by each
+//!     [ session 2 ]                                               [ session 5 ]   [ session 3 ]
 //!
 //! A load of the mark can tell more: that a state which meets the rule backs the view (`look_at`). What a meeting tells, and
 //! what a pass knows once all others are joined to it (`know_all`), are lemmas over that one fact.
@@ -41,6 +54,7 @@
 mod board;
 mod calls;
 mod collecting;
+mod committing;
 mod dealt;
 mod groups;
 mod hands;
@@ -52,7 +66,6 @@ mod pass;
 mod passes;
 mod picks;
 mod plays;
-mod publishing;
 mod seats;
 mod view;
 mod writing;

@@ -14,7 +14,7 @@ ghost use Rattle.hg_rule.specs.declared.view.Part.TheVariants.{OfSession};
 ghost use Rattle.hg_rule.specs.Views.{number};
 ghost use Rattle.hg_rule.specs.Steps.{logging};
 ghost use Rattle.hg_rule.specs.Holding.{writer, tables};
-ghost use Rattle.hg_rule.specs.Writes.{with_entry, with_stamp, with_published, installing, stamping, listing, publishing};
+ghost use Rattle.hg_rule.specs.Writes.{with_entry, with_published, installing, stamping};
 ghost use Rattle.hg_rule.specs.Seats.{table_of, sizes_of, session_view, IsBucketOf, IsCommitOf};
 ghost use Rattle.hg_rule.specs.Resting.{own_session, own_bucket, own_commit, IsAlone, Rests, IsFreeFrom};
 
@@ -64,8 +64,8 @@ fn write(
     board.split_bucket(pass, number)
 }
 
-// Publishes the transaction, whose one open write is of this record.
-fn publish(
+// Commits the transaction, whose one open write is of this record: hands it over, takes it as a leader does, and has it back.
+fn commit_alone(
     board: &Board,
     pass: &mut SessionPass,
     bucket: BucketSeat,
@@ -75,24 +75,30 @@ fn publish(
     requires own { IsAlone (table_of board.now) (sizes_of board.now) pass.old }
     requires live { IsSome (snapshot_in (own_session pass.old).phase) }
     requires plain { IsTrue (is_plain (own_session pass.old).log) }
+    requires unstamped { (own_session pass.old).stamped ≡ false }
     requires bucket { IsBucketOf (table_of board.now) bucket × (bucket_of (sizes_of board.now).buckets rid ≡ bucket.number) }
     requires mine { IsOpenBy (writer (session_view pass.old)) (look rid (own_bucket bucket).content) }
     requires only { (r : Rid) → IsSome (open_in r (own_session pass.old).log) → same_rid rid r ≡ true }
     requires commit { IsCommitOf (table_of board.now) commit × ((own_commit commit).stamped ≡ []) }
-    ensures parts { (session_view pass.new).parts ≡ OfSession (number (session_view pass.old)) (with_published (suc (length (own_commit commit).history.list)) (with_stamp (own_session pass.old))) ∷ [] }
+    ensures parts { (session_view pass.new).parts ≡ OfSession (number (session_view pass.old)) (with_published (suc (length (own_commit commit).history.list)) (own_session pass.old)) ∷ [] }
     ensures bucket { IsBucketOf (table_of board.now) result.0 × (result.0.number ≡ bucket.number) }
     ensures stamped { own_bucket result.0 ≡ stamping (suc (length (own_commit commit).history.list)) (writer (session_view pass.old)) rid (own_bucket bucket) }
-    ensures commit { IsCommitOf (table_of board.now) result.1 }
-    ensures published { own_commit result.1 ≡ publishing (number (session_view pass.old)) (own_session pass.old).log (own_commit commit) }
+    ensures commit { IsCommitOf (table_of board.now) result.1 × ((own_commit result.1).stamped ≡ []) }
+    ensures published { length (own_commit result.1).history.list ≡ length (own_commit commit).history.list + 1 }
     ensures own { IsAlone (table_of board.now) (sizes_of board.now) pass.new }
 {
-    let number = bucket.number;
+    let (session, number) = (pass.number, bucket.number);
+    let (_, tx) = board.hand_over(pass);
+    board.receive(pass, tx);
     let mark = board.join_commit(pass, commit);
     board.join_bucket(pass, bucket);
-    board.stamp(pass, rid, mark + 1);
+    board.stamp(pass, session, rid, mark + 1);
     let bucket = board.split_bucket(pass, number);
     board.publish(pass, mark + 1);
-    (bucket, board.split_commit(pass))
+    let commit = board.split_commit(pass);
+    let tx = board.hand_back(pass, session);
+    board.resume(pass, tx);
+    (bucket, commit)
 }
 
 // One transaction, which writes the record with this key.
@@ -121,7 +127,7 @@ fn commit_one(
     let image = Image { row: None };
     begin(board, pass);
     let bucket = write(board, pass, bucket, rid, &image);
-    let seats = publish(board, pass, bucket, commit, rid);
+    let seats = commit_alone(board, pass, bucket, commit, rid);
     board.end(pass);
     seats
 }

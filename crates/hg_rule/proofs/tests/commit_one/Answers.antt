@@ -16,11 +16,11 @@ use Rattle.hg_rule.proofs.tests.commit_one.Goals as goal
 pub write-bucket-requires-clause-bucket : goal.write-bucket-requires-clause-bucket
 write-bucket-requires-clause-bucket c = (c.requires.bucket.0, one_bucket (sizes_of c.args.board.now).buckets _ c.requires.sizes.1 ∙ sym c.requires.bucket.1)
 
-pub publish-seats-requires-clause-bucket : goal.publish-seats-requires-clause-bucket
-publish-seats-requires-clause-bucket c = (c.write-bucket.ensures.bucket.0, one_bucket (sizes_of c.args.board.now).buckets _ c.requires.sizes.1 ∙ sym (c.write-bucket.ensures.bucket.1 ∙ c.requires.bucket.1))
+pub commit_alone-seats-requires-clause-bucket : goal.commit_alone-seats-requires-clause-bucket
+commit_alone-seats-requires-clause-bucket c = (c.write-bucket.ensures.bucket.0, one_bucket (sizes_of c.args.board.now).buckets _ c.requires.sizes.1 ∙ sym (c.write-bucket.ensures.bucket.1 ∙ c.requires.bucket.1))
 
-pub publish-seats-requires-clause-mine : goal.publish-seats-requires-clause-mine
-publish-seats-requires-clause-mine c =
+pub commit_alone-seats-requires-clause-mine : goal.commit_alone-seats-requires-clause-mine
+commit_alone-seats-requires-clause-mine c =
     let rid : Rid = record { table = record { 0 = 0 }; key = c.args.key } in
     let w : Writer = writer (session_view c.begin.new.pass) in
     let same : writer (session_view c.write-bucket.new.pass) ≡ w = ap (λ (ps : List Part). writer (seeing ps [] [])) c.write-bucket.ensures.parts in
@@ -33,5 +33,5 @@ returns-clause-free c =
     let w : Writer = writer (session_view c.begin.new.pass) in
     let n : ℕ = suc (length (own_commit c.args.commit).history.list) in
     let same : writer (session_view c.write-bucket.new.pass) ≡ w = ap (λ (ps : List Part). writer (seeing ps [] [])) c.write-bucket.ensures.parts in
-    subst (λ (b : BucketPart). IsFreeFrom (c.args.key + 1) b.content) (sym (c.publish-seats.ensures.stamped ∙ (λ i. stamping n (same i) rid (c.write-bucket.ensures.written i))))
+    subst (λ (b : BucketPart). IsFreeFrom (c.args.key + 1) b.content) (sym (c.commit_alone-seats.ensures.stamped ∙ (λ i. stamping n (same i) rid (c.write-bucket.ensures.written i))))
     (free_after c.args.key n w rid _ (own_bucket c.args.bucket) refl c.requires.free)

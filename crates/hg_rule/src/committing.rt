@@ -1,4 +1,4 @@
-//! The steps of a committer for transactions that were handed over to it.
+//! The steps of who commits a group: its writes get the next number, and it is published.
 
 ghost use Rattle.std.specs.Prelude.{◌≡◌, suc, length, IsTrue};
 ghost use Rattle.hg_core.specs.Logs.{is_plain, is_in};
