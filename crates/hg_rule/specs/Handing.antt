@@ -29,11 +29,12 @@ use Rattle.hg_rule.specs.Writes.{stamping, listing, with_stamp, with_published}
 abbrev pub Members : Type 0
 Members = List (ℕ × SessionPart)
 
--- a part for each, and those of a list of parts
+-- their parts, as they were handed over
 abbrev pub lent : Members → List Part
 lent [] = []
 lent (m ∷ ms) = Lent m.0 m.1 ∷ lent ms
 
+-- who handed over a part that is among these
 abbrev pub members : List Part → Members
 members [] = []
 members (OfSession j s ∷ parts) = members parts
@@ -43,13 +44,20 @@ members (OfPass p r ∷ parts) = members parts
 members (Away j s n ∷ parts) = members parts
 members (Lent j s ∷ parts) = (j, s) ∷ members parts
 
+-- these parts were handed over, all of them
+abbrev pub AreLent : List Part → Type 0
+AreLent parts = parts ≡ lent (members parts)
+
+-- their numbers
 abbrev pub who : Members → List ℕ
 who ms = map (λ m. m.0) ms
 
+-- session j's part
 abbrev pub part_of : ℕ → Members → SessionPart
 part_of j [] = new_session
 part_of j (m ∷ ms) = if m.0 == j then m.1 else part_of j ms
 
+-- and its transaction
 abbrev pub writer_at : ℕ → Members → Writer
 writer_at j ms = record { session = j; transaction = begans (part_of j ms).log }
 
@@ -63,6 +71,7 @@ abbrev pub numbered : ℕ → Members → Members
 numbered n [] = []
 numbered n (m ∷ ms) = (m.0, with_published n m.1) ∷ numbered n ms
 
+-- what is known of their logs then
 abbrev pub hears : ℕ → Members → List Sight
 hears n [] = []
 hears n (m ∷ ms) = Heard m.0 (Published n ∷ m.1.log) ∷ hears n ms
@@ -71,7 +80,8 @@ hears n (m ∷ ms) = Heard m.0 (Published n ∷ m.1.log) ∷ hears n ms
 abbrev pub group_of : Members → Group
 group_of ms = map (λ m. commit_in m.0 m.1.log) ms
 
--- Each is live, nothing of its transaction was undone or published, it has a write with the next number, and so has each of its open writes. Nobody else has one.
+-- Each is live, and nothing of its transaction was undone or published. Each of its open writes has the next number, and it has
+-- such a write. Nobody else has one.
 pub record MayPublish (ms : Members) (list : List (ℕ × Rid)) : Type 0 where
   pub some : 0 < length ms
   pub live : Each (λ m. IsSome (snapshot_in m.1.phase)) ms
@@ -82,16 +92,25 @@ pub record MayPublish (ms : Members) (list : List (ℕ × Rid)) : Type 0 where
 
 -- ---- handing over, and back
 
--- what is behind the first part, as it was lent
+-- the part behind v's first, and that session j handed it over
 abbrev pub next_lent : View → SessionPart
 next_lent v = session_there (first_in (others v))
 
--- v after its part was handed over when the mark was n; and before it left
-abbrev pub HandsOver : View → ℕ → View → Type 0
-HandsOver v n w = (h : History) × (IsHistoryAt v n h × (w ≡ then_has v (Away (number v) (session v) n ∷ others v) (Saw (groups h) ∷ []) (HandOver (number v) n)))
+abbrev pub HasLent : ℕ → View → Type 0
+HasLent j v = others v ≡ Lent j (next_lent v) ∷ beyond v
 
+-- v's place once its part was handed over when the mark was n
+abbrev pub away : View → ℕ → Part
+away v n = Away (number v) (session v) n
+
+-- the part leaves v
+abbrev pub HandsOver : View → ℕ → View → Type 0
+HandsOver v n w = (h : History) × (IsHistoryAt v n h × (w ≡ then_has v (away v n ∷ others v) (Saw (groups h) ∷ []) (HandOver (number v) n)))
+
+-- before it leaves, it stands behind its place
 abbrev pub Lends : View → ℕ → View → Type 0
-Lends v n w = (h : History) × (IsHistoryAt v n h × ((loaded_in (session v).phase ≤ n) × (w ≡ then_has v (Away (number v) (session v) n ∷ Lent (number v) (session v) ∷ others v) (Saw (groups h) ∷ []) (HandOver (number v) n))))
+Lends v n w = (h : History) × (IsHistoryAt v n h × ((loaded_in (session v).phase ≤ n)
+    × (w ≡ then_has v (away v n ∷ Lent (number v) (session v) ∷ others v) (Saw (groups h) ∷ []) (HandOver (number v) n))))
 
 -- the part alone, which has seen what the view has
 abbrev pub lent_alone : ℕ → SessionPart → View → View
@@ -105,31 +124,34 @@ received v w = seeing (v.parts ++ w.parts) (v.sights ++ w.sights) v.events
 abbrev pub hands_back : View → View
 hands_back v = seeing (but_second v.parts) v.sights (v.events ++ HandBack (number_in (others v)) ∷ [])
 
--- The part is as it was, or its transaction was published under a number over the mark of that time.
+-- The part is as it was, or its transaction was published under a number over n, the mark at which it was handed over.
 pub record IsBack (n : ℕ) (was now : SessionPart) : Type 0 where
   pub phase : now.phase ≡ was.phase
   pub log : IsLeft n was.log now.log
 
--- v after its part came back with w
+-- v once its part came back with w
 abbrev pub resuming : View → View → View
 resuming v w = seeing (OfSession (number v) (session w) ∷ others v) (v.sights ++ w.sights) v.events
 
--- the same once it is joined
+-- the same where it stands behind its place already
 abbrev pub Retakes : View → View → Type 0
 Retakes v w = (w ≡ seeing (OfSession (number v) (next_lent v) ∷ beyond v) v.sights v.events) × IsBack (since v) (session v) (next_lent v)
 
 -- ---- a group
 
+-- session j's open write of the record gets number n, and is listed
 abbrev pub Stamps : View → ℕ → Rid → ℕ → View → Type 0
-Stamps v j rid n w = w ≡ then_has v (Away (number v) (session v) (since v) ∷ OfBucket (bucket_number v) (stamping n (writer_at j (members (farther v))) rid (bucket v)) ∷ OfCommit (listing j rid (commit_behind v)) ∷ lent (flag j (members (farther v)))) [] (Stamp j rid n)
+Stamps v j rid n w = let ms = members (farther v) in
+    w ≡ then_has v (away v (since v) ∷ OfBucket (bucket_number v) (stamping n (writer_at j ms) rid (bucket v)) ∷ OfCommit (listing j rid (commit_behind v)) ∷ lent (flag j ms)) [] (Stamp j rid n)
 
+-- the history goes on with their group, and no write has the next number
 abbrev pub publishing : Members → CommitPart → CommitPart
 publishing ms part = record part { history = groups (part.history.list ++ group_of ms ∷ []); stamped = [] }
 
--- the history before is the whole one, so n is over all that was seen
+-- All that were received are published under n. The history before is the whole one, so n is over all that was seen.
 abbrev pub Publishes : View → ℕ → View → Type 0
-Publishes v n w = IsHistoryAt v (length (commit v).history.list) (commit v).history.list × (w ≡ then_has v (Away (number v) (session v) (since v) ∷ OfCommit (publishing (members (beyond v)) (commit v)) ∷ lent (numbered n (members (beyond v))))
-    (Saw (groups ((commit v).history.list ++ group_of (members (beyond v)) ∷ [])) ∷ hears n (members (beyond v))) (Publish n))
+Publishes v n w = let ms = members (beyond v) in let h = (commit v).history.list in
+    IsHistoryAt v (length h) h × (w ≡ then_has v (away v (since v) ∷ OfCommit (publishing ms (commit v)) ∷ lent (numbered n ms)) (Saw (groups (h ++ group_of ms ∷ [])) ∷ hears n ms) (Publish n))
 
 -- ---- the same as a step of the table tells it
 

@@ -5,7 +5,8 @@ use Rattle.hg_rule.specs.declared.view.Part.TheVariants.{OfSession, OfBucket, Of
 use Rattle.hg_rule.specs.declared.view.View.{View}
 use Rattle.hg_rule.specs.declared.view.Sizes.{Sizes}
 
--- a session's, a bucket's, the committer's or a collector pass's; and the place of a session's part, which stays where it is when the part is handed over
+-- A session's part, a bucket's, the committer's or a collector pass's; and the place of a session's part, which stays with its
+-- pass when the part is handed over.
 pub data Key : Type 0 where
   session_key : ℕ → Key
   home_key : ℕ → Key
@@ -13,6 +14,7 @@ pub data Key : Type 0 where
   commit_key : Key
   pass_key : ℕ → Key
 
+-- a part's key; of one at its place the one that it has when it is handed over
 abbrev pub key_of : Part → Key
 key_of (OfSession j s) = session_key j
 key_of (OfBucket b c) = bucket_key b
@@ -21,6 +23,7 @@ key_of (OfPass p r) = pass_key p
 key_of (Away j s n) = home_key j
 key_of (Lent j s) = session_key j
 
+-- whether both are so
 abbrev pub both : Bool → Bool → Bool
 both true b = b
 both false b = false
@@ -51,6 +54,7 @@ is_sessions (bucket_key b) j = false
 is_sessions commit_key j = false
 is_sessions (pass_key p) j = false
 
+-- whether a part counts for a key
 abbrev pub has : Key → Part → Bool
 has k (OfSession j s) = is_sessions k j
 has k (OfBucket b c) = same_key (bucket_key b) k
@@ -59,6 +63,7 @@ has k (OfPass p r) = same_key (pass_key p) k
 has k (Away j s n) = same_key (home_key j) k
 has k (Lent j s) = same_key (session_key j) k
 
+-- how much it counts
 abbrev pub one : Bool → ℕ
 one true = 1
 one false = 0

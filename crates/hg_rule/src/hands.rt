@@ -1,12 +1,10 @@
 //! A session's part is handed over to who commits it, and comes back.
 
-ghost use Rattle.std.specs.Prelude.{◌≡◌, ◌≤◌, ◌∷◌, false};
+ghost use Rattle.std.specs.Prelude.{◌≡◌, ◌≤◌, false};
 ghost use Rattle.hg_rule.specs.Steps.{loaded_in};
-ghost use Rattle.hg_rule.specs.declared.view.Part.TheVariants.{Lent};
 ghost use Rattle.hg_rule.specs.Rules.{IsBacked};
-ghost use Rattle.hg_rule.specs.Views.{session, since, others};
-ghost use Rattle.hg_rule.specs.Holding.{beyond};
-ghost use Rattle.hg_rule.specs.Handing.{HandsOver, IsBack, lent_alone, received, hands_back, resuming, next_lent};
+ghost use Rattle.hg_rule.specs.Views.{session, since};
+ghost use Rattle.hg_rule.specs.Handing.{HasLent, HandsOver, IsBack, lent_alone, received, hands_back, resuming, next_lent};
 ghost use Rattle.hg_rule.specs.Seats.{table_of, sizes_of, view, session_view, tx_view, IsSeatOf, IsSessionOf, IsAwayOf, IsTxOf};
 
 use crate::board::Board;
@@ -47,7 +45,7 @@ impl Board {
     /// What stands behind the pass's first part, which was handed over by this session, leaves for its owner.
     pub fn hand_back<P: Pass>(&self, pass: &mut P, session: u32) -> TxSeat
         requires own { IsSeatOf (table_of self.now) (P.seat_of pass.old) }
-        requires next { others (view (P.seat_of pass.old)) ≡ Lent session (next_lent (view (P.seat_of pass.old))) ∷ beyond (view (P.seat_of pass.old)) }
+        requires next { HasLent session (view (P.seat_of pass.old)) }
         requires unstamped { (next_lent (view (P.seat_of pass.old))).stamped ≡ false }
         ensures view { view (P.seat_of pass.new) ≡ hands_back (view (P.seat_of pass.old)) }
         ensures seat { tx_view result ≡ lent_alone session (next_lent (view (P.seat_of pass.old))) (view (P.seat_of pass.old)) }
