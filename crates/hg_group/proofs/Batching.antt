@@ -1,16 +1,14 @@
 -- A batch is stamped.
-use Rattle.std.proofs.Common.{◌≡◌, ℕ, suc, List, [], ◌∷◌, ◌++◌, length, true, false, Option, Some, None, refl, sym, ap, ◌∙◌, subst, append_assoc}
+use Rattle.std.proofs.Common.{◌≡◌, ℕ, List, [], ◌∷◌, ◌++◌, false, Option, Some, None, refl, sym, ap, ◌∙◌, subst}
 use Rattle.std.specs.Prelude.{IsSome, IsTrue}
 use Rattle.hg_base.specs.declared.rid.Rid.{Rid}
 use Rattle.hg_base.specs.declared.image.Image.{Image}
-use Rattle.hg_base.specs.declared.writer.Writer.{Writer}
 use Rattle.hg_base.specs.Lists.{Each}
 use Rattle.hg_core.specs.Contents.{bucket_of, versions, is_stamped}
 use Rattle.hg_core.specs.Logs.{begans, begun_in, open_in, is_in}
 use Rattle.hg_core.specs.Versions.{IsOpenBy}
 use Rattle.hg_core.specs.OpenWrites.{writer_of}
 use Rattle.hg_rule.specs.declared.passes.SessionPass.{SessionPass}
-use Rattle.hg_rule.specs.declared.view.SessionPart.{SessionPart}
 use Rattle.hg_rule.specs.declared.view.Part.{Part}
 use Rattle.hg_rule.specs.declared.view.Part.TheVariants.{OfBucket, OfCommit, Away, Lent}
 use Rattle.hg_rule.specs.declared.view.Event.TheVariants.{Stamp}
@@ -18,9 +16,9 @@ use Rattle.hg_rule.specs.declared.view.View.{View}
 use Rattle.hg_rule.specs.declared.view.Sizes.{Sizes}
 use Rattle.hg_rule.specs.Facts.{Shown, StartsWith}
 use Rattle.hg_rule.specs.Rules.{IsBacked}
-use Rattle.hg_rule.specs.Views.{number, session, since, first_in, others, seeing, HasAway}
+use Rattle.hg_rule.specs.Views.{number, session, since, others, seeing, HasAway}
 use Rattle.hg_rule.specs.Moves.{put_in, but_second}
-use Rattle.hg_rule.specs.Holding.{beyond, farther, bucket, bucket_number, commit, commit_behind, held, HasBucket, HasCommit, HasBoth}
+use Rattle.hg_rule.specs.Holding.{beyond, farther, bucket, bucket_number, commit, commit_behind, held, HasCommit, HasBoth}
 use Rattle.hg_rule.specs.Places.{arrive_first, without_bucket, HoldsBucket}
 use Rattle.hg_rule.specs.Writes.{listing}
 use Rattle.hg_rule.specs.Handing.{Members, members, lent, who, part_of, writer_at, flag, Stamps, hands_back}

@@ -1,20 +1,10 @@
 -- There are no more commits than the sessions may begin transactions.
-use Rattle.std.proofs.Common.{◌≡◌, ℕ, zero, suc, ◌+◌, ◌*◌, ◌<◌, ◌≤◌, Bool, true, false, ltb, List, [], ◌∷◌, ◌++◌, length, refl, sym, ap, ◌∙◌, subst, arith, length-append, true≢false}
-use Rattle.std.specs.Prelude.{◌^◌, ◌==◌, ◌&&◌, if◌then◌else◌, IsSome, IsTrue}
-use Rattle.std.proofs.lemmas.Bool.Decides.{Decides-eqb, nat_tests}
+use Rattle.std.proofs.Common.{◌≡◌, ℕ, suc, ◌*◌, ◌≤◌, Bool, true, false, ltb, List, [], ◌∷◌, inl, inr, refl, sym, ap, subst, arith}
+use Rattle.std.specs.Prelude.{◌^◌, ◌⊎◌}
 use Rattle.hg_base.specs.Lists.{Each}
-use Rattle.hg_base.specs.History.{Commit, Group, History, group_from, group_at}
-use Rattle.hg_base.proofs.ListFacts.{cases}
-use Rattle.hg_core.specs.declared.phase.Phase.{Phase}
-use Rattle.hg_core.specs.declared.phase.Phase.TheVariants.{Idle, Probed, Entered, Fixed, Live}
-use Rattle.hg_core.specs.declared.log.LogEntry.{LogEntry}
-use Rattle.hg_core.specs.declared.log.LogEntry.TheVariants.{Began, Saw, Refused, Outside, Wrote, Undid, Published, Over}
-use Rattle.hg_core.specs.Logs.{current, begans, is_plain, commit_in, published}
-use Rattle.hg_core.specs.Phases.{IsSession, MayHaveBegun}
-use Rattle.hg_core.specs.Judged.{Judged, of_session}
-use Rattle.hg_core.specs.State.{CoreState}
-use Rattle.hg_core.specs.Sums.{sum_to, sum_below}
-use Rattle.hg_core.proofs.Sums.{sum_least, sum_most, sum_none, sum_grown, below_same, below_plus, below_none, below_grown, below_one, sums_swap}
+use Rattle.hg_core.specs.Phases.{IsSession}
+use Rattle.hg_core.specs.Commits.{commits_in, AloneHaveLogs}
+use Rattle.hg_core.proofs.Commits.{commits_most}
 use Rattle.hg_rule.specs.declared.view.CommitPart.{CommitPart}
 use Rattle.hg_rule.specs.declared.view.Part.{Part}
 use Rattle.hg_rule.specs.declared.view.Part.TheVariants.{OfCommit}
@@ -24,143 +14,19 @@ use Rattle.hg_rule.specs.declared.view.Sizes.{Sizes}
 use Rattle.hg_rule.specs.Keys.{session_key, both, one}
 use Rattle.hg_rule.specs.Rules.{IsBacked}
 use Rattle.hg_rule.proofs.Found.{inside_is}
-use Rattle.hg_group.specs.Contexts.{commits_in}
 
--- ---- one log
-
-pubs : List LogEntry → ℕ
-pubs [] = 0
-pubs (Published n ∷ log) = suc (pubs log)
-pubs (Began at scope ∷ log) = pubs log
-pubs (Saw t low high b rows ∷ log) = pubs log
-pubs (Refused r answer ∷ log) = pubs log
-pubs (Outside t ∷ log) = pubs log
-pubs (Wrote r image ∷ log) = pubs log
-pubs (Undid r ∷ log) = pubs log
-pubs (Over ∷ log) = pubs log
-
-record Fewer (log : List LogEntry) : Type 0 where
-  pub most : pubs log ≤ begans log
-  pub open_ : IsTrue (is_plain log) → IsSome (current log) → suc (pubs log) ≤ begans log
-
-fewer : (h : History) (log : List LogEntry) → Judged h log → Fewer log
-unfolding pubs
-fewer h [] j = record { most = omega arith; open_ = λ p o. absurd (let x = o in cc) }
-fewer h (Began at scope ∷ log) j = let f = fewer h log j.1 in let m = f.most in record { most = omega (arith, m); open_ = λ p o. omega (arith, m) }
-fewer h (Published n ∷ log) j = let f = fewer h log j.1 in let m = f.open_ j.0.plain j.0.opened in record { most = m; open_ = λ p o. absurd (true≢false (sym p)) }
-fewer h (Saw t low high b rows ∷ log) j = let f = fewer h log j.1 in record { most = f.most; open_ = f.open_ }
-fewer h (Refused r answer ∷ log) j = let f = fewer h log j.1 in record { most = f.most; open_ = f.open_ }
-fewer h (Outside t ∷ log) j = let f = fewer h log j.1 in record { most = f.most; open_ = f.open_ }
-fewer h (Wrote r image ∷ log) j = let f = fewer h log j.1 in record { most = f.most; open_ = f.open_ }
-fewer h (Undid r ∷ log) j = let f = fewer h log j.1 in record { most = f.most; open_ = λ p o. absurd (true≢false (sym p)) }
-fewer h (Over ∷ log) j = let f = fewer h log j.1 in record { most = f.most; open_ = λ p o. absurd (let x = o in cc) }
-
--- each commit number is counted once
-numbers_most : (m j : ℕ) (log : List LogEntry) → sum_below m (λ n. length (published n j log)) ≤ pubs log
-unfolding pubs
-numbers_most m j [] = omega (arith, below_none m)
-numbers_most m j (Published k ∷ log) =
-    let f : ℕ → ℕ = λ n. length (published n j log) in
-    let g : ℕ → ℕ = λ n. if (k == n) && true then 1 else 0 in
-    let each : (n : ℕ) → length (published n j (Published k ∷ log)) ≡ f n + g n = λ n. length-append (published n j log) (if k == n then commit_in j log ∷ [] else []) ∙ ap (λ x. f n + x) (one_long (k == n)) in
-    let a = below_same m (λ n. f n + g n) (λ n. length (published n j (Published k ∷ log))) (λ n l. each n) in
-    let b = below_plus m f g in
-    let c = below_one m k true in
-    let d = numbers_most m j log in omega (arith, a, b, c, d)
+alone : (z : Sizes) (n : ℕ) (v : View) (k : IsBacked z n v) → AloneHaveLogs z.sessions k.state.log
+alone z n v k j = go (both (ltb 0 j) (ltb j (suc z.sessions))) refl
   where
-    one_long : (b : Bool) → length (if b then commit_in j log ∷ [] else []) ≡ (if b && true then 1 else 0)
-    one_long true = refl
-    one_long false = refl
-numbers_most m j (Began at scope ∷ log) = numbers_most m j log
-numbers_most m j (Saw t low high b rows ∷ log) = numbers_most m j log
-numbers_most m j (Refused r answer ∷ log) = numbers_most m j log
-numbers_most m j (Outside t ∷ log) = numbers_most m j log
-numbers_most m j (Wrote r image ∷ log) = numbers_most m j log
-numbers_most m j (Undid r ∷ log) = numbers_most m j log
-numbers_most m j (Over ∷ log) = numbers_most m j log
+    go : (b : Bool) → both (ltb 0 j) (ltb j (suc z.sessions)) ≡ b → IsSession z.sessions j ⊎ (k.state.log j ≡ [])
+    go true e = inl (inside_is z j e)
+    go false e = inr ((k.outside (session_key j) (ap one e)).1.0)
 
-begun_most : (each n : ℕ) (p : Phase) → MayHaveBegun each p n → n ≤ each
-begun_most each n Idle h = h
-begun_most each n (Probed f) h = omega (arith, h)
-begun_most each n (Entered f) h = omega (arith, h)
-begun_most each n (Fixed f m) h = omega (arith, h)
-begun_most each n (Live at scope) h = h
+few : (z : Sizes) (n : ℕ) (v : View) (k : IsBacked z n v) → commits_in k.state.history ≤ z.sessions * z.each
+few z n v k = subst {A = ℕ × ℕ} (λ x. commits_in k.state.history ≤ x.0 * x.1) (λ i. (k.sized.sessions i, k.sized.each i)) (commits_most k.state k.steady (subst (λ m. AloneHaveLogs m k.state.log) (sym k.sized.sessions) (alone z n v k)))
 
--- ---- one group
-
--- its commits, session by session
-by_session : (sessions : ℕ) (g : Group) → Each (λ c. IsSession sessions c.session) g → length g ≡ sum_to sessions (λ j. length (of_session j g))
-by_session n [] h = sym (sum_none n)
-by_session n (c ∷ g) h =
-    let f : ℕ → ℕ = λ j. length (of_session j g) in
-    let f' : ℕ → ℕ = λ j. length (of_session j (c ∷ g)) in
-    let rest : length g ≡ sum_to n f = by_session n g h.1 in
-    let here : f' c.session ≡ f c.session + 1 = ap (λ b. length (if b then c ∷ of_session c.session g else of_session c.session g)) (alike c.session) ∙ (let x : ℕ = f c.session in let e : suc x ≡ x + 1 = omega arith in e) in
-    let there : (k : ℕ) → (k ≡ c.session → ⊥) → f' k ≡ f k = λ k other. ap (λ b. length (if b then c ∷ of_session k g else of_session k g)) (unlike c.session k other) in
-    let all : sum_to n f' ≡ sum_to n f + 1 = sum_grown n c.session 1 f f' h.0.first h.0.last there here in omega (arith, rest, all)
-  where
-    alike : (j : ℕ) → (j == j) ≡ true
-    alike j = grind (arith, nat_tests)
-
-    unlike : (j k : ℕ) → (k ≡ j → ⊥) → (j == k) ≡ false
-    unlike j k other = grind (arith, nat_tests)
-
--- sessions that have no commit there
-all_inside : (z : Sizes) (g : Group) → ((j : ℕ) → both (ltb 0 j) (ltb j (suc z.sessions)) ≡ false → of_session j g ≡ []) → Each (λ c. IsSession z.sessions c.session) g
-all_inside z [] f = tt
-all_inside z (c ∷ g) f = (inside_is z c.session (cases (both (ltb 0 c.session) (ltb c.session (suc z.sessions))) (λ e. e) (λ e. absurd (some (f c.session e)))), all_inside z g (λ j e. tail j (c.session == j) (f j e)))
-  where
-    alike : (j : ℕ) → (j == j) ≡ true
-    alike j = grind (arith, nat_tests)
-
-    some : (if c.session == c.session then c ∷ of_session c.session g else of_session c.session g) ≡ [] → ⊥
-    some e = let x : suc (length (of_session c.session g)) ≡ 0 = ap (λ b. length (if b then c ∷ of_session c.session g else of_session c.session g)) (sym (alike c.session)) ∙ ap length e in absurd (omega (arith, x))
-
-    tail : (j : ℕ) (b : Bool) → (if b then c ∷ of_session j g else of_session j g) ≡ [] → of_session j g ≡ []
-    tail j true e = absurd (let x : suc (length (of_session j g)) ≡ 0 = ap length e in omega (arith, x))
-    tail j false e = e
-
--- ---- all groups
-
-no_group : (first : ℕ) (h : History) (n : ℕ) → n < first → group_from first h n ≡ []
-no_group first [] n l = refl
-no_group first (g ∷ h) n l = let e : (first == n) ≡ false = grind (arith, nat_tests) in ap (λ b. if b then g else group_from (suc first) h n) e ∙ no_group (suc first) h n (omega (arith, l))
-
-summed : (first : ℕ) (h : History) → commits_in h ≡ sum_below (first + length h) (λ n. length (group_from first h n))
-summed first [] = sym (below_none (first + 0))
-summed first (g ∷ h) =
-    let f : ℕ → ℕ = λ n. length (group_from (suc first) h n) in
-    let f' : ℕ → ℕ = λ n. length (group_from first (g ∷ h) n) in
-    let top : suc first + length h ≡ first + suc (length h) = omega arith in
-    let rest : commits_in h ≡ sum_below (first + suc (length h)) f = summed (suc first) h ∙ ap (λ m. sum_below m f) top in
-    let none : f first ≡ 0 = ap length (no_group (suc first) h first (omega arith)) in
-    let here : f' first ≡ f first + length g = ap (λ b. length (if b then g else group_from (suc first) h first)) (alike first) ∙ (let x : ℕ = f first in let y : ℕ = length g in let e : y ≡ x + y = omega (arith, none) in e) in
-    let there : (k : ℕ) → (k ≡ first → ⊥) → f' k ≡ f k = λ k other. ap (λ b. length (if b then g else group_from (suc first) h k)) (unlike first k other) in
-    let all : sum_below (first + suc (length h)) f' ≡ sum_below (first + suc (length h)) f + length g = below_grown (first + suc (length h)) first (length g) f f' (omega arith) there here in omega (arith, rest, all)
-  where
-    alike : (j : ℕ) → (j == j) ≡ true
-    alike j = grind (arith, nat_tests)
-
-    unlike : (j k : ℕ) → (k ≡ j → ⊥) → (j == k) ≡ false
-    unlike j k other = grind (arith, nat_tests)
-
--- the commits are at most the begins
-pub commits_most : (z : Sizes) (n : ℕ) (v : View) → (k : IsBacked z n v) → commits_in k.state.history ≤ z.sessions * z.each
-commits_most z n v k =
-    let s : CoreState = k.state in
-    let a = k.steady.logs_answer in
-    let m : ℕ = 1 + length s.history in
-    let outside : (i j : ℕ) → both (ltb 0 j) (ltb j (suc z.sessions)) ≡ false → of_session j (group_at s.history i) ≡ [] = λ i j e. a.commits i j ∙ ap (published i j) (k.outside (session_key j) (ap one e)).1.0 in
-    let group : (i : ℕ) → length (group_at s.history i) ≡ sum_to z.sessions (λ j. length (published i j (s.log j))) = λ i. by_session z.sessions (group_at s.history i) (all_inside z (group_at s.history i) (outside i)) ∙ (λ q. sum_to z.sessions (λ j. length (a.commits i j q))) in
-    let total : commits_in s.history ≡ sum_below m (λ i. length (group_at s.history i)) = summed 1 s.history in
-    let turned : sum_below m (λ i. length (group_at s.history i)) ≡ sum_below m (λ i. sum_to z.sessions (λ j. length (published i j (s.log j)))) = below_same m (λ i. sum_to z.sessions (λ j. length (published i j (s.log j)))) (λ i. length (group_at s.history i)) (λ i l. group i) in
-    let swapped = sums_swap m z.sessions (λ i j. length (published i j (s.log j))) in
-    let few : (j : ℕ) → sum_below m (λ i. length (published i j (s.log j))) ≤ z.each = λ j. omega (arith, numbers_most m j (s.log j), (fewer s.history (s.log j) (a.judged j)).most, begun_most s.each (begans (s.log j)) (s.phase j) (a.room j), k.sized.each) in
-    let most = sum_most z.sessions z.each (λ j. sum_below m (λ i. length (published i j (s.log j)))) few in
-    omega (arith, total, turned, swapped, most)
-
--- the same of the committer's part that a view has
+-- the commits of the committer's part that a view has
 pub count_most : (z : Sizes) (n : ℕ) (v : View) (first : Part) (part : CommitPart) (os : List Part) → IsBacked z n v → v.parts ≡ first ∷ OfCommit part ∷ os → z.sessions * z.each ≤ 2 ^ 40 → commits_in part.history.list ≤ 2 ^ 40
 count_most z n v first part os k is room =
     let all : Each (Shown k.state) (first ∷ OfCommit part ∷ os) = subst (Each (Shown k.state)) is k.true_of.parts in
-    let a : commits_in part.history.list ≤ z.sessions * z.each = subst (λ h. commits_in h ≤ z.sessions * z.each) all.1.0.0 (commits_most z n v k) in omega (arith, a, room)
+    let a : commits_in part.history.list ≤ z.sessions * z.each = subst (λ h. commits_in h ≤ z.sessions * z.each) all.1.0.0 (few z n v k) in omega (arith, a, room)

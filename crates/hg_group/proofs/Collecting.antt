@@ -1,6 +1,6 @@
 -- What a group's context lists is what the group writes.
 use Rattle.std.proofs.Common.{◌≡◌, ℕ, zero, suc, ◌+◌, ◌<◌, Bool, true, false, List, [], ◌∷◌, ◌++◌, length, take, get_or, Option, Some, None, refl, sym, ap, ◌∙◌, subst, arith, append_assoc, append-nil, true≢false}
-use Rattle.std.specs.Prelude.{◌==◌, ◌||◌, IsSome, IsTrue, IsFalse, is_some}
+use Rattle.std.specs.Prelude.{◌||◌, IsSome, IsFalse, is_some}
 use Rattle.std.specs.Option.{option_or}
 use Rattle.std.proofs.lemmas.List.Folds.{list_any-append}
 use Rattle.hg_base.specs.declared.rid.Rid.{Rid}

@@ -2,7 +2,7 @@
 use Rattle.std.proofs.Common.{◌≡◌, ℕ, suc, ◌+◌, ◌≤◌, Bool, true, false, List, [], ◌∷◌, ◌++◌, length, map, refl, sym, ap, ◌∙◌, subst, arith, true≢false}
 use Rattle.std.specs.Prelude.{◌==◌, ◌&&◌, ◌||◌, IsSome, IsTrue}
 use Rattle.hg_base.specs.Lists.{Each}
-use Rattle.hg_base.specs.History.{Commit, Group, History, NoNumberTwice}
+use Rattle.hg_base.specs.History.{Group, History, NoNumberTwice}
 use Rattle.hg_core.specs.declared.log.LogEntry.{LogEntry}
 use Rattle.hg_core.specs.Logs.{current, begans, is_plain, is_in, commit_in}
 use Rattle.hg_core.specs.Phases.{snapshot_in}
@@ -11,7 +11,7 @@ use Rattle.hg_core.specs.Invariant.{IsSteady}
 use Rattle.hg_rule.specs.declared.view.SessionPart.{SessionPart}
 use Rattle.hg_rule.specs.declared.view.CommitPart.{CommitPart}
 use Rattle.hg_rule.specs.declared.view.Part.{Part}
-use Rattle.hg_rule.specs.declared.view.Part.TheVariants.{OfCommit, Lent}
+use Rattle.hg_rule.specs.declared.view.Part.TheVariants.{OfCommit}
 use Rattle.hg_rule.specs.declared.view.View.{View}
 use Rattle.hg_rule.specs.declared.view.Sizes.{Sizes}
 use Rattle.hg_rule.specs.Keys.{session_key, one, has, count}
@@ -19,12 +19,13 @@ use Rattle.hg_rule.specs.Facts.{Shown}
 use Rattle.hg_rule.specs.Rules.{IsBacked}
 use Rattle.hg_rule.specs.Handing.{Members, lent, who, group_of}
 use Rattle.hg_rule.proofs.Counts.{expected_small}
-use Rattle.hg_rule.proofs.Grouping.{each_lent, each_two, none_twice}
+use Rattle.hg_rule.proofs.Grouping.{none_twice}
 use Rattle.hg_queue.specs.declared.open_tx.OpenTx.{OpenTx}
 use Rattle.hg_group.specs.declared.receipt.Receipt.{Receipt}
-use Rattle.hg_group.specs.Contexts.{commits_in}
+use Rattle.hg_core.specs.Commits.{commits_in}
 use Rattle.hg_group.specs.Order.{Pairs, pair_of, flat, same_pair, FollowsQueue, StandsIn}
-use Rattle.hg_group.specs.Batch.{pair_in, IsTaken, AreTaken}
+use Rattle.hg_group.specs.Batch.{pair_in, AreTaken}
+use Rattle.hg_core.proofs.Earlier.{earlier as open_earlier}
 use Rattle.hg_group.proofs.Ordering.{IsNone, NoPairTwice, follows_refused, follows_more, earlier}
 
 -- the group has the pairs that were popped
@@ -72,7 +73,7 @@ fresh s (tx ∷ txs) [] h a k = absurd a
 fresh s (tx ∷ txs) (m ∷ ms) h a k =
     let plain : IsTrue (is_plain (s.log m.0)) = subst (λ l. IsTrue (is_plain l)) (sym k.0.1.0) a.0.may.plain in
     let live : IsSome (current (s.log m.0)) = subst IsSome (sym (h.logs_answer.reads m.0 ∙ ap snapshot_in k.0.0)) a.0.may.live in
-    (subst (λ (l : List LogEntry). Each (λ p. same_pair (m.0, begans l) p ≡ false) (map pair_of (flat s.history))) k.0.1.0 (earlier s.history s.log m.0 h.logs_answer.commits plain live), fresh s txs ms h a.1 k.1)
+    (subst (λ (l : List LogEntry). Each (λ p. same_pair (m.0, begans l) p ≡ false) (map pair_of (flat s.history))) k.0.1.0 (earlier s.history m.0 (begans (s.log m.0)) (open_earlier s.history s.log m.0 h.logs_answer.commits plain live)), fresh s txs ms h a.1 k.1)
 
 module _ (z : Sizes) (n : ℕ) (v : View) (k : IsBacked z n v) (first : Part) (c : CommitPart) (ms : Members) (is : v.parts ≡ first ∷ OfCommit c ∷ lent ms) where
   all : Each (Shown k.state) (first ∷ OfCommit c ∷ lent ms)

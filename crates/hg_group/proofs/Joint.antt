@@ -1,33 +1,31 @@
 -- A leader's view from the batch on to its receipts.
 use Rattle.std.proofs.Common.{◌≡◌, inl, inr, ℕ, suc, ◌+◌, ◌<◌, ◌≤◌, Bool, true, false, List, [], ◌∷◌, ◌++◌, length, map, refl, sym, ap, ◌∙◌, subst, arith}
-use Rattle.std.specs.Prelude.{ltb, if◌then◌else◌, ◌==◌}
+use Rattle.std.specs.Prelude.{ltb}
 use Rattle.hg_base.specs.Lists.{Each}
-use Rattle.hg_base.specs.History.{Group, History, NoNumberTwice}
+use Rattle.hg_base.specs.History.{Group}
 use Rattle.hg_core.specs.declared.log.LogEntry.TheVariants.{Published}
 use Rattle.hg_core.specs.Logs.{is_in, commit_in}
 use Rattle.hg_core.specs.Phases.{IsSession}
-use Rattle.hg_rule.specs.declared.view.SessionPart.{SessionPart}
 use Rattle.hg_rule.specs.declared.view.CommitPart.{CommitPart}
 use Rattle.hg_rule.specs.declared.view.Part.{Part}
-use Rattle.hg_rule.specs.declared.view.Part.TheVariants.{OfCommit, Away, Lent}
+use Rattle.hg_rule.specs.declared.view.Part.TheVariants.{OfCommit, Away}
 use Rattle.hg_rule.specs.declared.view.Sight.{Sight}
 use Rattle.hg_rule.specs.declared.view.Sight.TheVariants.{Saw, Heard, Took}
 use Rattle.hg_rule.specs.declared.view.View.{View}
 use Rattle.hg_rule.specs.declared.view.Sizes.{Sizes}
-use Rattle.hg_rule.specs.Keys.{session_key, both, one, has, count, expected}
-use Rattle.hg_rule.specs.Facts.{IsAmong, StartsWith, groups}
+use Rattle.hg_rule.specs.Keys.{session_key, both, one, has, count}
+use Rattle.hg_rule.specs.Facts.{IsAmong, groups}
 use Rattle.hg_rule.specs.Rules.{IsBacked}
 use Rattle.hg_rule.specs.Views.{number, session, since, first_in, after_first, commit_there, seeing}
 use Rattle.hg_rule.specs.Moves.{put_in, joined}
 use Rattle.hg_rule.specs.Holding.{beyond, commit}
-use Rattle.hg_rule.specs.Places.{without_commit, commit_alone}
+use Rattle.hg_rule.specs.Places.{without_commit}
 use Rattle.hg_rule.specs.Writes.{with_published}
 use Rattle.hg_rule.specs.Handing.{Members, members, lent, who, numbered, hears, group_of, publishing, Publishes}
 use Rattle.hg_rule.proofs.Found.{inside_is}
 use Rattle.hg_rule.proofs.Grouping.{there, each_in}
 use Rattle.hg_queue.specs.declared.open_tx.OpenTx.{OpenTx}
-use Rattle.hg_group.specs.Contexts.{commits_in}
-use Rattle.hg_group.specs.Order.{Pairs}
+use Rattle.hg_core.specs.Commits.{commits_in}
 use Rattle.hg_group.specs.Batch.{AreTaken, Stamped, all_pairs, bare, HasGroup, HasBatch}
 use Rattle.hg_group.proofs.Stamped.{members_lent, OnWay, on_way}
 

@@ -1,5 +1,5 @@
 -- What became of a batch is laid down, one after the other.
-use Rattle.std.proofs.Common.{◌≡◌, inl, inr, ℕ, zero, suc, ◌+◌, ◌<◌, ◌≤◌, List, [], ◌∷◌, ◌++◌, length, map, take, drop, get_or, set, Option, Some, None, refl, sym, ap, ◌∙◌, subst, arith, append_assoc, append-nil}
+use Rattle.std.proofs.Common.{◌≡◌, ℕ, zero, suc, ◌+◌, ◌<◌, List, [], ◌∷◌, ◌++◌, length, map, take, drop, get_or, set, Option, Some, None, refl, sym, ap, ◌∙◌, subst, arith}
 use Rattle.std.specs.Prelude.{IfSome}
 use Rattle.hg_base.specs.Lists.{Each}
 use Rattle.hg_core.specs.declared.log.LogEntry.TheVariants.{Published}
@@ -8,7 +8,6 @@ use Rattle.hg_rule.specs.declared.view.SessionPart.{SessionPart}
 use Rattle.hg_rule.specs.declared.view.Part.{Part}
 use Rattle.hg_rule.specs.declared.view.Part.TheVariants.{Away, Lent}
 use Rattle.hg_rule.specs.declared.view.Sight.TheVariants.{Saw, Heard}
-use Rattle.hg_rule.specs.declared.view.Event.TheVariants.{HandBack}
 use Rattle.hg_rule.specs.declared.view.View.{View}
 use Rattle.hg_rule.specs.Facts.{IsAmong, StartsWith, groups, new_session}
 use Rattle.hg_rule.specs.Views.{number, session, since, others, seeing}
@@ -22,7 +21,6 @@ use Rattle.hg_queue.specs.Handing.{seat_number, seat_part}
 use Rattle.hg_group.specs.declared.receipt.Receipt.{Receipt}
 use Rattle.hg_group.specs.declared.laid.Outcome.TheVariants.{Committed}
 use Rattle.hg_group.specs.declared.laid.Laid.{Laid}
-use Rattle.hg_group.specs.Contexts.{commits_in}
 use Rattle.hg_group.specs.Order.{StandsIn}
 use Rattle.hg_group.specs.Batch.{IsOutcome, IsLaid, AreLaid, HasGroup, LaysAll}
 use Rattle.hg_group.proofs.Grouped.{stands}

@@ -11,5 +11,6 @@ pub mod Laying_down
 pub mod Joint
 pub mod Bound
 pub mod Collecting
+pub mod Listing
 pub mod Back
 pub mod Through

@@ -1,14 +1,11 @@
 -- The order of commits, with a batch more.
-use Rattle.std.proofs.Common.{◌≡◌, ℕ, zero, suc, ◌+◌, ◌<◌, ◌≤◌, Bool, true, false, List, [], ◌∷◌, ◌++◌, length, map, refl, sym, ap, ◌∙◌, subst, arith, append_assoc, append-nil, length-append, true≢false}
-use Rattle.std.specs.Prelude.{◌==◌, ◌&&◌, ◌||◌, if◌then◌else◌, IsSome, IsTrue, IsFalse, filter, ⊤}
+use Rattle.std.proofs.Common.{◌≡◌, ℕ, zero, suc, ◌+◌, ◌<◌, ◌≤◌, Bool, true, false, [], ◌∷◌, ◌++◌, length, map, refl, sym, ap, ◌∙◌, subst, arith, append_assoc, append-nil, length-append}
+use Rattle.std.specs.Prelude.{◌==◌, ◌&&◌, ⊤}
 use Rattle.std.proofs.lemmas.Bool.Decides.{Decides-eqb, nat_tests}
 use Rattle.std.proofs.lemmas.List.{map-append}
 use Rattle.hg_base.specs.Lists.{Each}
-use Rattle.hg_base.specs.History.{Commit, Group, History, group_from, group_at}
-use Rattle.hg_core.specs.declared.log.LogEntry.{LogEntry}
-use Rattle.hg_core.specs.declared.log.LogEntry.TheVariants.{Began, Saw, Refused, Outside, Wrote, Undid, Published, Over}
-use Rattle.hg_core.specs.Logs.{current, begans, is_plain, commit_in, published}
-use Rattle.hg_core.specs.Judged.{of_session}
+use Rattle.hg_base.specs.History.{Commit, Group, History}
+use Rattle.hg_core.specs.Commits.{AreEarlier}
 use Rattle.hg_rule.proofs.Lists.{each_append}
 use Rattle.hg_group.specs.Order.{Pairs, pair_of, flat, same_pair, later, last_place, IsRising, FollowsQueue}
 
@@ -100,80 +97,17 @@ follows_more h g qs bs is d f a =
 
 -- ---- an open transaction is none of those that were committed
 
-each_le : (j n : ℕ) (log : List LogEntry) → Each (λ c. c.transaction ≤ begans log) (published n j log)
-each_le j n [] = tt
-each_le j n (Began at scope ∷ log) = wider (published n j log) (each_le j n log)
+pub earlier : (h : History) (j x : ℕ) → Each (AreEarlier j x) h → Each (λ p. same_pair (j, x) p ≡ false) (map pair_of (flat h))
+earlier [] j x f = tt
+earlier (g ∷ h) j x f = subst (Each (λ p. same_pair (j, x) p ≡ false)) (sym (map-append pair_of g (flat h))) (each_append (λ p. same_pair (j, x) p ≡ false) (map pair_of g) (map pair_of (flat h)) (group g f.0) (earlier h j x f.1))
   where
-    wider : (cs : List Commit) → Each (λ c. c.transaction ≤ begans log) cs → Each (λ c. c.transaction ≤ suc (begans log)) cs
-    wider [] h = tt
-    wider (c ∷ cs) h = (omega (arith, h.0), wider cs h.1)
-each_le j n (Published m ∷ log) = each_append (λ c. c.transaction ≤ begans log) (published n j log) _ (each_le j n log) (one (m == n))
-  where
-    one : (b : Bool) → Each (λ c. c.transaction ≤ begans log) (if b then commit_in j log ∷ [] else [])
-    one true = (omega arith, tt)
-    one false = tt
-each_le j n (Saw t low high b rows ∷ log) = each_le j n log
-each_le j n (Refused r answer ∷ log) = each_le j n log
-each_le j n (Outside t ∷ log) = each_le j n log
-each_le j n (Wrote r image ∷ log) = each_le j n log
-each_le j n (Undid r ∷ log) = each_le j n log
-each_le j n (Over ∷ log) = each_le j n log
-
-open_less : (j n : ℕ) (log : List LogEntry) → IsTrue (is_plain log) → IsSome (current log) → Each (λ c. c.transaction < begans log) (published n j log)
-open_less j n [] p o = tt
-open_less j n (Began at scope ∷ log) p o = under (published n j log) (each_le j n log)
-  where
-    under : (cs : List Commit) → Each (λ c. c.transaction ≤ begans log) cs → Each (λ c. c.transaction < suc (begans log)) cs
-    under [] h = tt
-    under (c ∷ cs) h = (omega (arith, h.0), under cs h.1)
-open_less j n (Published m ∷ log) p o = absurd (true≢false (sym p))
-open_less j n (Over ∷ log) p o = absurd (let x = o in cc)
-open_less j n (Undid r ∷ log) p o = absurd (true≢false (sym p))
-open_less j n (Saw t low high b rows ∷ log) p o = open_less j n log p o
-open_less j n (Refused r answer ∷ log) p o = open_less j n log p o
-open_less j n (Outside t ∷ log) p o = open_less j n log p o
-open_less j n (Wrote r image ∷ log) p o = open_less j n log p o
-
--- a commit of session j is of an earlier transaction than x
-abbrev IsEarlier : ℕ → ℕ → Commit → Type 0
-IsEarlier j x c = c.session ≡ j → c.transaction < x
-
-of_group : (j x : ℕ) (g : Group) → Each (λ c. c.transaction < x) (of_session j g) → Each (IsEarlier j x) g
-of_group j x [] h = tt
-of_group j x (c ∷ g) h = go (c.session == j) refl h (λ k. of_group j x g k)
-  where
-    go : (b : Bool) → (c.session == j) ≡ b → Each (λ c. c.transaction < x) (if b then c ∷ of_session j g else of_session j g) → (Each (λ c. c.transaction < x) (of_session j g) → Each (IsEarlier j x) g) → Each (IsEarlier j x) (c ∷ g)
-    go true e k rest = ((λ _. k.0), rest k.1)
-    go false e k rest = ((λ q. absurd (true≢false (sym (let t : (c.session == j) ≡ true = (Decides-eqb c.session j).1 q in t) ∙ e))), rest k)
-
-each_flat : (P : Commit → Type 0) (first : ℕ) (h : History) → ((n : ℕ) → Each P (group_from first h n)) → Each P (flat h)
-each_flat P first [] f = tt
-each_flat P first (g ∷ h) f = each_append P g (flat h) (subst (Each P) (ap (λ b. if b then g else group_from (suc first) h first) here) (f first)) (each_flat P (suc first) h (λ n. rest n))
-  where
-    here : (first == first) ≡ true
-    here = grind (arith, nat_tests)
-
-    rest : (n : ℕ) → Each P (group_from (suc first) h n)
-    rest n = go (first == n) refl
-      where
-        go : (b : Bool) → (first == n) ≡ b → Each P (group_from (suc first) h n)
-        go true e = subst (λ (l : Group). Each P l) (sym (below (suc first) h n (let k : first ≡ n = (Decides-eqb first n).0 e in omega arith))) tt
-          where
-            below : (a : ℕ) (h : History) (n : ℕ) → n < a → group_from a h n ≡ []
-            below a [] n l = refl
-            below a (f ∷ h) n l = let k : (a == n) ≡ false = grind (arith, nat_tests) in ap (λ b. if b then f else group_from (suc a) h n) k ∙ below (suc a) h n (omega (arith, l))
-        go false e = subst (λ b. Each P (if b then g else group_from (suc first) h n)) e (f n)
-
-pub earlier : (h : History) (log : ℕ → List LogEntry) (j : ℕ) → ((n j : ℕ) → of_session j (group_at h n) ≡ published n j (log j)) → IsTrue (is_plain (log j)) → IsSome (current (log j)) → Each (λ p. same_pair (j, begans (log j)) p ≡ false) (map pair_of (flat h))
-earlier h log j commits plain open_ = turn (flat h) (each_flat (IsEarlier j (begans (log j))) 1 h (λ n. of_group j (begans (log j)) (group_at h n) (subst (Each (λ c. c.transaction < begans (log j))) (sym (commits n j)) (open_less j n (log j) plain open_))))
-  where
-    apart : (c : Commit) → IsEarlier j (begans (log j)) c → same_pair (j, begans (log j)) (pair_of c) ≡ false
+    apart : (c : Commit) → (c.session ≡ j → c.transaction < x) → same_pair (j, x) (pair_of c) ≡ false
     apart c l = go (j == c.session) refl
       where
-        go : (b : Bool) → (j == c.session) ≡ b → (b && (begans (log j) == c.transaction)) ≡ false
-        go true e = let less : c.transaction < begans (log j) = l (sym ((Decides-eqb j c.session).0 e)) in let x : ℕ = begans (log j) in let y : ℕ = c.transaction in let k : (x == y) ≡ false = grind (arith, nat_tests) in k
+        go : (b : Bool) → (j == c.session) ≡ b → (b && (x == c.transaction)) ≡ false
+        go true e = let less : c.transaction < x = l (sym ((Decides-eqb j c.session).0 e)) in let y : ℕ = c.transaction in let k : (x == y) ≡ false = grind (arith, nat_tests) in k
         go false e = refl
 
-    turn : (cs : Group) → Each (IsEarlier j (begans (log j))) cs → Each (λ p. same_pair (j, begans (log j)) p ≡ false) (map pair_of cs)
-    turn [] h = tt
-    turn (c ∷ cs) h = (apart c h.0, turn cs h.1)
+    group : (g : Group) → AreEarlier j x g → Each (λ p. same_pair (j, x) p ≡ false) (map pair_of g)
+    group [] a = tt
+    group (c ∷ g) a = (apart c a.0, group g a.1)

@@ -1,11 +1,11 @@
 -- What was popped comes to the pass, one after the other.
-use Rattle.std.proofs.Common.{◌≡◌, ℕ, List, [], ◌∷◌, ◌++◌, length, map, refl, sym, ap, ◌∙◌, subst, append_assoc, append-nil}
+use Rattle.std.proofs.Common.{◌≡◌, ℕ, List, [], ◌∷◌, ◌++◌, map, refl, sym, ap, ◌∙◌, append_assoc, append-nil}
 use Rattle.std.proofs.lemmas.List.{map-append}
 use Rattle.hg_rule.specs.declared.view.Part.{Part}
 use Rattle.hg_rule.specs.declared.view.Part.TheVariants.{Away, Lent}
 use Rattle.hg_rule.specs.declared.view.SessionPart.{SessionPart}
 use Rattle.hg_rule.specs.declared.view.View.{View}
-use Rattle.hg_rule.specs.Views.{number, session, since, others, seeing, HasAway}
+use Rattle.hg_rule.specs.Views.{number, session, since, others, HasAway}
 use Rattle.hg_rule.specs.Handing.{Members, lent, received}
 use Rattle.hg_rule.specs.Seats.{TableId, tx_view, session_view, session_rest, IsSeatOf, IsAwayOf}
 use Rattle.hg_rule.specs.declared.passes.SessionPass.{SessionPass}

@@ -1,30 +1,26 @@
 -- What was laid down for a session is of the transaction that it handed over.
-use Rattle.std.proofs.Common.{◌≡◌, ◌⊎◌, inl, inr, ℕ, ◌<◌, Bool, true, false, List, [], ◌∷◌, ◌++◌, refl, sym, ap, ◌∙◌, subst, append-nil, true≢false}
+use Rattle.std.proofs.Common.{◌≡◌, inl, inr, ℕ, ◌<◌, false, List, [], ◌∷◌, ◌++◌, refl, sym, ap, ◌∙◌, subst, append-nil, true≢false}
 use Rattle.std.specs.Prelude.{IsTrue}
-use Rattle.hg_base.specs.History.{History}
 use Rattle.hg_core.specs.declared.log.LogEntry.{LogEntry}
-use Rattle.hg_core.specs.declared.log.LogEntry.TheVariants.{Began, Saw as SawRows, Refused as RefusedIt, Outside, Wrote, Undid, Published, Over}
+use Rattle.hg_core.specs.declared.log.LogEntry.TheVariants.{Published}
 use Rattle.hg_core.specs.Logs.{is_plain, commit_in}
 use Rattle.hg_rule.specs.declared.view.SessionPart.{SessionPart}
 use Rattle.hg_rule.specs.declared.view.Part.TheVariants.{OfSession, Away}
-use Rattle.hg_rule.specs.declared.view.Sight.{Sight}
 use Rattle.hg_rule.specs.declared.view.Sight.TheVariants.{Saw, Heard}
 use Rattle.hg_rule.specs.declared.view.View.{View}
-use Rattle.hg_rule.specs.Facts.{IsAmong, IsLeft, StartsWith, groups}
+use Rattle.hg_rule.specs.Facts.{IsAmong, IsLeft, groups}
 use Rattle.hg_rule.specs.Views.{number, session, since, others, seeing, HasAway}
 use Rattle.hg_rule.specs.declared.view.Part.{Part}
 use Rattle.hg_rule.proofs.Lists.{starts_same, starts_on}
 use Rattle.hg_group.specs.Leading.{Leads}
 use Rattle.hg_rule.specs.Writes.{with_published}
 use Rattle.hg_rule.specs.Handing.{IsBack, resuming}
-use Rattle.hg_rule.specs.Seats.{TableId, tx_view}
 use Rattle.hg_queue.specs.declared.open_tx.OpenTx.{OpenTx}
-use Rattle.hg_queue.specs.Handing.{IsOpenTxOf, MayCommit, seat_number, seat_part}
+use Rattle.hg_queue.specs.Handing.{IsOpenTxOf, MayCommit}
 use Rattle.hg_group.specs.declared.receipt.Receipt.{Receipt}
 use Rattle.hg_group.specs.declared.laid.Outcome.TheVariants.{Committed, Refused}
-use Rattle.hg_group.specs.declared.laid.Laid.{Laid}
 use Rattle.hg_group.specs.Order.{StandsIn}
-use Rattle.hg_group.specs.Batch.{IsOutcome, IsLaid, HasFinished, IsRefused}
+use Rattle.hg_group.specs.Batch.{IsOutcome, HasFinished, IsRefused}
 
 -- the number and the rest of a log that begins with a commit number
 abbrev first_number : List LogEntry → ℕ

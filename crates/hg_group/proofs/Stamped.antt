@@ -1,21 +1,18 @@
 -- The records of a batch are stamped, one after the other.
-use Rattle.std.proofs.Common.{◌≡◌, ℕ, zero, suc, ◌+◌, ◌<◌, Bool, true, false, List, [], ◌∷◌, ◌++◌, length, map, take, get_or, refl, sym, ap, ◌∙◌, subst, arith, append_assoc, append-nil, true≢false}
+use Rattle.std.proofs.Common.{◌≡◌, ℕ, zero, suc, ◌+◌, ◌<◌, Bool, true, false, List, [], ◌∷◌, ◌++◌, length, take, get_or, refl, sym, ap, ◌∙◌, subst, arith, append_assoc, true≢false}
 use Rattle.std.specs.Prelude.{◌==◌, ◌&&◌, ◌||◌, if◌then◌else◌, IsSome, IsTrue, is_some}
 use Rattle.std.proofs.lemmas.Bool.Decides.{Decides-eqb, nat_tests}
 use Rattle.std.proofs.lemmas.List.{map-append}
 use Rattle.hg_base.specs.declared.rid.Rid.{Rid}
 use Rattle.hg_base.specs.Lists.{Each}
 use Rattle.hg_base.specs.History.{NoNumberTwice, NoneTwice, same_rid, is_among}
-use Rattle.hg_core.specs.declared.log.LogEntry.{LogEntry}
 use Rattle.hg_core.specs.Contents.{is_stamped, has_stamped}
 use Rattle.hg_core.specs.Logs.{begans, is_plain, is_in, open_in}
-use Rattle.hg_rule.specs.declared.view.SessionPart.{SessionPart}
 use Rattle.hg_rule.specs.declared.view.CommitPart.{CommitPart}
 use Rattle.hg_rule.specs.declared.view.Part.{Part}
 use Rattle.hg_rule.specs.declared.view.Part.TheVariants.{OfCommit, Away}
 use Rattle.hg_rule.specs.declared.view.Event.TheVariants.{Stamp}
 use Rattle.hg_rule.specs.declared.view.View.{View}
-use Rattle.hg_rule.specs.Facts.{StartsWith, new_session}
 use Rattle.hg_rule.specs.Views.{number, session, since, seeing, HasAway}
 use Rattle.hg_rule.specs.Holding.{beyond, commit, HasCommit}
 use Rattle.hg_rule.specs.Writes.{with_stamp, listing}
@@ -149,9 +146,13 @@ taken_at (tx ∷ txs) (m ∷ ms) (suc i) d h once l =
     let rest = taken_at txs ms i d h.1 once.1 (omega (arith, l)) in
     let j = (get_or txs i d).writer.session in
     let apart : (m.0 == j) ≡ false = unlike m.0 j (λ (e : m.0 ≡ j). true≢false (sym rest.0 ∙ (ap (is_in (who ms)) (sym e) ∙ once.0))) in
-    let same : tx.writer.session ≡ m.0 = ap (λ w. w.session) h.0.tx_is.writer_is in
-    (ap (λ b. b || is_in (who ms) j) apart ∙ rest.0, (subst (λ p. IsTaken (get_or txs i d) (j, p)) (sym (ap (λ b. if b then m.1 else part_of j ms) apart)) rest.1.0,
-    (λ r. stamped_append j r (with_session tx.writer.session tx.records.list) (all_pairs (take i txs)) ∙ (λ k. others j r tx.writer.session tx.records.list (ap (λ n. n == j) same ∙ apart) k || rest.1.1 r k))))
+    let same : tx.writer.session ≡ m.0 = ap (λ w. w.session) h.0.tx_is.writer_is in (
+      ap (λ b. b || is_in (who ms) j) apart ∙ rest.0,
+      (
+        subst (λ p. IsTaken (get_or txs i d) (j, p)) (sym (ap (λ b. if b then m.1 else part_of j ms) apart)) rest.1.0,
+        (λ r. stamped_append j r (with_session tx.writer.session tx.records.list) (all_pairs (take i txs)) ∙ (λ k. others j r tx.writer.session tx.records.list (ap (λ n. n == j) same ∙ apart) k || rest.1.1 r k)),
+      ),
+    )
   where
     unlike : (a b : ℕ) → (a ≡ b → ⊥) → (a == b) ≡ false
     unlike a b other = grind (arith, nat_tests)

@@ -1,5 +1,5 @@
 -- A transaction that was handed over and came back.
-use Rattle.std.proofs.Common.{◌≡◌, ℕ, ◌<◌, ◌≤◌, List, [], ◌∷◌, ◌++◌, length, refl, sym, ap, ◌∙◌, subst, arith}
+use Rattle.std.proofs.Common.{◌≡◌, ℕ, ◌<◌, ◌≤◌, List, [], ◌∷◌, refl, sym, ap, ◌∙◌, subst, arith}
 use Rattle.std.specs.Prelude.{Result, Ok, Err, IfOk, IfErr}
 use Rattle.hg_core.specs.declared.log.LogEntry.TheVariants.{Published}
 use Rattle.hg_core.specs.Logs.{commit_in}
@@ -9,7 +9,7 @@ use Rattle.hg_rule.specs.declared.view.Part.TheVariants.{OfSession, Away}
 use Rattle.hg_rule.specs.declared.view.Sight.TheVariants.{Heard}
 use Rattle.hg_rule.specs.declared.view.View.{View}
 use Rattle.hg_rule.specs.Facts.{StartsWith, IsAmong}
-use Rattle.hg_rule.specs.Views.{number, session, since, others, seeing}
+use Rattle.hg_rule.specs.Views.{number, session, since, seeing}
 use Rattle.hg_rule.specs.Holding.{snapshot}
 use Rattle.hg_rule.specs.Writes.{with_published}
 use Rattle.hg_rule.proofs.Lists.{starts_on}

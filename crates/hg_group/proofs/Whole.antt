@@ -1,26 +1,24 @@
 -- A batch that is stamped may be published as one group.
-use Rattle.std.proofs.Common.{◌≡◌, ℕ, suc, ◌+◌, ◌<◌, Bool, true, false, List, [], ◌∷◌, ◌++◌, length, map, get_or, Option, Some, None, refl, sym, ap, ◌∙◌, subst, arith, true≢false}
-use Rattle.std.specs.Prelude.{◌==◌, ◌&&◌, ◌||◌, IsSome, IsTrue, is_some}
-use Rattle.std.proofs.lemmas.Bool.Decides.{nat_tests}
+use Rattle.std.proofs.Common.{◌≡◌, ℕ, suc, ◌<◌, Bool, true, false, List, [], ◌∷◌, length, get_or, refl, sym, ap, ◌∙◌, subst, arith}
+use Rattle.std.specs.Prelude.{◌==◌, ◌&&◌, ◌||◌, IsSome, IsTrue}
 use Rattle.hg_base.specs.declared.rid.Rid.{Rid}
-use Rattle.hg_base.specs.declared.image.Image.{Image}
 use Rattle.hg_base.specs.Lists.{Each}
-use Rattle.hg_base.specs.History.{same_rid, is_among}
+use Rattle.hg_base.specs.History.{same_rid}
 use Rattle.hg_core.specs.declared.phase.Phase.{Phase}
 use Rattle.hg_core.specs.declared.log.LogEntry.{LogEntry}
 use Rattle.hg_core.specs.Contents.{is_stamped, has_stamped}
-use Rattle.hg_core.specs.Logs.{is_plain, is_in, open_in}
+use Rattle.hg_core.specs.Logs.{is_plain, open_in}
 use Rattle.hg_core.specs.Phases.{snapshot_in}
 use Rattle.hg_rule.specs.declared.view.SessionPart.{SessionPart}
 use Rattle.hg_rule.specs.declared.view.CommitPart.{CommitPart}
 use Rattle.hg_rule.specs.declared.view.View.{View}
 use Rattle.hg_rule.specs.Holding.{beyond, commit}
-use Rattle.hg_rule.specs.Handing.{Members, members, who, MayPublish}
+use Rattle.hg_rule.specs.Handing.{Members, members, MayPublish}
 use Rattle.hg_rule.proofs.Grouping.{each_two}
 use Rattle.hg_queue.specs.declared.open_tx.OpenTx.{OpenTx}
 use Rattle.hg_group.specs.Batch.{IsTaken, AreTaken, with_session, all_pairs, bare, Stamped}
 use Rattle.hg_group.proofs.Recording.{among_at}
-use Rattle.hg_group.proofs.Stamped.{on_way, same_who, own_pairs, stamped_append}
+use Rattle.hg_group.proofs.Stamped.{on_way, own_pairs, stamped_append}
 
 -- what phases and logs say
 abbrev Says : (ℕ → Phase → List LogEntry → Type 0) → Members → Type 0
@@ -70,10 +68,11 @@ covered [] (m ∷ ms) h = absurd h
 covered (tx ∷ txs) [] h = absurd h
 covered (tx ∷ txs) (m ∷ ms) h =
     let t = h.0 in
-    let j : tx.writer.session ≡ m.0 = ap (λ w. w.session) t.tx_is.writer_is in
-    ((λ r some. stamped_append m.0 r (with_session tx.writer.session tx.records.list) (all_pairs txs) ∙ or_left (is_stamped m.0 r (with_session tx.writer.session tx.records.list)) (is_stamped m.0 r (all_pairs txs))
-        (ap (λ k. is_stamped m.0 r (with_session k tx.records.list)) j ∙ (own_pairs m.0 r tx.records.list ∙ (t.tx_is.exact r ∙ some)))),
-    later ms (covered txs ms h.1))
+    let j : tx.writer.session ≡ m.0 = ap (λ w. w.session) t.tx_is.writer_is in (
+      (λ r some. stamped_append m.0 r (with_session tx.writer.session tx.records.list) (all_pairs txs) ∙ or_left (is_stamped m.0 r (with_session tx.writer.session tx.records.list)) (is_stamped m.0 r (all_pairs txs))
+          (ap (λ k. is_stamped m.0 r (with_session k tx.records.list)) j ∙ (own_pairs m.0 r tx.records.list ∙ (t.tx_is.exact r ∙ some)))),
+      later ms (covered txs ms h.1),
+    )
   where
     later : (ns : Members) → Says (Covers (all_pairs txs)) ns → Says (Covers (all_pairs (tx ∷ txs))) ns
     later [] k = tt

@@ -1,13 +1,11 @@
 -- A batch of transactions that were popped, and what becomes of them.
-use Rattle.std.specs.Prelude.{◌≡◌, ℕ, suc, ◌+◌, ◌<◌, ◌≤◌, true, false, IsTrue, List, [], ◌∷◌, ◌++◌, length, map, Option, IfSome, ⊤}
+use Rattle.std.specs.Prelude.{◌≡◌, ℕ, suc, ◌<◌, ◌≤◌, true, false, IsTrue, List, [], ◌∷◌, ◌++◌, length, map, Option, IfSome, ⊤}
 use Rattle.hg_base.specs.declared.rid.Rid.{Rid}
 use Rattle.hg_base.specs.History.{History}
 use Rattle.hg_core.specs.declared.log.LogEntry.{LogEntry}
 use Rattle.hg_core.specs.declared.log.LogEntry.TheVariants.{Published}
 use Rattle.hg_core.specs.Logs.{is_in, commit_in}
 use Rattle.hg_rule.specs.declared.view.SessionPart.{SessionPart}
-use Rattle.hg_rule.specs.declared.view.CommitPart.{CommitPart}
-use Rattle.hg_rule.specs.declared.view.Part.{Part}
 use Rattle.hg_rule.specs.declared.view.Part.TheVariants.{OfSession, OfCommit, Away}
 use Rattle.hg_rule.specs.declared.view.Sight.{Sight}
 use Rattle.hg_rule.specs.declared.view.Sight.TheVariants.{Saw, Heard}
@@ -20,7 +18,7 @@ use Rattle.hg_base.specs.Lists.{Each}
 use Rattle.hg_core.specs.Contents.{is_stamped, has_stamped}
 use Rattle.hg_core.specs.Phases.{IsSession}
 use Rattle.hg_rule.specs.Handing.{Members, members, who, lent, flag, numbered, group_of}
-use Rattle.hg_group.specs.Contexts.{commits_in}
+use Rattle.hg_core.specs.Commits.{commits_in}
 use Rattle.hg_rule.specs.Seats.{TableId, tx_view, IsTxOf}
 use Rattle.hg_queue.specs.declared.open_tx.OpenTx.{OpenTx}
 use Rattle.hg_queue.specs.Handing.{IsOpenTxOf, MayCommit, seat_number, seat_part}
@@ -82,6 +80,16 @@ bare (m ∷ ms) = (m.0, record m.1 { stamped = false }) ∷ bare ms
 abbrev pub all_records : List OpenTx → List Rid
 all_records [] = []
 all_records (tx ∷ txs) = tx.records.list ++ all_records txs
+
+-- the same transactions, where the first one's list has other room
+abbrev pub with_room : ℕ → List OpenTx → List OpenTx
+with_room n [] = []
+with_room n (tx ∷ txs) = record tx { records = record tx.records { room = n } } ∷ txs
+
+-- the first one's list has room for the records of the others
+abbrev pub HasRoomForAll : List OpenTx → Type 0
+HasRoomForAll [] = ⊤
+HasRoomForAll (tx ∷ txs) = length (all_records txs) ≤ tx.records.room
 
 -- With the committer's part joined, these were stamped, and nothing else of the parts has changed.
 pub record Stamped (v : View) (done : List (ℕ × Rid)) (w : View) : Type 0 where

@@ -1,5 +1,5 @@
 -- What a group's context says of the group.
-use Rattle.std.specs.Prelude.{◌≡◌, ℕ, suc, ◌+◌, List, [], ◌∷◌, length, drop, is_some, ⊤}
+use Rattle.std.specs.Prelude.{◌≡◌, ℕ, suc, List, [], ◌∷◌, drop, is_some, ⊤}
 use Rattle.hg_base.specs.declared.rid.Rid.{Rid}
 use Rattle.hg_base.specs.History.{Group, History, NoneTwice, is_among, group_image}
 use Rattle.hg_group.specs.declared.context.GroupContext.{GroupContext}
@@ -20,8 +20,3 @@ EachContextOf n (group ∷ groups) (c ∷ contexts) = IsContextOf n group c × E
 -- those of the groups that were not taken out
 abbrev pub AreContexts : History → ℕ → List GroupContext → Type 0
 AreContexts h taken contexts = EachContextOf (suc taken) (drop taken h) contexts
-
--- how many commits the groups have
-abbrev pub commits_in : History → ℕ
-commits_in [] = 0
-commits_in (group ∷ groups) = length group + commits_in groups

@@ -1,8 +1,8 @@
 -- What fits under the locks of group commit.
-use Rattle.std.specs.Prelude.{◌≡◌, ℕ, false}
+use Rattle.std.specs.Prelude.{ℕ}
 use Rattle.std.specs.declared.snapshot.Snapshot.{Snapshot}
 use Rattle.hg_rule.specs.Seats.{TableId}
-use Rattle.hg_queue.specs.Queues.{IsPassOf, known}
+use Rattle.hg_queue.specs.Queues.{IsPassOf}
 use Rattle.hg_group.specs.declared.batch.Batches.{Batches}
 use Rattle.hg_group.specs.declared.batch.Founding.{Founding}
 use Rattle.hg_group.specs.Places.{seat_table}

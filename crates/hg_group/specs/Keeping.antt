@@ -1,11 +1,12 @@
 -- What a clause says of a held commit lock.
-use Rattle.std.specs.Prelude.{◌≡◌, ℕ, ◌≤◌, true, false, [], length, vec_capacity}
+use Rattle.std.specs.Prelude.{◌≡◌, ◌≤◌, true, false, [], length, vec_capacity}
 use Rattle.hg_lock.specs.Locks.{tag_of}
 use Rattle.hg_rule.specs.declared.view.CommitPart.{CommitPart}
 use Rattle.hg_rule.specs.Seats.{TableId}
 use Rattle.hg_queue.specs.Queues.{IsPassOf, known}
 use Rattle.hg_group.specs.declared.held_list.HeldList.{HeldList}
-use Rattle.hg_group.specs.Contexts.{AreContexts, commits_in}
+use Rattle.hg_core.specs.Commits.{commits_in}
+use Rattle.hg_group.specs.Contexts.{AreContexts}
 use Rattle.hg_group.specs.Order.{FollowsQueue}
 use Rattle.hg_group.specs.Batch.{AreLaid}
 use Rattle.hg_group.specs.Founded.{founding_table}

@@ -1,5 +1,5 @@
 -- What lies under the commit lock, and what a leader does.
-use Rattle.std.specs.Prelude.{◌≡◌, ℕ, ◌≤◌, true, false, List, [], ◌∷◌, length, vec_capacity}
+use Rattle.std.specs.Prelude.{◌≡◌, ℕ, ◌≤◌, true, false, [], ◌∷◌, length, vec_capacity}
 use Rattle.hg_rule.specs.declared.view.Part.TheVariants.{Away}
 use Rattle.hg_rule.specs.declared.view.View.{View}
 use Rattle.hg_rule.specs.Facts.{StartsWith}
@@ -7,7 +7,8 @@ use Rattle.hg_rule.specs.Views.{number, session, since}
 use Rattle.hg_rule.specs.Seats.{TableId, IsCommitOf}
 use Rattle.hg_queue.specs.Queues.{known}
 use Rattle.hg_group.specs.declared.batch.Batches.{Batches}
-use Rattle.hg_group.specs.Contexts.{AreContexts, commits_in}
+use Rattle.hg_core.specs.Commits.{commits_in}
+use Rattle.hg_group.specs.Contexts.{AreContexts}
 use Rattle.hg_group.specs.Order.{FollowsQueue}
 use Rattle.hg_group.specs.Places.{part_in}
 use Rattle.hg_group.specs.Batch.{AreLaid}

@@ -2,7 +2,7 @@
 use Rattle.std.specs.Prelude.{◌≡◌, ℕ, zero, suc, ◌+◌, ◌<◌, Bool, true, false, List, [], ◌∷◌, ◌++◌, length, map, ◌==◌, ◌&&◌, ⊤}
 use Rattle.hg_base.specs.History.{Commit, Group, History}
 use Rattle.hg_group.specs.declared.receipt.Receipt.{Receipt}
-use Rattle.hg_group.specs.Contexts.{commits_in}
+use Rattle.hg_core.specs.Commits.{commits_in}
 
 -- session and transaction
 abbrev pub Pairs : Type 0

@@ -12,7 +12,7 @@ use Rattle.hg_rule.specs.Holding.{snapshot}
 use Rattle.hg_rule.specs.Writes.{with_published}
 use Rattle.hg_group.specs.declared.receipt.Receipt.{Receipt}
 use Rattle.hg_group.specs.Order.{StandsIn}
-use Rattle.hg_rule.specs.Views.{number, session, others}
+use Rattle.hg_rule.specs.Views.{number, session}
 use Rattle.hg_rule.specs.Steps.{Within, loaded_in}
 use Rattle.hg_rule.specs.Handing.{HandsOver}
 use Rattle.hg_queue.specs.declared.known.Known.{Known}

@@ -11,7 +11,7 @@ use crate::context::GroupContext;
 use crate::gathering::gather;
 use crate::laid::Laid;
 use crate::laying::lay;
-use crate::records::make_room;
+use crate::records::{join_records, make_room};
 use crate::refusing::lay_back;
 use crate::stamping::stamp_batch;
 use hg_lock::Fits;
@@ -91,7 +91,7 @@ pub(crate) fn lead<R: Wait>(
         };
     }
     let number = board.join_commit(pass, seat) + 1;
-    let Ok(records) = make_room(&mut contexts, &popped) else {
+    let Ok(()) = make_room(&mut contexts, &mut popped) else {
         let seat = board.split_commit(pass);
         lay_back(board, pass, &mut laid, &mut popped);
         return Batches {
@@ -105,11 +105,11 @@ pub(crate) fn lead<R: Wait>(
     };
     stamp_batch(rt, board, store, pass, popped.as_slice(), number);
     board.publish(pass, number);
-    contexts.push_back_reserved(GroupContext { number, records });
     let seat = board.split_commit(pass);
     lay(board, pass, &mut laid, popped.as_slice(), number, count);
     let count = count + popped.len() as u64;
-    popped.clear();
+    let records = join_records(&mut popped);
+    contexts.push_back_reserved(GroupContext { number, records });
     Batches {
         seat,
         line,

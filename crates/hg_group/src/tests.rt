@@ -133,8 +133,20 @@ fn two_sessions_commit_in_one_group(rt: HostRuntime) -> Result<(), Fail> {
         panic!(rt; "no memory");
     };
     let two = groups.finish(&rt, &board, &store, two, &mut second);
-    assert_eq!(rt; one.ok(), Some(Receipt { number: 1, place: 0 }));
-    assert_eq!(rt; two.ok(), Some(Receipt { number: 1, place: 1 }));
+    assert_eq!(rt;
+        one.ok(),
+        Some(Receipt {
+            number: 1,
+            place: 0
+        })
+    );
+    assert_eq!(rt;
+        two.ok(),
+        Some(Receipt {
+            number: 1,
+            place: 1
+        })
+    );
     let (kept, loan) = groups.batches.take(&rt, 0);
     let mut listed = None;
     if let Some(context) = kept.contexts.get(0) {

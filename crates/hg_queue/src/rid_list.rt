@@ -50,6 +50,15 @@ impl RidList {
         Ok(())
     }
 
+    /// Makes room for so many more. No memory is taken where there is room.
+    pub fn reserve_many(&mut self, count: usize) -> Result<(), NoMemory>
+        ensures same { self.new.list ≡ self.old.list }
+        ensures room { OnOk result (count ≤ self.new.room) }
+    {
+        self.rids.reserve(count)?;
+        Ok(())
+    }
+
     pub fn push_reserved(&mut self, rid: Rid)
         requires room { 0 < self.old.room }
         ensures pushed { self.new.list ≡ self.old.list ++ rid ∷ [] }

@@ -1,4 +1,4 @@
-use Rattle.std.proofs.Common.{rules, ◌≡◌, ◌<◌, ◌+◌, ◌++◌, ◌∷◌, [], ℕ, suc, List, length, map, sym, ap, ◌∙◌, subst, arith, refl}
+use Rattle.std.proofs.Common.{rules, ◌≡◌, ◌<◌, ◌+◌, ◌++◌, ◌∷◌, [], ℕ, suc, List, length, map, sym, ap, ◌∙◌, subst, arith}
 use Rattle.hg_base.specs.History.{History, NoNumberTwice}
 use Rattle.hg_rule.specs.declared.groups.Groups.{Groups}
 use Rattle.hg_rule.specs.declared.view.CommitPart.{CommitPart}
@@ -6,14 +6,15 @@ use Rattle.hg_rule.specs.declared.view.View.{View}
 use Rattle.hg_rule.specs.declared.view.Part.TheVariants.{Away}
 use Rattle.hg_rule.specs.Views.{number, session, since, commit_there, first_in}
 use Rattle.hg_rule.specs.Holding.{beyond}
-use Rattle.hg_rule.specs.Handing.{lent, members, who, group_of, MayPublish}
-use Rattle.hg_rule.specs.Seats.{table_of, sizes_of, session_view, commit_view}
+use Rattle.hg_rule.specs.Handing.{Members, lent, members, who, group_of}
+use Rattle.hg_rule.specs.Seats.{sizes_of, session_view, commit_view}
 use Rattle.hg_queue.specs.declared.open_tx.OpenTx.{OpenTx}
 use Rattle.hg_queue.specs.Queues.{known}
-use Rattle.hg_group.specs.Contexts.{AreContexts, commits_in}
+use Rattle.hg_core.specs.Commits.{commits_in}
+use Rattle.hg_group.specs.Contexts.{AreContexts}
 use Rattle.hg_group.specs.Order.{FollowsQueue}
 use Rattle.hg_group.specs.Places.{part_in}
-use Rattle.hg_group.specs.Batch.{AreTaken, Stamped, all_pairs, HasGroup, pair_in}
+use Rattle.hg_group.specs.Batch.{AreTaken, all_records, HasGroup, pair_in, with_room}
 use Rattle.hg_group.proofs.Grouped.{once, follows_group, follows_still, commits_more, group_length}
 use Rattle.hg_group.proofs.Laying_down.{whose_length}
 use Rattle.hg_group.proofs.Stamped.{on_way}
@@ -24,12 +25,16 @@ use Rattle.hg_rule.specs.declared.view.Part.TheVariants.{OfCommit}
 use Rattle.hg_rule.specs.declared.view.Sizes.{Sizes}
 use Rattle.hg_rule.specs.Rules.{HasRoom, IsBacked}
 use Rattle.hg_group.proofs.Bound.{count_most}
-use Rattle.hg_group.proofs.Joint.{InHand, in_hand, taken_whose, after_is, none_after, taken_after, has_group, has_batch}
+use Rattle.hg_group.proofs.Joint.{in_hand, taken_whose, after_is, none_after, taken_after, has_group, has_batch}
 use Rattle.hg_core.proofs.Groups.{length_more}
 use Rattle.hg_group.specs.declared.context.GroupContext.{GroupContext}
 use Rattle.hg_group.proofs.Contexts.{contexts_more}
 use Rattle.hg_group.proofs.Collecting.{group_context}
+use Rattle.hg_group.proofs.Listing.{records_room, pairs_room, taken_room}
 use Rattle.hg_group.proofs.batch.lead.Goals as goal
+
+roomy : (txs was : List OpenTx) (ms : Members) → (room : ℕ) × (txs ≡ with_room room was) → AreTaken was ms → AreTaken txs ms
+roomy txs was ms w h = subst (λ l. AreTaken l ms) (sym w.1) (taken_room w.0 was ms h)
 
 pub stamp_batch-requires-clause-received : goal.stamp_batch-requires-clause-received
 stamp_batch-requires-clause-received g c =
@@ -43,9 +48,8 @@ stamp_batch-requires-clause-taken g c =
     let h = c.gather.ensures.gathered in
     let part = part_in c.args.kept.seat in
     let w = session_view c.join_commit-number.new.pass in
-    let o = in_hand v (session_view c.gather.new.pass) (commit_view c.args.kept.seat) w part h.ms h.parts c.requires.kept.0.seat.1 c.join_commit-number.ensures.view in
-    (
-      subst (λ l. AreTaken l (members (beyond w))) (sym c.as_slice.ensures.value) (subst (AreTaken c.gather.new.popped.items) (sym o.members_are) h.taken),
+    let o = in_hand v (session_view c.gather.new.pass) (commit_view c.args.kept.seat) w part h.ms h.parts c.requires.kept.0.seat.1 c.join_commit-number.ensures.view in (
+      subst (λ l. AreTaken l (members (beyond w))) (sym c.as_slice.ensures.value) (subst (AreTaken c.make_room.new.popped.items) (sym o.members_are) (roomy c.make_room.new.popped.items c.gather.new.popped.items h.ms c.make_room.ensures.whole h.taken)),
       subst (λ ms. NoNumberTwice (who ms)) (sym o.members_are) (once (sizes_of c.args.board.now) c.join_commit-number.result w c.join_commit-number.ensures.told (Away (number v) (session v) (since v)) part h.ms o.parts),
     )
 
@@ -60,7 +64,7 @@ publish-requires-clause-may g c =
     let h = c.gather.ensures.gathered in
     let w = session_view c.join_commit-number.new.pass in
     let o = in_hand (session_view c.args.pass.now) (session_view c.gather.new.pass) (commit_view c.args.kept.seat) w (part_in c.args.kept.seat) h.ms h.parts c.requires.kept.0.seat.1 c.join_commit-number.ensures.view in
-    may_all w (session_view c.stamp_batch.new.pass) c.as_slice.result.now (subst (λ l. AreTaken l (members (beyond w))) (sym c.as_slice.ensures.value) (subst (AreTaken c.gather.new.popped.items) (sym o.members_are) h.taken)) (search rules) c.stamp_batch.ensures.stamped
+    may_all w (session_view c.stamp_batch.new.pass) c.as_slice.result.now (subst (λ l. AreTaken l (members (beyond w))) (sym c.as_slice.ensures.value) (subst (AreTaken c.make_room.new.popped.items) (sym o.members_are) (roomy c.make_room.new.popped.items c.gather.new.popped.items h.ms c.make_room.ensures.whole h.taken))) (search rules) c.stamp_batch.ensures.stamped
 
 pub lay-requires-clause-group : goal.lay-requires-clause-group
 lay-requires-clause-group g c =
@@ -73,7 +77,7 @@ lay-requires-clause-group g c =
     let n : ℕ = mark + 1 in
     let long : length part.history.list ≡ mark = ap (λ (q : CommitPart). length q.history.list) (sym o.commit_is) ∙ c.join_commit-number.ensures.mark.is_length in
     let next : n ≡ suc (length part.history.list) = omega (arith, long) in
-    let taken : AreTaken c.as_slice.result.now h.ms = subst (λ l. AreTaken l h.ms) (sym c.as_slice.ensures.value) h.taken in
+    let taken : AreTaken c.as_slice.result.now h.ms = subst (λ l. AreTaken l h.ms) (sym c.as_slice.ensures.value) (roomy c.make_room.new.popped.items c.gather.new.popped.items h.ms c.make_room.ensures.whole h.taken) in
     subst (λ l. HasGroup (sizes_of c.args.board.now).sessions (session_view c.split_commit-seat-2.new.pass) l n c.args.kept.count) (c.as_slice.ensures.value ∙ sym c.as_slice-2.ensures.value)
     (has_group v w (session_view c.stamp_batch.new.pass) (session_view c.publish.new.pass) (session_view c.split_commit-seat-2.new.pass) part h.ms c.as_slice.result.now n o c.stamp_batch.ensures.stamped c.publish.ensures.step c.split_commit-seat-2.ensures.view
     (sizes_of c.args.board.now) mark c.args.kept.count c.join_commit-number.ensures.told taken next c.requires.kept.0.count_is)
@@ -93,27 +97,27 @@ returns-clause-kept g c =
     let o = in_hand v (session_view c.gather.new.pass) (commit_view c.args.kept.seat) w part h.ms h.parts kept.seat.1 c.join_commit-number.ensures.view in
     let n : ℕ = c.join_commit-number.result + 1 in
     let txs = c.as_slice.result.now in
-    let taken : AreTaken txs h.ms = subst (λ l. AreTaken l h.ms) (sym c.as_slice.ensures.value) h.taken in
+    let taken : AreTaken txs h.ms = subst (λ l. AreTaken l h.ms) (sym c.as_slice.ensures.value) (roomy c.make_room.new.popped.items c.gather.new.popped.items h.ms c.make_room.ensures.whole h.taken) in
     let part_is = ap (λ (t : View). commit_there (first_in t.parts)) c.split_commit-seat-2.ensures.seat in
     let history : (part_in c.split_commit-seat-2.result).history.list ≡ part.history.list ++ group_of h.ms ∷ [] = ap (λ (q : CommitPart). q.history.list) part_is ∙ ap (λ (gs : Groups). gs.list) (after_is v w (session_view c.stamp_batch.new.pass) y u part h.ms txs n o c.stamp_batch.ensures.stamped c.publish.ensures.step c.split_commit-seat-2.ensures.view) in
     let taken_is : (part_in c.split_commit-seat-2.result).taken ≡ part.taken = ap (λ (q : CommitPart). q.taken) part_is ∙ taken_after v w (session_view c.stamp_batch.new.pass) y u part h.ms txs n o c.stamp_batch.ensures.stamped c.publish.ensures.step c.split_commit-seat-2.ensures.view in
     let long : length part.history.list ≡ c.join_commit-number.result = ap (λ (q : CommitPart). length q.history.list) (sym o.commit_is) ∙ c.join_commit-number.ensures.mark.is_length in
     let next : n ≡ suc (length part.history.list) = omega (arith, long) in
-    let context : GroupContext = record { number = n; records = c.in-Ok.records } in
+    let context : GroupContext = record { number = n; records = c.join_records-records.result } in
     let listed : c.push_back_reserved.new.self.items ≡ c.args.kept.contexts.items ++ context ∷ [] = c.push_back_reserved.ensures.items ∙ ap (λ l. l ++ context ∷ []) c.make_room.ensures.same in
     let many : length (group_of h.ms) ≡ length txs = group_length h.ms ∙ whose_length txs h.ms (taken_whose txs h.ms taken) in
     let more : c.args.kept.count + length txs ≡ commits_in (part.history.list ++ group_of h.ms ∷ []) = (λ i. kept.count_is i + sym many i) ∙ sym (commits_more part.history.list (group_of h.ms)) in
-    let pairs : (known c.gather.new.line).pairs ≡ (known c.args.kept.line).pairs ++ map pair_in txs = h.pairs ∙ ap (λ l. (known c.args.kept.line).pairs ++ map pair_in l) (sym c.as_slice.ensures.value) in
+    let pairs : (known c.gather.new.line).pairs ≡ (known c.args.kept.line).pairs ++ map pair_in txs = h.pairs ∙ ap (λ l. (known c.args.kept.line).pairs ++ l) (sym (pairs_room c.make_room.ensures.whole.0 c.gather.new.popped.items) ∙ ap (map pair_in) (sym c.make_room.ensures.whole.1 ∙ sym c.as_slice.ensures.value)) in
     let follows = follows_group (sizes_of c.args.board.now) c.join_commit-number.result w c.join_commit-number.ensures.told (Away (number v) (session v) (since v)) part h.ms o.parts txs taken (known c.args.kept.line).pairs kept.follows in (
       record {
         seat = c.split_commit-seat-2.ensures.commit;
         unstamped = ap (λ (q : CommitPart). q.stamped) part_is ∙ none_after v w (session_view c.stamp_batch.new.pass) y u part h.ms txs n o c.stamp_batch.ensures.stamped c.publish.ensures.step c.split_commit-seat-2.ensures.view;
         taken = low part.taken (length part.history.list) (part_in c.split_commit-seat-2.result).taken (length (part_in c.split_commit-seat-2.result).history.list) kept.taken taken_is (ap length history ∙ length_more part.history.list (group_of h.ms));
-        contexts_are = subst (λ (x : History × (ℕ × List GroupContext)). AreContexts x.0 x.1.0 x.1.1) (λ i. (sym history i, (sym taken_is i, sym listed i))) (contexts_more part.history.list part.taken c.args.kept.contexts.items (group_of h.ms) context kept.taken kept.contexts_are (group_context (sizes_of c.args.board.now) c.join_commit-number.result w c.join_commit-number.ensures.told (Away (number v) (session v) (since v)) part h.ms o.parts c.gather.new.popped.items h.taken (suc (length part.history.list)) context next c.in-Ok.ensures.records));
+        contexts_are = subst (λ (x : History × (ℕ × List GroupContext)). AreContexts x.0 x.1.0 x.1.1) (λ i. (sym history i, (sym taken_is i, sym listed i))) (contexts_more part.history.list part.taken c.args.kept.contexts.items (group_of h.ms) context kept.taken kept.contexts_are (group_context (sizes_of c.args.board.now) c.join_commit-number.result w c.join_commit-number.ensures.told (Away (number v) (session v) (since v)) part h.ms o.parts c.gather.new.popped.items h.taken (suc (length part.history.list)) context next (c.join_records-records.ensures.records ∙ (ap all_records c.make_room.ensures.whole.1 ∙ records_room c.make_room.ensures.whole.0 c.gather.new.popped.items))));
         count_is = search rules;
         follows = subst (λ (hs : History). FollowsQueue hs (known c.gather.new.line).pairs) (sym history) (subst (FollowsQueue (part.history.list ++ group_of h.ms ∷ [])) (sym pairs) follows);
         line = (c.gather.ensures.line.1, (c.gather.ensures.line.2, c.gather.ensures.line.3));
-        room = (c.clear.ensures.items, search rules);
+        room = (c.join_records-records.ensures.gone.0, search rules);
         laid = c.lay.ensures.laid;
       },
       c.gather.ensures.line.0,
@@ -147,7 +151,7 @@ lay_back-requires-clause-batch g c =
     let part = part_in c.args.kept.seat in
     let w = session_view c.join_commit-number.new.pass in
     let o = in_hand v (session_view c.gather.new.pass) (commit_view c.args.kept.seat) w part h.ms h.parts c.requires.kept.0.seat.1 c.join_commit-number.ensures.view in
-    has_batch v w (session_view c.split_commit-seat.new.pass) part h.ms c.gather.new.popped.items (sizes_of c.args.board.now) c.join_commit-number.result o c.split_commit-seat.ensures.view c.join_commit-number.ensures.told h.taken
+    has_batch v w (session_view c.split_commit-seat.new.pass) part h.ms c.make_room.new.popped.items (sizes_of c.args.board.now) c.join_commit-number.result o c.split_commit-seat.ensures.view c.join_commit-number.ensures.told (roomy c.make_room.new.popped.items c.gather.new.popped.items h.ms c.make_room.ensures.whole h.taken)
 
 pub returns-in_default-clause-kept : goal.returns-in_default-clause-kept
 returns-in_default-clause-kept g c =

@@ -1,14 +1,11 @@
-use Rattle.std.proofs.Common.{rules, ◌≡◌, ◌+◌, ◌-◌, ◌<◌, ℕ, suc, sym, ap, ◌∙◌, subst, arith, refl}
+use Rattle.std.proofs.Common.{◌≡◌, ◌-◌, ◌<◌, ℕ, suc, sym, ◌∙◌, subst, arith, refl}
 use Rattle.std.specs.Prelude.{IfSome, IfOk, IfErr, Result, Ok, Err}
 use Rattle.hg_lock.specs.Locks.{tag_of}
-use Rattle.hg_rule.specs.Views.{number}
 use Rattle.hg_rule.specs.Seats.{table_of, sizes_of, session_view}
-use Rattle.hg_queue.specs.Handing.{MayCommit}
 use Rattle.hg_queue.specs.Queues.{IsPassOf}
 use Rattle.hg_group.specs.Batch.{IsLaid, HasFinished, IsRefused}
 use Rattle.hg_group.specs.Leading.{IsKept}
-use Rattle.hg_group.specs.Founded.{BatchesFit}
-use Rattle.hg_group.proofs.Returning.{leads_none, waits, leads_on, finished_on, refused_on}
+use Rattle.hg_group.proofs.Returning.{leads_none, leads_on, finished_on, refused_on}
 use Rattle.hg_group.proofs.finishing.finish.Goals as goal
 
 pub loop-init : goal.loop-init
@@ -28,8 +25,7 @@ give-requires-clause-fits g c =
     let z = (sizes_of c.args.board.now).sessions in
     let k = c.ready-kept.ensures.kept in
     let new = c.take_laid-laid.new.kept in
-    let kept : IsKept t z new = (c.take_laid-laid.ensures.taken t z k.0).0 in
-    (
+    let kept : IsKept t z new = (c.take_laid-laid.ensures.taken t z k.0).0 in (
       subst (λ u. IsKept u (tag_of c.args.batches.now).value.sessions new) (sym c.requires.founded.0) (subst (λ n. IsKept t n new) (sym c.requires.sessions ∙ sym c.requires.founded.2) kept),
       subst (λ q. IsPassOf q new.line) (sym c.requires.founded.1) (subst (λ l. IsPassOf c.args.queue.now l) (sym c.take_laid-laid.ensures.line) k.1),
     )

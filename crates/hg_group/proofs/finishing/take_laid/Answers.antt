@@ -1,4 +1,4 @@
-use Rattle.std.proofs.Common.{◌≡◌, ◌+◌, ℕ, suc, set, get_or, length, sym, ◌∙◌, subst, arith, length-set}
+use Rattle.std.proofs.Common.{◌≡◌, ◌+◌, ℕ, suc, set, get_or, sym, ◌∙◌, subst, arith, length-set}
 use Rattle.std.specs.Prelude.{IfSome}
 use Rattle.hg_group.specs.Batch.{IsLaid, AreLaid}
 use Rattle.hg_group.proofs.Laying_down.{laid_at, laid_none}
@@ -8,8 +8,7 @@ pub returns-clause-taken : goal.returns-clause-taken
 returns-clause-taken c t sessions k =
     let xs = c.args.kept.now.laid.items in
     let i : ℕ = c.args.place in
-    let up : 1 + i ≡ suc i = omega arith in
-    (
+    let up : 1 + i ≡ suc i = omega arith in (
       record {
         seat = k.seat;
         unstamped = k.unstamped;

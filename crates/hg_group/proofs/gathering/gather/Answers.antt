@@ -1,10 +1,5 @@
-use Rattle.std.proofs.Common.{rules, ◌≡◌, [], ◌∷◌, ◌++◌, ◌≤◌, ◌<◌, length, vec_capacity, ◌∙◌, sym, ap, subst, arith}
-use Rattle.hg_rule.specs.declared.view.View.{View}
-use Rattle.hg_rule.specs.declared.view.Part.{Part}
-use Rattle.hg_rule.specs.declared.view.Part.TheVariants.{Away}
-use Rattle.hg_rule.specs.Views.{number, session, since}
-use Rattle.hg_rule.specs.Handing.{lent, received}
-use Rattle.hg_rule.specs.Seats.{table_of, sizes_of, session_view, tx_view, IsTxOf}
+use Rattle.std.proofs.Common.{rules, ◌≡◌, [], ◌∷◌, ◌++◌, ◌∙◌, sym, ap, subst}
+use Rattle.hg_rule.specs.Seats.{table_of, sizes_of, session_view, tx_view}
 use Rattle.hg_group.proofs.Popping.{away_on}
 use Rattle.hg_queue.specs.declared.known.Known.{Known}
 use Rattle.hg_queue.specs.Queues.{known}

@@ -1,13 +1,10 @@
-use Rattle.std.proofs.Common.{rules, ◌≡◌, ◌<◌, ◌≤◌, ◌+◌, ◌-◌, ℕ, [], length, get_or, sym, ap, ◌∙◌, subst, arith, refl}
+use Rattle.std.proofs.Common.{rules, ◌≡◌, ◌<◌, ◌+◌, ◌-◌, ℕ, length, get_or, ap, ◌∙◌, subst, arith, refl}
 use Rattle.hg_core.specs.Phases.{IsSession}
 use Rattle.hg_rule.specs.declared.view.SessionPart.{SessionPart}
-use Rattle.hg_rule.specs.declared.view.Part.TheVariants.{Away}
-use Rattle.hg_rule.specs.Views.{number, session, since}
-use Rattle.hg_rule.specs.Handing.{lent, numbered}
 use Rattle.hg_rule.specs.Seats.{table_of, sizes_of, session_view}
 use Rattle.hg_group.specs.declared.laid.Laid.{Laid}
 use Rattle.hg_group.specs.declared.laid.Outcome.TheVariants.{Committed}
-use Rattle.hg_group.specs.Batch.{IsLaid, AreLaid, HasGroup}
+use Rattle.hg_group.specs.Batch.{IsLaid}
 use Rattle.hg_group.proofs.Batching.{away_back}
 use Rattle.hg_group.proofs.Laying_down.{laying_none, next_is, laying_more, laid_one, laid_set, each_at, laid_end}
 use Rattle.hg_group.proofs.laying.lay.Goals as goal

@@ -1,4 +1,4 @@
-use Rattle.std.proofs.Common.{rules, ◌≡◌, ℕ, suc, List, [], ◌∷◌, ◌++◌, length, Option, None, sym, subst}
+use Rattle.std.proofs.Common.{rules, ℕ, suc, List, [], ◌∷◌, ◌++◌, Option, None, sym, subst}
 use Rattle.hg_rule.specs.Seats.{TableId}
 use Rattle.hg_group.specs.declared.laid.Laid.{Laid}
 use Rattle.hg_group.specs.Batch.{AreLaid}

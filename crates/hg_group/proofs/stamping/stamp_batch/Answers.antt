@@ -1,4 +1,4 @@
-use Rattle.std.proofs.Common.{◌≡◌, ◌<◌, ◌++◌, [], ℕ, length, take, get_or, sym, ap, ◌∙◌, subst, arith, refl, append-nil}
+use Rattle.std.proofs.Common.{◌≡◌, ◌++◌, ℕ, length, take, get_or, sym, ap, ◌∙◌, subst, arith, refl, append-nil}
 use Rattle.hg_base.specs.declared.rid.Rid.{Rid}
 use Rattle.hg_rule.specs.Seats.{session_view}
 use Rattle.hg_group.specs.Batch.{Stamped, all_pairs, with_session}

@@ -20,10 +20,10 @@ stamp-requires-clause-mine g c =
     let told = c.take-held.ensures.told in
     let t = away_taken v u c.bucket_of.result c.requires.own.3 c.requires.commit c.take-held.ensures.view in
     let open_ = lent_open (sizes_of c.args.board.now) told.0 j c.bucket_of.result u c.args.rid told.1 t.own t.both (subst (λ b. HoldsBucket b u) c.take-held.ensures.held.1 c.take-held.ensures.holds.has)
-        (subst (λ l. l ≡ lent (members l)) (sym t.farther_is) c.requires.received.0) (subst (λ l. IsTrue (is_in (who (members l)) j)) (sym t.farther_is) c.requires.received.1)
-        (sym (c.bucket_of.ensures.own ∙ here c.requires.buckets.1))
-        (subst (λ l. IsSome (open_in c.args.rid (part_of j (members l)).log)) (sym t.farther_is) c.requires.mine)
-        (ap (λ (p : CommitPart). is_stamped j c.args.rid p.stamped) t.commit_is ∙ c.requires.once) in
+    (subst (λ l. l ≡ lent (members l)) (sym t.farther_is) c.requires.received.0) (subst (λ l. IsTrue (is_in (who (members l)) j)) (sym t.farther_is) c.requires.received.1)
+    (sym (c.bucket_of.ensures.own ∙ here c.requires.buckets.1))
+    (subst (λ l. IsSome (open_in c.args.rid (part_of j (members l)).log)) (sym t.farther_is) c.requires.mine)
+    (ap (λ (p : CommitPart). is_stamped j c.args.rid p.stamped) t.commit_is ∙ c.requires.once) in
     subst (λ w. IsOpenBy w (held u c.args.rid)) (ap (λ l. writer_at j (members l)) t.farther_is ∙ sym c.requires.by) open_
   where
     here : store_buckets c.args.store.now ≡ (sizes_of c.args.board.now).buckets → bucket_of (store_buckets c.args.store.now) c.args.rid ≡ bucket_of (sizes_of c.args.board.now).buckets c.args.rid

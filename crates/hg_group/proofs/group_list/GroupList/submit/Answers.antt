@@ -1,4 +1,4 @@
-use Rattle.std.proofs.Common.{◌≡◌, ◌++◌, ◌∙◌, sym, append_assoc, [], ◌∷◌}
+use Rattle.std.proofs.Common.{◌++◌, ◌∙◌, sym, append_assoc, [], ◌∷◌}
 use Rattle.hg_rule.specs.Views.{number}
 use Rattle.hg_rule.specs.Seats.{session_view}
 use Rattle.hg_queue.specs.Queues.{known}
