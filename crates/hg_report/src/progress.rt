@@ -163,13 +163,15 @@ impl Open {
 }
 
 impl Progress {
-    pub(crate) fn new(alloc: Global) -> Progress
-        ensures { result ≡ at_start }
+    /// The start, with room for so many lines.
+    pub(crate) fn with_room(alloc: Global, lines: usize) -> Result<Progress, NoMemory>
+        ensures { IfOk result (λ progress. progress ≡ at_start) }
     {
-        Progress {
-            lines: LineList::new(alloc),
+        let lines = Vec::with_capacity(alloc, lines)?;
+        Ok(Progress {
+            lines: LineList::from(lines),
             last: Open::Nothing,
-        }
+        })
     }
 
     // Ends the line that is open.

@@ -69,6 +69,14 @@ fn finish(progress: Progress, bytes: &[u8], line: u64) -> Result<Printed, TextRe
     Err(refused(line))
 }
 
+// The bytes of a shortest reply, as `1,2,gone` and its line feed.
+const SHORTEST_BYTES: usize = 9;
+
+// How many lines such a text has: a reply to each record, where the bytes are enough for so many.
+fn usual_lines(script: &Script, bytes: &[u8]) -> usize {
+    script.records().len().min(bytes.len() / SHORTEST_BYTES)
+}
+
 /// Reads a text: what was printed, or the first record with which the bytes do not begin a text.
 pub fn read_text(alloc: Global, script: &Script, bytes: &[u8]) -> Result<Printed, TextRefusal>
     requires lawful { IsLawful script.now }
@@ -84,7 +92,7 @@ pub fn read_text(alloc: Global, script: &Script, bytes: &[u8]) -> Result<Printed
         .flexible(true)
         .from_reader(alloc, bytes);
     let mut row = ByteRecord::new(alloc);
-    let mut progress = Progress::new(alloc);
+    let mut progress = Progress::with_room(alloc, usual_lines(script, bytes))?;
     let mut text = Vec::new(alloc);
     let mut rest = bytes;
     for line in 1..bytes.len() as u64 + 2 {

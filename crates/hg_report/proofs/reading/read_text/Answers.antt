@@ -26,7 +26,7 @@ loop-line-init c =
       config = rw (f, h) at fr.config ∙ c.new.ensures.config;
       state = fr.state;
       source = fr.source ∙ ap Some (unmarked c.args.bytes.now c.starts_with.result c.starts_with.ensures.value c.if-starts_with.false);
-      taken = ([], c.new-progress.ensures, refl, refl);
+      taken = ([], c.in_ok-progress.ensures, refl, refl);
       many = omega arith;
     }
 
