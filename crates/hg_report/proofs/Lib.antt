@@ -8,9 +8,10 @@ pub mod ReadBack
 pub mod Columns
 pub mod Heads
 pub mod Running
+pub mod Plain
+pub mod Parted
 pub mod Following
 pub mod Taking
 pub mod Looping
-pub mod Marked
 pub mod Answering
 pub mod Shorter

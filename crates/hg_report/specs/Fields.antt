@@ -1,9 +1,20 @@
--- What the fields of a record say, each read whether it is written well or not.
-use Rattle.std.specs.Prelude.{ℕ, zero, suc, ℤ, pos, ◌+◌, ◌^◌, ◌&&◌, List, [], ◌∷◌, ◌++◌, get_or, bytes_eq, nat_lt, nat_le, Bool, Option, Some, None, if◌then◌else◌}
+-- The fields of a record and what they say, each read whether it is written well or not.
+use Rattle.std.specs.Prelude.{ℕ, zero, suc, ℤ, pos, ◌+◌, ◌^◌, ◌&&◌, ◌==◌, List, [], ◌∷◌, ◌++◌, map, get_or, bytes_eq, nat_lt, nat_le, Bool, Option, Some, None, if◌then◌else◌}
+use Rattle.std.specs.Borrow.{Bor}
 use Rattle.hg_base.specs.Text.{Field}
 use Rattle.hg_script.specs.declared.number.Integer.{Integer}
 use Rattle.hg_script.specs.declared.number.Integer.TheVariants as signed
 use Rattle.hg_script.specs.Number.{natural_of, value_of, integer_of}
+
+-- the fields that slices are
+unfoldable pub fields_of : List (Bor (List ℕ)) → List Field
+fields_of row = map (λ f. f.now) row
+
+-- The fields of the record at the start of some bytes: what stands between its commas, up to the line feed. The first of them
+-- begins with the bytes `field`. Quotes mean nothing here.
+unfoldable pub parted : List ℕ → List ℕ → List Field
+parted field [] = field ∷ []
+parted field (b ∷ bytes) = if b == 10 then field ∷ [] else if b == 44 then field ∷ parted [] bytes else parted (field ++ b ∷ []) bytes
 
 -- the field at a place, counted from 0, and no bytes where there is none
 abbrev pub nth : List Field → ℕ → Field

@@ -1,32 +1,51 @@
-//! What the fields of a record say, each read whether it is written well or not.
+//! The fields of a record and what they say, each read whether it is written well or not.
 
-ghost use Rattle.std.specs.Prelude.{◌≡◌, ◌≤◌, IfOk};
-ghost use Rattle.csv.specs.Records.{fields_of};
-ghost use Rattle.hg_report.specs.Fields.{integer_in, integer_value, narrow, nth, number_in, row_in, says, session_in};
+ghost use Rattle.std.specs.Prelude.{◌≡◌, ◌≤◌, [], IfOk, OnOk};
+ghost use Rattle.hg_report.specs.Fields.{fields_of, integer_in, integer_value, narrow, nth, number_in, parted, row_in, says, session_in};
 
-use csv::ByteRecord;
 use hg_base::{NoMemory, Row};
 use hg_script::{Integer, read_integer, read_natural};
 use std::alloc::Global;
 
-fn field(row: &ByteRecord, i: usize) -> &[u8]
+/// Parts the record at the start of the bytes at its commas, up to its line feed. No field of a text has quotes.
+pub(crate) fn part<'a>(bytes: &'a [u8], fields: &mut Vec<&'a [u8]>) -> Result<(), NoMemory>
+    ensures { OnOk result (fields_of fields.new.items ≡ parted [] bytes.now) }
+{
+    fields.clear();
+    let mut start = 0;
+    for i in 0..bytes.len() {
+        if bytes[i] == b'\n' {
+            fields.push(&bytes[start..i])?;
+            return Ok(());
+        }
+        if bytes[i] == b',' {
+            fields.push(&bytes[start..i])?;
+            start = i + 1;
+        }
+    }
+    fields.push(&bytes[start..])?;
+    Ok(())
+}
+
+#[tactic(auto, unfolding(crate::specs::Fields::fields_of))]
+fn field<'a>(row: &[&'a [u8]], i: usize) -> &'a [u8]
     ensures { result.now ≡ nth (fields_of row.now) i }
 {
     match row.get(i) {
-        Some(bytes) => bytes,
+        Some(bytes) => *bytes,
         None => &[],
     }
 }
 
 /// Whether the field is this word.
-pub(crate) fn says(row: &ByteRecord, i: usize, word: &[u8]) -> bool
+pub(crate) fn says(row: &[&[u8]], i: usize, word: &[u8]) -> bool
     ensures { result ≡ says (fields_of row.now) i word.now }
 {
     field(row, i) == word
 }
 
 /// The number that the field is, and 0 where it is none.
-pub(crate) fn number_in(row: &ByteRecord, i: usize) -> u64
+pub(crate) fn number_in(row: &[&[u8]], i: usize) -> u64
     ensures { result ≡ number_in (fields_of row.now) i }
 {
     read_natural(field(row, i)).value()
@@ -39,7 +58,7 @@ fn narrow(n: u64) -> u32
 }
 
 /// The session that the field is.
-pub(crate) fn session_in(row: &ByteRecord, i: usize) -> u32
+pub(crate) fn session_in(row: &[&[u8]], i: usize) -> u32
     ensures { result ≡ session_in (fields_of row.now) i }
 {
     narrow(number_in(row, i))
@@ -55,7 +74,7 @@ fn integer_value(integer: Integer) -> i64
     }
 }
 
-fn integer_in(row: &ByteRecord, i: usize) -> i64
+fn integer_in(row: &[&[u8]], i: usize) -> i64
     ensures { result ≡ integer_in (fields_of row.now) i }
 {
     integer_value(read_integer(field(row, i)))
@@ -64,7 +83,7 @@ fn integer_in(row: &ByteRecord, i: usize) -> i64
 /// The row of so many values, from field `i` on.
 pub(crate) fn row_in(
     alloc: Global,
-    row: &ByteRecord,
+    row: &[&[u8]],
     i: usize,
     columns: u8,
 ) -> Result<Option<Row>, NoMemory>

@@ -1,16 +1,15 @@
 //! What a record says if it may come next.
 
 ghost use Rattle.std.specs.Prelude.{◌≡◌, ℕ, ◌<◌, ◌≤◌, IfOk, get_or, length, map, option_map};
-ghost use Rattle.csv.specs.Records.{fields_of};
 ghost use Rattle.hg_base.specs.Lists.{Ascends};
 ghost use Rattle.hg_base.specs.declared.statement.Record.{Record};
 ghost use Rattle.hg_base.specs.Text.{columns_of, is_write};
 ghost use Rattle.hg_base.specs.Transcript.{table_of};
+ghost use Rattle.hg_report.specs.Fields.{fields_of};
 ghost use Rattle.hg_report.specs.Guess.{answer_guess, answer_place, answered_guess, at_guess, commit_guess, del_guess, first_guess, gc_guess, get_guess, head_guess, held_guess, kind_guess, number_guess, piece_of, put_guess, refusal_guess, reply_guess, row_guess, scan_guess, statement_at, sweep_guess, table_columns};
 
 use crate::fields::{number_in, row_in, says, session_in};
 use crate::piece::Piece;
-use csv::ByteRecord;
 use hg_base::{
     Answer, Kind, Line, NoMemory, Record, Reply, RowList, Statement, Sweep, TableId, Told,
     ToldList, Writer,
@@ -27,7 +26,7 @@ fn columns_of(tables: &[Table], table: TableId) -> u8
     }
 }
 
-fn kind_guess(row: &ByteRecord, i: usize) -> Kind
+fn kind_guess(row: &[&[u8]], i: usize) -> Kind
     ensures { result ≡ kind_guess (fields_of row.now) i }
 {
     if says(row, i, b"group") {
@@ -39,7 +38,7 @@ fn kind_guess(row: &ByteRecord, i: usize) -> Kind
     }
 }
 
-fn sweep_guess(alloc: Global, row: &ByteRecord, i: usize) -> Sweep
+fn sweep_guess(alloc: Global, row: &[&[u8]], i: usize) -> Sweep
     requires { i ≤ 4 }
     ensures { result ≡ sweep_guess (fields_of row.now) i }
 {
@@ -52,7 +51,7 @@ fn sweep_guess(alloc: Global, row: &ByteRecord, i: usize) -> Sweep
     }
 }
 
-fn refusal_guess(table: TableId, row: &ByteRecord, i: usize) -> Answer
+fn refusal_guess(table: TableId, row: &[&[u8]], i: usize) -> Answer
     requires { i ≤ 4 }
     ensures { result ≡ refusal_guess table (fields_of row.now) i }
 {
@@ -72,7 +71,7 @@ fn get_guess(
     alloc: Global,
     tables: &[Table],
     table: TableId,
-    row: &ByteRecord,
+    row: &[&[u8]],
     i: usize,
 ) -> Result<Option<Answer>, NoMemory>
     requires { i ≤ 4 }
@@ -90,7 +89,7 @@ fn get_guess(
     Ok(Some(Answer::Undeclared(table)))
 }
 
-fn put_guess(table: TableId, row: &ByteRecord, i: usize) -> Answer
+fn put_guess(table: TableId, row: &[&[u8]], i: usize) -> Answer
     requires { i ≤ 4 }
     ensures { result ≡ put_guess table (fields_of row.now) i }
 {
@@ -101,7 +100,7 @@ fn put_guess(table: TableId, row: &ByteRecord, i: usize) -> Answer
     }
 }
 
-fn del_guess(table: TableId, row: &ByteRecord, i: usize) -> Answer
+fn del_guess(table: TableId, row: &[&[u8]], i: usize) -> Answer
     requires { i ≤ 4 }
     ensures { result ≡ del_guess table (fields_of row.now) i }
 {
@@ -114,7 +113,7 @@ fn del_guess(table: TableId, row: &ByteRecord, i: usize) -> Answer
     }
 }
 
-fn scan_guess(alloc: Global, table: TableId, row: &ByteRecord, i: usize) -> Answer
+fn scan_guess(alloc: Global, table: TableId, row: &[&[u8]], i: usize) -> Answer
     ensures { result ≡ scan_guess table (fields_of row.now) i }
 {
     if says(row, i, b"rows") {
@@ -124,7 +123,7 @@ fn scan_guess(alloc: Global, table: TableId, row: &ByteRecord, i: usize) -> Answ
     }
 }
 
-fn commit_guess(row: &ByteRecord, i: usize) -> Answer
+fn commit_guess(row: &[&[u8]], i: usize) -> Answer
     requires { i ≤ 4 }
     ensures { result ≡ commit_guess (fields_of row.now) i }
 {
@@ -135,7 +134,7 @@ fn commit_guess(row: &ByteRecord, i: usize) -> Answer
     }
 }
 
-fn gc_guess(alloc: Global, row: &ByteRecord, i: usize) -> Answer
+fn gc_guess(alloc: Global, row: &[&[u8]], i: usize) -> Answer
     requires { i ≤ 4 }
     ensures { result ≡ gc_guess (fields_of row.now) i }
 {
@@ -150,7 +149,7 @@ fn answer_guess(
     alloc: Global,
     tables: &[Table],
     statement: &Statement,
-    row: &ByteRecord,
+    row: &[&[u8]],
     i: usize,
 ) -> Result<Option<Answer>, NoMemory>
     requires { i ≤ 4 }
@@ -180,7 +179,7 @@ fn table_of(statement: &Statement) -> Option<TableId>
     }
 }
 
-fn at_guess(statement: &Statement, row: &ByteRecord) -> Option<u64>
+fn at_guess(statement: &Statement, row: &[&[u8]]) -> Option<u64>
     ensures { result ≡ at_guess statement.now (fields_of row.now) }
 {
     if table_of(statement).is_some() && says(row, 2, b"at") {
@@ -209,7 +208,7 @@ fn is_write(answer: &Answer) -> bool
     }
 }
 
-fn number_guess(answer: &Answer, row: &ByteRecord, i: usize) -> Option<u64>
+fn number_guess(answer: &Answer, row: &[&[u8]], i: usize) -> Option<u64>
     requires { i ≤ 4 }
     ensures { result ≡ number_guess answer.now (fields_of row.now) i }
 {
@@ -234,7 +233,7 @@ fn piece_of(
     session: u32,
     place: u64,
     at: Option<u64>,
-    row: &ByteRecord,
+    row: &[&[u8]],
     i: usize,
     answer: Answer,
 ) -> Piece
@@ -271,7 +270,7 @@ fn answered_guess(
     statement: &Statement,
     session: u32,
     place: u64,
-    row: &ByteRecord,
+    row: &[&[u8]],
 ) -> Result<Option<Piece>, NoMemory>
     ensures { IfOk result (λ o. o ≡ answered_guess tables.now statement.now session place (at_guess statement.now (fields_of row.now)) (fields_of row.now)) }
 {
@@ -325,7 +324,7 @@ fn reply_guess(
     script: &Script,
     session: u32,
     place: u64,
-    row: &ByteRecord,
+    row: &[&[u8]],
 ) -> Result<Option<Piece>, NoMemory>
     requires { Ascends (map (λ r. r.place) script.now.records) }
     ensures { IfOk result (λ o. o ≡ reply_guess script.now session place (fields_of row.now)) }
@@ -336,7 +335,7 @@ fn reply_guess(
     }
 }
 
-fn head_guess(alloc: Global, script: &Script, row: &ByteRecord) -> Result<Option<Piece>, NoMemory>
+fn head_guess(alloc: Global, script: &Script, row: &[&[u8]]) -> Result<Option<Piece>, NoMemory>
     requires { Ascends (map (λ r. r.place) script.now.records) }
     ensures { IfOk result (λ o. o ≡ head_guess script.now (fields_of row.now)) }
 {
@@ -356,7 +355,7 @@ fn head_guess(alloc: Global, script: &Script, row: &ByteRecord) -> Result<Option
 pub(crate) fn first_guess(
     alloc: Global,
     script: &Script,
-    row: &ByteRecord,
+    row: &[&[u8]],
 ) -> Result<Option<Piece>, NoMemory>
     requires { Ascends (map (λ r. r.place) script.now.records) }
     ensures { IfOk result (λ o. o ≡ first_guess script.now (fields_of row.now)) }
@@ -376,7 +375,7 @@ pub(crate) fn row_guess(
     session: u32,
     place: u64,
     columns: u8,
-    row: &ByteRecord,
+    row: &[&[u8]],
 ) -> Result<Option<Piece>, NoMemory>
     ensures { IfOk result (λ o. o ≡ row_guess session place columns (fields_of row.now)) }
 {
@@ -392,7 +391,7 @@ pub(crate) fn row_guess(
 }
 
 /// A held snapshot of a report.
-pub(crate) fn held_guess(session: u32, place: u64, row: &ByteRecord) -> Piece
+pub(crate) fn held_guess(session: u32, place: u64, row: &[&[u8]]) -> Piece
     ensures { result ≡ held_guess session place (fields_of row.now) }
 {
     Piece::Held {

@@ -1,8 +1,8 @@
 //! How far a reader has come.
 
 ghost use Rattle.std.specs.Prelude.{◌≡◌, ℕ, ◌<◌, map, IfOk, OnOk};
-ghost use Rattle.csv.specs.Records.{fields_of};
 ghost use Rattle.hg_base.specs.Lists.{Ascends};
+ghost use Rattle.hg_report.specs.Fields.{fields_of};
 ghost use Rattle.hg_report.specs.Progress.{after, at_start, guess_after, lines_of, no_totals, totals_of, with_held, with_row, with_total};
 ghost use Rattle.hg_report.specs.declared.progress.Open.TheVariants as opens;
 ghost use Rattle.hg_report.specs.declared.piece.Piece.TheVariants as pieces;
@@ -10,7 +10,6 @@ ghost use Rattle.hg_report.specs.declared.piece.Piece.TheVariants as pieces;
 use crate::fields::{number_in, says};
 use crate::guess::{first_guess, held_guess, row_guess};
 use crate::piece::Piece;
-use csv::ByteRecord;
 use hg_base::{Answer, Line, LineList, NoMemory, Reply, Row, RowList, Sweep, Told, Totals};
 use hg_script::Script;
 use std::alloc::Global;
@@ -121,7 +120,7 @@ impl Open {
         &self,
         alloc: Global,
         script: &Script,
-        row: &ByteRecord,
+        row: &[&[u8]],
     ) -> Result<Option<Piece>, NoMemory>
         requires { Ascends (map (λ r. r.place) script.now.records) }
         ensures { IfOk result (λ o. o ≡ guess_after script.now self.now (fields_of row.now)) }

@@ -1,32 +1,29 @@
 //! The loop over the records of a text.
 
-ghost use Rattle.std.specs.Prelude.{◌≡◌, List, [], IfErr, IfOk, map, option_map};
-ghost use Rattle.csv.specs.Reading.{NotLengths, error_kind};
-ghost use Rattle.csv.specs.Records.{fields_of};
+ghost use Rattle.std.specs.Prelude.{◌≡◌, List, IfErr, IfOk, map, option_map};
 ghost use Rattle.hg_base.specs.Lists.{Ascends};
 ghost use Rattle.hg_script.specs.Lawful.{IsLawful};
 ghost use Rattle.hg_base.specs.declared.line.Printed.{Printed};
 ghost use Rattle.hg_report.specs.declared.refusal.TextRefusal.TheVariants as refusal;
 ghost use Rattle.hg_report.specs.Readable.{IsTextOf, TellsRefusal};
+ghost use Rattle.hg_report.specs.Fields.{fields_of};
 ghost use Rattle.hg_report.specs.Progress.{Takes, finished};
 ghost use Rattle.hg_base.specs.declared.line.Line.{Line};
 ghost use Rattle.hg_base.specs.declared.line.Totals.{Totals};
 
+use crate::fields::part;
 use crate::progress::{Open, Progress};
 use crate::refusal::TextRefusal;
-use csv::{ByteRecord, Error, ErrorKind, ReaderBuilder};
 use hg_base::{NoMemory, Printed};
 use hg_script::Script;
 use std::alloc::Global;
-
-const BYTE_ORDER_MARK: [u8; 3] = [0xEF, 0xBB, 0xBF];
 
 // Takes the record at the start of the bytes, which has these fields, and gives the bytes after it. Its text is made in `text`.
 fn take<'a>(
     alloc: Global,
     script: &Script,
     progress: &mut Progress,
-    row: &ByteRecord,
+    row: &[&[u8]],
     text: &mut Vec<u8>,
     bytes: &'a [u8],
 ) -> Result<Option<&'a [u8]>, NoMemory>
@@ -51,19 +48,17 @@ fn refused(line: u64) -> TextRefusal
     TextRefusal::At { line }
 }
 
-// What was printed, where nothing is left and all totals were told.
-fn finish(progress: Progress, bytes: &[u8], line: u64) -> Result<Printed, TextRefusal>
-    ensures done { IfOk result (λ printed. (bytes.now ≡ []) × (progress ≡ finished printed.lines printed.totals)) }
-    ensures refused { IfErr result (λ e. (e ≡ refusal.At line) × ((lines : List Line) (totals : Totals) → bytes.now ≡ [] → progress ≡ finished lines totals → ⊥)) }
+// What was printed, where all totals were told.
+fn finish(progress: Progress, line: u64) -> Result<Printed, TextRefusal>
+    ensures done { IfOk result (λ printed. progress ≡ finished printed.lines printed.totals) }
+    ensures refused { IfErr result (λ e. (e ≡ refusal.At line) × ((lines : List Line) (totals : Totals) → progress ≡ finished lines totals → ⊥)) }
 {
-    if bytes.is_empty() {
-        if let Open::Totals { told, totals } = progress.last {
-            if told == 6 {
-                return Ok(Printed {
-                    lines: progress.lines,
-                    totals,
-                });
-            }
+    if let Open::Totals { told, totals } = progress.last {
+        if told == 6 {
+            return Ok(Printed {
+                lines: progress.lines,
+                totals,
+            });
         }
     }
     Err(refused(line))
@@ -84,42 +79,19 @@ pub fn read_text(alloc: Global, script: &Script, bytes: &[u8]) -> Result<Printed
     ensures only { IfOk result (λ printed. (other : Printed) → IsTextOf script.now bytes.now other → other ≡ printed) }
     ensures refused { IfErr result (TellsRefusal script.now bytes.now) }
 {
-    if bytes.starts_with(&BYTE_ORDER_MARK) {
-        return Err(refused(1));
-    }
-    let mut reader = ReaderBuilder::new()
-        .has_headers(false)
-        .flexible(true)
-        .from_reader(alloc, bytes);
-    let mut row = ByteRecord::new(alloc);
     let mut progress = Progress::with_room(alloc, usual_lines(script, bytes))?;
+    let mut fields = Vec::new(alloc);
     let mut text = Vec::new(alloc);
     let mut rest = bytes;
     for line in 1..bytes.len() as u64 + 2 {
-        match reader.read_byte_record(&mut row) {
-            Ok(true) => match take(alloc, script, &mut progress, &row, &mut text, rest)? {
-                Some(more) => rest = more,
-                None => return Err(refused(line)),
-            },
-            Ok(false) => return finish(progress, rest, line),
-            Err(e) => return Err(cause_of(&e)),
+        if rest.is_empty() {
+            return finish(progress, line);
+        }
+        part(rest, &mut fields)?;
+        match take(alloc, script, &mut progress, &fields, &mut text, rest)? {
+            Some(more) => rest = more,
+            None => return Err(refused(line)),
         }
     }
     unreachable!()
-}
-
-// Records may differ in length, and bytes are not read as text. No clause of the CSV reader rules out its `Io` over bytes
-// in memory, where no read fails, so that counts as want of memory too.
-fn cause_of(e: &Error) -> TextRefusal
-    requires { NotLengths (error_kind e.now) }
-    ensures { result ≡ refusal.NoMemory }
-{
-    match e.kind() {
-        ErrorKind::UnequalLengths { .. } => unreachable!(),
-        ErrorKind::Io(_) => TextRefusal::NoMemory,
-        ErrorKind::Utf8 { .. } => TextRefusal::NoMemory,
-        ErrorKind::OutOfMemory => TextRefusal::NoMemory,
-        ErrorKind::Serialize(_) => TextRefusal::NoMemory,
-        ErrorKind::Deserialize { .. } => TextRefusal::NoMemory,
-    }
 }

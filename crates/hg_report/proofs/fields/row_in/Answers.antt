@@ -1,5 +1,5 @@
 use Rattle.std.proofs.Common.{◌≡◌, ◌∙◌, refl, length-set, arith, rules}
-use Rattle.csv.specs.Records.{fields_of}
+use Rattle.hg_report.specs.Fields.{fields_of}
 use Rattle.hg_report.proofs.ValuesIn.{values_none, values_more}
 use Rattle.hg_report.proofs.fields.row_in.Goals as goal
 use mir.Val.{SFits, of_z, to_z}

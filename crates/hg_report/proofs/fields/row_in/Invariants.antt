@@ -1,6 +1,5 @@
 use Rattle.std.proofs.Common.{◌≡◌, length, take}
-use Rattle.csv.specs.Records.{fields_of}
-use Rattle.hg_report.specs.Fields.{values_in}
+use Rattle.hg_report.specs.Fields.{fields_of, values_in}
 use Rattle.hg_report.proofs.fields.row_in.Given as goal
 
 abbrev pub invariant-loop-k : goal.invariant-loop-k

@@ -4,7 +4,7 @@ use Rattle.std.proofs.lemmas.Slice.Eq.{strip_prefix_is}
 use Rattle.hg_report.specs.Bytes.{record_bytes}
 use Rattle.hg_report.specs.Guess.{piece_fields}
 use Rattle.hg_report.specs.Progress.{guess_after}
-use Rattle.csv.specs.Records.{fields_of}
+use Rattle.hg_report.specs.Fields.{fields_of}
 use Rattle.hg_report.proofs.Taking.{takes_none, total_below}
 use Rattle.hg_report.proofs.reading.take.Goals as goal
 
