@@ -5,7 +5,7 @@ use Rattle.std.proofs.lemmas.List.{take_more, map-append, append-nil}
 use Rattle.std.proofs.lemmas.List.Concat.{flat_map-append}
 use Rattle.std.specs.Fmt.{signed_decimal}
 use Rattle.std.specs.List.{flat_map}
-use Rattle.csv.specs.Writing.{escaped, fields_text, is_blank, row_text, default_writer, field_text}
+use Rattle.csv.specs.Writing.{escaped, fields_text, is_blank}
 use Rattle.hg_base.specs.Text.{Field}
 use Rattle.hg_report.specs.Bytes.{flexible_writer, record_bytes, field_bytes, further_bytes}
 
@@ -38,24 +38,7 @@ pub values_more : (old front now : List ℕ) (row : List ℤ) (i : ℕ) (d : ℤ
     → now ≡ old ++ flat_map further_bytes (map signed_decimal (take (i + 1) row))
 values_more old front now row i d h e f = rw (f, e, take_more row i d h, map-append, flat_map-append) (simp (append_assoc, append-nil))
 
--- whether lengths may differ changes no text
-escaped-same : (field : Field) → escaped flexible_writer field ≡ escaped default_writer field
-unfolding escaped
-escaped-same [] = refl
-escaped-same (b ∷ rest) = rw (escaped-same rest) refl
-
-field-same : (field : Field) → field_text flexible_writer field ≡ field_text default_writer field
-field-same field = rw (escaped-same field) refl
-
-fields-same : (fields : List Field) → fields_text flexible_writer fields ≡ fields_text default_writer fields
-unfolding fields_text
-fields-same [] = refl
-fields-same (f ∷ fs) = rw (fields-same fs, escaped-same f) refl
-
-pub record-same : (x y : Field) (more : List Field) → record_bytes (x ∷ y ∷ more) ≡ row_text default_writer (x ∷ y ∷ more)
-unfolding is_blank record_bytes
-record-same x y more = rw (fields-same (y ∷ more), escaped-same x) refl
-
+-- the bytes of a field up to a place, and one more
 pub escaped_more_of : (old front now field : List ℕ) (i : ℕ) → i < length field → front ≡ old ++ escaped flexible_writer (take i field) → now ≡ front ++ escaped flexible_writer (get_or field i 0 ∷ [])
     → now ≡ old ++ escaped flexible_writer (take (i + 1) field)
 escaped_more_of old front now field i h e f =

@@ -16,9 +16,10 @@
 //! what was printed exactly where the bytes are those that these two calls write for it, and else the first record with
 //! which the bytes do not begin a text (`IsRefusedAt`). `text_of` is the text of all that was printed.
 //!
-//! The reader guesses. From a record's fields, as CSV, it takes what the record would say if it may come next (`guess`), writes
-//! that, and compares the bytes. So whatever differs from what is written, as a number with a zero before it, a quote that
-//! is not needed, a carriage return or a field too many, is refused at its record, and no rule says so besides.
+//! The reader guesses. It parts a record at its commas (`part`), takes what the record would say if it may come next (`guess`),
+//! writes that, and compares the bytes. So whatever differs from what is written, as a number with a zero before it, a quote,
+//! a carriage return or a field too many, is refused at its record, and no rule says so besides. Parting needs no quotes: a
+//! text has words, numbers and names of tables alone.
 #![tactic(auto)]
 
 mod bytes;

@@ -8,7 +8,8 @@ ghost use Rattle.hg_report.specs.LineCode.{lines_code};
 use hg_base::Line;
 use std::marker::Model;
 
-/// Lines in the order in which they are printed. It has no bytes, and its calls do nothing when they run.
+/// The lines that a text was made of, in order, which nothing but clauses can see: a value has no bytes, and its calls do
+/// nothing when they run. A `Transcript` ties them to its text.
 #[derive(Drop)]
 pub(crate) struct ToldLines {
     ghost lines: { List Line } by { lines_code },
@@ -18,22 +19,25 @@ impl Model for ToldLines {
     ghost also_owns = { λ _. ftrue };
 }
 
-// It owns nothing.
+// It owns nothing, so it may go to another thread.
 unsafe impl Send for ToldLines {}
 
 impl ToldLines {
+    /// No lines.
     pub(crate) fn new() -> ToldLines
         ensures { result.lines ≡ [] }
     {
         ToldLines {}
     }
 
+    /// These lines and then one more.
     pub(crate) fn then(&self, _line: &Line) -> ToldLines
         ensures { result.lines ≡ self.now.lines ++ _line.now ∷ [] }
     {
         ToldLines {}
     }
 
+    /// These lines and then the others.
     pub(crate) fn followed(&self, _others: &ToldLines) -> ToldLines
         ensures { result.lines ≡ self.now.lines ++ _others.now.lines }
     {

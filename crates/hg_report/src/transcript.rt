@@ -36,6 +36,7 @@ impl<'a> Model for Transcript<'a> {
 }
 
 impl<'a> Transcript<'a> {
+    /// No lines yet, over the tables of the script.
     pub fn new(alloc: Global, script: &'a Script) -> Transcript<'a>
         ensures { result ≡ record { tables = script.now.tables; lines = [] } }
     {
@@ -47,7 +48,7 @@ impl<'a> Transcript<'a> {
         }
     }
 
-    /// A refusal leaves the lines as before.
+    /// Adds a line. A refusal leaves the lines as before.
     pub fn push(&mut self, line: &Line) -> Result<(), NoMemory>
         ensures ok { OnOk result (self.new ≡ record self.old { lines = self.old.lines ++ line.now ∷ [] }) }
         ensures err { OnErr result (self.new ≡ self.old) }
@@ -70,6 +71,7 @@ impl<'a> Transcript<'a> {
         Ok(())
     }
 
+    /// The bytes of the lines so far, with no totals.
     pub fn text(&self) -> &[u8]
         ensures { result.now ≡ lines_text self.now.tables self.now.lines }
     {

@@ -320,7 +320,7 @@ pub(crate) fn write_totals(text: &mut Vec<u8>, totals: &Totals) -> Result<(), No
 // Most replies have one record of fewer bytes than this.
 const USUAL_BYTES: usize = 64;
 
-/// Appends the records of a reply. A refusal leaves the bytes as before.
+/// Adds the records of a reply behind the bytes of `into`, which a refusal leaves as they were.
 pub fn reply_text(
     alloc: Global,
     script: &Script,
@@ -336,7 +336,7 @@ pub fn reply_text(
     Ok(())
 }
 
-/// Appends the records of the totals. A refusal leaves the bytes as before.
+/// Adds the records of the totals behind the bytes of `into`, which a refusal leaves as they were.
 pub fn totals_text(alloc: Global, totals: &Totals, into: &mut Vec<u8>) -> Result<(), NoMemory>
     ensures text { OnOk result (into.new.items ≡ into.old.items ++ flat_map record_bytes (totals_records totals.now)) }
     ensures refused { OnErr result (into.new.items ≡ into.old.items) }
