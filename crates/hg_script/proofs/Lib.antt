@@ -8,3 +8,5 @@ pub mod Scopes
 pub mod Sets
 pub mod Taken
 pub mod Lawful
+pub mod Packed
+pub mod Numbered

@@ -7,3 +7,5 @@ pub mod Meaning
 pub mod Lawful
 -- What the reader keeps.
 pub mod Sessions
+pub mod Packed
+pub mod Numbered

@@ -14,7 +14,8 @@
 //!     2,rollback
 //!     3,get,t,5        outside of a transaction: a transaction of its own
 //!
-//! Records are counted from 1, table records included, and a statement keeps its count as its place.
+//! Records are counted from 1, table records included, and a statement's count is its place. So places follow one another, and a
+//! script keeps none of them (`AreNumbered`).
 //!
 //! A script that breaks a rule is refused as a whole, with the first record that breaks one and its first code:
 //!
@@ -48,6 +49,7 @@ mod rules;
 mod scope;
 mod script;
 mod sessions;
+mod statements;
 mod table;
 #[cfg(test)]
 mod tests;

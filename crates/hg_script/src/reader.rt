@@ -6,7 +6,7 @@ ghost use Rattle.csv.specs.Records.{fields_of};
 ghost use Rattle.hg_script.specs.declared.refusal.ScriptRefusal.TheVariants as refusal;
 ghost use Rattle.hg_script.specs.Fields.{rows_of, word_of};
 ghost use Rattle.hg_script.specs.Draft.{draft_of};
-ghost use Rattle.hg_script.specs.Rules.{count_breaks, number_breaks, range_breaks};
+ghost use Rattle.hg_script.specs.Rules.{count_breaks, number_breaks, order_breaks, range_breaks};
 ghost use Rattle.hg_script.specs.Meaning.{TellsCode, TellsRefusal, first_code, refusal_of, script_of, with_draft, with_row};
 ghost use Rattle.hg_script.specs.Lawful.{IsLawful};
 ghost use Rattle.hg_script.specs.Sessions.{KnowsOpen};
@@ -20,7 +20,7 @@ use crate::sessions::OpenSessions;
 use crate::table::Table;
 use crate::word::{Word, field};
 use csv::{ByteRecord, Error, ErrorKind, ReaderBuilder};
-use hg_base::{MOST_RECORDS, NoMemory, Record};
+use hg_base::{MOST_RECORDS, NoMemory};
 use std::alloc::Global;
 
 // Adds a record that breaks no rule.
@@ -39,8 +39,10 @@ fn add(
     requires draft { draft ≡ draft_of script.old.tables word (fields_of row.now) }
     requires number { number_breaks draft ≡ false }
     requires range { range_breaks draft ≡ false }
+    requires order { order_breaks script.old.records draft ≡ false }
+    requires next { place ≡ length script.old.tables + length script.old.records + 1 }
     ensures script { OnOk result (script.new ≡ with_draft place script.old (fields_of row.now) draft) }
-    ensures more { OnOk result (length script.new.records ≤ length script.old.records + 1) }
+    ensures next { OnOk result (place + 1 ≡ length script.new.tables + length script.new.records + 1) }
     ensures known { OnOk result (KnowsOpen sessions.new.flags script.new.records) }
 {
     match draft {
@@ -52,11 +54,7 @@ fn add(
             let session = session.value() as u32;
             let statement = ask.into_statement();
             sessions.note(session, &statement);
-            script.add(Record {
-                place,
-                session,
-                statement,
-            })?;
+            script.add(session, statement)?;
         }
     }
     Ok(())
@@ -72,12 +70,12 @@ fn take(
     row: &ByteRecord,
 ) -> Result<(), ScriptRefusal>
     requires known { KnowsOpen sessions.old.flags script.old.records }
-    requires before { length script.old.records < place }
+    requires next { place ≡ length script.old.tables + length script.old.records + 1 }
     ensures none { OnOk result (first_code place script.old (fields_of row.now) ≡ None) }
     ensures script { OnOk result (script.new ≡ with_row place script.old (fields_of row.now)) }
     ensures known { OnOk result (KnowsOpen sessions.new.flags script.new.records) }
     ensures most { OnOk result (place ≤ MOST_RECORDS) }
-    ensures more { OnOk result (length script.new.records ≤ length script.old.records + 1) }
+    ensures next { OnOk result (place + 1 ≡ length script.new.tables + length script.new.records + 1) }
     ensures at { IfErr result (TellsCode place (first_code place script.old (fields_of row.now))) }
 {
     let word = Word::read(row);

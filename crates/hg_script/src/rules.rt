@@ -12,7 +12,7 @@ use crate::script::Script;
 use crate::sessions::OpenSessions;
 use crate::table::Table;
 use crate::word::Word;
-use hg_base::{MOST_COLUMNS, MOST_RECORDS, MOST_SESSIONS, MOST_TABLES, Record, TableId};
+use hg_base::{MOST_COLUMNS, MOST_RECORDS, MOST_SESSIONS, MOST_TABLES, TableId};
 
 /// What stands for a table that is not declared, where no rule asks for one.
 pub(crate) const FIRST_TABLE: TableId = TableId(0);
@@ -160,13 +160,13 @@ impl Draft {
         }
     }
 
-    fn breaks_order(&self, records: &[Record], sessions: &OpenSessions) -> bool
-        requires known { KnowsOpen sessions.now.flags records.now }
+    fn breaks_order(&self, script: &Script, sessions: &OpenSessions) -> bool
+        requires known { KnowsOpen sessions.now.flags script.now.records }
         requires range { range_breaks self.now ≡ false }
-        ensures { result ≡ order_breaks records.now self.now }
+        ensures { result ≡ order_breaks script.now.records self.now }
     {
         match self {
-            Draft::Table { .. } => !records.is_empty(),
+            Draft::Table { .. } => script.record_count() > 0,
             Draft::Session { session, ask } => ask.breaks_order(sessions.is_open(session.value())),
         }
     }
@@ -178,6 +178,7 @@ impl Draft {
         ensures code { result ≡ draft_code script.now self.now }
         ensures number { IfNone result (number_breaks self.now ≡ false) }
         ensures range { IfNone result (range_breaks self.now ≡ false) }
+        ensures order { IfNone result (order_breaks script.now.records self.now ≡ false) }
     {
         if self.breaks_number() {
             Some(Code::Number)
@@ -187,7 +188,7 @@ impl Draft {
             Some(Code::Name)
         } else if self.breaks_columns(script.tables()) {
             Some(Code::Columns)
-        } else if self.breaks_order(script.records(), sessions) {
+        } else if self.breaks_order(script, sessions) {
             Some(Code::Order)
         } else {
             None

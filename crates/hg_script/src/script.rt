@@ -1,11 +1,13 @@
 //! A script that keeps the rules.
 
-ghost use Rattle.std.specs.Prelude.{◌≡◌, ◌≤◌, ◌<◌, ◌∷◌, ◌++◌, [], OnOk, fold, length, map, max};
+ghost use Rattle.std.specs.Prelude.{◌≡◌, ◌≤◌, ◌<◌, ◌+◌, ◌∷◌, ◌++◌, [], IfOk, OnOk, get_or, length, map, max};
 ghost use Rattle.hg_base.specs.Lists.{greatest};
 ghost use Rattle.hg_script.specs.Meaning.{nothing};
+ghost use Rattle.hg_script.specs.Numbered.{AreNumbered};
 
+use crate::statements::StatementList;
 use crate::table::Table;
-use hg_base::{MOST_RECORDS, MOST_TABLES, NoMemory, Record};
+use hg_base::{MOST_RECORDS, MOST_TABLES, NoMemory, Record, Statement};
 use std::alloc::Global;
 use std::marker::Model;
 
@@ -13,27 +15,20 @@ use std::marker::Model;
 #[derive(Debug, Drop)]
 pub struct Script {
     tables: Vec<Table>,
-    records: Vec<Record>,
+    statements: StatementList,
 }
 
 impl Model for Script {
-    ghost use Rattle.std.specs.Prelude.{◌≤◌, length};
+    ghost use Rattle.std.specs.Prelude.{◌≤◌, ◌+◌, length};
     ghost use Rattle.hg_base.specs.Script as base;
     ghost use Rattle.hg_base.specs.declared.limits.TheConstants.{MOST_RECORDS, MOST_TABLES};
+    ghost use Rattle.hg_script.specs.Numbered.{numbered};
 
     ghost Value = { base.Script };
 
-    ghost view = { λ s. record { tables = s.tables.items; records = s.records.items } };
+    ghost view = { λ s. record { tables = s.tables.items; records = numbered (length s.tables.items + 1) s.statements } };
 
-    ghost invariant = { λ s. (length s.tables.items ≤ MOST_TABLES) × (length s.records.items ≤ MOST_RECORDS) };
-}
-
-fn greatest_session(records: &[Record]) -> u32
-    ensures { result ≡ fold (λ most r. max most r.session) 1 records.now }
-{
-    records
-        .iter()
-        .fold(1, |most, statement| most.max(statement.session))
+    ghost invariant = { λ s. (length s.tables.items ≤ MOST_TABLES) × (length s.statements ≤ MOST_RECORDS) };
 }
 
 impl Script {
@@ -42,7 +37,7 @@ impl Script {
     {
         Script {
             tables: Vec::new(alloc),
-            records: Vec::new(alloc),
+            statements: StatementList::new(alloc),
         }
     }
 
@@ -54,33 +49,52 @@ impl Script {
         &self.tables
     }
 
-    pub fn records(&self) -> &[Record]
-        ensures same { result.now ≡ self.now.records }
+    pub fn record_count(&self) -> usize
+        ensures same { result ≡ length self.now.records }
         ensures most { length self.now.records ≤ MOST_RECORDS }
+
+        // So a statement is found by its place.
+        ensures places { AreNumbered self.now }
     {
-        &self.records
+        self.statements.len()
+    }
+
+    /// The statement at i, made anew. It takes no memory but for a row of more than two values.
+    pub fn record(&self, i: usize) -> Result<Record, NoMemory>
+        requires { i < length self.now.records }
+        ensures { IfOk result (λ r. r ≡ get_or self.now.records i r) }
+    {
+        let (session, statement) = self.statements.get(i)?;
+        let place = (self.tables.len() + 1 + i) as u64;
+        Ok(Record {
+            place,
+            session,
+            statement,
+        })
     }
 
     /// The greatest number of a session, and 1 where there is no statement.
     pub fn sessions(&self) -> u32
         ensures { result ≡ max 1 (greatest (map (λ r. r.session) self.now.records)) }
     {
-        greatest_session(&self.records)
+        self.statements.sessions()
     }
 
+    /// Places go on from the tables, so tables come first.
     pub(crate) fn declare(&mut self, table: Table) -> Result<(), NoMemory>
-        requires { length self.old.tables < MOST_TABLES }
+        requires room { length self.old.tables < MOST_TABLES }
+        requires first { self.old.records ≡ [] }
         ensures { OnOk result (self.new ≡ record self.old { tables = self.old.tables ++ table ∷ [] }) }
     {
         self.tables.push(table)?;
         Ok(())
     }
 
-    pub(crate) fn add(&mut self, statement: Record) -> Result<(), NoMemory>
+    pub(crate) fn add(&mut self, session: u32, statement: Statement) -> Result<(), NoMemory>
         requires { length self.old.records < MOST_RECORDS }
-        ensures { OnOk result (self.new ≡ record self.old { records = self.old.records ++ statement ∷ [] }) }
+        ensures { OnOk result (self.new ≡ record self.old { records = self.old.records ++ (record { place = length self.old.tables + length self.old.records + 1; session = session; statement = statement }) ∷ [] }) }
     {
-        self.records.push(statement)?;
+        self.statements.push(session, statement)?;
         Ok(())
     }
 }

@@ -35,10 +35,10 @@ fn reads_every_statement(rt: HostRuntime) -> Result<(), Fail> {
     ] {
         let text = format!(in rt.alloc(); "table,t,1\ntable,u,8\n{text}\n")?;
         let script = read_script(rt.alloc(), text.as_bytes())?;
-        let last = script.records().last().expect(&rt, "a statement");
+        let last = script.record(script.record_count() - 1)?;
         let found = format!(in rt.alloc(); "{:?}", last.statement)?;
         assert_eq!(rt; found.as_str(), statement, "at {text}");
-        assert_eq!(rt; last.place, 2 + script.records().len() as u64);
+        assert_eq!(rt; last.place, 2 + script.record_count() as u64);
     }
     Ok(())
 }
@@ -62,7 +62,7 @@ fn takes_scripts(rt: HostRuntime) -> Result<(), Fail> {
         ("table,t,1\n\n\"1\",\"get\",t,5\r\n", 1),
     ] {
         let script = read_script(rt.alloc(), text.as_bytes())?;
-        assert_eq!(rt; script.records().len(), statements, "at {text}");
+        assert_eq!(rt; script.record_count(), statements, "at {text}");
     }
     let script = read_script(rt.alloc(), b"table,t,1\n7,get,t,1\n64,begin\n")?;
     assert_eq!(rt; script.sessions(), 64);
@@ -191,7 +191,7 @@ fn records_are_counted(rt: HostRuntime) -> Result<(), Fail> {
         text.extend_from_slice(b"1,begin\n1,commit\n")?;
     }
     let script = read_script(rt.alloc(), &text)?;
-    assert_eq!(rt; script.records().len(), 1_048_576);
+    assert_eq!(rt; script.record_count(), 1_048_576);
     text.extend_from_slice(b"1,begin\n")?;
     let want = ScriptRefusal::At {
         line: 1_048_577,

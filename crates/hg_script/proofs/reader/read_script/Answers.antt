@@ -23,7 +23,7 @@ loop-place-init c =
       config = rw (f, h) at fr.config ∙ c.new.ensures.config;
       left = (strip_bom c.args.bytes.now, [], fr.source, (sym fr.state, refl), omega arith, refl, c.new-script.ensures);
       most = omega arith;
-      before = rw c.new-script.ensures (omega arith);
+      next = rw c.new-script.ensures (omega arith);
       known = rw c.new-script.ensures c.new-sessions.ensures;
     }
 
@@ -44,7 +44,7 @@ loop-place-preserved c =
       config = reads.2 ∙ inv.config;
       left = (m.0, rows ++ f ∷ [], m.1, m.2, omega (arith, count, length-append rows (f ∷ [])), accepts 1 nothing rows f none passes, script ∙ sym (script-append 1 nothing rows f));
       most = omega (arith, took.most);
-      before = omega (arith, took.more, inv.before);
+      next = took.next;
       known = took.known;
     }
 

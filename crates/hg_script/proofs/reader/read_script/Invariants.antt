@@ -16,6 +16,6 @@ invariant-loop-place l = record {
       × Reached default_config st.StartRecord (strip_bom l.fn.bytes) rows (reader_state l.reader) y
       × (1 + length rows ≡ l.place) × (refusal_of rows ≡ None) × (l.script ≡ script_of rows);
   most : l.place ≤ 1048577;
-  before : length l.script.records < l.place;
+  next : l.place ≡ length l.script.tables + length l.script.records + 1;
   known : KnowsOpen l.sessions.flags l.script.records;
 }

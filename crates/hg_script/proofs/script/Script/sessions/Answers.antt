@@ -1,6 +1,8 @@
-use Rattle.std.proofs.Common.{◌∙◌}
-use Rattle.hg_script.proofs.Open.{fold-greatest}
+use Rattle.std.proofs.Common.{◌∙◌, ap, sym, max, length, ◌+◌}
+use Rattle.hg_base.specs.Lists.{greatest}
+use Rattle.hg_script.proofs.Numbered.{numbered_sessions}
 use Rattle.hg_script.proofs.script.Script.sessions.Goals as goal
 
 pub returns : goal.returns
-returns c = rw (← c.self.view_is, ← c.deref.ensures.value) (c.greatest_session.ensures ∙ fold-greatest 1 c.deref.result.now)
+returns c =
+    rw (← c.self.view_is) (c.sessions.ensures ∙ ap (λ ns. max 1 (greatest ns)) (sym (numbered_sessions (length c.self.inside.tables.items + 1) c.self.inside.statements)))

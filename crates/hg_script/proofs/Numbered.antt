@@ -1,0 +1,37 @@
+-- Statements as records, by counted places.
+use Rattle.std.proofs.Common.{◌≡◌, ◌<◌, ◌+◌, ◌∙◌, ℕ, zero, suc, List, [], ◌∷◌, ◌++◌, length, map, get_or, refl, ap, arith}
+use Rattle.hg_base.specs.declared.statement.Record.{Record}
+use Rattle.hg_base.specs.declared.statement.Statement.{Statement}
+use Rattle.hg_script.specs.Numbered.{numbered}
+
+pub numbered_many : (place : ℕ) (xs : List (ℕ × Statement)) → length (numbered place xs) ≡ length xs
+numbered_many place [] = refl
+numbered_many place (x ∷ xs) = ap suc (numbered_many (place + 1) xs)
+
+-- the record at i
+pub numbered_at : (place : ℕ) (xs : List (ℕ × Statement)) (i : ℕ) (d : Record) (x : ℕ × Statement) (at : ℕ) → i < length xs → x ≡ get_or xs i x → at ≡ place + i
+    → get_or (numbered place xs) i d ≡ record { place = at; session = x.0; statement = x.1 }
+numbered_at place [] i d x at less is here = absurd (omega arith)
+numbered_at place (y ∷ xs) zero d x at less is here =
+    let same : at ≡ place = omega (arith, here) in rw (is, same) refl
+numbered_at place (y ∷ xs) (suc i) d x at less is here = numbered_at (place + 1) xs i d x at (omega arith) is (omega (arith, here))
+
+pub places_are : (place : ℕ) (xs : List (ℕ × Statement)) (i : ℕ) (d : Record) → i < length xs → (get_or (numbered place xs) i d).place ≡ place + i
+places_are place [] i d less = absurd (omega arith)
+places_are place (x ∷ xs) zero d less = omega arith
+places_are place (x ∷ xs) (suc i) d less = places_are (place + 1) xs i d (omega arith) ∙ omega arith
+
+-- one statement more
+pub numbered_one : (place : ℕ) (xs : List (ℕ × Statement)) (session : ℕ) (s : Statement) (at : ℕ) → at ≡ place + length xs
+    → numbered place (xs ++ (session, s) ∷ []) ≡ numbered place xs ++ (record { place = at; session = session; statement = s }) ∷ []
+numbered_one place [] session s at here = let same : at ≡ place = omega (arith, here) in rw same refl
+numbered_one place (x ∷ xs) session s at here = rw (numbered_one (place + 1) xs session s at (omega (arith, here))) refl
+
+pub numbered_sessions : (place : ℕ) (xs : List (ℕ × Statement)) → map (λ (r : Record). r.session) (numbered place xs) ≡ map (λ x. x.0) xs
+numbered_sessions place [] = refl
+numbered_sessions place (x ∷ xs) = ap (λ ns. x.0 ∷ ns) (numbered_sessions (place + 1) xs)
+
+-- of no records, whatever the place of the first
+pub none_numbered : (place other : ℕ) (xs : List (ℕ × Statement)) → numbered place xs ≡ [] → numbered other xs ≡ []
+none_numbered place other [] h = refl
+none_numbered place other (x ∷ xs) h = absurd (let no : ⊥ = cc h in no)

@@ -1,0 +1,69 @@
+-- Statements whose values stand in one list.
+use Rattle.std.proofs.Common.{◌≡◌, ◌≤◌, ◌+◌, ◌*◌, ◌∙◌, ℕ, ℤ, suc, List, [], ◌∷◌, ◌++◌, length, length-drop, map, take, drop, max, fold, refl, sym, ap, arith, length-append}
+use Rattle.std.proofs.Math.Seq.{take-append-le, drop-append-le, drop-append_seam}
+use Rattle.std.proofs.lemmas.List.{map-append, take_all}
+use Rattle.hg_base.specs.Lists.{Each, greatest}
+use Rattle.hg_base.specs.declared.limits.TheConstants.{MOST_COLUMNS}
+use Rattle.hg_base.specs.declared.statement.Statement.{Statement}
+use Rattle.hg_base.specs.declared.statement.Statement.TheVariants as say
+use Rattle.hg_base.proofs.ListFacts.{each_keeps, each_snoc}
+use Rattle.hg_script.specs.declared.statements.Entry.{Entry}
+use Rattle.hg_script.specs.declared.statements.Packed.{Packed}
+use Rattle.hg_script.specs.declared.statements.Packed.TheVariants.{Begin, Get, Put, Del, Scan, Commit, Rollback, Gc}
+use Rattle.hg_script.specs.Packed.{HasRow, IsWithin, added, packed_as, statement_in, unpacked}
+
+-- ---- one statement
+
+pub comes_back : (values : List ℤ) (s : Statement) → statement_in (values ++ added s) (packed_as (length values) s) ≡ s
+comes_back values (say.Begin scope) = refl
+comes_back values (say.Get rid) = refl
+comes_back values (say.Put rid row) = rw (drop-append_seam values row, take_all (length row) row (omega arith)) refl
+comes_back values (say.Del rid) = refl
+comes_back values (say.Scan table low high) = refl
+comes_back values say.Commit = refl
+comes_back values say.Rollback = refl
+comes_back values (say.Gc kind) = refl
+
+row_stays : (values more : List ℤ) (first count : ℕ) → first + count ≤ length values → take count (drop first (values ++ more)) ≡ take count (drop first values)
+row_stays values more first count within = rw (drop-append-le first values more (omega (arith, within))) (take-append-le count (drop first values) more (omega (arith, within, length-drop first values)))
+
+stays : (values more : List ℤ) (p : Packed) → HasRow (length values) p → statement_in (values ++ more) p ≡ statement_in values p
+stays values more (Begin scope) h = refl
+stays values more (Get rid) h = refl
+stays values more (Put rid span) h = ap (say.Put rid) (row_stays values more span.first span.count h.2)
+stays values more (Del rid) h = refl
+stays values more (Scan table low high) h = refl
+stays values more Commit h = refl
+stays values more Rollback h = refl
+stays values more (Gc kind) h = refl
+
+more_room : (many more : ℕ) (p : Packed) → many ≤ more → HasRow many p → HasRow more p
+more_room many more (Begin scope) le h = tt
+more_room many more (Get rid) le h = tt
+more_room many more (Put rid span) le h = (h.0, h.1, omega (arith, le, h.2))
+more_room many more (Del rid) le h = tt
+more_room many more (Scan table low high) le h = tt
+more_room many more Commit le h = tt
+more_room many more Rollback le h = tt
+more_room many more (Gc kind) le h = tt
+
+-- ---- all statements
+
+all_stay : (values more : List ℤ) (es : List Entry) → Each (IsWithin (length values)) es → map (unpacked (values ++ more)) es ≡ map (unpacked values) es
+all_stay values more [] h = refl
+all_stay values more (e ∷ es) h = rw (stays values more e.packed h.0, all_stay values more es h.1) refl
+
+-- one statement more
+pub one_more : (values : List ℤ) (es : List Entry) (session : ℕ) (s : Statement) → Each (IsWithin (length values)) es
+    → map (unpacked (values ++ added s)) (es ++ (record { session = session; packed = packed_as (length values) s }) ∷ []) ≡ map (unpacked values) es ++ (session, s) ∷ []
+one_more values es session s h =
+    let e : Entry = record { session = session; packed = packed_as (length values) s } in
+    map-append (unpacked (values ++ added s)) es (e ∷ []) ∙ rw (all_stay values (added s) es h, comes_back values s) refl
+
+pub within_more : (values more : List ℤ) (es : List Entry) → Each (IsWithin (length values)) es → Each (IsWithin (length (values ++ more))) es
+within_more values more es h =
+    each_keeps (IsWithin (length values)) (IsWithin (length (values ++ more))) (λ e k. more_room (length values) (length (values ++ more)) e.packed (omega (arith, length-append values more)) k) es h
+
+pub fold_greatest : (n : ℕ) (values : List ℤ) (es : List Entry) → fold (λ (most : ℕ) (e : Entry). max most e.session) n es ≡ max n (greatest (map (λ said. said.0) (map (unpacked values) es)))
+fold_greatest n values [] = omega arith
+fold_greatest n values (e ∷ es) = omega (arith, fold_greatest (max n e.session) values es)

@@ -1,0 +1,153 @@
+//! Statements with their sessions, in little memory.
+//!
+//! The values of all rows stand in one list, and a put keeps where its own begin and how many they are. So a statement takes
+//! 40 bytes, and 8 more for each value.
+
+ghost use Rattle.std.specs.Prelude.{◌≡◌, ◌≤◌, ◌<◌, ◌+◌, ◌^◌, ◌∷◌, ◌++◌, [], IfOk, OnErr, OnOk, fold, get_or, length, map, max};
+ghost use Rattle.hg_base.specs.Lists.{greatest};
+ghost use Rattle.hg_script.specs.Packed.{added, packed_as};
+
+use hg_base::{Kind, MOST_COLUMNS, MOST_RECORDS, NoMemory, Rid, Row, Scope, Statement, TableId};
+use std::alloc::Global;
+use std::marker::Model;
+use std::mem::size_of;
+
+/// Where the values of a row stand among all values.
+#[derive(Clone, Copy, Debug)]
+pub(crate) struct Span {
+    first: u32,
+    count: u8,
+}
+
+/// A statement. The values of a put stand elsewhere.
+#[derive(Clone, Copy, Debug)]
+pub(crate) enum Packed {
+    Begin(Scope),
+    Get(Rid),
+    Put(Rid, Span),
+    Del(Rid),
+    Scan { table: TableId, low: u64, high: u64 },
+    Commit,
+    Rollback,
+    Gc(Kind),
+}
+
+#[derive(Clone, Copy, Debug)]
+pub(crate) struct Entry {
+    session: u32,
+    packed: Packed,
+}
+
+const _: () = prove!(size_of::<Entry>() == 40);
+
+/// Each statement with the session that says it.
+#[derive(Debug, Drop)]
+pub(crate) struct StatementList {
+    entries: Vec<Entry>,
+    values: Vec<i64>,
+}
+
+impl Model for StatementList {
+    ghost use Rattle.std.specs.Prelude.{ℕ, ◌≤◌, ◌*◌, List, length, map};
+    ghost use Rattle.hg_base.specs.Lists.{Each};
+    ghost use Rattle.hg_base.specs.declared.limits.TheConstants.{MOST_COLUMNS};
+    ghost use Rattle.hg_base.specs.declared.statement.Statement.{Statement};
+    ghost use Rattle.hg_script.specs.Packed.{IsWithin, unpacked};
+
+    ghost Value = { List (ℕ × Statement) };
+
+    ghost view = { λ s. map (unpacked s.values.items) s.entries.items };
+
+    ghost invariant = { λ s. (length s.values.items ≤ MOST_COLUMNS * length s.entries.items) × Each (IsWithin (length s.values.items)) s.entries.items };
+}
+
+// Takes the statement apart: its values go behind those that are there.
+fn pack(values: &mut Vec<i64>, statement: Statement) -> Result<Packed, NoMemory>
+    requires room { length values.old.items < 2 ^ 32 }
+    ensures packed { IfOk result (λ packed. packed ≡ packed_as (length values.old.items) statement) }
+    ensures values { OnOk result (values.new.items ≡ values.old.items ++ added statement) }
+    ensures few { OnOk result (length (added statement) ≤ MOST_COLUMNS) }
+    ensures err { OnErr result (values.new.items ≡ values.old.items) }
+{
+    Ok(match statement {
+        Statement::Begin(scope) => Packed::Begin(scope),
+        Statement::Get(rid) => Packed::Get(rid),
+        Statement::Put(rid, row) => {
+            let first = values.len() as u32;
+            let count = row.values().len() as u8;
+            values.extend_from_slice(row.values())?;
+            Packed::Put(rid, Span { first, count })
+        }
+        Statement::Del(rid) => Packed::Del(rid),
+        Statement::Scan { table, low, high } => Packed::Scan { table, low, high },
+        Statement::Commit => Packed::Commit,
+        Statement::Rollback => Packed::Rollback,
+        Statement::Gc(kind) => Packed::Gc(kind),
+    })
+}
+
+fn greatest_session(entries: &[Entry]) -> u32
+    ensures { result ≡ fold (λ most e. max most e.session) 1 entries.now }
+{
+    entries
+        .iter()
+        .fold(1, |most, entry| most.max(entry.session))
+}
+
+impl StatementList {
+    pub(crate) fn new(alloc: Global) -> StatementList
+        ensures { result ≡ [] }
+    {
+        StatementList {
+            entries: Vec::new(alloc),
+            values: Vec::new(alloc),
+        }
+    }
+
+    pub(crate) fn len(&self) -> usize
+        ensures { result ≡ length self.now }
+    {
+        self.entries.len()
+    }
+
+    pub(crate) fn push(&mut self, session: u32, statement: Statement) -> Result<(), NoMemory>
+        requires { length self.old < MOST_RECORDS }
+        ensures ok { OnOk result (self.new ≡ self.old ++ (session, statement) ∷ []) }
+        ensures err { OnErr result (self.new ≡ self.old) }
+    {
+        self.entries.reserve(1)?;
+        let packed = pack(&mut self.values, statement)?;
+        self.entries.push(Entry { session, packed })?;
+        Ok(())
+    }
+
+    /// The statement at i and its session. A row of one or two values takes no memory.
+    pub(crate) fn get(&self, i: usize) -> Result<(u32, Statement), NoMemory>
+        requires { i < length self.now }
+        ensures { IfOk result (λ said. said ≡ get_or self.now i said) }
+    {
+        let entry = self.entries[i];
+        let statement = match entry.packed {
+            Packed::Begin(scope) => Statement::Begin(scope),
+            Packed::Get(rid) => Statement::Get(rid),
+            Packed::Put(rid, span) => {
+                let first = span.first as usize;
+                let values = &self.values[first..first + span.count as usize];
+                Statement::Put(rid, Row::from_slice(*self.values.allocator(), values)?)
+            }
+            Packed::Del(rid) => Statement::Del(rid),
+            Packed::Scan { table, low, high } => Statement::Scan { table, low, high },
+            Packed::Commit => Statement::Commit,
+            Packed::Rollback => Statement::Rollback,
+            Packed::Gc(kind) => Statement::Gc(kind),
+        };
+        Ok((entry.session, statement))
+    }
+
+    /// The greatest session, and 1 where there is no statement.
+    pub(crate) fn sessions(&self) -> u32
+        ensures { result ≡ max 1 (greatest (map (λ said. said.0) self.now)) }
+    {
+        greatest_session(&self.entries)
+    }
+}
