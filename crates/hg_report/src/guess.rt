@@ -1,18 +1,16 @@
 //! What a record says if it may come next.
 
-ghost use Rattle.std.specs.Prelude.{◌≡◌, ℕ, ◌<◌, ◌≤◌, IfOk, get_or, length, map, option_map};
-ghost use Rattle.hg_base.specs.Lists.{Ascends};
-ghost use Rattle.hg_base.specs.declared.statement.Record.{Record};
+ghost use Rattle.std.specs.Prelude.{◌≡◌, ◌≢◌, ℕ, ◌+◌, ◌<◌, ◌≤◌, IfNone, IfOk, IfSome, length};
 ghost use Rattle.hg_base.specs.Text.{columns_of, is_write};
 ghost use Rattle.hg_base.specs.Transcript.{table_of};
+ghost use Rattle.hg_script.specs.Numbered.{AreNumbered};
 ghost use Rattle.hg_report.specs.Fields.{fields_of};
 ghost use Rattle.hg_report.specs.Guess.{answer_guess, answer_place, answered_guess, at_guess, commit_guess, del_guess, first_guess, gc_guess, get_guess, head_guess, held_guess, kind_guess, number_guess, piece_of, put_guess, refusal_guess, reply_guess, row_guess, scan_guess, statement_at, sweep_guess, table_columns};
 
 use crate::fields::{number_in, row_in, says, session_in};
 use crate::piece::Piece;
 use hg_base::{
-    Answer, Kind, Line, NoMemory, Record, Reply, RowList, Statement, Sweep, TableId, Told,
-    ToldList, Writer,
+    Answer, Kind, Line, NoMemory, Reply, RowList, Statement, Sweep, TableId, Told, ToldList, Writer,
 };
 use hg_script::{Script, Table};
 use std::alloc::Global;
@@ -282,40 +280,29 @@ fn answered_guess(
     }
 }
 
-// How many records come before that place. Places ascend.
-fn count_before(records: &[Record], place: u64) -> usize
-    requires { Ascends (map (λ r. r.place) records.now) }
-    ensures most { result ≤ length records.now }
-    ensures before { (k : ℕ) (d : Record) → k < result → (get_or records.now k d).place < place }
-    ensures behind { (k : ℕ) (d : Record) → result ≤ k → k < length records.now → place ≤ (get_or records.now k d).place }
+// The index of the record of that place. Places go on from the tables.
+fn index_of(script: &Script, place: u64) -> Option<usize>
+    ensures found { IfSome result (λ i. (i < length script.now.records) × (place ≡ length script.now.tables + i + 1)) }
+    ensures places { AreNumbered script.now }
+    ensures none { IfNone result ((i : ℕ) → i < length script.now.records → place ≢ length script.now.tables + i + 1) }
 {
-    let mut low = 0;
-    let mut high = records.len();
-    while low < high {
-        let middle = low + (high - low) / 2;
-        if records[middle].place < place {
-            low = middle + 1;
-        } else {
-            high = middle;
-        }
-    }
-    low
+    let count = script.record_count();
+    let i = place.checked_sub(script.tables().len() as u64 + 1)? as usize;
+    if i < count { Some(i) } else { None }
 }
 
 // The statement of that session and place.
-fn statement_at(records: &[Record], session: u32, place: u64) -> Option<&Statement>
-    requires { Ascends (map (λ r. r.place) records.now) }
-    ensures { option_map (λ s. s.now) result ≡ statement_at records.now session place }
+fn statement_at(script: &Script, session: u32, place: u64) -> Result<Option<Statement>, NoMemory>
+    ensures { IfOk result (λ o. o ≡ statement_at script.now.records session place) }
 {
-    let i = count_before(records, place);
-    if i == records.len() {
-        return None;
-    }
-    let record = &records[i];
-    if record.place == place && record.session == session {
-        Some(&record.statement)
+    let Some(i) = index_of(script, place) else {
+        return Ok(None);
+    };
+    let record = script.record(i)?;
+    if record.session == session {
+        Ok(Some(record.statement))
     } else {
-        None
+        Ok(None)
     }
 }
 
@@ -326,17 +313,15 @@ fn reply_guess(
     place: u64,
     row: &[&[u8]],
 ) -> Result<Option<Piece>, NoMemory>
-    requires { Ascends (map (λ r. r.place) script.now.records) }
     ensures { IfOk result (λ o. o ≡ reply_guess script.now session place (fields_of row.now)) }
 {
-    match statement_at(script.records(), session, place) {
-        Some(statement) => answered_guess(alloc, script.tables(), statement, session, place, row),
+    match statement_at(script, session, place)? {
+        Some(statement) => answered_guess(alloc, script.tables(), &statement, session, place, row),
         None => Ok(None),
     }
 }
 
 fn head_guess(alloc: Global, script: &Script, row: &[&[u8]]) -> Result<Option<Piece>, NoMemory>
-    requires { Ascends (map (λ r. r.place) script.now.records) }
     ensures { IfOk result (λ o. o ≡ head_guess script.now (fields_of row.now)) }
 {
     let session = session_in(row, 0);
@@ -357,7 +342,6 @@ pub(crate) fn first_guess(
     script: &Script,
     row: &[&[u8]],
 ) -> Result<Option<Piece>, NoMemory>
-    requires { Ascends (map (λ r. r.place) script.now.records) }
     ensures { IfOk result (λ o. o ≡ first_guess script.now (fields_of row.now)) }
 {
     if says(row, 0, b"total") {
