@@ -36,7 +36,8 @@ pub(crate) fn play<'a, R: Wait>(
 {
     let mut last = 0;
     let mut transcript = Transcript::new(alloc, script);
-    for record in script.records() {
+    for next in 0..script.record_count() {
+        let record = script.record(next)?;
         let i = record.session as usize - 1;
         let reply = answer(rt, engine, list, last, i, &record.statement)?;
         last = i;

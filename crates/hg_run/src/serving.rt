@@ -18,12 +18,13 @@ use std::alloc::Global;
 use std::sync::Wait;
 use std::thread::Threads;
 
-// The text that the script of these bytes prints. Here the script is known to be their meaning.
-fn text_of_bytes<R: Wait>(rt: &R, alloc: Global, bytes: &[u8]) -> Result<Vec<u8>, Status>
-    ensures text { IfOk result (λ text. IsTextFor bytes.now text.items) }
-    ensures refused { IfErr result (RefusesBytes bytes.now) }
+// The text that the script of these bytes prints. Here the script is known to be their meaning, and they are let go before it runs.
+fn text_of_bytes<R: Wait>(rt: &R, alloc: Global, bytes: Vec<u8>) -> Result<Vec<u8>, Status>
+    ensures text { IfOk result (λ text. IsTextFor bytes.items text.items) }
+    ensures refused { IfErr result (RefusesBytes bytes.items) }
 {
-    let script = read_script(alloc, bytes)?;
+    let script = read_script(alloc, &bytes)?;
+    drop(bytes);
     let text = replay(rt, alloc, &script)?;
     Ok(text)
 }
@@ -38,7 +39,7 @@ fn text_of_source<R: Wait, S: Source>(
     ensures refused { IfErr result (RefusesSource (change_of S.left S.faults source.old source.new)) }
 {
     let bytes = read_all(alloc, source)?;
-    text_of_bytes(rt, alloc, &bytes)
+    text_of_bytes(rt, alloc, bytes)
 }
 
 // The answer, which always comes.
