@@ -11,7 +11,7 @@ ghost use Rattle.hg_rule.specs.Views.{number, session};
 ghost use Rattle.hg_rule.specs.Holding.{HasBoth, farther, commit_behind, held, tables, writer as writer_of, snapshot as snapshot_of};
 ghost use Rattle.hg_rule.specs.Writes.{Looks, Undoes};
 ghost use Rattle.hg_rule.specs.Seats.{table_of, sizes_of, session_view, IsSessionOf, IsAwayOf};
-ghost use Rattle.hg_rule.specs.Handing.{lent, members, who, part_of, writer_at, Stamps};
+ghost use Rattle.hg_rule.specs.Handing.{AreLent, members, who, part_of, writer_at, Stamps};
 ghost use Rattle.hg_store.specs.Stores.{held_table, held_number, Holds};
 ghost use Rattle.hg_store.specs.Writing.{Writes, IsAnothers};
 
@@ -65,7 +65,7 @@ impl<'a> Held<'a> {
         number: u64,
     )
         requires own { IsAwayOf (table_of board.now) (sizes_of board.now) pass.old }
-        requires received { (farther (session_view pass.old) ≡ lent (members (farther (session_view pass.old)))) × IsTrue (is_in (who (members (farther (session_view pass.old)))) by.session) }
+        requires received { AreLent (farther (session_view pass.old)) × IsTrue (is_in (who (members (farther (session_view pass.old)))) by.session) }
         requires plain { IsTrue (is_plain (part_of by.session (members (farther (session_view pass.old)))).log) }
         requires holds { Holds (session_view pass.old) self.old }
         requires here { bucket_of (sizes_of board.now).buckets rid ≡ held_number self.old }
