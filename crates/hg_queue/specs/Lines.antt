@@ -13,34 +13,44 @@ use Rattle.hg_queue.specs.Handing.{IsHandedOf}
 abbrev pub pair_of : Handed → ℕ × ℕ
 pair_of x = (x.tx.writer.session, x.tx.writer.transaction)
 
+-- whether it opens, whether it pops, its board and its pairs
 abbrev pub knows : Bool → Bool → TableId → List (ℕ × ℕ) → Known
 knows opens leads t pairs = record { opens = opens; leads = leads; board = record { id = t }; pairs = pairs }
 
+-- in place of a board, until there is one
 abbrev pub no_board : TableId
 no_board = record { words = 0; slots = 0; views_name = 0; atom = 0; block = 0; offset = 0; slot_names = [] }
 
--- the first pass of all, before there is a board; then the one that pops, and those that push
+-- the first pass of all, before there is a board
 abbrev pub opening : Known
 opening = knows true true no_board []
 
+-- the pass that pops, and one that pushes, of a new queue
 abbrev pub leader : TableId → Known
 leader t = knows false true t []
 
 abbrev pub pusher : TableId → Known
 pusher t = knows false false t []
 
--- with the pairs that it knows of now
+-- a pass may pop, or push
+abbrev pub MayPop : Known → Type 0
+MayPop v = (v.opens ≡ false) × (v.leads ≡ true)
+
+abbrev pub MayPush : Known → Type 0
+MayPush v = (v.opens ≡ false) × (v.leads ≡ false)
+
+-- it knows these pairs now
 abbrev pub with_pairs : List (ℕ × ℕ) → Known → Known
 with_pairs pairs v = record v { pairs = pairs }
 
--- what the pass at i knows: the one that pops has what was popped, any other a beginning of what was pushed
+-- what the pass with number i knows: the one that pops has number `at` and what was popped, any other a beginning of what was pushed
 pub record Fits (board : TableId) (at : ℕ) (out all : List (ℕ × ℕ)) (i : ℕ) (v : Known) : Type 0 where
   pub opened : v.opens ≡ false
   pub board_is : v.board.id ≡ board
   pub leads : v.leads ≡ true → (i ≡ at) × (v.pairs ≡ out)
   pub pushes : v.leads ≡ false → StartsWith all v.pairs
 
--- What was pushed is what was popped and then what the queue holds.
+-- A queue of one board. What was popped is `out`; what was pushed is that, and then what the queue holds.
 pub record Queued (items : List Handed) (views : List Known) : Type 0 where
   pub board : TableId
   pub at : ℕ
@@ -48,12 +58,13 @@ pub record Queued (items : List Handed) (views : List Known) : Type 0 where
   pub good : Each (IsHandedOf board) items
   pub fits : (i : ℕ) (v : Known) → get_elem? views i ≡ some v → Fits board at out (out ++ map pair_of items) i v
 
+-- the rule: nothing was done yet, or there is a board
 abbrev pub Ordered : List Handed → List Known → Type 0
 Ordered items views = ((items ≡ []) × (views ≡ opening ∷ [])) ⊎ Queued items views
 
 -- ---- what a step tells
 
--- the list goes on, and ends with the pair that was pushed
+-- the list goes on, perhaps by what others pushed, and ends with the pair that was pushed
 abbrev pub pushed : Known → Handed → Known → Type 0
 pushed v x w = (others : List (ℕ × ℕ)) × (w ≡ with_pairs (v.pairs ++ (others ++ pair_of x ∷ [])) v)
 

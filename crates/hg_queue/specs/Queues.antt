@@ -4,8 +4,10 @@ use Rattle.hg_queue.specs.declared.known.Known.{Known}
 use Rattle.hg_queue.specs.declared.line.LinePass.{LinePass}
 use Rattle.hg_queue.specs.declared.queue.Queue.{Queue}
 
+-- what a pass knows
 abbrev pub known : LinePass → Known
 known p = p.pass.me.view.client
 
+-- the pass is one of this queue
 abbrev pub IsPassOf : Queue → LinePass → Type 0
 IsPassOf q p = IsSegPassOf q.line p.pass

@@ -1,11 +1,20 @@
-//! Transactions that were handed over, and the queue of them.
+//! Open transactions that were handed over, and the queue in which they wait for whoever commits the next group.
 //!
-//!     session      hand_over                push   ->  [ 2/7 ] [ 5/1 ] [ 3/4 ]  ->   pop      leader
+//!     session 2   push
+//!     session 5   push   ->   [ 2/7 ] [ 5/1 ] [ 3/4 ]   ->   pop   leader
+//!     session 3   push
 //!
-//! A transaction goes into the queue with its session's part of the state. The rule (`Ordered`) says that what was pushed is what
-//! was popped and then what the queue holds, pair by pair: session, and number of its transaction. A pass that pushes knows a
-//! beginning of what was pushed, the one that pops knows all that was popped. And each transaction in the queue is of one board,
-//! live, unchanged since, and has exactly the records that its context names.
+//! A transaction is named by its pair: session, and number among the session's own (3/4). It goes into the queue with its
+//! session's part of the state, so nobody else has that part while it waits. Each session has a pass that pushes (`twin`), and
+//! one pass pops: it lies with the committer's seat. What a pass knows is a list of pairs, oldest first.
+//!
+//!     pushed so far         6/2   2/6   3/4   5/1   2/7
+//!     the pass that pops    6/2   2/6                         what was popped, all of it
+//!     one that pushes       6/2   2/6   3/4                   a beginning, which ends with its own last push
+//!
+//! The rule (`Ordered`) says that what was pushed is what was popped and then what the queue holds: no transaction is lost, none
+//! comes twice, and none overtakes another. And each transaction in the queue is of one board, live, unchanged since it was
+//! handed over, and has exactly the records that its context names.
 #![tactic(auto)]
 
 mod handed;
@@ -23,3 +32,6 @@ pub use line::{InOrder, LinePass};
 pub use open_tx::OpenTx;
 pub use queue::Queue;
 pub use rid_list::RidList;
+
+#[cfg(test)]
+mod tests;

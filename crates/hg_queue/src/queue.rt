@@ -1,9 +1,9 @@
 //! The queue.
 
-ghost use Rattle.std.specs.Prelude.{◌≡◌, true, false, [], IfOk, OnOk, IfErr, IfSome, IfNone};
+ghost use Rattle.std.specs.Prelude.{◌≡◌, IfOk, OnOk, IfErr, IfSome, IfNone};
 ghost use Rattle.hg_rule.specs.Seats.{commit_seat};
 ghost use Rattle.hg_queue.specs.Handing.{IsHandedOf};
-ghost use Rattle.hg_queue.specs.Lines.{leader, pusher, pushed, popped};
+ghost use Rattle.hg_queue.specs.Lines.{leader, pusher, MayPush, MayPop, pushed, popped};
 
 use crate::handed::Handed;
 use crate::line::{Line, LinePass};
@@ -23,7 +23,10 @@ pub struct Queue {
 impl Queue {
     ghost use Rattle.hg_queue.specs.Queues.{IsPassOf, known};
 
-    fn new_as<A: Boarded>(alloc: Global, _seat: &CommitSeat) -> Result<(Queue, LinePass, LinePass), NoMemory>
+    fn new_as<A: Boarded>(
+        alloc: Global,
+        _seat: &CommitSeat,
+    ) -> Result<(Queue, LinePass, LinePass), NoMemory>
         ensures passes { IfOk result (λ q. IsPassOf q.0 q.1 × IsPassOf q.0 q.2) }
         ensures known { IfOk result (λ q. (known q.1 ≡ leader A.board) × (known q.2 ≡ pusher A.board)) }
     {
@@ -43,7 +46,7 @@ impl Queue {
     /// Another pass that pushes, which knows the same.
     pub fn twin(&self, pass: &mut LinePass) -> LinePass
         requires own { IsPassOf self.now pass.old }
-        requires pushes { ((known pass.old).opens ≡ false) × ((known pass.old).leads ≡ false) }
+        requires pushes { MayPush (known pass.old) }
         ensures own { IsPassOf self.now pass.new × IsPassOf self.now result }
         ensures same { (known pass.new ≡ known pass.old) × (known result ≡ known pass.old) }
     {
@@ -51,10 +54,10 @@ impl Queue {
         LinePass { pass: twin }
     }
 
-    /// The transaction joins at the back, and is the last that the pass knows of. A refusal hands it back.
+    /// The transaction joins at the back, and is the last that the pass knows of. A refusal, for want of memory, hands it back.
     pub fn push<R: Wait>(&self, rt: &R, pass: &mut LinePass, handed: Handed) -> Result<(), Handed>
         requires own { IsPassOf self.now pass.old }
-        requires pushes { ((known pass.old).opens ≡ false) × ((known pass.old).leads ≡ false) }
+        requires pushes { MayPush (known pass.old) }
         requires handed { IsHandedOf (known pass.old).board.id handed }
         ensures pushed { OnOk result (pushed (known pass.old) handed (known pass.new)) }
         ensures refused { IfErr result (λ x. (x ≡ handed) × (known pass.new ≡ known pass.old)) }
@@ -66,7 +69,7 @@ impl Queue {
     /// The transaction at the front leaves. None only if the queue was empty.
     pub fn pop<R: Wait>(&self, rt: &R, pass: &mut LinePass) -> Option<Handed>
         requires own { IsPassOf self.now pass.old }
-        requires pops { ((known pass.old).opens ≡ false) × ((known pass.old).leads ≡ true) }
+        requires pops { MayPop (known pass.old) }
         ensures popped { IfSome result (λ x. popped (known pass.old) x (known pass.new)) }
         ensures none { IfNone result (known pass.new ≡ known pass.old) }
         ensures own { IsPassOf self.now pass.new }
