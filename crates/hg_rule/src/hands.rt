@@ -13,7 +13,8 @@ use crate::passes::{SessionPass, TxSeat};
 use crate::plays::{HandingBack, Joining, Lending, Receiving, Retaking, Returning};
 
 impl Board {
-    /// The session's phase and log leave for the seat. Until they are back, this pass makes no step of its own session.
+    /// The session's phase and log leave for the seat. Until they are back, this pass makes no step of its own session. The answer
+    /// is the mark beside the seat.
     pub fn hand_over(&self, pass: &mut SessionPass) -> (u64, TxSeat)
         requires own { IsSessionOf (table_of self.now) (sizes_of self.now) pass.old }
         requires unstamped { (session (session_view pass.old)).stamped ≡ false }
