@@ -31,6 +31,7 @@ use Rattle.hg_group.specs.Order.{Pairs, StandsIn}
 
 -- ---- what was popped
 
+-- session and transaction
 abbrev pub pair_in : OpenTx → ℕ × ℕ
 pair_in tx = (tx.writer.session, tx.writer.transaction)
 
@@ -40,6 +41,7 @@ pub record IsTaken (tx : OpenTx) (m : ℕ × SessionPart) : Type 0 where
   pub some : 0 < length tx.records.list
   pub may : MayCommit m.1
 
+-- as many parts as transactions, in the same order
 abbrev pub AreTaken : List OpenTx → Members → Type 0
 AreTaken [] [] = ⊤
 AreTaken [] (m ∷ ms) = ⊥
@@ -63,10 +65,11 @@ pub record StampsOne (v : View) (j : ℕ) (rid : Rid) (n : ℕ) (w : View) : Typ
   pub kept : StartsWith w.sights v.sights
   pub events : w.events ≡ v.events ++ Stamp j rid n ∷ []
 
--- each record of each transaction, in order, with its session
+-- these records, each with session j
 abbrev pub with_session : ℕ → List Rid → List (ℕ × Rid)
 with_session j rids = map (λ r. (j, r)) rids
 
+-- each record of each transaction, in order, with its session
 abbrev pub all_pairs : List OpenTx → List (ℕ × Rid)
 all_pairs [] = []
 all_pairs (tx ∷ txs) = with_session tx.writer.session tx.records.list ++ all_pairs txs
@@ -110,6 +113,7 @@ abbrev pub IsOutcome : ℕ → SessionPart → List Sight → Outcome → Type 0
 IsOutcome j part sights (Committed receipt) = (log : List LogEntry) × ((h : History) × ((part.log ≡ Published receipt.number ∷ log) × ((IsAmong (Saw (groups h)) sights × IsAmong (Heard j part.log) sights) × StandsIn h receipt (commit_in j log))))
 IsOutcome j part sights (Refused tx) = IsOpenTxOf j part tx × MayCommit part
 
+-- What is laid for session j: its part of this board's state, and what became of its transaction.
 pub record IsLaid (t : TableId) (j : ℕ) (x : Laid) : Type 0 where
   pub seat : IsTxOf t x.seat
   pub number_is : seat_number x.seat ≡ j

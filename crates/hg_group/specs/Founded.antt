@@ -8,8 +8,10 @@ use Rattle.hg_group.specs.declared.batch.Founding.{Founding}
 use Rattle.hg_group.specs.Places.{seat_table}
 use Rattle.hg_group.specs.Leading.{IsKept}
 
+-- the board
 abbrev pub founding_table : Founding → TableId
 founding_table f = seat_table f.seat.value
 
+-- under the commit lock: what is kept of this board, and the pass of its queue
 abbrev pub BatchesFit : Snapshot Founding → ℕ → Batches → Type 0
 BatchesFit tag k x = IsKept (founding_table tag.value) tag.value.sessions x × IsPassOf tag.value.queue.value x.line

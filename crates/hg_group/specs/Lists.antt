@@ -8,10 +8,11 @@ use Rattle.hg_group.specs.Pushing.{PusherFits}
 use Rattle.hg_group.specs.declared.submitted.Submitted.{Submitted}
 use Rattle.hg_queue.specs.Queues.{known}
 
--- the board, and how many sessions there are
+-- the board
 abbrev pub groups_table : GroupList → TableId
 groups_table q = founding_table (tag_of q.batches).value
 
+-- how many sessions there are
 abbrev pub groups_sessions : GroupList → ℕ
 groups_sessions q = q.sessions
 

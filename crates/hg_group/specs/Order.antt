@@ -8,6 +8,7 @@ use Rattle.hg_core.specs.Commits.{commits_in}
 abbrev pub Pairs : Type 0
 Pairs = List (ℕ × ℕ)
 
+-- of a commit
 abbrev pub pair_of : Commit → ℕ × ℕ
 pair_of c = (c.session, c.transaction)
 
@@ -16,6 +17,7 @@ abbrev pub flat : History → Group
 flat [] = []
 flat (group ∷ groups) = group ++ flat groups
 
+-- whether two are equal
 abbrev pub same_pair : ℕ × ℕ → ℕ × ℕ → Bool
 same_pair p q = (p.0 == q.0) && (p.1 == q.1)
 
