@@ -16,7 +16,7 @@ ghost use Rattle.hg_rule.specs.Seats.{session_view, IsSessionOf};
 ghost use Rattle.hg_session.specs.Engines.{engine_table, engine_sizes};
 ghost use Rattle.hg_session.specs.Sessions.{IsIn, IsOf, view_of, log_of, seen_by, open_of, left_of, opened_of, written_of};
 ghost use Rattle.hg_session.specs.Replies.{Answers, inside, commit_answer};
-ghost use Rattle.hg_session.specs.Gains.{Alone, Gains, HasUndone, IsAfter, Stays, number_in};
+ghost use Rattle.hg_session.specs.Gains.{Alone, Gains, HasUndone, IsAfter, number_in};
 
 use crate::answers::Ended;
 use crate::engine::Engine;
@@ -139,12 +139,13 @@ impl Session {
         self.opened = None;
     }
 
-    /// Commits the open transaction. One that wrote nothing has no receipt, and uses no number. A refusal leaves it open.
+    /// Commits the open transaction. One that wrote nothing has no receipt, and uses no number. A refusal for memory leaves it
+    /// open with all its writes, and the log as it was.
     pub fn commit<R: Wait>(&mut self, rt: &R, engine: &Engine) -> Result<Ended, NoMemory>
         requires own { IsOf engine.now self.old }
         requires opened { IsSome (open_of self.old) }
         ensures answers { IfOk result (λ ended. Answers (engine_sizes engine.now) (view_of self.old) say.Commit (inside (commit_answer (number_in ended.receipt))) (view_of self.new)) }
-        ensures refused { OnErr result (Stays (view_of self.old) (view_of self.new)) }
+        ensures refused { OnErr result (Gains (view_of self.old) [] (view_of self.new) × (open_of self.new ≡ open_of self.old)) }
         ensures over { OnOk result (open_of self.new ≡ None) }
         ensures left { left_of self.new ≡ left_of self.old }
         ensures own { IsOf engine.now self.new }
