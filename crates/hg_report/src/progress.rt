@@ -1,7 +1,6 @@
 //! How far a reader has come.
 
-ghost use Rattle.std.specs.Prelude.{◌≡◌, ℕ, ◌<◌, map, IfOk, OnOk};
-ghost use Rattle.hg_base.specs.Lists.{Ascends};
+ghost use Rattle.std.specs.Prelude.{◌≡◌, ℕ, ◌<◌, IfOk, OnOk};
 ghost use Rattle.hg_report.specs.Fields.{fields_of};
 ghost use Rattle.hg_report.specs.Progress.{after, at_start, guess_after, lines_of, no_totals, totals_of, with_held, with_row, with_total};
 ghost use Rattle.hg_report.specs.declared.progress.Open.TheVariants as opens;
@@ -122,7 +121,6 @@ impl Open {
         script: &Script,
         row: &[&[u8]],
     ) -> Result<Option<Piece>, NoMemory>
-        requires { Ascends (map (λ r. r.place) script.now.records) }
         ensures { IfOk result (λ o. o ≡ guess_after script.now self.now (fields_of row.now)) }
     {
         match self {

@@ -1,7 +1,6 @@
 //! The loop over the records of a text.
 
-ghost use Rattle.std.specs.Prelude.{◌≡◌, List, IfErr, IfOk, map, option_map};
-ghost use Rattle.hg_base.specs.Lists.{Ascends};
+ghost use Rattle.std.specs.Prelude.{◌≡◌, List, IfErr, IfOk, option_map};
 ghost use Rattle.hg_script.specs.Lawful.{IsLawful};
 ghost use Rattle.hg_base.specs.declared.line.Printed.{Printed};
 ghost use Rattle.hg_report.specs.declared.refusal.TextRefusal.TheVariants as refusal;
@@ -27,7 +26,6 @@ fn take<'a>(
     text: &mut Vec<u8>,
     bytes: &'a [u8],
 ) -> Result<Option<&'a [u8]>, NoMemory>
-    requires { Ascends (map (λ r. r.place) script.now.records) }
     ensures { IfOk result (λ o. Takes script.now progress.old (fields_of row.now) bytes.now progress.new (option_map (λ s. s.now) o)) }
 {
     let Some(piece) = progress.last.guess(alloc, script, row)? else {
@@ -69,7 +67,7 @@ const SHORTEST_BYTES: usize = 9;
 
 // How many lines such a text has: a reply to each record, where the bytes are enough for so many.
 fn usual_lines(script: &Script, bytes: &[u8]) -> usize {
-    script.records().len().min(bytes.len() / SHORTEST_BYTES)
+    script.record_count().min(bytes.len() / SHORTEST_BYTES)
 }
 
 /// Reads a text: what was printed, or the first record with which the bytes do not begin a text.

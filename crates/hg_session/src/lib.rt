@@ -1,14 +1,14 @@
 //! Sessions on one engine.
 //!
-//! An engine is the board with its words, the buckets and the list of groups, each under locks of its own. A session is a thread's
-//! place at it: it takes its snapshot by four steps of the board, and takes a bucket's lock for as long as it reads or writes
-//! one record, or the keys of a range in that bucket. A commit takes the list's lock.
+//! An engine is the board with its words, the buckets under a lock each, and the queue of what is to be committed. A session is a
+//! thread's place at it: it takes its snapshot by four steps of the board, and takes a bucket's lock for as long as it reads or
+//! writes one record, or the keys of a range in that bucket. A commit hands the transaction over, and takes the commit lock.
 //!
 //!     begin      probe, enter, fix, go live                       no lock
 //!     get        take the bucket, see the key, give it back
 //!     put        take the bucket, look and install, give it back
 //!     scan       each bucket once, in order; then the rows by key
-//!     commit     the list's lock; a stamp for each record; publish; end
+//!     commit     hand over, into the queue; the commit lock; lead all that waits there, or be led; end
 //!     rollback   an undo for each record; end
 //!
 //! What a call leaves of the session's log is a function of the log before, the statement and the reply (`Answers`): each entry
