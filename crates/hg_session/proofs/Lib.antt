@@ -12,6 +12,9 @@ pub mod Undoing
 pub mod Replying
 pub mod Putting
 pub mod Ranged
+pub mod Refusing
+pub mod Placed
+pub mod Right
 pub mod Ending
 pub mod Visiting
 pub mod Committing

@@ -1,5 +1,5 @@
 -- What a write replies, in a transaction and as one of its own.
-use Rattle.std.proofs.Common.{◌≡◌, ℕ, ◌≤◌, ℤ, List, [], ◌∷◌, ◌++◌, map, true, false, Option, Some, None, refl, sym, ap, ◌∙◌, subst, append_assoc, arith}
+use Rattle.std.proofs.Common.{◌≡◌, inl, ℕ, ◌≤◌, ℤ, List, [], ◌∷◌, ◌++◌, map, true, false, Option, Some, None, refl, sym, ap, ◌∙◌, subst, append_assoc, arith}
 use Rattle.std.specs.Prelude.{is_some, IsTrue, IsFalse, IfSome, Err, ◌==◌, ◌||◌, ⊤}
 use Rattle.hg_base.specs.declared.rid.Rid.{Rid}
 use Rattle.hg_base.specs.declared.image.Image.{Image}
@@ -35,11 +35,11 @@ use Rattle.hg_headline.specs.Timely.{snapshot_in, newer_in, commit_in}
 use Rattle.hg_headline.proofs.Rounds.{if_some_none as if_none}
 use Rattle.hg_session.specs.declared.answers.PutRefusal.{PutRefusal}
 use Rattle.hg_session.specs.declared.answers.PutRefusal.TheVariants as put
-use Rattle.hg_session.specs.Gains.{Gains, Stays, IsAfter, IsRefusedBy, entries_of, number_in}
+use Rattle.hg_session.specs.Gains.{Gains, IsAfter, IsRefusedBy, entries_of, number_in}
 use Rattle.hg_session.specs.Replies.{inside, commit_answer, refused_at, refused_reply, IsNext, GoesOn, Answers}
 use Rattle.hg_session.specs.Alone.{WritesAlone, IsRefusedAlone}
 use Rattle.hg_session.proofs.Settling.{gains_on}
-use Rattle.hg_session.proofs.Replying.{nothing_more, answers_inside, answers_alone, stays_alone}
+use Rattle.hg_session.proofs.Replying.{nothing_more, answers_inside, answers_alone}
 
 -- ---- the end of a transaction
 
@@ -116,7 +116,7 @@ module _ (z : Sizes) (s : Statement) (u : Unprinted) (v w : View) (rid : Rid) (i
     goes_before : (o : Writer) → IsSession z.sessions o.session × (IsFalse (o.session == number m) × Each (HasNoEnd o) m.sights) → GoesOn z v (answers.OpenBy o)
     goes_before o g = (g.0, (subst (λ j. IsFalse (o.session == j)) begun.number_is g.1.0, each_left (HasNoEnd o) v.sights begun.kept.0 (subst (Each (HasNoEnd o)) begun.kept.1 g.1.1)))
 
-    pub refused_alone : (e : PutRefusal) → IsRefusedAlone z m rid at w e → IfSome (refused_reply true e) (λ reply. Answers z v s reply w)
+    pub refused_alone : (e : PutRefusal) → IsRefusedAlone z m rid image at w e → IfSome (refused_reply true e) (λ reply. Answers z v s reply w)
     refused_alone (put.Undeclared table) g = absurd g
     refused_alone (put.Open at' j x) g =
         let o : Writer = record { session = j; transaction = x } in
@@ -129,14 +129,6 @@ module _ (z : Sizes) (s : Statement) (u : Unprinted) (v w : View) (rid : Rid) (i
         subst (λ m. Answers z v s (record { at = Some m; answer = answers.Newer n; number = None }) w) (sym g.0)
         (answers_alone z v w s (answers.Newer n) at None u none k.access (subst (λ es. Gains v (close None ++ (es ++ Began at (only (table_of s)) ∷ [])) w) (sym (k.newer n)) all) (sym (k.by_newer n)) (k.fits_newer n) refl (k.none_newer (Some at) n) most tt (omega (arith, over)) tt)
     refused_alone put.NoMemory g = tt
-
-    pub memory_alone : own_writes (session v).log ≡ [] → (e : PutRefusal) → IsRefusedAlone z m rid at w e → e ≡ put.NoMemory → Stays v w
-    memory_alone bare (put.Undeclared table) g same = absurd g
-    memory_alone bare (put.Open at' j x) g same = absurd (let q = same in cc)
-    memory_alone bare (put.Newer at' n) g same = absurd (let q = same in cc)
-    memory_alone bare put.NoMemory g same =
-        let all = gains_on v m w (seen ++ Began at (only (table_of s)) ∷ []) (Over ∷ g.0) begun g.1 (λ l. sym (append_assoc (Over ∷ g.0) (seen ++ Began at (only (table_of s)) ∷ []) l)) in
-        stays_alone v w (g.0 ++ (seen ++ Began at (only (table_of s)) ∷ [])) none bare all
 
 -- ---- put
 
@@ -164,10 +156,10 @@ puts z u own rid row = record {
 
 -- ---- a write in a transaction of its own, and its end
 
-pub refused_over : (z : Sizes) (v m w : View) (rid : Rid) (image : Image) (at : ℕ) (e : WriteRefusal) → Gains v (entries_of {T = ⊤} rid image (Err e)) m → Gains m (Over ∷ []) w → IsRefusedBy z v at e → IsRefusedAlone z v rid at w (refused_at at e)
+pub refused_over : (z : Sizes) (v m w : View) (rid : Rid) (image : Image) (at : ℕ) (e : WriteRefusal) → Gains v (entries_of {T = ⊤} rid image (Err e)) m → Gains m (Over ∷ []) w → IsRefusedBy z v at e → IsRefusedAlone z v rid image at w (refused_at at e)
 refused_over z v m w rid image at (Open o) a b r = (refl, (gains_on v m w _ (Over ∷ []) a b (λ l. refl), r))
 refused_over z v m w rid image at (Newer n) a b r = (refl, (gains_on v m w _ (Over ∷ []) a b (λ l. refl), r))
-refused_over z v m w rid image at NoMemory a b r = ([], gains_on v m w [] (Over ∷ []) a b (λ l. refl))
+refused_over z v m w rid image at NoMemory a b r = inl (gains_on v m w [] (Over ∷ []) a b (λ l. refl))
 
 -- a refused write leaves no stored one
 pub refused_bare : (v m : View) (rid : Rid) (image : Image) (e : WriteRefusal) → Gains v (entries_of {T = ⊤} rid image (Err e)) m → own_writes (session v).log ≡ [] → own_writes (session m).log ≡ []

@@ -2,8 +2,6 @@
 use Rattle.std.proofs.Common.{◌≡◌, ℕ, zero, suc, ℤ, List, [], ◌∷◌, ◌++◌, true, false, Option, Some, None, refl, sym, ap, subst, append_assoc, append-nil}
 use Rattle.std.specs.Prelude.{is_some, Err, ⊤}
 use Rattle.hg_base.specs.declared.image.Image.{Image}
-use Rattle.hg_bucket.specs.declared.refusal.WriteRefusal.{WriteRefusal}
-use Rattle.hg_bucket.specs.declared.refusal.WriteRefusal.TheVariants.{Open, Newer, NoMemory}
 use Rattle.hg_base.specs.declared.rid.Rid.{Rid}
 use Rattle.hg_base.specs.declared.rid.TableId.{TableId}
 use Rattle.hg_base.specs.declared.scope.Snapshot.{Snapshot}
@@ -21,10 +19,10 @@ use Rattle.hg_rule.specs.declared.view.Sizes.{Sizes}
 use Rattle.hg_rule.specs.declared.view.View.{View}
 use Rattle.hg_rule.specs.Views.{session}
 use Rattle.hg_tracker.specs.Begun.{AtMost}
-use Rattle.hg_session.specs.Gains.{Gains, Stays, entries_of}
+use Rattle.hg_session.specs.Gains.{Gains}
 use Rattle.hg_session.specs.Scans.{Rows, ScansAll}
 use Rattle.hg_session.specs.Replies.{inside, Answers}
-use Rattle.hg_session.proofs.Replying.{AreQuiet, nothing_more, answers_inside, answers_alone, stays_quiet}
+use Rattle.hg_session.proofs.Replying.{nothing_more, answers_inside, answers_alone}
 use Rattle.hg_session.proofs.Putting.{Writing}
 use Rattle.hg_session.proofs.Settling.{gains_on}
 
@@ -42,10 +40,6 @@ scan_alone z v m n w at table low high rows e most b k o =
     let two = gains_on v m n (Began at (only (Some table)) ∷ []) (saws table low high k.part z.buckets) b k.gains (λ l. sym (append_assoc (saws table low high k.part z.buckets) (Began at (only (Some table)) ∷ []) l)) in
     let all = gains_on v n w (saws table low high k.part z.buckets ++ Began at (only (Some table)) ∷ []) (Over ∷ []) two o (λ l. refl) in
     answers_alone z v w (say.Scan table low high) (answers.Rows rows) at None (with_part k.part) e refl all refl k.joins refl refl most tt tt tt
-
-pub quiet_saws : (table : TableId) (low high : ℕ) (part : ℕ → Rows) (n : ℕ) → AreQuiet (saws table low high part n)
-quiet_saws table low high part zero = tt
-quiet_saws table low high part (suc n) = (tt, quiet_saws table low high part n)
 
 -- ---- a deletion
 
@@ -98,9 +92,3 @@ all_behind z v m w table low high rows none k =
     let es = saws table low high k.part z.buckets in
     let all = gains_on v m w [] es none k.gains (λ l. ap (λ x. x ++ l) (sym (append-nil es))) in
     record { part = k.part; joins = k.joins; gains = subst (λ x. Gains v x w) (append-nil es) all }
-
--- a refusal for want of memory leaves at most what was seen
-pub stays_refused : (z : Sizes) (v w : View) (rid : Rid) (image : Image) (e : WriteRefusal) (rows : Rows) → Gains v (entries_of {T = ⊤} rid image (Err e) ++ saw z.buckets rid rows ∷ []) w → Stays v w
-stays_refused z v w rid image (Open o) rows g = stays_quiet v w _ (tt, (tt, tt)) g
-stays_refused z v w rid image (Newer n) rows g = stays_quiet v w _ (tt, (tt, tt)) g
-stays_refused z v w rid image NoMemory rows g = stays_quiet v w _ (tt, tt) g

@@ -28,7 +28,7 @@ use Rattle.hg_rule.specs.declared.view.SessionPart.{SessionPart}
 use Rattle.hg_session.specs.Ties.{AreWritten, Ties}
 use Rattle.hg_session.proofs.Tying.{IsQuiet}
 use Rattle.hg_session.proofs.Done.{unwritten}
-use Rattle.hg_session.specs.Gains.{Gains, Stays, rows_at}
+use Rattle.hg_session.specs.Gains.{Gains, rows_at}
 use Rattle.hg_session.specs.Replies.{inside, row_answer, IsNext, GoesOn, Answers}
 
 -- nothing that a reply doesn't print
@@ -80,56 +80,19 @@ pub get_alone : (z : Sizes) (v w : View) (at : ℕ) (rid : Rid) (row : Option (L
 get_alone z v w at rid None e most g = answers_alone z v w (say.Get rid) answers.Nothing at None nothing_more e refl g refl tt refl refl most tt tt tt
 get_alone z v w at rid (Some row) e most g = answers_alone z v w (say.Get rid) (answers.Found row) at None nothing_more e refl g refl tt refl refl most tt tt tt
 
--- ---- a refusal, and an end without a reply
+-- ---- a refusal
 
 pub undeclared_inside : (z : Sizes) (v w : View) (c : Snapshot) (s : Statement) (table : TableId) → current (session v).log ≡ Some c → (own_entries z.buckets nothing_more s (answers.Undeclared table) ≡ Outside table ∷ []) → FitsAnswer z.buckets nothing_more (own_writes (session v).log) s (answers.Undeclared table) → committed_by s (answers.Undeclared table) ≡ None
     → Gains v (Outside table ∷ []) w → Answers z v s (inside (answers.Undeclared table)) w
 undeclared_inside z v w c s table e entries fits none g = answers_inside z v w s (answers.Undeclared table) nothing_more (ap (λ o. reading.is_alone o s) e) (subst (λ es. Gains v es w) (sym entries) g) fits tt (subst (λ o. IfSome o (IsNext v.sights None)) (sym none) tt) tt tt
 
--- entries that change nothing of the open transaction
-abbrev pub AreQuiet : List LogEntry → Type 0
-AreQuiet es = Each IsQuiet es
-
-quiet_current : (es log : List LogEntry) → AreQuiet es → (current (es ++ log) ≡ current log) × (own_writes (es ++ log) ≡ own_writes log)
-quiet_current [] log q = (refl, refl)
-quiet_current (Saw t l h b rows ∷ es) log q = quiet_current es log q.1
-quiet_current (Refused r a ∷ es) log q = quiet_current es log q.1
-quiet_current (Outside t ∷ es) log q = quiet_current es log q.1
-quiet_current (Began at scope ∷ es) log q = absurd q.0
-quiet_current (Wrote r i ∷ es) log q = absurd q.0
-quiet_current (Undid r ∷ es) log q = absurd q.0
-quiet_current (Published n ∷ es) log q = absurd q.0
-quiet_current (Over ∷ es) log q = absurd q.0
-
-pub stays_quiet : (v w : View) (es : List LogEntry) → AreQuiet es → Gains v es w → Stays v w
-stays_quiet v w es q g = record {
-  number_is = g.number_is;
-  log = (es, g.log);
-  opened = ap current g.log ∙ (quiet_current es (session v).log q).0;
-  writes = ap own_writes g.log ∙ (quiet_current es (session v).log q).1;
-  kept = g.kept;
-}
-
-pub stays_alone : (v w : View) (es : List LogEntry) → current (session v).log ≡ None → own_writes (session v).log ≡ [] → Gains v (Over ∷ es) w → Stays v w
-stays_alone v w es none bare g = record {
-  number_is = g.number_is;
-  log = (Over ∷ es, g.log);
-  opened = ap current g.log ∙ sym none;
-  writes = ap own_writes g.log ∙ sym bare;
-  kept = g.kept;
-}
-
--- a transaction that lists nothing stored nothing
+-- ---- a transaction that lists nothing stored nothing
 pub no_writes : (rids : List Rid) (log : List LogEntry) → IsTrue (is_plain log) → AreWritten rids log → rids ≡ [] → own_writes log ≡ []
 no_writes rids log plain a none = go (own_writes log) (unwritten rids log plain a none)
   where
     go : (own : List Write) → is_written own ≡ false → own ≡ []
     go [] e = refl
     go (w ∷ own) e = absurd (let k = e in cc)
-
--- a session at rest has no stored write
-pub rest_unwritten : (each left begins writes : ℕ) (rids : List Rid) (part : SessionPart) → Ties each None rids left begins writes part → own_writes part.log ≡ []
-rest_unwritten each left begins writes rids part t = no_writes rids part.log t.plain t.written_is (t.rests refl)
 
 -- ---- declared tables
 

@@ -43,6 +43,7 @@ seated_is e alloc each j p most inside new =
       log = ap (λ v. (session v).log) is;
       seen = ap (λ (v : View). v.sights) is;
       left = refl;
+      retries = refl;
     }
 
 pub seated_row : (e : Engine) (alloc : Global) (each i : ℕ) (ps : List SessionPass) → each ≤ (engine_sizes e).each → 0 < i → i + length ps ≤ suc (engine_sizes e).sessions → Row (IsNewSession (engine_table e)) i ps → Row (IsNewOf e each) i (map (seated alloc each) ps)

@@ -1,5 +1,5 @@
 -- A transaction that is one write.
-use Rattle.std.specs.Prelude.{◌≡◌, ℕ, ◌<◌, ◌==◌, List, [], ◌∷◌, ◌++◌, Option, IsSome, IsFalse, IfSome}
+use Rattle.std.specs.Prelude.{◌≡◌, ◌⊎◌, ℕ, ◌<◌, ◌==◌, List, [], ◌∷◌, ◌++◌, Option, IsSome, IsFalse, IfSome}
 use Rattle.hg_base.specs.declared.rid.Rid.{Rid}
 use Rattle.hg_base.specs.declared.image.Image.{Image}
 use Rattle.hg_base.specs.declared.line.Answer.TheVariants as answers
@@ -15,6 +15,7 @@ use Rattle.hg_store.specs.Ends.{HasNoEnd}
 use Rattle.hg_session.specs.declared.answers.PutRefusal.{PutRefusal}
 use Rattle.hg_session.specs.declared.answers.PutRefusal.TheVariants as put
 use Rattle.hg_session.specs.Gains.{Gains, IsAfter}
+use Rattle.hg_session.specs.Refused.{taken_back}
 
 -- it is stored and committed
 pub record WritesAlone (old : View) (rid : Rid) (image : Image) (at : ℕ) (new : View) (n : Option ℕ) : Type 0 where
@@ -22,9 +23,9 @@ pub record WritesAlone (old : View) (rid : Rid) (image : Image) (at : ℕ) (new 
   pub some : IsSome n
   pub after : IfSome n (IsAfter old.sights at)
 
--- or refused for a conflict at its snapshot, and over; or something was done that is undone
-abbrev pub IsRefusedAlone : Sizes → View → Rid → ℕ → View → PutRefusal → Type 0
-IsRefusedAlone z old rid at new (put.Undeclared table) = ⊥
-IsRefusedAlone z old rid at new (put.Open s j x) = (s ≡ at) × (Gains old (Over ∷ Refused rid (answers.OpenBy (record { session = j; transaction = x })) ∷ []) new × (IsSession z.sessions j × (IsFalse (j == number old) × Each (HasNoEnd (record { session = j; transaction = x })) old.sights)))
-IsRefusedAlone z old rid at new (put.Newer s n) = (s ≡ at) × (Gains old (Over ∷ Refused rid (answers.Newer n) ∷ []) new × (at < n))
-IsRefusedAlone z old rid at new put.NoMemory = (es : List LogEntry) × Gains old (Over ∷ es) new
+-- or refused for a conflict at its snapshot, and over; or for want of memory, and then it was not stored, or was taken back
+abbrev pub IsRefusedAlone : Sizes → View → Rid → Image → ℕ → View → PutRefusal → Type 0
+IsRefusedAlone z old rid image at new (put.Undeclared table) = ⊥
+IsRefusedAlone z old rid image at new (put.Open s j x) = (s ≡ at) × (Gains old (Over ∷ Refused rid (answers.OpenBy (record { session = j; transaction = x })) ∷ []) new × (IsSession z.sessions j × (IsFalse (j == number old) × Each (HasNoEnd (record { session = j; transaction = x })) old.sights)))
+IsRefusedAlone z old rid image at new (put.Newer s n) = (s ≡ at) × (Gains old (Over ∷ Refused rid (answers.Newer n) ∷ []) new × (at < n))
+IsRefusedAlone z old rid image at new put.NoMemory = Gains old (Over ∷ []) new ⊎ Gains old (Over ∷ taken_back rid image) new

@@ -4,25 +4,27 @@ use Rattle.hg_base.specs.declared.rid.Rid.{Rid}
 use Rattle.hg_base.specs.declared.rid.TableId.{TableId}
 use Rattle.hg_base.specs.declared.image.Image.{Image}
 use Rattle.hg_base.specs.declared.line.Answer.TheVariants as answers
+use Rattle.hg_base.specs.History.{History}
 use Rattle.hg_base.specs.Lists.{Each}
 use Rattle.hg_core.specs.declared.log.LogEntry.{LogEntry}
 use Rattle.hg_core.specs.declared.log.LogEntry.TheVariants.{Refused, Outside, Wrote, Undid}
-use Rattle.hg_core.specs.Logs.{current, own_writes}
+use Rattle.hg_core.specs.Logs.{commit_in}
 use Rattle.hg_core.specs.Phases.{IsSession}
 use Rattle.hg_bucket.specs.declared.refusal.WriteRefusal.{WriteRefusal}
 use Rattle.hg_bucket.specs.declared.refusal.WriteRefusal.TheVariants.{Open, Newer, NoMemory}
 use Rattle.hg_rule.specs.declared.view.SessionPart.{SessionPart}
 use Rattle.hg_rule.specs.declared.view.Part.TheVariants.{OfSession}
 use Rattle.hg_rule.specs.declared.view.Sight.{Sight}
-use Rattle.hg_rule.specs.declared.view.Sight.TheVariants.{Heard}
+use Rattle.hg_rule.specs.declared.view.Sight.TheVariants.{Saw, Heard}
 use Rattle.hg_rule.specs.Writes.{with_log}
 use Rattle.hg_rule.specs.declared.view.Sizes.{Sizes}
 use Rattle.hg_rule.specs.declared.view.View.{View}
-use Rattle.hg_rule.specs.Facts.{StartsWith, EndsWith, IsAmong}
+use Rattle.hg_rule.specs.Facts.{StartsWith, IsAmong, groups}
 use Rattle.hg_rule.specs.Views.{number, session}
 use Rattle.hg_tracker.specs.Begun.{AtMost}
 use Rattle.hg_store.specs.Ends.{HasNoEnd}
 use Rattle.hg_group.specs.declared.receipt.Receipt.{Receipt}
+use Rattle.hg_group.specs.Order.{StandsIn}
 
 -- a view that has a session's part alone, and has seen what was seen before
 pub record Alone (j : ℕ) (part : SessionPart) (old : List Sight) (v : View) : Type 0 where
@@ -33,14 +35,6 @@ pub record Alone (j : ℕ) (part : SessionPart) (old : List Sight) (v : View) : 
 pub record Gains (old : View) (entries : List LogEntry) (new : View) : Type 0 where
   pub number_is : number new ≡ number old
   pub log : (session new).log ≡ entries ++ (session old).log
-  pub kept : StartsWith new.sights old.sights
-
--- The log may have more entries, but the same transaction is open, with the same stored writes; or none is, as before.
-pub record Stays (old : View) (new : View) : Type 0 where
-  pub number_is : number new ≡ number old
-  pub log : EndsWith (session new).log (session old).log
-  pub opened : current (session new).log ≡ current (session old).log
-  pub writes : own_writes (session new).log ≡ own_writes (session old).log
   pub kept : StartsWith new.sights old.sights
 
 -- a row under its key, if there is one
@@ -83,3 +77,9 @@ pub record IsAfter (sights : List Sight) (at : ℕ) (c : ℕ) : Type 0 where
 pub record HasUndone (old : View) (rids : List Rid) (new : View) : Type 0 where
   pub alone : Alone (number old) (with_log (map Undid rids ++ (session old).log) (session old)) old.sights new
   pub heard : (rids ≡ []) ⊎ IsAmong (Heard (number old) (map Undid rids ++ (session old).log)) new.sights
+
+-- The receipt of a commit says its place: it stands there in a history that the session has seen.
+pub record HasPlace (old new : View) (receipt : Receipt) : Type 0 where
+  pub history : History
+  pub saw : IsAmong (Saw (groups history)) new.sights
+  pub stands : StandsIn history receipt (commit_in (number old) (session old).log)

@@ -7,7 +7,10 @@ pub mod Opened
 -- What a call leaves of a session, and how it replies.
 pub mod Gains
 pub mod Replies
+pub mod Refused
 pub mod Alone
+-- What a view tells of a reply that it has heard.
+pub mod Right
 -- What a scan reads, bucket by bucket.
 pub mod Scans
 -- What a pass knows once all others are joined to it.

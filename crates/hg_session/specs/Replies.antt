@@ -109,6 +109,36 @@ pub record Answers (z : Sizes) (old : View) (statement : Statement) (reply : Rep
   pub newer : IfSome (newer_in reply) (λ c. 0 < c)
   pub goes_on : GoesOn z old reply.answer
 
+-- ---- the snapshot in an answer
+
+abbrev pub get_at : Result Read GetRefusal → Option ℕ
+get_at (Ok read) = Some read.at
+get_at (Err e) = None
+
+abbrev pub scan_at : Result Scanned GetRefusal → Option ℕ
+scan_at (Ok scanned) = Some scanned.at
+scan_at (Err e) = None
+
+abbrev pub refusal_at : PutRefusal → Option ℕ
+refusal_at (put.Open at session transaction) = Some at
+refusal_at (put.Newer at number) = Some at
+refusal_at _ = None
+
+abbrev pub put_at : Result Written PutRefusal → Option ℕ
+put_at (Ok written) = Some written.at
+put_at (Err refusal) = refusal_at refusal
+
+abbrev pub del_at : Result Deleted PutRefusal → Option ℕ
+del_at (Ok deleted) = Some deleted.at
+del_at (Err refusal) = refusal_at refusal
+
+-- In a transaction an answer has the transaction's snapshot. Outside it has the one that its own transaction began with.
+abbrev pub IsAtOwn : Option Snapshot → Option ℕ → Type 0
+IsAtOwn None at = ⊤
+IsAtOwn (Some snapshot) at = IfSome at (λ n. n ≡ snapshot.at)
+
+-- ---- when a refusal comes
+
 -- a statement is refused so exactly where its transaction is open and didn't declare the table
 abbrev pub IsRefusedIf : {T E : Type 0} → Option Snapshot → TableId → Result T E → E → Type 0
 IsRefusedIf None table result e = result ≡ Err e → ⊥

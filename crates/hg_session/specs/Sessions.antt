@@ -40,6 +40,10 @@ is_alone s = is_none (open_of s)
 abbrev pub left_of : Session → ℕ
 left_of s = s.left
 
+-- how many of its commits were refused for want of memory
+abbrev pub retries_of : Session → ℕ
+retries_of s = s.retries
+
 abbrev pub opened_of : Session → Option Snapshot
 opened_of s = s.opened
 

@@ -4,6 +4,7 @@ ghost use Rattle.std.specs.Prelude.{◌≡◌, ◌++◌, ◌∷◌, [], List, ma
 ghost use Rattle.hg_base.specs.declared.rid.Rid.{Rid};
 ghost use Rattle.hg_base.specs.declared.statement.Statement.TheVariants as say;
 ghost use Rattle.hg_base.specs.declared.line.Answer.TheVariants.{Undone};
+ghost use Rattle.hg_base.specs.Faults.{next_count};
 ghost use Rattle.hg_base.specs.History.{NoneTwice, is_among};
 ghost use Rattle.hg_base.specs.Replies.{is_written};
 ghost use Rattle.hg_core.specs.declared.log.LogEntry.TheVariants.{Undid, Over};
@@ -14,9 +15,9 @@ ghost use Rattle.hg_rule.specs.Holding.{writer as writer_of};
 ghost use Rattle.hg_rule.specs.Writes.{with_entry};
 ghost use Rattle.hg_rule.specs.Seats.{session_view, IsSessionOf};
 ghost use Rattle.hg_session.specs.Engines.{engine_table, engine_sizes};
-ghost use Rattle.hg_session.specs.Sessions.{IsIn, IsOf, view_of, log_of, seen_by, open_of, left_of, opened_of, written_of};
+ghost use Rattle.hg_session.specs.Sessions.{IsIn, IsOf, view_of, log_of, seen_by, open_of, left_of, retries_of, opened_of, written_of};
 ghost use Rattle.hg_session.specs.Replies.{Answers, inside, commit_answer};
-ghost use Rattle.hg_session.specs.Gains.{Alone, Gains, HasUndone, IsAfter, number_in};
+ghost use Rattle.hg_session.specs.Gains.{Alone, Gains, HasUndone, HasPlace, IsAfter, number_in};
 
 use crate::answers::Ended;
 use crate::engine::Engine;
@@ -75,6 +76,7 @@ impl Session {
         requires unwritten { written_of self.old ≡ [] }
         ensures gains { Gains (view_of self.old) (Over ∷ []) (view_of self.new) }
         ensures kept { (opened_of self.new ≡ None) × (left_of self.new ≡ left_of self.old) }
+        ensures retries { retries_of self.new ≡ retries_of self.old }
         ensures own { IsIn engine.now 0 0 self.new }
     {
         engine.trackers.end(&mut self.pass);
@@ -93,9 +95,11 @@ impl Session {
         ensures gains { IfOk result (λ receipt. Gains (view_of self.old) (close (number_in receipt)) (view_of self.new)) }
         ensures wrote { IfOk result (λ receipt. is_some receipt ≡ is_written (own_writes (log_of self.old))) }
         ensures after { IfOk result (λ receipt. IfSome (number_in receipt) (IsAfter (seen_by self.old) snapshot.at)) }
+        ensures placed { IfOk result (λ receipt. IfSome receipt (HasPlace (view_of self.old) (view_of self.new))) }
         ensures closed { OnOk result (opened_of self.new ≡ None) }
         ensures refused { OnErr result (Gains (view_of self.old) [] (view_of self.new) × (opened_of self.new ≡ opened_of self.old)) }
         ensures left { left_of self.new ≡ left_of self.old }
+        ensures retries { retries_of self.new ≡ retries_of self.old }
         ensures own { IsIn engine.now 0 0 self.new }
     {
         if self.written.is_empty() {
@@ -130,6 +134,7 @@ impl Session {
         requires opened { IsSome (opened_of self.old) }
         ensures gains { (undone : List Rid) × (UndoesAll (own_writes (log_of self.old)) undone × Gains (view_of self.old) (Over ∷ map Undid undone) (view_of self.new)) }
         ensures kept { (opened_of self.new ≡ None) × (left_of self.new ≡ left_of self.old) }
+        ensures retries { retries_of self.new ≡ retries_of self.old }
         ensures own { IsIn engine.now 0 0 self.new }
     {
         let by = self.pass.writer();
@@ -139,22 +144,28 @@ impl Session {
         self.opened = None;
     }
 
-    /// Commits the open transaction. One that wrote nothing has no receipt, and uses no number. A refusal for memory leaves it
-    /// open with all its writes, and the log as it was.
+    /// Commits the open transaction. One that wrote nothing has no receipt, and uses no number. A refusal leaves it open, with
+    /// all its writes, and is counted.
     pub fn commit<R: Wait>(&mut self, rt: &R, engine: &Engine) -> Result<Ended, NoMemory>
         requires own { IsOf engine.now self.old }
         requires opened { IsSome (open_of self.old) }
         ensures answers { IfOk result (λ ended. Answers (engine_sizes engine.now) (view_of self.old) say.Commit (inside (commit_answer (number_in ended.receipt))) (view_of self.new)) }
         ensures refused { OnErr result (Gains (view_of self.old) [] (view_of self.new) × (open_of self.new ≡ open_of self.old)) }
+        ensures placed { IfOk result (λ ended. IfSome ended.receipt (HasPlace (view_of self.old) (view_of self.new))) }
         ensures over { OnOk result (open_of self.new ≡ None) }
         ensures left { left_of self.new ≡ left_of self.old }
+        ensures retries { OnOk result (retries_of self.new ≡ retries_of self.old) }
+        ensures again { OnErr result (retries_of self.new ≡ next_count (retries_of self.old)) }
         ensures own { IsOf engine.now self.new }
     {
         match self.opened {
-            Some(snapshot) => {
-                let receipt = self.close(rt, engine, snapshot)?;
-                Ok(Ended { receipt })
-            }
+            Some(snapshot) => match self.close(rt, engine, snapshot) {
+                Ok(receipt) => Ok(Ended { receipt }),
+                Err(NoMemory) => {
+                    self.retries = self.retries.saturating_add(1);
+                    Err(NoMemory)
+                }
+            },
             None => unreachable!(),
         }
     }
@@ -166,6 +177,7 @@ impl Session {
         ensures answers { Answers (engine_sizes engine.now) (view_of self.old) say.Rollback (inside Undone) (view_of self.new) }
         ensures over { open_of self.new ≡ None }
         ensures left { left_of self.new ≡ left_of self.old }
+        ensures retries { retries_of self.new ≡ retries_of self.old }
         ensures own { IsOf engine.now self.new }
     {
         self.roll_back(rt, engine);

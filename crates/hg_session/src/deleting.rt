@@ -8,9 +8,10 @@ ghost use Rattle.hg_base.specs.Transcript.{has};
 ghost use Rattle.hg_core.specs.Reading.{saw};
 ghost use Rattle.hg_session.specs.declared.answers.PutRefusal.TheVariants as refusal;
 ghost use Rattle.hg_session.specs.Engines.{engine_sizes};
-ghost use Rattle.hg_session.specs.Sessions.{IsIn, IsOf, is_alone, view_of, open_of, left_of, opened_of, written_of};
-ghost use Rattle.hg_session.specs.Gains.{Gains, Stays, rows_at};
-ghost use Rattle.hg_session.specs.Replies.{Answers, IsRefusedIf, del_reply};
+ghost use Rattle.hg_session.specs.Sessions.{IsIn, IsOf, is_alone, view_of, open_of, left_of, retries_of, opened_of, written_of};
+ghost use Rattle.hg_session.specs.Gains.{Gains, rows_at};
+ghost use Rattle.hg_session.specs.Refused.{HasLooked, LeavesNoWrite};
+ghost use Rattle.hg_session.specs.Replies.{Answers, IsRefusedIf, IsAtOwn, del_at, del_reply};
 
 use crate::answers::{Deleted, PutRefusal};
 use crate::engine::Engine;
@@ -38,6 +39,7 @@ impl Session {
         requires table { IsTrue (has snapshot.scope rid.table) }
         ensures gains { (row : Option (List ℤ)) × (Gains (view_of self.old) (saw (engine_sizes engine.now).buckets rid (rows_at rid.key row) ∷ []) (view_of self.new) × (result ≡ is_some row)) }
         ensures kept { (opened_of self.new ≡ opened_of self.old) × (written_of self.new ≡ written_of self.old) × (left_of self.new ≡ left_of self.old) }
+        ensures retries { retries_of self.new ≡ retries_of self.old }
         ensures own { IsIn engine.now 0 1 self.new }
     {
         let board = engine.board();
@@ -56,10 +58,12 @@ impl Session {
         requires left { 0 < left_of self.old }
         requires table { rid.table.0 < (engine_sizes engine.now).tables }
         ensures reply { IfSome (del_reply (is_alone self.old) result) (λ reply. Answers (engine_sizes engine.now) (view_of self.old) (say.Del rid) reply (view_of self.new)) }
+        ensures at { IsAtOwn (open_of self.old) (del_at result) }
         ensures undeclared { IsRefusedIf (open_of self.old) rid.table result (refusal.Undeclared rid.table) }
-        ensures refused { result ≡ Err refusal.NoMemory → Stays (view_of self.old) (view_of self.new) }
+        ensures refused { result ≡ Err refusal.NoMemory → LeavesNoWrite (open_of self.old) rid nothing (view_of self.old) (view_of self.new) }
         ensures open { open_of self.new ≡ open_of self.old }
         ensures left { left_of self.new + 1 ≡ left_of self.old }
+        ensures retries { retries_of self.new ≡ retries_of self.old }
         ensures own { IsOf engine.now self.new }
     {
         self.spend();
@@ -80,10 +84,12 @@ impl Session {
         requires opened { opened_of self.old ≡ Some snapshot }
         requires table { rid.table.0 < (engine_sizes engine.now).tables }
         ensures reply { IfSome (del_reply false result) (λ reply. Answers (engine_sizes engine.now) (view_of self.old) (say.Del rid) reply (view_of self.new)) }
+        ensures at { IsAtOwn (Some snapshot) (del_at result) }
         ensures undeclared { IsRefusedIf (Some snapshot) rid.table result (refusal.Undeclared rid.table) }
-        ensures refused { result ≡ Err refusal.NoMemory → Stays (view_of self.old) (view_of self.new) }
+        ensures refused { result ≡ Err refusal.NoMemory → HasLooked rid.table rid.key rid.key (view_of self.old) (view_of self.new) }
         ensures open { opened_of self.new ≡ opened_of self.old }
         ensures left { left_of self.new ≡ left_of self.old }
+        ensures retries { retries_of self.new ≡ retries_of self.old }
         ensures own { IsOf engine.now self.new }
     {
         let at = snapshot.at;
@@ -119,9 +125,10 @@ impl Session {
         requires table { rid.table.0 < (engine_sizes engine.now).tables }
         ensures reply { IfSome (del_reply true result) (λ reply. Answers (engine_sizes engine.now) (view_of self.old) (say.Del rid) reply (view_of self.new)) }
         ensures declared { (t : TableId) → result ≡ Err (refusal.Undeclared t) → ⊥ }
-        ensures refused { result ≡ Err refusal.NoMemory → Stays (view_of self.old) (view_of self.new) }
+        ensures refused { result ≡ Err refusal.NoMemory → LeavesNoWrite None rid nothing (view_of self.old) (view_of self.new) }
         ensures open { opened_of self.new ≡ None }
         ensures left { left_of self.new ≡ left_of self.old }
+        ensures retries { retries_of self.new ≡ retries_of self.old }
         ensures own { IsOf engine.now self.new }
     {
         let snapshot = self.open(engine, only(rid.table));

@@ -26,6 +26,7 @@ mod cuts_tests;
 mod deleting;
 mod engine;
 mod finishing;
+mod laws;
 mod meeting;
 mod opening;
 mod parts;
@@ -44,6 +45,7 @@ pub use answers::{Deleted, Ended, GetRefusal, PutRefusal, Read, Scanned, Written
 pub use cuts::settle;
 pub use engine::Engine;
 pub use finishing::finish_all;
+pub use laws::{places_differ, replies_are_right};
 pub use opening::{Passes, TableDecl};
 pub use session::Session;
 pub use session_list::SessionList;

@@ -6,7 +6,7 @@ ghost use Rattle.hg_rule.specs.Views.{session};
 ghost use Rattle.hg_rule.specs.Moves.{joined, merged, meeting};
 ghost use Rattle.hg_rule.specs.Seats.{pass_view, IsPassOf};
 ghost use Rattle.hg_session.specs.Engines.{engine_table, engine_sizes};
-ghost use Rattle.hg_session.specs.Sessions.{IsOf, view_of, number_of, open_of, left_of};
+ghost use Rattle.hg_session.specs.Sessions.{IsOf, view_of, number_of, open_of, left_of, retries_of};
 
 use crate::engine::Engine;
 use crate::session::Session;
@@ -20,6 +20,7 @@ impl Session {
         ensures view { view_of self.new ≡ meeting (view_of self.old) (view_of other.old) }
         ensures other { view_of other.new ≡ meeting (view_of other.old) (view_of self.new) }
         ensures kept { (left_of self.new ≡ left_of self.old) × (left_of other.new ≡ left_of other.old) }
+        ensures retries { (retries_of self.new ≡ retries_of self.old) × (retries_of other.new ≡ retries_of other.old) }
         ensures own { IsOf engine.now self.new × IsOf engine.now other.new }
     {
         self.pass.meet(engine.board(), &mut other.pass);
@@ -33,6 +34,7 @@ impl Session {
         ensures pass { pass_view pass.new ≡ meeting (pass_view pass.old) (view_of self.old) }
         ensures view { view_of self.new ≡ meeting (view_of self.old) (pass_view pass.new) }
         ensures kept { left_of self.new ≡ left_of self.old }
+        ensures retries { retries_of self.new ≡ retries_of self.old }
         ensures own { IsOf engine.now self.new × IsPassOf (engine_table engine.now) pass.new }
     {
         pass.meet(engine.board(), &mut self.pass);

@@ -41,6 +41,7 @@ fn seat_all(alloc: Global, passes: Vec<SessionPass>, each: u64) -> Result<Vec<Se
             opened: None,
             written,
             left: each,
+            retries: 0,
             alloc,
         })?;
     }

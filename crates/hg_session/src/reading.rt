@@ -12,9 +12,10 @@ ghost use Rattle.hg_core.specs.Contents.{bucket_of};
 ghost use Rattle.hg_core.specs.Words.{IsBelow};
 ghost use Rattle.hg_core.specs.Reading.{saw};
 ghost use Rattle.hg_session.specs.Engines.{engine_sizes};
-ghost use Rattle.hg_session.specs.Sessions.{IsIn, IsOf, is_alone, view_of, open_of, left_of, opened_of, written_of};
-ghost use Rattle.hg_session.specs.Replies.{Answers, IsRefusedIf, reading, row_answer, get_reply};
-ghost use Rattle.hg_session.specs.Gains.{Gains, Stays, rows_at, outside_entries};
+ghost use Rattle.hg_session.specs.Sessions.{IsIn, IsOf, is_alone, view_of, open_of, left_of, retries_of, opened_of, written_of};
+ghost use Rattle.hg_session.specs.Replies.{Answers, IsRefusedIf, IsAtOwn, get_at, reading, row_answer, get_reply};
+ghost use Rattle.hg_session.specs.Gains.{Gains, rows_at, outside_entries};
+ghost use Rattle.hg_session.specs.Refused.{HasLooked, HasGivenUp, LeavesLooks};
 
 use crate::answers::{GetRefusal, Read};
 use crate::engine::Engine;
@@ -77,6 +78,7 @@ impl Session {
         requires table { IsTrue (has snapshot.scope rid.table) }
         ensures gains { (row : Option (List ℤ)) × (Gains (view_of self.old) (saw (engine_sizes engine.now).buckets rid (rows_at rid.key row) ∷ []) (view_of self.new) × IfOk result (λ r. r ≡ row)) }
         ensures kept { (opened_of self.new ≡ opened_of self.old) × (written_of self.new ≡ written_of self.old) × (left_of self.new ≡ left_of self.old) }
+        ensures retries { retries_of self.new ≡ retries_of self.old }
         ensures own { IsIn engine.now 0 1 self.new }
     {
         let board = engine.board();
@@ -97,6 +99,7 @@ impl Session {
         ensures is { result ≡ not (has snapshot.scope table) }
         ensures gains { Gains (view_of self.old) (outside_entries result table) (view_of self.new) }
         ensures kept { (opened_of self.new ≡ opened_of self.old) × (written_of self.new ≡ written_of self.old) × (left_of self.new ≡ left_of self.old) }
+        ensures retries { retries_of self.new ≡ retries_of self.old }
         ensures own { IsIn engine.now 0 1 self.new }
     {
         if may_name(snapshot.scope, table) {
@@ -112,10 +115,12 @@ impl Session {
         requires left { 0 < left_of self.old }
         requires table { rid.table.0 < (engine_sizes engine.now).tables }
         ensures reply { IfSome (get_reply (is_alone self.old) result) (λ reply. Answers (engine_sizes engine.now) (view_of self.old) (say.Get rid) reply (view_of self.new)) }
+        ensures at { IsAtOwn (open_of self.old) (get_at result) }
         ensures undeclared { IsRefusedIf (open_of self.old) rid.table result (refusal.Undeclared rid.table) }
-        ensures refused { result ≡ Err refusal.NoMemory → Stays (view_of self.old) (view_of self.new) }
+        ensures refused { result ≡ Err refusal.NoMemory → LeavesLooks (open_of self.old) rid.table rid.key rid.key (view_of self.old) (view_of self.new) }
         ensures open { open_of self.new ≡ open_of self.old }
         ensures left { left_of self.new + 1 ≡ left_of self.old }
+        ensures retries { retries_of self.new ≡ retries_of self.old }
         ensures own { IsOf engine.now self.new }
     {
         self.spend();
@@ -136,10 +141,12 @@ impl Session {
         requires opened { opened_of self.old ≡ Some snapshot }
         requires table { rid.table.0 < (engine_sizes engine.now).tables }
         ensures reply { IfSome (get_reply false result) (λ reply. Answers (engine_sizes engine.now) (view_of self.old) (say.Get rid) reply (view_of self.new)) }
+        ensures at { IsAtOwn (Some snapshot) (get_at result) }
         ensures undeclared { IsRefusedIf (Some snapshot) rid.table result (refusal.Undeclared rid.table) }
-        ensures refused { result ≡ Err refusal.NoMemory → Stays (view_of self.old) (view_of self.new) }
+        ensures refused { result ≡ Err refusal.NoMemory → HasLooked rid.table rid.key rid.key (view_of self.old) (view_of self.new) }
         ensures open { opened_of self.new ≡ opened_of self.old }
         ensures left { left_of self.new ≡ left_of self.old }
+        ensures retries { retries_of self.new ≡ retries_of self.old }
         ensures own { IsOf engine.now self.new }
     {
         if self.is_outside(engine, snapshot, rid.table) {
@@ -158,9 +165,10 @@ impl Session {
         requires closed { opened_of self.old ≡ None }
         requires table { rid.table.0 < (engine_sizes engine.now).tables }
         ensures reply { IfOk result (λ read. Answers (engine_sizes engine.now) (view_of self.old) (say.Get rid) (reading true read.at (row_answer read.row)) (view_of self.new)) }
-        ensures refused { OnErr result (Stays (view_of self.old) (view_of self.new)) }
+        ensures refused { OnErr result (HasGivenUp rid.table rid.key rid.key [] (view_of self.old) (view_of self.new)) }
         ensures open { opened_of self.new ≡ None }
         ensures left { left_of self.new ≡ left_of self.old }
+        ensures retries { retries_of self.new ≡ retries_of self.old }
         ensures own { IsOf engine.now self.new }
     {
         let snapshot = self.open(engine, only(rid.table));

@@ -7,7 +7,7 @@
 //! can't be is not looked up, and where the bucket may have many of the range, its index leads over those without a version.
 //! The rows of all buckets are put in order once, at the end.
 
-ghost use Rattle.std.specs.Prelude.{◌≡◌, ◌+◌, ◌%◌, ◌++◌, ◌<◌, true, false, Some, None, Err, IsTrue, IfOk, IfSome, OnOk, OnErr};
+ghost use Rattle.std.specs.Prelude.{◌≡◌, ◌+◌, ◌%◌, [], ◌++◌, ◌<◌, true, false, Some, None, Err, IsTrue, IfOk, IfSome, OnOk, OnErr};
 ghost use Rattle.hg_base.specs.declared.line.Answer.TheVariants.{Rows};
 ghost use Rattle.hg_base.specs.declared.statement.Statement.TheVariants as say;
 ghost use Rattle.hg_base.specs.Transcript.{has};
@@ -17,10 +17,11 @@ ghost use Rattle.hg_rule.specs.declared.view.View.{View};
 ghost use Rattle.hg_rule.specs.Holding.{bucket as bucket_in, held as held_in};
 ghost use Rattle.hg_store.specs.Stores.{Holds};
 ghost use Rattle.hg_session.specs.Engines.{engine_sizes};
-ghost use Rattle.hg_session.specs.Sessions.{IsIn, IsOf, is_alone, view_of, open_of, left_of, opened_of, written_of};
+ghost use Rattle.hg_session.specs.Sessions.{IsIn, IsOf, is_alone, view_of, open_of, left_of, retries_of, opened_of, written_of};
 ghost use Rattle.hg_session.specs.declared.answers.GetRefusal.TheVariants as refusal;
-ghost use Rattle.hg_session.specs.Replies.{Answers, IsRefusedIf, reading, scan_reply};
-ghost use Rattle.hg_session.specs.Gains.{Stays, rows_at};
+ghost use Rattle.hg_session.specs.Replies.{Answers, IsRefusedIf, IsAtOwn, scan_at, reading, scan_reply};
+ghost use Rattle.hg_session.specs.Gains.{rows_at};
+ghost use Rattle.hg_session.specs.Refused.{HasLooked, HasGivenUp, LeavesLooks};
 ghost use Rattle.hg_session.specs.Scans.{IsOwnKey, AreOwn, HasVersion, IsWithin, LeadsOn, read_of, Appends, Sees, Scans};
 
 use crate::answers::{GetRefusal, Scanned};
@@ -185,6 +186,7 @@ impl Session {
         requires home { IsOwnKey (engine_sizes engine.now).buckets home table low }
         ensures sees { Sees (engine_sizes engine.now).buckets (view_of self.old) table low high bucket rows.old.items result (view_of self.new) rows.new.items }
         ensures kept { (opened_of self.new ≡ opened_of self.old) × (written_of self.new ≡ written_of self.old) × (left_of self.new ≡ left_of self.old) }
+        ensures retries { retries_of self.new ≡ retries_of self.old }
         ensures own { IsIn engine.now 0 1 self.new }
     {
         let board = engine.board();
@@ -211,6 +213,7 @@ impl Session {
         requires table { IsTrue (has snapshot.scope table) }
         ensures gains { Scans (engine_sizes engine.now).buckets (view_of self.old) table low high result (view_of self.new) }
         ensures kept { (opened_of self.new ≡ opened_of self.old) × (written_of self.new ≡ written_of self.old) × (left_of self.new ≡ left_of self.old) }
+        ensures retries { retries_of self.new ≡ retries_of self.old }
         ensures own { IsIn engine.now 0 1 self.new }
     {
         let mut rows = Vec::new(self.alloc);
@@ -238,10 +241,12 @@ impl Session {
         requires left { 0 < left_of self.old }
         requires table { table.0 < (engine_sizes engine.now).tables }
         ensures reply { IfSome (scan_reply (is_alone self.old) result) (λ reply. Answers (engine_sizes engine.now) (view_of self.old) (say.Scan table low high) reply (view_of self.new)) }
+        ensures at { IsAtOwn (open_of self.old) (scan_at result) }
         ensures undeclared { IsRefusedIf (open_of self.old) table result (refusal.Undeclared table) }
-        ensures refused { result ≡ Err refusal.NoMemory → Stays (view_of self.old) (view_of self.new) }
+        ensures refused { result ≡ Err refusal.NoMemory → LeavesLooks (open_of self.old) table low high (view_of self.old) (view_of self.new) }
         ensures open { open_of self.new ≡ open_of self.old }
         ensures left { left_of self.new + 1 ≡ left_of self.old }
+        ensures retries { retries_of self.new ≡ retries_of self.old }
         ensures own { IsOf engine.now self.new }
     {
         self.spend();
@@ -264,10 +269,12 @@ impl Session {
         requires opened { opened_of self.old ≡ Some snapshot }
         requires table { table.0 < (engine_sizes engine.now).tables }
         ensures reply { IfSome (scan_reply false result) (λ reply. Answers (engine_sizes engine.now) (view_of self.old) (say.Scan table low high) reply (view_of self.new)) }
+        ensures at { IsAtOwn (Some snapshot) (scan_at result) }
         ensures undeclared { IsRefusedIf (Some snapshot) table result (refusal.Undeclared table) }
-        ensures refused { result ≡ Err refusal.NoMemory → Stays (view_of self.old) (view_of self.new) }
+        ensures refused { result ≡ Err refusal.NoMemory → HasLooked table low high (view_of self.old) (view_of self.new) }
         ensures open { opened_of self.new ≡ opened_of self.old }
         ensures left { left_of self.new ≡ left_of self.old }
+        ensures retries { retries_of self.new ≡ retries_of self.old }
         ensures own { IsOf engine.now self.new }
     {
         if self.is_outside(engine, snapshot, table) {
@@ -293,9 +300,10 @@ impl Session {
         requires closed { opened_of self.old ≡ None }
         requires table { table.0 < (engine_sizes engine.now).tables }
         ensures reply { IfOk result (λ scanned. Answers (engine_sizes engine.now) (view_of self.old) (say.Scan table low high) (reading true scanned.at (Rows scanned.rows)) (view_of self.new)) }
-        ensures refused { OnErr result (Stays (view_of self.old) (view_of self.new)) }
+        ensures refused { OnErr result (HasGivenUp table low high [] (view_of self.old) (view_of self.new)) }
         ensures open { opened_of self.new ≡ None }
         ensures left { left_of self.new ≡ left_of self.old }
+        ensures retries { retries_of self.new ≡ retries_of self.old }
         ensures own { IsOf engine.now self.new }
     {
         let snapshot = self.open(engine, only(table));

@@ -9,7 +9,7 @@ ghost use Rattle.hg_core.specs.declared.log.LogEntry.TheVariants.{Began};
 ghost use Rattle.hg_tracker.specs.Begun.{AtMost};
 ghost use Rattle.hg_session.specs.declared.engine.Engine.{Engine};
 ghost use Rattle.hg_session.specs.Engines.{engine_sizes};
-ghost use Rattle.hg_session.specs.Sessions.{IsIn, IsOf, view_of, seen_by, open_of, left_of, opened_of, written_of};
+ghost use Rattle.hg_session.specs.Sessions.{IsIn, IsOf, view_of, seen_by, open_of, left_of, retries_of, opened_of, written_of};
 ghost use Rattle.hg_session.specs.Replies.{Answers, inside};
 ghost use Rattle.hg_session.specs.Gains.{Gains};
 
@@ -27,6 +27,7 @@ pub struct Session {
     pub(crate) opened: Option<Snapshot>,
     pub(crate) written: RidList,
     pub(crate) left: u64,
+    pub(crate) retries: u64,
     pub(crate) alloc: Global,
 }
 
@@ -40,6 +41,7 @@ impl Session {
         ensures scope { result.scope ≡ scope }
         ensures fresh { Each (AtMost result.at) (seen_by self.old) }
         ensures kept { (opened_of self.new ≡ Some result) × (written_of self.new ≡ []) × (left_of self.new ≡ left_of self.old) }
+        ensures retries { retries_of self.new ≡ retries_of self.old }
         ensures own { IsIn engine.now 0 1 self.new }
     {
         let snapshot = engine.trackers.begin(&mut self.pass, scope);
@@ -53,6 +55,7 @@ impl Session {
         ensures own { (e : Engine) → IsOf e self.old → IsIn e 1 1 self.new }
         ensures kept { (view_of self.new ≡ view_of self.old) × (opened_of self.new ≡ opened_of self.old) × (written_of self.new ≡ written_of self.old) }
         ensures left { left_of self.new + 1 ≡ left_of self.old }
+        ensures retries { retries_of self.new ≡ retries_of self.old }
     {
         self.left -= 1;
     }
@@ -71,6 +74,13 @@ impl Session {
         self.left
     }
 
+    /// How many commits were refused for want of memory. The count stays at its last value once it is full.
+    pub fn retries(&self) -> u64
+        ensures { result ≡ retries_of self.now }
+    {
+        self.retries
+    }
+
     /// Begins a transaction, and answers its snapshot. No memory and no lock is taken.
     pub fn begin(&mut self, engine: &Engine, scope: Scope) -> u64
         requires own { IsOf engine.now self.old }
@@ -80,6 +90,7 @@ impl Session {
         ensures answers { Answers (engine_sizes engine.now) (view_of self.old) (say.Begin scope) (inside (Begun result)) (view_of self.new) }
         ensures open { open_of self.new ≡ Some (record { at = result; scope = scope }) }
         ensures left { left_of self.new + 1 ≡ left_of self.old }
+        ensures retries { retries_of self.new ≡ retries_of self.old }
         ensures own { IsOf engine.now self.new }
     {
         self.spend();

@@ -7,10 +7,11 @@ ghost use Rattle.hg_base.specs.Transcript.{has};
 ghost use Rattle.hg_core.specs.Events.{with_refusal};
 ghost use Rattle.hg_core.specs.declared.log.LogEntry.TheVariants.{Wrote};
 ghost use Rattle.hg_session.specs.Engines.{engine_sizes};
-ghost use Rattle.hg_session.specs.Sessions.{IsIn, IsOf, is_alone, view_of, open_of, left_of, opened_of, written_of};
-ghost use Rattle.hg_session.specs.Replies.{Answers, IsRefusedIf, put_reply, refused_at};
+ghost use Rattle.hg_session.specs.Sessions.{IsIn, IsOf, is_alone, view_of, open_of, left_of, retries_of, opened_of, written_of};
+ghost use Rattle.hg_session.specs.Replies.{Answers, IsRefusedIf, IsAtOwn, put_at, put_reply, refused_at};
 ghost use Rattle.hg_session.specs.Alone.{WritesAlone, IsRefusedAlone};
-ghost use Rattle.hg_session.specs.Gains.{Gains, Stays, IsRefusedBy, entries_of};
+ghost use Rattle.hg_session.specs.Gains.{Gains, IsRefusedBy, entries_of};
+ghost use Rattle.hg_session.specs.Refused.{HasLooked, LeavesNoWrite};
 
 use crate::answers::{PutRefusal, Written};
 use crate::engine::Engine;
@@ -56,6 +57,7 @@ impl Session {
         ensures gains { Gains (view_of self.old) (entries_of rid image result) (view_of self.new) }
         ensures refused { IfErr result (IsRefusedBy (engine_sizes engine.now) (view_of self.old) snapshot.at) }
         ensures kept { (opened_of self.new ≡ opened_of self.old) × (left_of self.new ≡ left_of self.old) }
+        ensures retries { retries_of self.new ≡ retries_of self.old }
         ensures unwritten { OnErr result (written_of self.new ≡ written_of self.old) }
         ensures own { IsIn engine.now 0 0 self.new }
     {
@@ -86,9 +88,10 @@ impl Session {
         requires unwritten { written_of self.old ≡ [] }
         requires table { IsTrue (has snapshot.scope rid.table) × (rid.table.0 < (engine_sizes engine.now).tables) }
         ensures stored { IfOk result (WritesAlone (view_of self.old) rid image snapshot.at (view_of self.new)) }
-        ensures refused { IfErr result (IsRefusedAlone (engine_sizes engine.now) (view_of self.old) rid snapshot.at (view_of self.new)) }
+        ensures refused { IfErr result (IsRefusedAlone (engine_sizes engine.now) (view_of self.old) rid image snapshot.at (view_of self.new)) }
         ensures over { opened_of self.new ≡ None }
         ensures left { left_of self.new ≡ left_of self.old }
+        ensures retries { retries_of self.new ≡ retries_of self.old }
         ensures own { IsOf engine.now self.new }
     {
         if let Err(refusal) = self.write_row(rt, engine, snapshot, rid, image) {
@@ -117,10 +120,12 @@ impl Session {
         requires left { 0 < left_of self.old }
         requires table { rid.table.0 < (engine_sizes engine.now).tables }
         ensures reply { IfSome (put_reply (is_alone self.old) result) (λ reply. Answers (engine_sizes engine.now) (view_of self.old) (say.Put rid row) reply (view_of self.new)) }
+        ensures at { IsAtOwn (open_of self.old) (put_at result) }
         ensures undeclared { IsRefusedIf (open_of self.old) rid.table result (refusal.Undeclared rid.table) }
-        ensures refused { result ≡ Err refusal.NoMemory → Stays (view_of self.old) (view_of self.new) }
+        ensures refused { result ≡ Err refusal.NoMemory → LeavesNoWrite (open_of self.old) rid (record { row = Some row }) (view_of self.old) (view_of self.new) }
         ensures open { open_of self.new ≡ open_of self.old }
         ensures left { left_of self.new + 1 ≡ left_of self.old }
+        ensures retries { retries_of self.new ≡ retries_of self.old }
         ensures own { IsOf engine.now self.new }
     {
         self.spend();
@@ -142,10 +147,12 @@ impl Session {
         requires opened { opened_of self.old ≡ Some snapshot }
         requires table { rid.table.0 < (engine_sizes engine.now).tables }
         ensures reply { IfSome (put_reply false result) (λ reply. Answers (engine_sizes engine.now) (view_of self.old) (say.Put rid row) reply (view_of self.new)) }
+        ensures at { IsAtOwn (Some snapshot) (put_at result) }
         ensures undeclared { IsRefusedIf (Some snapshot) rid.table result (refusal.Undeclared rid.table) }
-        ensures refused { result ≡ Err refusal.NoMemory → Stays (view_of self.old) (view_of self.new) }
+        ensures refused { result ≡ Err refusal.NoMemory → HasLooked rid.table rid.key rid.key (view_of self.old) (view_of self.new) }
         ensures open { opened_of self.new ≡ opened_of self.old }
         ensures left { left_of self.new ≡ left_of self.old }
+        ensures retries { retries_of self.new ≡ retries_of self.old }
         ensures own { IsOf engine.now self.new }
     {
         if self.is_outside(engine, snapshot, rid.table) {
@@ -174,9 +181,10 @@ impl Session {
         requires table { rid.table.0 < (engine_sizes engine.now).tables }
         ensures reply { IfSome (put_reply true result) (λ reply. Answers (engine_sizes engine.now) (view_of self.old) (say.Put rid row) reply (view_of self.new)) }
         ensures declared { (t : TableId) → result ≡ Err (refusal.Undeclared t) → ⊥ }
-        ensures refused { result ≡ Err refusal.NoMemory → Stays (view_of self.old) (view_of self.new) }
+        ensures refused { result ≡ Err refusal.NoMemory → LeavesNoWrite None rid (record { row = Some row }) (view_of self.old) (view_of self.new) }
         ensures open { opened_of self.new ≡ None }
         ensures left { left_of self.new ≡ left_of self.old }
+        ensures retries { retries_of self.new ≡ retries_of self.old }
         ensures own { IsOf engine.now self.new }
     {
         let snapshot = self.open(engine, only(rid.table));

@@ -11,6 +11,7 @@ use Rattle.hg_session.specs.Ties.{Ties}
 use Rattle.hg_session.specs.Engines.{engine_table, engine_sizes}
 use Rattle.hg_session.proofs.Tying.{ties_committed}
 use Rattle.hg_session.proofs.Done.{unwritten, written_some, closed, after, back_gains, back_in, ties_back, none_of}
+use Rattle.hg_session.proofs.Placed.{has_place}
 use Rattle.hg_session.proofs.Settling.{settled}
 use Rattle.hg_session.proofs.session.Session.close.Goals as goal
 
@@ -52,3 +53,6 @@ returns-in-Err-clause-own g c =
     let open_ = subst (λ o. Ties each o old left 0 0 (session v)) c.requires.opened c.requires.own.ties in
     let ties = ties_back each left c.args.snapshot old c.in-Err.tx.records.list (number v) (session v) c.in-Err.tx refl c.in-Err.ensures.refused.0 open_ in
     back_in c.args.engine.now v _ own c.in-Err.ensures.refused.1 (subst (λ o. Ties each o c.in-Err.tx.records.list left 0 0 (session v)) (sym c.requires.opened) ties) c.requires.own.heard
+
+pub returns-in-Ok-clause-placed : goal.returns-in-Ok-clause-placed
+returns-in-Ok-clause-placed g c = has_place (session_view c.args.self.now.pass) (session_view c.commit.new.pass) (session_view c.end-in-Ok.new.pass) c.in-Ok.receipt c.in-Ok.ensures.committed c.end-in-Ok.ensures.step

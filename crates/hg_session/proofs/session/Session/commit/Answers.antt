@@ -10,11 +10,11 @@ use Rattle.hg_session.specs.Gains.{Gains, IsAfter, number_in}
 use Rattle.hg_session.proofs.Putting.{is_number, commit_inside}
 use Rattle.hg_session.proofs.session.Session.commit.Goals as goal
 
-pub returns-clause-answers : goal.returns-clause-answers
-returns-clause-answers g c =
+pub returns-in-Ok-clause-answers : goal.returns-in-Ok-clause-answers
+returns-in-Ok-clause-answers g c =
     let v = view_of c.args.self.now in
     let w = view_of c.close.new.self in
-    let r = c.in_ok-receipt-in-Some.receipt in
+    let r = c.in-Ok.receipt in
     let opened : current (session v).log ≡ Some c.in-Some.snapshot = search rules in
     let gains : Gains v (close (number_in r)) w = search rules in
     let wrote : is_some r ≡ is_written (own_writes (session v).log) = search rules in

@@ -8,13 +8,12 @@ use Rattle.hg_core.specs.Logs.{current, own_writes}
 use Rattle.hg_core.specs.Reading.{saw}
 use Rattle.hg_rule.specs.Views.{session}
 use Rattle.hg_session.specs.Engines.{engine_sizes}
-use Rattle.hg_session.specs.Sessions.{view_of, left_of, written_of}
-use Rattle.hg_session.specs.Ties.{Ties}
+use Rattle.hg_session.specs.Sessions.{view_of}
 use Rattle.hg_session.specs.Gains.{Gains, rows_at}
 use Rattle.hg_session.specs.Replies.{Answers, del_reply}
 use Rattle.hg_session.specs.Alone.{WritesAlone, IsRefusedAlone}
-use Rattle.hg_session.proofs.Replying.{rest_unwritten}
-use Rattle.hg_session.proofs.Putting.{stored_alone, refused_alone, memory_alone}
+use Rattle.hg_session.proofs.Putting.{stored_alone, refused_alone}
+use Rattle.hg_session.proofs.Refusing.{no_write}
 use Rattle.hg_session.proofs.Ranged.{dels, with_found, saw_found, found_row, no_row, nothing_alone}
 use Rattle.hg_session.proofs.Settling.{gains_on}
 use Rattle.hg_session.proofs.session.Session.del_alone.Goals as goal
@@ -51,7 +50,7 @@ returns-in_err-number-clause-reply g c =
     let seen = subst (λ r. Gains m (saw z.buckets rid (rows_at rid.key r) ∷ []) n) row.1 c.see_there.ensures.gains.1.0 in
     let two = gains_on v m n (Began at (only (Some rid.table)) ∷ []) (saw_found z rid row.0) begun seen (λ l. refl) in
     let e = c.in_err-number.field-0.0 in
-    let why = subst (λ x. IfErr x (IsRefusedAlone z n rid at w)) c.in_err-number.was c.write_alone.ensures.refused in
+    let why = subst (λ x. IfErr x (IsRefusedAlone z n rid nothing at w)) c.in_err-number.was c.write_alone.ensures.refused in
     let same : c.from_residual.result ≡ Err e = search rules in
     subst (λ x. IfSome (del_reply true x) (λ reply. Answers z v (say.Del rid) reply w)) (sym same)
     (refused_alone z (say.Del rid) (with_found row.0) v w rid nothing (saw_found z rid row.0) _ (dels z (own_writes (session v).log) rid row.0) n at none c.open-snapshot.ensures.fresh two e why)
@@ -65,17 +64,15 @@ returns-in_err-number-clause-refused g c =
     let w = view_of c.write_alone.new.self in
     let rid = c.args.rid in
     let at = c.open-snapshot.result.at in
-    let none : current (session v).log ≡ None = search rules in
-    let bare = rest_unwritten _ _ 1 1 _ (session v) (subst (λ o. Ties (engine_sizes c.args.engine.now).each o (written_of c.args.self.now) (left_of c.args.self.now) 1 1 (session v)) c.requires.closed c.requires.own.ties) in
     let begun = subst (λ s. Gains v (Began at s ∷ []) m) c.only.ensures.is c.open-snapshot.ensures.gains in
     let there : true ≡ is_some c.see_there.ensures.gains.0 = search rules in
     let row = found_row c.see_there.ensures.gains.0 there in
     let seen = subst (λ r. Gains m (saw z.buckets rid (rows_at rid.key r) ∷ []) n) row.1 c.see_there.ensures.gains.1.0 in
     let two = gains_on v m n (Began at (only (Some rid.table)) ∷ []) (saw_found z rid row.0) begun seen (λ l. refl) in
     let e = c.in_err-number.field-0.0 in
-    let why = subst (λ x. IfErr x (IsRefusedAlone z n rid at w)) c.in_err-number.was c.write_alone.ensures.refused in
+    let why = subst (λ x. IfErr x (IsRefusedAlone z n rid nothing at w)) c.in_err-number.was c.write_alone.ensures.refused in
     let same : c.from_residual.result ≡ Err e = search rules in
-    λ h. memory_alone z (say.Del rid) (with_found row.0) v w rid nothing (saw_found z rid row.0) _ (dels z (own_writes (session v).log) rid row.0) n at none c.open-snapshot.ensures.fresh two bare e why (let k = sym same ∙ h in cc)
+    λ h. no_write z v n w rid nothing at (saw_found z rid row.0) ((refl, (refl, refl)), tt) two e why (let k = sym same ∙ h in cc)
 
 pub returns-clause-reply : goal.returns-clause-reply
 returns-clause-reply g c =

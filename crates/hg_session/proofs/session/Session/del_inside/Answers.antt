@@ -1,4 +1,4 @@
-use Rattle.std.proofs.Common.{◌≡◌, [], ◌∷◌, true, false, Some, Err, refl, sym, subst, rules, append_assoc}
+use Rattle.std.proofs.Common.{◌≡◌, [], ◌∷◌, true, false, Some, Err, refl, sym, ◌∙◌, subst, rules, append_assoc}
 use Rattle.std.specs.Prelude.{IfSome, IfErr, is_some, ⊤}
 use Rattle.hg_base.specs.declared.statement.Statement.TheVariants as say
 use Rattle.hg_base.specs.History.{nothing}
@@ -12,8 +12,10 @@ use Rattle.hg_session.specs.Gains.{Gains, IsRefusedBy, rows_at, outside_entries,
 use Rattle.hg_session.specs.Replies.{Answers, refused_reply}
 use Rattle.hg_session.proofs.Replying.{undeclared_inside}
 use Rattle.hg_session.proofs.Putting.{stored_inside, refused_inside}
-use Rattle.hg_session.proofs.Ranged.{dels, with_found, saw_found, found_row, no_row, nothing_inside, stays_refused}
+use Rattle.hg_session.proofs.Ranged.{dels, with_found, saw_found, found_row, no_row, nothing_inside}
+use Rattle.hg_session.proofs.Refusing.{looked_before}
 use Rattle.hg_session.proofs.Settling.{gains_on, refused_before}
+use Rattle.hg_session.specs.declared.answers.PutRefusal.TheVariants as refusal
 use Rattle.hg_session.proofs.session.Session.del_inside.Goals as goal
 
 pub returns-then-is_outside-clause-reply : goal.returns-then-is_outside-clause-reply
@@ -90,4 +92,4 @@ returns-in-Err-clause-refused g c =
     let es = entries_of {T = ⊤} rid nothing (Err c.in-Err.refusal) in
     let wrote = subst (λ r. Gains n (entries_of rid nothing r) w) c.in-Err.is c.write_row.ensures.gains in
     let all = gains_on v n w seen es two wrote (λ l. sym (append_assoc es seen l)) in
-    λ same. stays_refused z v w rid nothing c.in-Err.refusal _ all
+    λ same. looked_before v w rid nothing c.args.snapshot.at seen ((refl, (refl, refl)), tt) c.in-Err.refusal all (let k : Err c.refused_at.result ≡ Err refusal.NoMemory = same in sym c.refused_at.ensures ∙ (let q = k in cc))

@@ -6,10 +6,11 @@ use Rattle.hg_core.specs.Reading.{saw}
 use Rattle.hg_core.specs.Logs.{current}
 use Rattle.hg_rule.specs.Views.{session}
 use Rattle.hg_session.specs.Engines.{engine_sizes}
-use Rattle.hg_session.specs.Sessions.{view_of, left_of, written_of}
-use Rattle.hg_session.specs.Ties.{Ties}
-use Rattle.hg_session.specs.Gains.{Gains, Stays, rows_at}
-use Rattle.hg_session.proofs.Replying.{get_alone, stays_alone, rest_unwritten}
+use Rattle.hg_session.specs.Sessions.{view_of}
+use Rattle.hg_session.specs.Gains.{Gains, rows_at}
+use Rattle.hg_session.specs.Refused.{HasGivenUp}
+use Rattle.hg_session.proofs.Refusing.{given_up}
+use Rattle.hg_session.proofs.Replying.{get_alone}
 use Rattle.hg_session.proofs.Settling.{gains_on}
 use Rattle.hg_session.proofs.session.Session.get_alone.Goals as goal
 
@@ -18,14 +19,15 @@ open-snapshot-requires-clause-tables g c = c.only.ensures.below (engine_sizes c.
 
 pub returns-in_err-row-clause-refused : goal.returns-in_err-row-clause-refused
 returns-in_err-row-clause-refused g c =
+    let rid = c.args.rid in
     let v = view_of c.args.self.now in
+    let n = view_of c.see_row-row.new.self in
     let w = view_of c.end.new.self in
-    let none : current (session v).log ≡ None = search rules in
-    let bare = rest_unwritten _ _ 1 1 _ (session v) (subst (λ o. Ties (engine_sizes c.args.engine.now).each o (written_of c.args.self.now) (left_of c.args.self.now) 1 1 (session v)) c.requires.closed c.requires.own.ties) in
-    let two = gains_on v (view_of c.open-snapshot.new.self) (view_of c.see_row-row.new.self) _ _ c.open-snapshot.ensures.gains c.see_row-row.ensures.gains.1.0 (λ l. refl) in
-    let all = gains_on v (view_of c.see_row-row.new.self) w _ (Over ∷ []) two c.end.ensures.gains (λ l. refl) in
+    let looks = saw (engine_sizes c.args.engine.now).buckets rid (rows_at rid.key c.see_row-row.ensures.gains.0) ∷ [] in
+    let begun = subst (λ s. Gains v (Began c.open-snapshot.result.at s ∷ []) (view_of c.open-snapshot.new.self)) c.only.ensures.is c.open-snapshot.ensures.gains in
+    let two = gains_on v (view_of c.open-snapshot.new.self) n _ looks begun c.see_row-row.ensures.gains.1.0 (λ l. refl) in
     let same : c.from_residual.result ≡ Err c.in_err-row.field-0.0 = search rules in
-    subst (λ r. OnErr r (Stays v w)) (sym same) (stays_alone v w _ none bare all)
+    subst (λ r. OnErr r (HasGivenUp rid.table rid.key rid.key [] v w)) (sym same) (given_up v n w rid.table rid.key rid.key c.open-snapshot.result.at [] looks ((refl, (refl, refl)), tt) two c.end.ensures.gains)
 
 pub returns-clause-reply : goal.returns-clause-reply
 returns-clause-reply g c =

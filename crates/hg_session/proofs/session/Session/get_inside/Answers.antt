@@ -6,7 +6,7 @@ use Rattle.hg_rule.specs.Views.{session}
 use Rattle.hg_session.specs.Engines.{engine_sizes}
 use Rattle.hg_session.specs.Sessions.{view_of}
 use Rattle.hg_session.specs.Gains.{Gains, rows_at, outside_entries}
-use Rattle.hg_session.proofs.Replying.{get_inside, undeclared_inside, stays_quiet}
+use Rattle.hg_session.proofs.Replying.{get_inside, undeclared_inside}
 use Rattle.hg_session.proofs.Settling.{gains_on}
 use Rattle.hg_session.proofs.session.Session.get_inside.Goals as goal
 
@@ -22,7 +22,11 @@ pub returns-in_err-row-clause-refused : goal.returns-in_err-row-clause-refused
 returns-in_err-row-clause-refused g c =
     let v = view_of c.args.self.now in
     let none = subst (λ b. Gains v (outside_entries b c.args.rid.table) (view_of c.is_outside.new.self)) c.if-is_outside.false c.is_outside.ensures.gains in
-    λ same. stays_quiet v (view_of c.see_row.new.self) (saw (engine_sizes c.args.engine.now).buckets c.args.rid (rows_at c.args.rid.key c.see_row.ensures.gains.0) ∷ []) (tt, tt) (gains_on v (view_of c.is_outside.new.self) (view_of c.see_row.new.self) [] _ none c.see_row.ensures.gains.1.0 (λ l. refl))
+    λ same. record {
+      looks = saw (engine_sizes c.args.engine.now).buckets c.args.rid (rows_at c.args.rid.key c.see_row.ensures.gains.0) ∷ [];
+      there = ((refl, (refl, refl)), tt);
+      gains = gains_on v (view_of c.is_outside.new.self) (view_of c.see_row.new.self) [] _ none c.see_row.ensures.gains.1.0 (λ l. refl);
+    }
 
 pub returns-clause-reply : goal.returns-clause-reply
 returns-clause-reply g c =

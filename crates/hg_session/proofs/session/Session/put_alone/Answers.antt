@@ -5,13 +5,13 @@ use Rattle.hg_core.specs.declared.log.LogEntry.TheVariants.{Began}
 use Rattle.hg_core.specs.Logs.{current, own_writes}
 use Rattle.hg_rule.specs.Views.{session}
 use Rattle.hg_session.specs.Engines.{engine_sizes}
-use Rattle.hg_session.specs.Sessions.{view_of, left_of, written_of}
-use Rattle.hg_session.specs.Ties.{Ties}
+use Rattle.hg_session.specs.Sessions.{view_of}
 use Rattle.hg_session.specs.Gains.{Gains}
 use Rattle.hg_session.specs.Replies.{Answers, put_reply}
 use Rattle.hg_session.specs.Alone.{WritesAlone, IsRefusedAlone}
-use Rattle.hg_session.proofs.Replying.{nothing_more, rest_unwritten}
-use Rattle.hg_session.proofs.Putting.{puts, stored_alone, refused_alone, memory_alone}
+use Rattle.hg_session.proofs.Replying.{nothing_more}
+use Rattle.hg_session.proofs.Putting.{puts, stored_alone, refused_alone}
+use Rattle.hg_session.proofs.Refusing.{no_write}
 use Rattle.hg_session.proofs.session.Session.put_alone.Goals as goal
 
 pub returns-in_err-number-clause-reply : goal.returns-in_err-number-clause-reply
@@ -24,7 +24,7 @@ returns-in_err-number-clause-reply g c =
     let none : current (session v).log ≡ None = search rules in
     let begun = subst (λ s. Gains v (Began at s ∷ []) m) c.only.ensures.is c.open-snapshot.ensures.gains in
     let e = c.in_err-number.field-0.0 in
-    let why = subst (λ x. IfErr x (IsRefusedAlone z m c.args.rid at w)) c.in_err-number.was c.write_alone.ensures.refused in
+    let why = subst (λ x. IfErr x (IsRefusedAlone z m c.args.rid (record { row = Some c.args.row }) at w)) c.in_err-number.was c.write_alone.ensures.refused in
     let same : c.from_residual.result ≡ Err e = search rules in
     subst (λ x. IfSome (put_reply true x) (λ reply. Answers z v (say.Put c.args.rid c.args.row) reply w)) (sym same)
     (refused_alone z (say.Put c.args.rid c.args.row) nothing_more v w c.args.rid (record { row = Some c.args.row }) [] _ (puts z nothing_more (own_writes (session v).log) c.args.rid c.args.row) m at none c.open-snapshot.ensures.fresh begun e why)
@@ -36,13 +36,11 @@ returns-in_err-number-clause-refused g c =
     let m = view_of c.open-snapshot.new.self in
     let w = view_of c.write_alone.new.self in
     let at = c.open-snapshot.result.at in
-    let none : current (session v).log ≡ None = search rules in
-    let bare = rest_unwritten _ _ 1 1 _ (session v) (subst (λ o. Ties (engine_sizes c.args.engine.now).each o (written_of c.args.self.now) (left_of c.args.self.now) 1 1 (session v)) c.requires.closed c.requires.own.ties) in
     let begun = subst (λ s. Gains v (Began at s ∷ []) m) c.only.ensures.is c.open-snapshot.ensures.gains in
     let e = c.in_err-number.field-0.0 in
-    let why = subst (λ x. IfErr x (IsRefusedAlone z m c.args.rid at w)) c.in_err-number.was c.write_alone.ensures.refused in
+    let why = subst (λ x. IfErr x (IsRefusedAlone z m c.args.rid (record { row = Some c.args.row }) at w)) c.in_err-number.was c.write_alone.ensures.refused in
     let same : c.from_residual.result ≡ Err e = search rules in
-    λ h. memory_alone z (say.Put c.args.rid c.args.row) nothing_more v w c.args.rid (record { row = Some c.args.row }) [] _ (puts z nothing_more (own_writes (session v).log) c.args.rid c.args.row) m at none c.open-snapshot.ensures.fresh begun bare e why (let k = sym same ∙ h in cc)
+    λ h. no_write z v m w c.args.rid (record { row = Some c.args.row }) at [] tt begun e why (let k = sym same ∙ h in cc)
 
 pub returns-clause-reply : goal.returns-clause-reply
 returns-clause-reply g c =

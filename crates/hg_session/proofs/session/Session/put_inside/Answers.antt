@@ -1,4 +1,4 @@
-use Rattle.std.proofs.Common.{◌≡◌, [], ◌∷◌, false, Some, Err, refl, sym, subst, rules, append_assoc}
+use Rattle.std.proofs.Common.{◌≡◌, [], ◌∷◌, false, Some, Err, refl, sym, ◌∙◌, subst, rules, append_assoc}
 use Rattle.std.specs.Prelude.{IfSome, IfErr, ⊤}
 use Rattle.hg_base.specs.declared.statement.Statement.TheVariants as say
 use Rattle.hg_core.specs.declared.log.LogEntry.TheVariants.{Wrote}
@@ -10,7 +10,9 @@ use Rattle.hg_session.specs.Gains.{Gains, IsRefusedBy, outside_entries, entries_
 use Rattle.hg_session.specs.Replies.{Answers, refused_reply}
 use Rattle.hg_session.proofs.Replying.{nothing_more, undeclared_inside}
 use Rattle.hg_session.proofs.Putting.{puts, stored_inside, refused_inside}
+use Rattle.hg_session.proofs.Refusing.{looked_before}
 use Rattle.hg_session.proofs.Settling.{gains_on, refused_before}
+use Rattle.hg_session.specs.declared.answers.PutRefusal.TheVariants as refusal
 use Rattle.hg_session.proofs.session.Session.put_inside.Goals as goal
 
 pub returns-then-is_outside-clause-reply : goal.returns-then-is_outside-clause-reply
@@ -45,3 +47,14 @@ returns-in-Err-clause-reply g c =
     let refused = refused_before z v m c.args.snapshot.at c.in-Err.refusal _ none (subst (λ r. IfErr r (IsRefusedBy z m c.args.snapshot.at)) c.in-Err.is c.write_row.ensures.refused) in
     subst (λ e. IfSome (refused_reply false e) (λ reply. Answers z v (say.Put c.args.rid c.args.row) reply w)) (sym c.refused_at.ensures)
     (refused_inside z (say.Put c.args.rid c.args.row) nothing_more v w c.args.rid (record { row = Some c.args.row }) [] _ (puts z nothing_more (own_writes (session v).log) c.args.rid c.args.row) c.args.snapshot c.args.snapshot.at c.in-Err.refusal opened all refused)
+
+pub returns-in-Err-clause-refused : goal.returns-in-Err-clause-refused
+returns-in-Err-clause-refused g c =
+    let v = view_of c.args.self.now in
+    let m = view_of c.is_outside.new.self in
+    let w = view_of c.write_row.new.self in
+    let none = subst (λ b. Gains v (outside_entries b c.args.rid.table) m) c.if-is_outside.false c.is_outside.ensures.gains in
+    let es = entries_of {T = ⊤} c.args.rid (record { row = Some c.args.row }) (Err c.in-Err.refusal) in
+    let wrote = subst (λ r. Gains m (entries_of c.args.rid (record { row = Some c.args.row }) r) w) c.in-Err.is c.write_row.ensures.gains in
+    let all = gains_on v m w [] es none wrote (λ l. sym (append_assoc es [] l)) in
+    λ same. looked_before v w c.args.rid (record { row = Some c.args.row }) c.args.snapshot.at [] tt c.in-Err.refusal all (let k : Err c.refused_at.result ≡ Err refusal.NoMemory = same in sym c.refused_at.ensures ∙ (let q = k in cc))

@@ -1,15 +1,16 @@
-use Rattle.std.proofs.Common.{◌≡◌, [], ◌∷◌, ◌++◌, None, Err, refl, sym, subst, rules, append_assoc}
+use Rattle.std.proofs.Common.{◌≡◌, [], ◌∷◌, ◌++◌, Some, None, Err, refl, sym, subst, rules, append_assoc}
 use Rattle.std.specs.Prelude.{OnErr}
+use Rattle.hg_base.specs.Transcript.{only}
 use Rattle.hg_core.specs.declared.log.LogEntry.TheVariants.{Began, Over}
 use Rattle.hg_core.specs.Reading.{saws}
 use Rattle.hg_core.specs.Logs.{current}
 use Rattle.hg_rule.specs.Views.{session}
 use Rattle.hg_session.specs.Engines.{engine_sizes}
-use Rattle.hg_session.specs.Sessions.{view_of, left_of, written_of}
-use Rattle.hg_session.specs.Ties.{Ties}
-use Rattle.hg_session.specs.Gains.{Gains, Stays}
+use Rattle.hg_session.specs.Sessions.{view_of}
+use Rattle.hg_session.specs.Gains.{Gains}
+use Rattle.hg_session.specs.Refused.{HasGivenUp}
 use Rattle.hg_session.specs.Scans.{Scans, ScansAll, ScansSome}
-use Rattle.hg_session.proofs.Replying.{stays_alone, rest_unwritten}
+use Rattle.hg_session.proofs.Refusing.{given_up, saws_there}
 use Rattle.hg_session.proofs.Ranged.{scan_alone}
 use Rattle.hg_session.proofs.Settling.{gains_on}
 use Rattle.hg_session.proofs.session.Session.scan_alone.Goals as goal
@@ -21,15 +22,13 @@ returns-in_err-rows-clause-refused g c =
     let m = view_of c.open-snapshot.new.self in
     let n = view_of c.scan_rows-rows.new.self in
     let w = view_of c.end.new.self in
-    let none : current (session v).log ≡ None = search rules in
-    let bare = rest_unwritten _ _ 1 1 _ (session v) (subst (λ o. Ties (engine_sizes c.args.engine.now).each o (written_of c.args.self.now) (left_of c.args.self.now) 1 1 (session v)) c.requires.closed c.requires.own.ties) in
     let k : ScansSome z.buckets m c.args.table c.args.low c.args.high n = subst (λ r. Scans z.buckets m c.args.table c.args.low c.args.high r n) c.in_err-rows.was c.scan_rows-rows.ensures.gains in
     let es = saws c.args.table c.args.low c.args.high k.part k.seen in
-    let b = Began c.open-snapshot.result.at c.only.result ∷ [] in
-    let two = gains_on v m n b es c.open-snapshot.ensures.gains k.gains (λ l. sym (append_assoc es b l)) in
-    let all = gains_on v n w (es ++ b) (Over ∷ []) two c.end.ensures.gains (λ l. refl) in
+    let b = Began c.open-snapshot.result.at (only (Some c.args.table)) ∷ [] in
+    let begun = subst (λ s. Gains v (Began c.open-snapshot.result.at s ∷ []) m) c.only.ensures.is c.open-snapshot.ensures.gains in
+    let two = gains_on v m n b es begun k.gains (λ l. sym (append_assoc es b l)) in
     let same : c.from_residual.result ≡ Err c.in_err-rows.field-0.0 = search rules in
-    subst (λ r. OnErr r (Stays v w)) (sym same) (stays_alone v w (es ++ b) none bare all)
+    subst (λ r. OnErr r (HasGivenUp c.args.table c.args.low c.args.high [] v w)) (sym same) (given_up v n w c.args.table c.args.low c.args.high c.open-snapshot.result.at [] es (saws_there c.args.table c.args.low c.args.high k.part k.seen) two c.end.ensures.gains)
 
 pub returns-clause-reply : goal.returns-clause-reply
 returns-clause-reply g c =

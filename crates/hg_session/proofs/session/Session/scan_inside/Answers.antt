@@ -7,8 +7,9 @@ use Rattle.hg_session.specs.Engines.{engine_sizes}
 use Rattle.hg_session.specs.Sessions.{view_of}
 use Rattle.hg_session.specs.Gains.{Gains, outside_entries}
 use Rattle.hg_session.specs.Scans.{Scans, ScansAll, ScansSome}
-use Rattle.hg_session.proofs.Replying.{undeclared_inside, stays_quiet}
-use Rattle.hg_session.proofs.Ranged.{scan_inside, quiet_saws, all_behind}
+use Rattle.hg_session.proofs.Replying.{undeclared_inside}
+use Rattle.hg_session.proofs.Ranged.{scan_inside, all_behind}
+use Rattle.hg_session.proofs.Refusing.{saws_there}
 use Rattle.hg_session.proofs.Settling.{gains_on}
 use Rattle.hg_session.proofs.session.Session.scan_inside.Goals as goal
 
@@ -30,7 +31,7 @@ returns-in_err-rows-clause-refused g c =
     let k : ScansSome z.buckets m c.args.table c.args.low c.args.high w = subst (λ r. Scans z.buckets m c.args.table c.args.low c.args.high r w) c.in_err-rows.was c.scan_rows.ensures.gains in
     let es = saws c.args.table c.args.low c.args.high k.part k.seen in
     let all = gains_on v m w [] es none k.gains (λ l. ap (λ x. x ++ l) (sym (append-nil es))) in
-    λ same. stays_quiet v w es (quiet_saws c.args.table c.args.low c.args.high k.part k.seen) (subst (λ x. Gains v x w) (append-nil es) all)
+    λ same. record { looks = es; there = saws_there c.args.table c.args.low c.args.high k.part k.seen; gains = subst (λ x. Gains v x w) (append-nil es) all }
 
 pub returns-clause-reply : goal.returns-clause-reply
 returns-clause-reply g c =

@@ -16,6 +16,7 @@ loop-bucket-init g c =
       opened = refl;
       written = refl;
       left = refl;
+      retries = refl;
       own = c.requires.own;
     }
 
@@ -32,6 +33,7 @@ loop-bucket-preserved g c =
       opened = kept.0 ∙ c.loop-bucket.invariant.opened;
       written = kept.1 ∙ c.loop-bucket.invariant.written;
       left = kept.2 ∙ c.loop-bucket.invariant.left;
+      retries = c.in_ok-scan_bucket.ensures.retries ∙ c.loop-bucket.invariant.retries;
       own = c.in_ok-scan_bucket.ensures.own;
     }
 

@@ -1,4 +1,4 @@
-use Rattle.std.proofs.Common.{◌≡◌, [], ◌∷◌, ◌++◌, Ok, sym, subst, rules, append_assoc, append-nil, map}
+use Rattle.std.proofs.Common.{◌≡◌, [], ◌∷◌, inr, Ok, refl, sym, ap, ◌∙◌, subst, rules, map}
 use Rattle.std.specs.Prelude.{IfSome, IfErr, IfOk, is_some}
 use Rattle.hg_base.specs.Replies.{is_written}
 use Rattle.hg_core.specs.declared.log.LogEntry.TheVariants.{Wrote, Undid, Over}
@@ -11,6 +11,7 @@ use Rattle.hg_session.specs.Gains.{Gains, IsAfter, IsRefusedBy, entries_of, numb
 use Rattle.hg_session.specs.Alone.{WritesAlone, IsRefusedAlone}
 use Rattle.hg_session.proofs.Replying.{no_writes}
 use Rattle.hg_session.proofs.Putting.{nothing_undone, refused_over, refused_bare, committed_alone}
+use Rattle.hg_session.proofs.Refusing.{one_undone}
 use Rattle.hg_session.proofs.Settling.{gains_on}
 use Rattle.hg_session.proofs.session.Session.write_alone.Goals as goal
 
@@ -26,7 +27,7 @@ returns-in-Err-clause-refused g c =
     let none = nothing_undone r.0 (subst (λ own. UndoesAll own r.0) bare r.1.0) in
     let over = subst (λ rids. Gains m (Over ∷ map Undid rids) w) none r.1.1 in
     let refused = subst (λ x. IfErr x (IsRefusedBy z v c.args.snapshot.at)) c.in-Err.is c.write_row.ensures.refused in
-    subst (IsRefusedAlone z v c.args.rid c.args.snapshot.at w) (sym c.refused_at.ensures) (refused_over z v m w c.args.rid c.args.image c.args.snapshot.at c.in-Err.refusal wrote over refused)
+    subst (IsRefusedAlone z v c.args.rid c.args.image c.args.snapshot.at w) (sym c.refused_at.ensures) (refused_over z v m w c.args.rid c.args.image c.args.snapshot.at c.in-Err.refusal wrote over refused)
 
 pub returns-in-Ok-clause-stored : goal.returns-in-Ok-clause-stored
 returns-in-Ok-clause-stored g c =
@@ -49,9 +50,13 @@ returns-in-Err-close-clause-refused g c =
     let n = view_of c.close.new.self in
     let w = view_of c.roll_back-in-Err-close.new.self in
     let r = c.roll_back-in-Err-close.ensures.gains in
+    let stored = Wrote c.args.rid c.args.image ∷ [] in
     let is : c.write_row.result ≡ Ok tt = search rules in
     let wrote = subst (λ x. Gains v (entries_of c.args.rid c.args.image x) m) is c.write_row.ensures.gains in
+    let bare = no_writes (written_of c.args.self.now) (session v).log c.requires.own.ties.plain c.requires.own.ties.written_is c.requires.unwritten in
     let back : Gains m [] n = search rules in
-    let undid = gains_on m n w [] (Over ∷ map Undid r.0) back r.1.1 (λ l. sym (append_assoc (Over ∷ map Undid r.0) [] l)) in
-    let same : (Over ∷ map Undid r.0) ++ [] ≡ Over ∷ map Undid r.0 = append-nil (Over ∷ map Undid r.0) in
-    (map Undid r.0 ++ Wrote c.args.rid c.args.image ∷ [], gains_on v m w (Wrote c.args.rid c.args.image ∷ []) (Over ∷ map Undid r.0) wrote (subst (λ es. Gains m es w) same undid) (λ l. sym (append_assoc (Over ∷ map Undid r.0) (Wrote c.args.rid c.args.image ∷ []) l)))
+    let two = gains_on v m n stored [] wrote back (λ l. refl) in
+    let own = ap own_writes two.log ∙ ap (λ ws. record { rid = c.args.rid; image = c.args.image } ∷ ws) bare in
+    let undone = one_undone (record { rid = c.args.rid; image = c.args.image }) r.0 (subst (λ ws. UndoesAll ws r.0) own r.1.0) in
+    let over = subst (λ rids. Gains n (Over ∷ map Undid rids) w) undone r.1.1 in
+    inr (gains_on v n w stored (Over ∷ Undid c.args.rid ∷ []) two over (λ l. refl))
