@@ -1,13 +1,20 @@
-//! An engine on which nobody did anything: its sessions meet, all goes to one pass, and that counts.
+//! Engines of one thread: one on which nobody did anything, and one on which each call is made once.
 
+ghost use Rattle.std.specs.Prelude.{◌≡◌, ◌+◌, ◌<◌, None, OnOk};
 ghost use Rattle.hg_rule.specs.Seats.{pass_view, IsPassOf};
-ghost use Rattle.hg_session.specs.Engines.{engine_table};
+ghost use Rattle.hg_session.specs.Engines.{engine_table, engine_sizes};
 ghost use Rattle.hg_session.specs.Opened.{IsNewOf};
 ghost use Rattle.hg_session.specs.Ended.{HasAllPasses};
 ghost use Rattle.hg_session.specs.Finished.{IsClosed, HasNoSession};
+ghost use Rattle.hg_session.specs.Resting.{MayRun};
+ghost use Rattle.hg_session.specs.Sessions.{IsOf, open_of, left_of};
 
 use super::*;
+use hg_base::{Rid, Row, Scope, TableId};
+use hg_group::Receipt;
 use hg_rule::CollectorPass;
+use std::process::Abort;
+use std::sync::Wait;
 use std::test::Fail;
 
 fn meet_both(engine: &Engine, first: &mut Session, second: &mut Session, pass: &mut CollectorPass)
@@ -44,4 +51,96 @@ fn a_new_engine_has_made_nothing(rt: HostRuntime) -> Result<(), Fail> {
     assert_eq!(rt; totals.interval, 0);
     assert_eq!(rt; totals.left, 0);
     Ok(())
+}
+
+// A row is stored in a transaction, which reads it.
+fn store_one<R: Abort + Wait>(
+    rt: &R,
+    row: Row,
+    engine: &Engine,
+    session: &mut Session,
+    rid: Rid,
+) -> Result<(), Fail>
+    requires ready { MayRun engine.now 4 session.old }
+    requires table { rid.table.0 < (engine_sizes engine.now).tables }
+    ensures again { OnOk result ((open_of session.new ≡ None) × (left_of session.new + 4 ≡ left_of session.old)) }
+    ensures own { IsOf engine.now session.new }
+{
+    assert_eq!(rt; session.begin(engine, Scope::All), 0);
+    let written = session.put(rt, engine, rid, row)?;
+    assert_eq!(rt;
+        written,
+        Written {
+            at: 0,
+            number: None
+        }
+    );
+    let read = session.get(rt, engine, rid)?;
+    assert_eq!(rt; read.row.is_some(), true);
+    let scanned = session.scan(rt, engine, rid.table, 0, 9)?;
+    assert_eq!(rt; scanned.rows.as_slice().len(), 1);
+    let ended = session.commit(rt, engine)?;
+    assert_eq!(rt;
+        ended.receipt,
+        Some(Receipt {
+            number: 1,
+            place: 0
+        })
+    );
+    Ok(())
+}
+
+// It is read from outside, deleted, and gone.
+fn delete_one<R: Abort + Wait>(
+    rt: &R,
+    engine: &Engine,
+    session: &mut Session,
+    rid: Rid,
+) -> Result<(), Fail>
+    requires ready { MayRun engine.now 4 session.old }
+    requires table { rid.table.0 < (engine_sizes engine.now).tables }
+{
+    let read = session.get(rt, engine, rid)?;
+    assert_eq!(rt; read.at, 1);
+    assert_eq!(rt; read.row.is_some(), true);
+    let deleted = session.del(rt, engine, rid)?;
+    assert_eq!(rt;
+        deleted,
+        Deleted {
+            at: 1,
+            there: true,
+            number: Some(2)
+        }
+    );
+    let scanned = session.scan(rt, engine, rid.table, 0, 9)?;
+    assert_eq!(rt; scanned.at, 2);
+    assert_eq!(rt; scanned.rows.as_slice().len(), 0);
+    let again = session.del(rt, engine, rid)?;
+    assert_eq!(rt;
+        again,
+        Deleted {
+            at: 2,
+            there: false,
+            number: None
+        }
+    );
+    assert_eq!(rt; session.retries(), 0);
+    Ok(())
+}
+
+#[test]
+fn a_row_is_stored_read_and_deleted(rt: HostRuntime) -> Result<(), Fail> {
+    let tables = [TableDecl { columns: 1 }];
+    let (engine, sessions, _) = Engine::open(rt.alloc(), 1, &tables[..], 4, 10)?;
+    let mut sessions = sessions.into_vec();
+    let Some(mut session) = sessions.pop() else {
+        unreachable!();
+    };
+    let rid = Rid {
+        table: TableId(0),
+        key: 5,
+    };
+    let row = Row::from_slice(rt.alloc(), &[7])?;
+    store_one(&rt, row, &engine, &mut session, rid)?;
+    delete_one(&rt, &engine, &mut session, rid)
 }
