@@ -3,6 +3,7 @@ use Rattle.std.proofs.Common.{◌≡◌, ℕ, ◌<◌, List, [], ◌∷◌, None
 use Rattle.std.specs.Prelude.{pos}
 use Rattle.hg_base.specs.declared.rid.Rid.{Rid}
 use Rattle.hg_base.specs.declared.image.Image.{Image}
+use Rattle.hg_base.specs.declared.report.Kind.{Kind}
 use Rattle.hg_base.specs.declared.scope.Scope.{Scope}
 use Rattle.hg_base.specs.declared.scope.Scope.TheVariants.{All}
 use Rattle.hg_base.specs.declared.writer.Writer.{Writer}
@@ -36,9 +37,9 @@ unfolding bucket_of
 own_number_refused keeps = no_row (((keeps (then (two_versions row)) 0 one_rid (steady (two_versions row) (two_versions_runs row)) (record { whole = two_whole row; here = (refl, refl) })).covered one_rid).same 1 (inr (1, (refl, refl))))
 
 -- session 1 was moved, and still reads at 1
-pub moved_refused : ((s : CoreState) (p : ℕ) (r : Rid) → IsSteady s → MayReclaim s p r → IsSteady (cut_past_moved s p r)) → ⊥
+pub moved_refused : (kind : Kind) → ((s : CoreState) (p : ℕ) (r : Rid) → IsSteady s → MayReclaim s p r → IsSteady (cut_past_moved s p kind r)) → ⊥
 unfolding bucket_of
-moved_refused keeps = no_row (((keeps (then moved_snapshot) 0 one_rid (steady moved_snapshot moved_snapshot_runs) (record { whole = moved_whole; here = (refl, refl) })).covered one_rid).same 1 (inr (1, (refl, refl))))
+moved_refused kind keeps = no_row (((keeps (then moved_snapshot) 0 one_rid (steady moved_snapshot moved_snapshot_runs) (record { whole = moved_whole; here = (refl, refl) })).covered one_rid).same 1 (inr (1, (refl, refl))))
 
 -- the row that was deleted at 2 is found again at the mark
 pub deletion_refused : ((s : CoreState) (p : ℕ) (r : Rid) → IsSteady s → MayReclaim s p r → IsSteady (newest_deletion_removed s p r)) → ⊥

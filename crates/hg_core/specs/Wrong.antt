@@ -9,7 +9,8 @@ use Rattle.hg_core.specs.declared.log.LogEntry.{LogEntry}
 use Rattle.hg_core.specs.Logs.{current, is_plain}
 use Rattle.hg_core.specs.declared.version.Version.{Version}
 use Rattle.hg_core.specs.Versions.{stamp_number, is_up_to, newest_at}
-use Rattle.hg_base.specs.declared.report.Kind.TheVariants.{Table, Interval}
+use Rattle.hg_base.specs.declared.report.Kind.{Kind}
+use Rattle.hg_base.specs.declared.report.Kind.TheVariants.{Interval}
 use Rattle.hg_core.specs.Contents.{versions, has_stamped}
 use Rattle.hg_core.specs.Removal.{swept, cut}
 use Rattle.hg_base.specs.declared.scope.Scope.{Scope}
@@ -75,9 +76,9 @@ swept_late horizon snapshots successor (v ∷ vs) =
 abbrev pub lifetime_past : CoreState → ℕ → Rid → CoreState
 lifetime_past s p r = shortened s p Interval r (swept_early (horizon (s.pass p)) (recorded r.table (s.pass p)) None (versions s.buckets s.bucket r))
 
--- a cut at a bound that leaves out all moved snapshots
-abbrev pub cut_past_moved : CoreState → ℕ → Rid → CoreState
-cut_past_moved s p r = shortened s p Table r (cut (least (horizon (s.pass p)) (live_numbers (λ scope moved. not moved) (s.pass p).loaded)) (versions s.buckets s.bucket r))
+-- a cut by a collector of a kind, at a bound that leaves out all moved snapshots
+abbrev pub cut_past_moved : CoreState → ℕ → Kind → Rid → CoreState
+cut_past_moved s p kind r = shortened s p kind r (cut (least (horizon (s.pass p)) (live_numbers (λ scope moved. not moved) (s.pass p).loaded)) (versions s.buckets s.bucket r))
 
 -- the versions without the newest, where that is a deletion at or below a horizon
 abbrev pub without_deletion : ℕ → List Version → List Version

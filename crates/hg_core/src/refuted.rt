@@ -14,6 +14,7 @@ ghost use Rattle.hg_core.specs.Missed.{MissesNone};
 ghost use Rattle.hg_core.specs.Wrong.{live_by_one_load, mark_loaded_last, mark_alone, sampled_without_entering, lifetime_past, swept_late, cut_past_moved, newest_deletion_removed, MayPublishEarly, MayInstallOver};
 
 use crate::phase::Phase;
+use hg_base::Kind;
 
 /// A session must not go live at the mark that it loaded before it entered: a pass may have loaded a later mark meanwhile,
 /// and found its register idle.
@@ -43,9 +44,10 @@ pub fn lifetime_with_successor_is_refuted()
     ensures { ((s : CoreState) (p : ℕ) (r : Rid) → IsSteady s → MayReclaim s p r → IsClean (horizon (s.pass p)) (recorded r.table (s.pass p)) (swept_late (horizon (s.pass p)) (recorded r.table (s.pass p)) None (versions s.buckets s.bucket r))) → ⊥ }
 {}
 
-/// A bound must count a moved snapshot for the tables that it declared.
+/// A bound must count a moved snapshot: a table's those that declared the table, and the group collector's all.
 pub fn bound_without_moved_is_refuted()
-    ensures { ((s : CoreState) (p : ℕ) (r : Rid) → IsSteady s → MayReclaim s p r → IsSteady (cut_past_moved s p r)) → ⊥ }
+    ensures table { ((s : CoreState) (p : ℕ) (r : Rid) → IsSteady s → MayReclaim s p r → IsSteady (cut_past_moved s p Kind.Table r)) → ⊥ }
+    ensures group { ((s : CoreState) (p : ℕ) (r : Rid) → IsSteady s → MayReclaim s p r → IsSteady (cut_past_moved s p Kind.Group r)) → ⊥ }
 {}
 
 /// A sweep must leave the newest version, even where it is a deletion: an older row would be found again.
