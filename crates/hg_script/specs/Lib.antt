@@ -2,6 +2,7 @@
 pub mod Number
 pub mod Fields
 pub mod Draft
+pub mod Codes
 pub mod Rules
 pub mod Meaning
 pub mod Lawful

@@ -1,0 +1,14 @@
+-- The printed name of each code.
+use Rattle.std.specs.Prelude.{ℕ, List, codes}
+use Rattle.hg_script.specs.declared.code.Code.{Code}
+use Rattle.hg_script.specs.declared.code.Code.TheVariants.{Count, Word, Fields, Number, Range, Name, Columns, Order}
+
+abbrev pub code_text : Code → List ℕ
+code_text Count = codes "Count"
+code_text Word = codes "Word"
+code_text Fields = codes "Fields"
+code_text Number = codes "Number"
+code_text Range = codes "Range"
+code_text Name = codes "Name"
+code_text Columns = codes "Columns"
+code_text Order = codes "Order"
