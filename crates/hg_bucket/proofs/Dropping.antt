@@ -2,7 +2,7 @@
 use Rattle.std.proofs.Common.{◌≡◌, ℕ, zero, suc, ◌<◌, List, [], ◌∷◌, length, Bool, true, false, Option, Some, None, refl, sym, ap, ◌∙◌, subst, set, arith}
 use Rattle.std.specs.Prelude.{IsFalse, IsSome, unwrap_or, option_map, slice_index_or}
 use Rattle.std.specs.Map.{lookup, remove_entry}
-use Rattle.std.proofs.lemmas.Option.{none-some}
+use Rattle.std.proofs.lemmas.Option.{none-some, same_Some}
 use Rattle.hg_base.specs.declared.rid.Rid.{Rid}
 use Rattle.hg_base.specs.History.{same_rid}
 use Rattle.hg_base.specs.Lists.{Each}
@@ -10,7 +10,7 @@ use Rattle.hg_chain.specs.declared.version.Version.{Version}
 use Rattle.hg_space.specs.Index.{place_of, AreDistinct, IsIndex}
 use Rattle.hg_space.specs.Places.{Seat, free, image_at, IsTaken}
 use Rattle.hg_bucket.specs.Held.{versions_of, left, OthersStay}
-use Rattle.hg_bucket.specs.Parts.{chain_of, whole, records_of, AreWhole, IsOver, IsRow, MayBeBare}
+use Rattle.hg_bucket.specs.Parts.{chain_of, whole, records_of, AreWhole, AreNamed, NoneTaken, IsOver, IsRow, MayBeBare}
 use Rattle.hg_bucket.proofs.Reading.{found, alike}
 use Rattle.hg_bucket.proofs.Entries.{distinct, each_entry, each_removed, one_removed, sums_alike, left_is, how_many}
 use Rattle.hg_bucket.proofs.Turning.{seat_image}
@@ -21,6 +21,19 @@ seat_apart (y ∷ places) zero zero x h = absurd (h refl)
 seat_apart (y ∷ places) zero (suc q) x h = refl
 seat_apart (y ∷ places) (suc p) zero x h = refl
 seat_apart (y ∷ places) (suc p) (suc q) x h = seat_apart places p q x (λ e. h (ap suc e))
+
+-- a place that is given back is free, and no other comes to be taken
+pub freed_free : (places : List Seat) (p : ℕ) → IsTaken (set places p free) p → ⊥
+freed_free [] p t = absurd (let k = t in cc)
+freed_free (y ∷ places) zero t = absurd (let k = t in cc)
+freed_free (y ∷ places) (suc p) t = freed_free places p t
+
+pub freed_was : (places : List Seat) (p : ℕ) → NoneTaken places (set places p free)
+freed_was [] p n t = t
+freed_was (y ∷ places) zero zero t = absurd (let k = t in cc)
+freed_was (y ∷ places) zero (suc n) t = t
+freed_was (y ∷ places) (suc p) zero t = t
+freed_was (y ∷ places) (suc p) (suc n) t = freed_was places p n t
 
 -- the record r has left the index, where it had the place p, and no other has
 pub record Leaves (es fs : List (Rid × ℕ)) (r : Rid) (p : ℕ) : Type 0 where
@@ -47,6 +60,7 @@ place_apart es fs r p h q n k e =
 -- what is so of all records but one, which is dropped, is so of all that are left
 pub record AreWholeBut (r : Rid) (es : List (Rid × ℕ)) (cs : List (Rid × List Version)) (places : List Seat) : Type 0 where
   pub taken : (q : Rid) (n : ℕ) → place_of es q ≡ Some n → IsTaken places n
+  pub named : AreNamed es places
   pub held : (q : Rid) (n : ℕ) → same_rid r q ≡ false → place_of es q ≡ Some n → 0 < length (whole (chain_of cs q) (image_at places n))
   pub chained : (q : Rid) (vs : List Version) → lookup (same_rid q) cs ≡ Some vs → (same_rid r q ≡ false) × IsSome (place_of es q) × (0 < length vs)
   pub falls : (q : Rid) (n : ℕ) → place_of es q ≡ Some n → Each (λ v. IsOver v.stamp (image_at places n)) (chain_of cs q)
@@ -56,12 +70,20 @@ pub dropped : (es fs : List (Rid × ℕ)) (cs : List (Rid × List Version)) (pla
 dropped es fs cs places r p h old =
     record {
       taken = λ q n k. subst IsSome (sym (stays q n k)) (old.taken q n (was q n k));
+      named = λ n t. let owner = old.named n (freed_was places p n t) in (owner.0, h.others owner.0 (another owner.0 n t owner.1) ∙ owner.1);
       held = λ q n k. subst (λ im. 0 < length (whole (chain_of cs q) im)) (sym (image q n k)) (old.held q n (apart_of es fs r p h q n k) (was q n k));
       chained = λ q vs k. let c = old.chained q vs k in (subst IsSome (sym (h.others q c.0)) c.1, c.2);
       falls = λ q n k. subst (λ im. Each (λ v. IsOver v.stamp im) (chain_of cs q)) (sym (image q n k)) (old.falls q n (was q n k));
       rows = λ q n k. subst IsRow (sym (image q n k)) (old.rows q n (was q n k));
     }
   where
+    another : (q : Rid) (n : ℕ) → IsTaken (set places p free) n → place_of es q ≡ Some n → same_rid r q ≡ false
+    another q n t k = go (same_rid r q) refl
+      where
+        go : (b : Bool) → same_rid r q ≡ b → b ≡ false
+        go false e = refl
+        go true e = absurd (freed_free places p (subst (IsTaken (set places p free)) (same_Some n p (sym k ∙ alike es r q e ∙ h.had)) t))
+
     was : (q : Rid) (n : ℕ) → place_of fs q ≡ Some n → place_of es q ≡ Some n
     was q n k = sym (h.others q (apart_of es fs r p h q n k)) ∙ k
 
@@ -87,7 +109,7 @@ others_keep es fs cs places r p h q apart =
 
 -- it has no version left
 pub bared : (r : Rid) (es : List (Rid × ℕ)) (cs : List (Rid × List Version)) (places : List Seat) → MayBeBare r es cs places → chain_of cs r ≡ [] → AreWholeBut r es cs places
-bared r es cs places h none = record { taken = h.taken; held = h.held; chained = λ q vs k. (apart q vs k, (h.chained q vs k).0, (h.chained q vs k).1); falls = h.falls; rows = h.rows }
+bared r es cs places h none = record { taken = h.taken; named = h.named; held = h.held; chained = λ q vs k. (apart q vs k, (h.chained q vs k).0, (h.chained q vs k).1); falls = h.falls; rows = h.rows }
   where
     apart : (q : Rid) (vs : List Version) → lookup (same_rid q) cs ≡ Some vs → same_rid r q ≡ false
     apart q vs k = go (same_rid r q) refl

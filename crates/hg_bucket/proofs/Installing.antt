@@ -145,7 +145,7 @@ extends es cs ds places r by image index old is placed = go (place_of es r) refl
         let ws = chain.installed by image vs in
         let im = image_at places p in
         let there = versions_there es cs places r p has in
-        let turns : Turns es cs ds places places r p ws im = record { has = has; chain = is; taken = old.taken r p has; image = refl; apart = λ q n k apart. refl } in
+        let turns : Turns es cs ds places places r p ws im = record { has = has; chain = is; taken = old.taken r p has; image = refl; apart = λ q n k apart. refl; none = λ n t. t } in
         let long = whole_sum ws im in
         let some : 0 < length ws = omega (arith, installed_length by image vs) in
         let now = turned_left es cs ds places places r p ws im index turns in

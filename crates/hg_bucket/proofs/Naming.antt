@@ -1,6 +1,6 @@
 -- A record comes: it gets a place, and a chain.
 use Rattle.std.proofs.Common.{◌≡◌, ℕ, suc, ◌+◌, ◌<◌, List, [], ◌∷◌, length, Bool, true, false, Option, Some, None, refl, sym, ap, ◌∙◌, cond, subst, arith}
-use Rattle.std.specs.Prelude.{IsSome, is_some, unwrap_or, option_map}
+use Rattle.std.specs.Prelude.{IsSome, is_some, unwrap_or, option_map, slice_index_or}
 use Rattle.std.specs.Map.{lookup}
 use Rattle.std.specs.BTreeMap.{insert_entry}
 use Rattle.std.proofs.lemmas.Option.{none-some, same_Some}
@@ -12,9 +12,9 @@ use Rattle.hg_chain.specs.declared.version.Stamp.{Stamp}
 use Rattle.hg_chain.specs.declared.version.Stamp.TheVariants.{Written, Numbered}
 use Rattle.hg_chain.specs.declared.version.Version.{Version}
 use Rattle.hg_space.specs.Index.{place_of, IsIndex}
-use Rattle.hg_space.specs.Places.{Seat, image_at, IsTaken}
+use Rattle.hg_space.specs.Places.{Seat, free, image_at, IsTaken}
 use Rattle.hg_bucket.specs.Held.{versions_of, left, OthersStay}
-use Rattle.hg_bucket.specs.Parts.{chain_of, whole, records_of, ChainIs, AreWhole, IsOver, IsRow, SeatsStay, Names}
+use Rattle.hg_bucket.specs.Parts.{chain_of, whole, records_of, ChainIs, AreWhole, IsOver, IsRow, SeatsStay, NoneTaken, Names}
 use Rattle.hg_bucket.proofs.Reading.{found, alike}
 use Rattle.hg_bucket.proofs.Changing.{chain_here, chain_apart, versions_there}
 use Rattle.hg_bucket.proofs.Turning.{seat_image}
@@ -68,6 +68,7 @@ pub named : (es fs : List (Rid × ℕ)) (cs ds : List (Rid × List Version)) (pl
 named es fs cs ds places seats r p w ws old h is =
     record {
       taken = λ q n k. taken q n k (same_rid r q) refl;
+      named = λ n t. owner n t (slice_index_or places n free) refl;
       held = λ q n k. held q n k (same_rid r q) refl;
       chained = λ q us k. chained q us k (same_rid r q) refl;
       falls = λ q n k. falls q n k (same_rid r q) refl;
@@ -91,6 +92,10 @@ named es fs cs ds places seats r p w ws old h is =
 
     image_stays : (q : Rid) (n : ℕ) → same_rid r q ≡ false → place_of fs q ≡ Some n → image_at seats n ≡ image_at places n
     image_stays q n apart k = seat_image places seats n (h.stay q n (was q n apart k))
+
+    owner : (n : ℕ) → IsTaken seats n → (x : Seat) → slice_index_or places n free ≡ x → (q : Rid) × (place_of fs q ≡ Some n)
+    owner n t None e = (r, h.here ∙ ap Some (sym (h.one n t e)))
+    owner n t (Some x) e = let q = old.named n (ap is_some e) in (q.0, h.others q.0 (apart_from es r q.0 n h.new q.1) ∙ q.1)
 
     taken : (q : Rid) (n : ℕ) → place_of fs q ≡ Some n → (b : Bool) → same_rid r q ≡ b → IsTaken seats n
     taken q n k true same = subst (IsTaken seats) (here q n same k) h.taken
@@ -127,10 +132,11 @@ records_stay es cs ds places seats index same stay = go es (each_entry (λ e. ve
     go [] h = refl
     go (f ∷ fs) h = λ i. (f.0, h.0 i) ∷ go fs h.1 i
 
-pub stays_whole : (es : List (Rid × ℕ)) (cs ds : List (Rid × List Version)) (places seats : List Seat) → AreWhole es cs places → ChainsStay cs ds → SeatsStay es places seats → AreWhole es ds seats
-stays_whole es cs ds places seats old same stay =
+pub stays_whole : (es : List (Rid × ℕ)) (cs ds : List (Rid × List Version)) (places seats : List Seat) → AreWhole es cs places → ChainsStay cs ds → SeatsStay es places seats → NoneTaken places seats → AreWhole es ds seats
+stays_whole es cs ds places seats old same stay none =
     record {
       taken = λ q n k. subst IsSome (sym (stay q n k)) (old.taken q n k);
+      named = λ n t. old.named n (none n t);
       held = λ q n k. subst (λ vs. 0 < length vs) (sym (versions q n k)) (old.held q n k);
       chained = λ q vs k. old.chained q vs (sym (same q) ∙ k);
       falls = λ q n k. subst (λ vs. Each (λ v. IsOver v.stamp (image_at seats n)) vs) (sym (chain q)) (subst (λ x. Each (λ v. IsOver v.stamp x) (chain_of cs q)) (sym (image q n k)) (old.falls q n k));

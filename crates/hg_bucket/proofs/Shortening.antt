@@ -34,6 +34,13 @@ set_at [] p x t = absurd (let k = t in cc)
 set_at (y ∷ places) zero x t = refl
 set_at (y ∷ places) (suc p) x t = set_at places p x t
 
+pub set_was : (places : List Seat) (p n : ℕ) (x : Seat) → IsTaken places p → IsTaken (set places p x) n → IsTaken places n
+set_was [] p n x h t = t
+set_was (y ∷ places) zero zero x h t = h
+set_was (y ∷ places) zero (suc n) x h t = t
+set_was (y ∷ places) (suc p) zero x h t = t
+set_was (y ∷ places) (suc p) (suc n) x h t = set_was places p n x h t
+
 pub others_apart : (es : List (Rid × ℕ)) (places : List Seat) (r : Rid) (p : ℕ) (x : Seat) → IsIndex es → place_of es r ≡ Some p → (q : Rid) (n : ℕ) → place_of es q ≡ Some n → same_rid r q ≡ false → slice_index_or (set places p x) n free ≡ slice_index_or places n free
 others_apart es places r p x index has q n k apart = seat_apart places p n x other
   where
@@ -53,11 +60,12 @@ set_turns es cs ds places seats r p ws im index old has is seated =
       taken = subst IsSome (sym here) refl;
       image = ap (option_and_then (λ oldest. oldest)) here;
       apart = λ q n k apart. ap (λ ps. slice_index_or ps n free) seated ∙ others_apart es places r p (taken im) index has q n k apart;
+      none = λ n t. set_was places p n (taken im) (old.taken r p has) (subst (λ ps. IsTaken ps n) seated t);
     }
 
 -- the chain is now ws, and the place has what it had
 pub kept_turns : (es : List (Rid × ℕ)) (cs ds : List (Rid × List Version)) (places : List Seat) (r : Rid) (p : ℕ) (ws : List Version) → AreWhole es cs places → place_of es r ≡ Some p → ChainIs cs ds r ws → Turns es cs ds places places r p ws (image_at places p)
-kept_turns es cs ds places r p ws old has is = record { has = has; chain = is; taken = old.taken r p has; image = refl; apart = λ q n k apart. refl }
+kept_turns es cs ds places r p ws old has is = record { has = has; chain = is; taken = old.taken r p has; image = refl; apart = λ q n k apart. refl; none = λ n t. t }
 
 -- ---- a cut
 

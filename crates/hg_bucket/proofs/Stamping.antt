@@ -26,7 +26,7 @@ stamps es cs ds places r by n old open_write over is =
     let vs = chain_of cs r in
     let ws = chain.stamped by n vs in
     let im = image_at places p in
-    let turns : Turns es cs ds places places r p ws im = record { has = at.has; chain = is; taken = old.taken r p at.has; image = refl; apart = λ q m k apart. refl } in
+    let turns : Turns es cs ds places places r p ws im = record { has = at.has; chain = is; taken = old.taken r p at.has; image = refl; apart = λ q m k apart. refl; none = λ m t. t } in
     let below = below_behind by n vs im at.begins (subst (λ us. Each (IsBelow n) (drop 1 us)) at.there over) in
     let long = old.held r p at.has in
     record {
@@ -64,7 +64,7 @@ undoes es cs ds places r by old open_write is =
     let vs = chain_of cs r in
     let ws = drop 1 vs in
     let im = image_at places p in
-    let turns : Turns es cs ds places places r p ws im = record { has = at.has; chain = is; taken = old.taken r p at.has; image = refl; apart = λ q m k apart. refl } in
+    let turns : Turns es cs ds places places r p ws im = record { has = at.has; chain = is; taken = old.taken r p at.has; image = refl; apart = λ q m k apart. refl; none = λ m t. t } in
     record {
       bare = turned es cs ds places places r p ws im old turns (dropped_over vs im (old.falls r p at.has)) (old.rows r p at.has);
       here = turned_here es cs ds places places r p ws im turns ∙ sym (whole_dropped by vs im at.begins) ∙ ap (drop 1) (sym at.there);
@@ -77,7 +77,7 @@ undoes_left es cs ds places r by index old open_write is =
     let vs = chain_of cs r in
     let ws = drop 1 vs in
     let im = image_at places at.place in
-    let turns : Turns es cs ds places places r at.place ws im = record { has = at.has; chain = is; taken = old.taken r at.place at.has; image = refl; apart = λ q m k apart. refl } in
+    let turns : Turns es cs ds places places r at.place ws im = record { has = at.has; chain = is; taken = old.taken r at.place at.has; image = refl; apart = λ q m k apart. refl; none = λ m t. t } in
     omega (arith, turned_left es cs ds places places r at.place ws im index turns, whole_sum vs im, whole_sum ws im, dropped_length by vs at.begins)
 
 pub others_then : (old mid new : List (Rid × List Kept)) (r : Rid) → OthersStay old mid r → OthersStay mid new r → OthersStay old new r

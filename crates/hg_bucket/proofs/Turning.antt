@@ -11,7 +11,7 @@ use Rattle.hg_chain.specs.declared.version.Version.{Version}
 use Rattle.hg_space.specs.Index.{place_of, IsIndex}
 use Rattle.hg_space.specs.Places.{Seat, Oldest, free, image_at, IsTaken}
 use Rattle.hg_bucket.specs.Held.{versions_of, left, OthersStay}
-use Rattle.hg_bucket.specs.Parts.{chain_of, whole, records_of, some_chain, ChainIs, AreWhole, IsOver, IsRow, MayBeBare}
+use Rattle.hg_bucket.specs.Parts.{chain_of, whole, records_of, some_chain, ChainIs, AreWhole, IsOver, IsRow, NoneTaken, MayBeBare}
 use Rattle.hg_bucket.proofs.Reading.{found, alike}
 use Rattle.hg_bucket.proofs.Changing.{chain_here, chain_apart, versions_there}
 use Rattle.hg_bucket.proofs.Entries.{distinct, each_entry, one_changed, left_is, how_many}
@@ -23,6 +23,7 @@ pub record Turns (es : List (Rid × ℕ)) (cs ds : List (Rid × List Version)) (
   pub taken : IsTaken seats p
   pub image : image_at seats p ≡ im
   pub apart : (q : Rid) (n : ℕ) → place_of es q ≡ Some n → same_rid r q ≡ false → slice_index_or seats n free ≡ slice_index_or places n free
+  pub none : NoneTaken places seats
 
 pub seat_image : (places seats : List Seat) (n : ℕ) → slice_index_or seats n free ≡ slice_index_or places n free → image_at seats n ≡ image_at places n
 seat_image places seats n e = ap (option_and_then (λ oldest. oldest)) e
@@ -54,6 +55,7 @@ pub turned : (es : List (Rid × ℕ)) (cs ds : List (Rid × List Version)) (plac
 turned es cs ds places seats r p ws im old h over row =
     record {
       taken = λ q n k. taken q n k (same_rid r q) refl;
+      named = λ n t. old.named n (h.none n t);
       held = λ q n apart k. subst (λ vs. 0 < length (whole vs (image_at seats n))) (sym (chain_stays q apart)) (subst (λ x. 0 < length (whole (chain_of cs q) x)) (sym (image_stays q n apart k)) (old.held q n k));
       chained = λ q us e. chained q us e (same_rid r q) refl;
       falls = λ q n k. falls q n k (same_rid r q) refl;
@@ -94,7 +96,7 @@ turned es cs ds places seats r p ws im old h over row =
 
 -- it has one
 pub filled : (r : Rid) (es : List (Rid × ℕ)) (cs : List (Rid × List Version)) (places : List Seat) → MayBeBare r es cs places → ((n : ℕ) → place_of es r ≡ Some n → 0 < length (whole (chain_of cs r) (image_at places n))) → AreWhole es cs places
-filled r es cs places h some = record { taken = h.taken; held = λ q n k. held q n k (same_rid r q) refl; chained = h.chained; falls = h.falls; rows = h.rows }
+filled r es cs places h some = record { taken = h.taken; named = h.named; held = λ q n k. held q n k (same_rid r q) refl; chained = h.chained; falls = h.falls; rows = h.rows }
   where
     held : (q : Rid) (n : ℕ) → place_of es q ≡ Some n → (b : Bool) → same_rid r q ≡ b → 0 < length (whole (chain_of cs q) (image_at places n))
     held q n k true same = let e = same_rid_equal r q same in subst (λ x. 0 < length (whole (chain_of cs x) (image_at places n))) e (some n (ap (place_of es) e ∙ k))

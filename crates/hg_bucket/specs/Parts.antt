@@ -65,10 +65,15 @@ abbrev pub IsRow : Oldest → Type 0
 IsRow None = ⊤
 IsRow (Some p) = IsTrue (is_some p.1.row)
 
--- what is always so of the parts: each record's place is taken, and its last version is not gone; each chain is of a
--- record, and has a version; numbers fall down to the oldest image, which is a row
+-- each place that is taken is a record's
+abbrev pub AreNamed : List (Rid × ℕ) → List Seat → Type 0
+AreNamed index places = (p : ℕ) → IsTaken places p → (r : Rid) × (place_of index r ≡ Some p)
+
+-- what is always so of the parts: each record's place is taken, and no other, and its last version is not gone; each chain is
+-- of a record, and has a version; numbers fall down to the oldest image, which is a row
 pub record AreWhole (index : List (Rid × ℕ)) (chains : List (Rid × List Version)) (places : List Seat) : Type 0 where
   pub taken : AreTaken index places
+  pub named : AreNamed index places
   pub held : (r : Rid) (p : ℕ) → place_of index r ≡ Some p → 0 < length (whole (chain_of chains r) (image_at places p))
   pub chained : (r : Rid) (vs : List Version) → lookup (same_rid r) chains ≡ Some vs → IsSome (place_of index r) × (0 < length vs)
   pub falls : (r : Rid) (p : ℕ) → place_of index r ≡ Some p → Each (λ v. IsOver v.stamp (image_at places p)) (chain_of chains r)
@@ -100,7 +105,11 @@ IsNextChain chains table from found =
 abbrev pub SeatsStay : List (Rid × ℕ) → List Seat → List Seat → Type 0
 SeatsStay es places seats = (q : Rid) (n : ℕ) → place_of es q ≡ Some n → slice_index_or seats n free ≡ slice_index_or places n free
 
--- the record r now has the place p, where no image is
+-- no place is taken that was free
+abbrev pub NoneTaken : List Seat → List Seat → Type 0
+NoneTaken places seats = (p : ℕ) → IsTaken seats p → IsTaken places p
+
+-- the record r now has the place p, where no image is, and no other place is taken that was free
 pub record Names (es fs : List (Rid × ℕ)) (places seats : List Seat) (r : Rid) (p : ℕ) : Type 0 where
   pub new : place_of es r ≡ None
   pub list : fs ≡ insert_entry rid_cmp es r p
@@ -109,10 +118,12 @@ pub record Names (es fs : List (Rid × ℕ)) (places seats : List Seat) (r : Rid
   pub taken : IsTaken seats p
   pub bare : image_at seats p ≡ None
   pub stay : SeatsStay es places seats
+  pub one : (n : ℕ) → IsTaken seats n → slice_index_or places n free ≡ free → n ≡ p
 
 -- what is so of whole parts, where one record may have no version left
 pub record MayBeBare (r : Rid) (index : List (Rid × ℕ)) (chains : List (Rid × List Version)) (places : List Seat) : Type 0 where
   pub taken : AreTaken index places
+  pub named : AreNamed index places
   pub held : (q : Rid) (p : ℕ) → same_rid r q ≡ false → place_of index q ≡ Some p → 0 < length (whole (chain_of chains q) (image_at places p))
   pub chained : (q : Rid) (vs : List Version) → lookup (same_rid q) chains ≡ Some vs → IsSome (place_of index q) × (0 < length vs)
   pub falls : (q : Rid) (p : ℕ) → place_of index q ≡ Some p → Each (λ v. IsOver v.stamp (image_at places p)) (chain_of chains q)

@@ -7,7 +7,7 @@ ghost use Rattle.hg_space.specs.Places.{IsTaken};
 ghost use Rattle.hg_space.specs.Index.{AreTaken, place_of, IsIndex};
 ghost use Rattle.hg_bucket.specs.declared.refusal.WriteRefusal.TheVariants.{Newer};
 ghost use Rattle.hg_bucket.specs.Held.{versions_of, OthersStay, left};
-ghost use Rattle.hg_bucket.specs.Parts.{oldest_by, settled, records_of, AreWhole, SeatsStay, Names, MayBeBare};
+ghost use Rattle.hg_bucket.specs.Parts.{oldest_by, settled, records_of, AreWhole, SeatsStay, NoneTaken, Names, MayBeBare};
 
 use crate::chains::Chains;
 use crate::refusal::WriteRefusal;
@@ -54,6 +54,7 @@ pub(crate) fn name(index: &mut RidIndex, space: &mut TableSpace, rid: Rid) -> Re
     ensures named { OnOk result ((p : ℕ) × Names index.old index.new space.old.places space.new.places rid p) }
     ensures refused { OnErr result (index.new ≡ index.old) }
     ensures seats { OnErr result (SeatsStay index.old space.old.places space.new.places) }
+    ensures none_kept { OnErr result (NoneTaken space.old.places space.new.places) }
 {
     space.reserve()?;
     let place = space.take_place();

@@ -1,9 +1,10 @@
-use Rattle.std.proofs.Common.{ap, ◌∙◌, subst}
+use Rattle.std.proofs.Common.{sym, ap, ◌∙◌, subst}
 use Rattle.std.specs.Prelude.{is_some, slice_index_or}
 use Rattle.hg_space.specs.Places as seat
 use Rattle.hg_space.specs.Places.{IsTaken}
 use Rattle.hg_space.proofs.PlaceFacts.{given_not_taken}
-use Rattle.hg_bucket.proofs.Seating.{Given, given_stays, given_here, given_bare, back_stays}
+use Rattle.hg_bucket.specs.Parts.{NoneTaken}
+use Rattle.hg_bucket.proofs.Seating.{Given, given_stays, given_here, given_bare, given_one, back_none, back_stays}
 use Rattle.hg_bucket.proofs.places.name.Goals as goal
 
 pub insert-requires-clause-new_place : goal.insert-requires-clause-new_place
@@ -29,6 +30,13 @@ returns-in-Err-clause-seats c =
     let given : Given c.args.space.now.places seats p = subst (λ ps. Given ps seats p) c.reserve.ensures.same (record { was_free = c.take_place-place.ensures.free; is_added = c.take_place-place.ensures.added; is_set = c.take_place-place.ensures.taken }) in
     ap (λ ps. slice_index_or ps n seat.free) c.give_place.ensures.freed ∙ back_stays c.args.space.now.places seats p given n (c.requires.taken q n k)
 
+pub returns-in-Err-clause-none_kept : goal.returns-in-Err-clause-none_kept
+returns-in-Err-clause-none_kept c =
+    let p = c.take_place-place.result in
+    let seats = c.take_place-place.new.self.places in
+    let given : Given c.args.space.now.places seats p = subst (λ ps. Given ps seats p) c.reserve.ensures.same (record { was_free = c.take_place-place.ensures.free; is_added = c.take_place-place.ensures.added; is_set = c.take_place-place.ensures.taken }) in
+    subst (NoneTaken c.args.space.now.places) (sym c.give_place.ensures.freed) (back_none c.args.space.now.places seats p given)
+
 pub returns-clause-named : goal.returns-clause-named
 returns-clause-named c =
     let p = c.take_place-place.result in
@@ -43,5 +51,6 @@ returns-clause-named c =
         taken = ap is_some (given_here c.args.space.now.places seats p given);
         bare = given_bare c.args.space.now.places seats p given;
         stay = λ q n k. given_stays c.args.space.now.places seats p given n (c.requires.taken q n k);
+        one = given_one c.args.space.now.places seats p given;
       },
     )

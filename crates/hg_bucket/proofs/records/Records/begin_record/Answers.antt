@@ -26,7 +26,7 @@ invariant_of-self-in-Err c =
     let none = unplaced_of b.index b.chains.entries b.space.places c.args.rid c.self.invariant (ap (λ h. versions_of h c.args.rid) c.self.view_is ∙ c.requires) in
     let stay = ended_again b.chains.entries c.begin.new.chains.entries c.end.new.chains.entries c.args.rid (chain.installed c.args.by c.args.image []) (unplaced b.index b.chains.entries b.space.places c.args.rid c.self.invariant none) c.in_ok-begin.ensures.here c.end.ensures in
     subst (λ es. AreWhole es c.end.new.chains.entries c.name.new.space.places) (sym c.in-Err.ensures.refused)
-    (stays_whole b.index b.chains.entries c.end.new.chains.entries b.space.places c.name.new.space.places c.self.invariant stay c.in-Err.ensures.seats)
+    (stays_whole b.index b.chains.entries c.end.new.chains.entries b.space.places c.name.new.space.places c.self.invariant stay c.in-Err.ensures.seats c.in-Err.ensures.none_kept)
 
 pub returns-in-Err-clause-refused : goal.returns-in-Err-clause-refused
 returns-in-Err-clause-refused c =
