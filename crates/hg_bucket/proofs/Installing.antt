@@ -16,9 +16,9 @@ use Rattle.hg_chain.specs.Versions as chain
 use Rattle.hg_space.specs.Index.{place_of, IsIndex}
 use Rattle.hg_space.specs.Places.{Seat, Oldest, image_at}
 use Rattle.hg_bucket.specs.declared.refusal.WriteRefusal.{WriteRefusal}
-use Rattle.hg_bucket.specs.declared.refusal.WriteRefusal.TheVariants.{Open, Newer}
+use Rattle.hg_bucket.specs.declared.refusal.WriteRefusal.TheVariants.{Newer}
 use Rattle.hg_bucket.specs.Held.{Kept, versions_of, left, begins_open, is_open_by, same_writer, installed, OthersStay}
-use Rattle.hg_bucket.specs.Conflicts.{conflict, NoOther, is_unpublished}
+use Rattle.hg_bucket.specs.Conflicts.{conflict, open_by, NoOther, is_unpublished}
 use Rattle.hg_bucket.specs.Parts.{kept, kept_as, oldest, chain_of, whole, records_of, ChainIs, AreWhole, IsOver, Names}
 use Rattle.hg_bucket.proofs.Reading.{found, open_kept}
 use Rattle.hg_bucket.proofs.Changing.{versions_there, open_chain}
@@ -60,7 +60,7 @@ conflict_of_oldest by snapshot mark (v ∷ vs) im e = absurd (none-some v.stamp 
 conflict_of_oldest by snapshot mark [] None e = refl
 conflict_of_oldest by snapshot mark [] (Some p) e = go (is_unpublished by mark (oldest p)) (nat_lt snapshot p.0)
   where
-    go : (a b : Bool) → cond b (Some (Newer p.0)) None ≡ option_or (option_map Open (cond a None None)) (option_map Newer (cond b (Some p.0) None))
+    go : (a b : Bool) → cond b (Some (Newer p.0)) None ≡ option_or (option_map open_by (cond a None None)) (option_map Newer (cond b (Some p.0) None))
     go true true = refl
     go true false = refl
     go false true = refl
@@ -71,9 +71,9 @@ pub head_free : (by : Writer) (snapshot mark : ℕ) (s : Stamp) (image : Image) 
 head_free by snapshot mark (Numbered n w) image more h = refl
 head_free by snapshot mark (Written w) image more h = go (same_writer w by) h
   where
-    go : (b : Bool) → option_or (option_map Open (cond (not b || false) (Some w) None)) None ≡ None → b ≡ true
+    go : (b : Bool) → option_or (option_map open_by (cond (not b || false) (Some w) None)) None ≡ None → b ≡ true
     go true k = refl
-    go false k = absurd (none-some (Open w) (sym k))
+    go false k = absurd (none-some (open_by w) (sym k))
 
 pub oldest_free : (by : Writer) (im : Oldest) → NoOther by (whole [] im)
 oldest_free by None = tt

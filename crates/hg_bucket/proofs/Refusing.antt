@@ -8,21 +8,21 @@ use Rattle.hg_base.specs.declared.writer.Writer.{Writer}
 use Rattle.hg_bucket.specs.declared.refusal.WriteRefusal.{WriteRefusal}
 use Rattle.hg_bucket.specs.declared.refusal.WriteRefusal.TheVariants.{Open, Newer, NoMemory}
 use Rattle.hg_bucket.specs.Held.{Kept, begins_open, is_open_by, same_writer}
-use Rattle.hg_bucket.specs.Conflicts.{holder, newer, conflict, IsCause}
+use Rattle.hg_bucket.specs.Conflicts.{holder, newer, conflict, open_by, IsCause}
 
 pub cause_of : (by : Writer) (snapshot mark : ℕ) (vs : List Kept) (e : WriteRefusal) → conflict by snapshot mark vs ≡ Some e → IsCause by snapshot mark vs e
 cause_of by snapshot mark vs e h = go (holder by mark vs) (newer snapshot vs) refl refl h
   where
-    go : (w : Option Writer) (n : Option ℕ) → holder by mark vs ≡ w → newer snapshot vs ≡ n → option_or (option_map Open w) (option_map Newer n) ≡ Some e → IsCause by snapshot mark vs e
-    go (Some w) n a b k = subst (IsCause by snapshot mark vs) (same_Some (Open w) e k) a
+    go : (w : Option Writer) (n : Option ℕ) → holder by mark vs ≡ w → newer snapshot vs ≡ n → option_or (option_map open_by w) (option_map Newer n) ≡ Some e → IsCause by snapshot mark vs e
+    go (Some w) n a b k = subst (IsCause by snapshot mark vs) (same_Some (open_by w) e k) a
     go None (Some n) a b k = subst (IsCause by snapshot mark vs) (same_Some (Newer n) e k) (a, b)
     go None None a b k = absurd (none-some e k)
 
 pub no_conflict : (by : Writer) (snapshot mark : ℕ) (vs : List Kept) → conflict by snapshot mark vs ≡ None → (holder by mark vs ≡ None) × (newer snapshot vs ≡ None)
 no_conflict by snapshot mark vs h = go (holder by mark vs) (newer snapshot vs) refl refl h
   where
-    go : (w : Option Writer) (n : Option ℕ) → holder by mark vs ≡ w → newer snapshot vs ≡ n → option_or (option_map Open w) (option_map Newer n) ≡ None → (holder by mark vs ≡ None) × (newer snapshot vs ≡ None)
-    go (Some w) n a b k = absurd (none-some (Open w) (sym k))
+    go : (w : Option Writer) (n : Option ℕ) → holder by mark vs ≡ w → newer snapshot vs ≡ n → option_or (option_map open_by w) (option_map Newer n) ≡ None → (holder by mark vs ≡ None) × (newer snapshot vs ≡ None)
+    go (Some w) n a b k = absurd (none-some (open_by w) (sym k))
     go None (Some n) a b k = absurd (none-some (Newer n) (sym k))
     go None None a b k = (a, b)
 
@@ -31,7 +31,7 @@ pub own_is_free : (by : Writer) (snapshot mark : ℕ) (vs : List Kept) → IsTru
 own_is_free by snapshot mark [] h = absurd (let k = h in cc)
 own_is_free by snapshot mark (v ∷ vs) h = one v.number v.by v.image h
   where
-    go : (b : Bool) (w : Option Writer) → b ≡ true → option_or (option_map Open (cond (not b || false) w None)) None ≡ None
+    go : (b : Bool) (w : Option Writer) → b ≡ true → option_or (option_map open_by (cond (not b || false) w None)) None ≡ None
     go true w k = refl
     go false w k = absurd cc
 
@@ -63,15 +63,15 @@ pub told_none : {X Y E : Type 0} (o : Option E) (r : Result X E) (s : Result Y E
 told_none None r s x a h = tt
 told_none (Some e) r s x a h = absurd (let k = sym a ∙ h in cc)
 
-pub told_open : {X : Type 0} (by : Writer) (snapshot mark : ℕ) (vs : List Kept) (r : Result X WriteRefusal) → IfSome (conflict by snapshot mark vs) (λ e. r ≡ Err e) → IfSome (holder by mark vs) (λ w. r ≡ Err (Open w))
+pub told_open : {X : Type 0} (by : Writer) (snapshot mark : ℕ) (vs : List Kept) (r : Result X WriteRefusal) → IfSome (conflict by snapshot mark vs) (λ e. r ≡ Err e) → IfSome (holder by mark vs) (λ w. r ≡ Err (open_by w))
 told_open by snapshot mark vs r h = go (holder by mark vs) h
   where
-    go : (w : Option Writer) → IfSome (option_or (option_map Open w) (option_map Newer (newer snapshot vs))) (λ e. r ≡ Err e) → IfSome w (λ w. r ≡ Err (Open w))
+    go : (w : Option Writer) → IfSome (option_or (option_map open_by w) (option_map Newer (newer snapshot vs))) (λ e. r ≡ Err e) → IfSome w (λ w. r ≡ Err (open_by w))
     go None k = tt
     go (Some w) k = k
 
 pub told_newer : {X : Type 0} (by : Writer) (snapshot mark : ℕ) (vs : List Kept) (r : Result X WriteRefusal) → IfSome (conflict by snapshot mark vs) (λ e. r ≡ Err e) → holder by mark vs ≡ None → IfSome (newer snapshot vs) (λ n. r ≡ Err (Newer n))
-told_newer by snapshot mark vs r h none = go (newer snapshot vs) (subst (λ w. IfSome (option_or (option_map Open w) (option_map Newer (newer snapshot vs))) (λ e. r ≡ Err e)) none h)
+told_newer by snapshot mark vs r h none = go (newer snapshot vs) (subst (λ w. IfSome (option_or (option_map open_by w) (option_map Newer (newer snapshot vs))) (λ e. r ≡ Err e)) none h)
   where
     go : (n : Option ℕ) → IfSome (option_or None (option_map Newer n)) (λ e. r ≡ Err e) → IfSome n (λ n. r ≡ Err (Newer n))
     go None k = tt
@@ -84,7 +84,7 @@ never_own by snapshot mark vs e cause own = go e cause
     none = no_conflict by snapshot mark vs (own_is_free by snapshot mark vs own)
 
     go : (e : WriteRefusal) → IsCause by snapshot mark vs e → ⊥
-    go (Open w) k = none-some w (sym none.0 ∙ k)
+    go (Open s x) k = none-some (record { session = s; transaction = x }) (sym none.0 ∙ k)
     go (Newer n) k = none-some n (sym none.1 ∙ k.1)
     go NoMemory k = let both = sym k.2 ∙ own in absurd cc
 

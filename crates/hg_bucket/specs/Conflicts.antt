@@ -21,15 +21,19 @@ abbrev pub newer : ℕ → List Kept → Option ℕ
 newer snapshot [] = None
 newer snapshot (v ∷ vs) = option_and_then (λ n. if nat_lt snapshot n then Some n else None) v.number
 
+-- the refusal for an open write of that transaction
+abbrev pub open_by : Writer → WriteRefusal
+open_by w = Open w.session w.transaction
+
 -- what a refusal says is so, and each test before it
 abbrev pub IsCause : Writer → ℕ → ℕ → List Kept → WriteRefusal → Type 0
-IsCause by snapshot mark vs (Open w) = holder by mark vs ≡ Some w
+IsCause by snapshot mark vs (Open session transaction) = holder by mark vs ≡ Some (record { session = session; transaction = transaction })
 IsCause by snapshot mark vs (Newer n) = (holder by mark vs ≡ None) × (newer snapshot vs ≡ Some n)
 IsCause by snapshot mark vs NoMemory = (holder by mark vs ≡ None) × (newer snapshot vs ≡ None) × IsFalse (begins_open by vs)
 
 -- why a write is refused, memory aside
 abbrev pub conflict : Writer → ℕ → ℕ → List Kept → Option WriteRefusal
-conflict by snapshot mark vs = option_or (option_map Open (holder by mark vs)) (option_map Newer (newer snapshot vs))
+conflict by snapshot mark vs = option_or (option_map open_by (holder by mark vs)) (option_map Newer (newer snapshot vs))
 
 -- no version is an open write of another transaction
 abbrev pub NoOther : Writer → List Kept → Type 0

@@ -70,13 +70,13 @@ impl Bucket {
     pub fn write(
         &mut self,
         rid: Rid,
-        by: Writer,
         image: Image,
         snapshot: u64,
         mark: u64,
+        by: Writer,
     ) -> Result<bool, WriteRefusal>
         requires { self.old.made < 2 ^ 40 }
-        ensures open { IfSome (holder by mark (versions_of self.old.records rid)) (λ w. result ≡ Err (Open w)) }
+        ensures open { IfSome (holder by mark (versions_of self.old.records rid)) (λ w. result ≡ Err (Open w.session w.transaction)) }
         ensures newer { holder by mark (versions_of self.old.records rid) ≡ None → IfSome (newer snapshot (versions_of self.old.records rid)) (λ n. result ≡ Err (Newer n)) }
         ensures cause { IfErr result (IsCause by snapshot mark (versions_of self.old.records rid)) }
         ensures replaced { IsTrue (begins_open by (versions_of self.old.records rid)) → IsOk result }
@@ -86,7 +86,7 @@ impl Bucket {
         ensures made { OnOk result (self.new ≡ record self.old { records = self.new.records; made = self.old.made + (if begins_open by (versions_of self.old.records rid) then 0 else 1) }) }
         ensures refused { OnErr result (self.new ≡ self.old) }
     {
-        let added = self.records.write(rid, by, image, snapshot, mark)?;
+        let added = self.records.write(rid, image, snapshot, mark, by)?;
         self.made += if added { 1 } else { 0 };
         Ok(added)
     }

@@ -59,10 +59,10 @@ fn add(chain: &mut Chain, by: Writer, image: Image) -> Result<bool, NoMemory>
 // Writes an image into the chain, where nothing is in conflict. The answer says whether a version was added.
 fn extend(
     chain: &mut Chain,
-    by: Writer,
     image: Image,
     snapshot: u64,
     mark: u64,
+    by: Writer,
 ) -> Result<bool, WriteRefusal>
     requires { 0 < length chain.old }
     ensures { Extends by image snapshot mark chain.old chain.new result }
@@ -78,10 +78,10 @@ fn extend(
 pub(crate) fn write(
     chains: &mut Chains,
     rid: Rid,
-    by: Writer,
     image: Image,
     snapshot: u64,
     mark: u64,
+    by: Writer,
 ) -> Result<Result<bool, WriteRefusal>, Image>
     requires some { IfSome (lookup (same_rid rid) chains.old.entries) (λ vs. 0 < length vs) }
     ensures written { IfOk result (ExtendsOne by image snapshot mark chains.old.entries chains.new.entries rid) }
@@ -90,7 +90,7 @@ pub(crate) fn write(
     ensures back { IfErr result (λ back. back ≡ image) }
 {
     match chains.get_mut(&rid) {
-        Some(chain) => Ok(extend(chain, by, image, snapshot, mark)),
+        Some(chain) => Ok(extend(chain, image, snapshot, mark, by)),
         None => Err(image),
     }
 }
@@ -100,8 +100,8 @@ pub(crate) fn begin(
     chains: &mut Chains,
     alloc: Global,
     rid: Rid,
-    by: Writer,
     image: Image,
+    by: Writer,
 ) -> Result<(), NoMemory>
     requires { chain_of chains.old.entries rid ≡ [] }
     ensures here { OnOk result (ChainIs chains.old.entries chains.new.entries rid (installed by image [])) }

@@ -42,7 +42,7 @@ pub(crate) fn newer(space: &TableSpace, place: u64, snapshot: u64) -> Option<Wri
 {
     let (number, _) = space.image(place)?;
     if snapshot < number {
-        return Some(WriteRefusal::Newer(number));
+        return Some(WriteRefusal::Newer { number });
     }
     None
 }

@@ -90,10 +90,10 @@ impl Records {
     pub fn write(
         &mut self,
         rid: Rid,
-        by: Writer,
         image: Image,
         snapshot: u64,
         mark: u64,
+        by: Writer,
     ) -> Result<bool, WriteRefusal>
         ensures refusal { IfSome (conflict by snapshot mark (versions_of self.old rid)) (λ e. result ≡ Err e) }
         ensures cause { IfErr result (IsCause by snapshot mark (versions_of self.old rid)) }
@@ -104,9 +104,9 @@ impl Records {
         ensures refused { OnErr result (self.new ≡ self.old) }
     {
         self.index.stands_once();
-        match chains::write(&mut self.chains, rid, by, image, snapshot, mark) {
+        match chains::write(&mut self.chains, rid, image, snapshot, mark, by) {
             Ok(written) => written,
-            Err(image) => self.begin(rid, by, image, snapshot),
+            Err(image) => self.begin(rid, image, snapshot, by),
         }
     }
 
@@ -114,26 +114,26 @@ impl Records {
     fn begin(
         &mut self,
         rid: Rid,
-        by: Writer,
         image: Image,
         snapshot: u64,
+        by: Writer,
     ) -> Result<bool, WriteRefusal>
         requires { IsSettled (versions_of self.old rid) }
         ensures { (mark : ℕ) → Writes by image snapshot mark self.old self.new rid result }
     {
         let Some(place) = self.index.place(rid) else {
-            self.begin_record(rid, by, image)?;
+            self.begin_record(rid, image, by)?;
             return Ok(true);
         };
         if let Some(refusal) = places::newer(&self.space, place, snapshot) {
             return Err(refusal);
         }
-        chains::begin(&mut self.chains, self.alloc, rid, by, image)?;
+        chains::begin(&mut self.chains, self.alloc, rid, image, by)?;
         Ok(true)
     }
 
     // Begins a record.
-    fn begin_record(&mut self, rid: Rid, by: Writer, image: Image) -> Result<(), NoMemory>
+    fn begin_record(&mut self, rid: Rid, image: Image, by: Writer) -> Result<(), NoMemory>
         requires { versions_of self.old rid ≡ [] }
         ensures stored { OnOk result (versions_of self.new rid ≡ open_write by image ∷ []) }
         ensures others { OthersStay self.old self.new rid }
@@ -141,7 +141,7 @@ impl Records {
         ensures refused { OnErr result (self.new ≡ self.old) }
     {
         self.index.stands_once();
-        chains::begin(&mut self.chains, self.alloc, rid, by, image)?;
+        chains::begin(&mut self.chains, self.alloc, rid, image, by)?;
         if let Err(refused) = places::name(&mut self.index, &mut self.space, rid) {
             chains::end(&mut self.chains, rid);
             return Err(refused);

@@ -2,7 +2,7 @@
 
 ghost use Rattle.std.specs.Prelude.{◌≡◌, [], ◌∷◌};
 ghost use Rattle.hg_base.specs.declared.image.Image.{Image};
-ghost use Rattle.hg_bucket.specs.Conflicts.{conflict};
+ghost use Rattle.hg_bucket.specs.Conflicts.{conflict, open_by};
 ghost use Rattle.hg_bucket.specs.Parts.{kept_as};
 
 use hg_base::{NoMemory, Writer};
@@ -14,10 +14,10 @@ use thiserror::Error;
 pub enum WriteRefusal {
     /// The newest version is an open write of this transaction, or it committed it and that is not published.
     #[error("the record has an open write")]
-    Open(Writer),
+    Open { session: u32, transaction: u64 },
     /// The newest version has this number, which is over the writer's snapshot.
-    #[error("the record was written by group {0}")]
-    Newer(u64),
+    #[error("the record was written by group {number}")]
+    Newer { number: u64 },
     #[error("out of memory")]
     NoMemory,
 }
@@ -39,9 +39,21 @@ pub(crate) fn refusal(stamp: Stamp, by: Writer, snapshot: u64, mark: u64) -> Opt
 {
     match stamp {
         Stamp::Written(writer) if writer == by => None,
-        Stamp::Written(writer) => Some(WriteRefusal::Open(writer)),
-        Stamp::Numbered { number, by: writer } if number > mark => Some(WriteRefusal::Open(writer)),
-        Stamp::Numbered { number, by: _ } if number > snapshot => Some(WriteRefusal::Newer(number)),
+        Stamp::Written(writer) => Some(held_by(writer)),
+        Stamp::Numbered { number, by: writer } if number > mark => Some(held_by(writer)),
+        Stamp::Numbered { number, by: _ } if number > snapshot => Some(WriteRefusal::Newer {
+            number,
+        }),
         Stamp::Numbered { .. } => None,
+    }
+}
+
+// The refusal for an open write of that transaction.
+fn held_by(writer: Writer) -> WriteRefusal
+    ensures { result ≡ open_by writer }
+{
+    WriteRefusal::Open {
+        session: writer.session,
+        transaction: writer.transaction,
     }
 }

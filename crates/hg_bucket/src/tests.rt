@@ -61,7 +61,7 @@ fn commit(run: Run, rid: Rid, image: Image) -> Result<Run, WriteRefusal> {
     if next >= 1 << 40 {
         return Err(WriteRefusal::NoMemory);
     }
-    bucket.write(rid, BY, image, next, next)?;
+    bucket.write(rid, image, next, next, BY)?;
     bucket.stamp(rid, BY, next);
     Ok(Run {
         bucket,
@@ -80,7 +80,7 @@ fn roll_back(
     if bucket.counts().made >= 1 << 40 {
         return (Run { bucket, next }, Err(WriteRefusal::NoMemory));
     }
-    match bucket.write(rid, BY, image, snapshot, next) {
+    match bucket.write(rid, image, snapshot, next, BY) {
         Ok(_) => {
             let own = value(bucket.read(rid, 0, BY));
             bucket.undo(rid, BY);
@@ -298,7 +298,7 @@ fn answered(alloc: Global, run: Run, call: Call) -> Result<(Run, Answer), WriteR
             let (run, answer) = roll_back(run, rid(table, key), image(alloc, Some(99))?, snapshot);
             match answer {
                 Ok(own) => Ok((run, Answer::Read(own))),
-                Err(WriteRefusal::Newer(number)) => Ok((run, Answer::Newer(number))),
+                Err(WriteRefusal::Newer { number }) => Ok((run, Answer::Newer(number))),
                 Err(refusal) => Err(refusal),
             }
         }
