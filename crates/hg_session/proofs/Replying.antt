@@ -10,7 +10,7 @@ use Rattle.hg_base.specs.declared.line.Answer.TheVariants as answers
 use Rattle.hg_base.specs.Lists.{Each}
 use Rattle.hg_base.specs.Transcript.{only, table_of, stored_by}
 use Rattle.hg_core.specs.declared.log.LogEntry.{LogEntry}
-use Rattle.hg_core.specs.declared.log.LogEntry.TheVariants.{Began, Saw, Refused, Outside, Wrote, Undid, Published, Over}
+use Rattle.hg_core.specs.declared.log.LogEntry.TheVariants.{Began, Outside}
 use Rattle.hg_core.specs.Logs.{current, is_plain, own_writes}
 use Rattle.hg_core.specs.Reading.{Unprinted, own_entries, close, is_access, log_with, log_after, FitsAnswer, saw}
 use Rattle.hg_core.specs.Reading as reading
@@ -24,9 +24,7 @@ use Rattle.hg_base.specs.declared.rid.TableId.{TableId}
 use Rattle.hg_base.specs.History.{Write}
 use Rattle.hg_base.specs.Replies.{is_written}
 use Rattle.hg_base.specs.Transcript.{committed_by}
-use Rattle.hg_rule.specs.declared.view.SessionPart.{SessionPart}
-use Rattle.hg_session.specs.Ties.{AreWritten, Ties}
-use Rattle.hg_session.proofs.Tying.{IsQuiet}
+use Rattle.hg_session.specs.Ties.{AreWritten}
 use Rattle.hg_session.proofs.Done.{unwritten}
 use Rattle.hg_session.specs.Gains.{Gains, rows_at}
 use Rattle.hg_session.specs.Replies.{inside, row_answer, IsNext, GoesOn, Answers}

@@ -1,6 +1,5 @@
 -- A reply that a view has heard, once some state backs that view.
-use Rattle.std.proofs.Common.{◌≡◌, inl, inr, ℕ, ◌<◌, List, [], ◌++◌, refl, sym, ap, ◌∙◌, subst, append-nil}
-use Rattle.std.specs.Prelude.{⊤}
+use Rattle.std.proofs.Common.{◌≡◌, inl, inr, ℕ, ◌<◌, List, ◌++◌, sym, ap, ◌∙◌, subst, append-nil}
 use Rattle.hg_base.specs.declared.line.Reply.{Reply}
 use Rattle.hg_base.specs.declared.statement.Statement.{Statement}
 use Rattle.hg_base.specs.Lists.{Each}
@@ -8,14 +7,14 @@ use Rattle.hg_base.specs.Transcript.{Said}
 use Rattle.hg_base.proofs.ListFacts.{each_keeps}
 use Rattle.hg_core.specs.declared.log.LogEntry.{LogEntry}
 use Rattle.hg_core.specs.Answered.{StandsAt, IsAnswered}
-use Rattle.hg_core.specs.Reading.{Unprinted, Fits, log_after}
+use Rattle.hg_core.specs.Reading.{Fits, log_after}
 use Rattle.hg_core.specs.State.{CoreState}
 use Rattle.hg_core.proofs.Answering.{answered}
 use Rattle.hg_rule.specs.declared.view.Sight.{Sight}
 use Rattle.hg_rule.specs.declared.view.Sight.TheVariants.{Saw, Heard, Took, Did}
 use Rattle.hg_rule.specs.declared.view.Sizes.{Sizes}
 use Rattle.hg_rule.specs.declared.view.View.{View}
-use Rattle.hg_rule.specs.Facts.{EndsWith, IsAmong, Known}
+use Rattle.hg_rule.specs.Facts.{EndsWith, Known}
 use Rattle.hg_rule.specs.Rules.{IsBacked}
 use Rattle.hg_rule.specs.Views.{number, session}
 use Rattle.hg_headline.specs.Logged.{Logged}

@@ -1,10 +1,9 @@
 -- A transaction that is one write.
-use Rattle.std.specs.Prelude.{◌≡◌, ◌⊎◌, ℕ, ◌<◌, ◌==◌, List, [], ◌∷◌, ◌++◌, Option, IsSome, IsFalse, IfSome}
+use Rattle.std.specs.Prelude.{◌≡◌, ◌⊎◌, ℕ, ◌<◌, ◌==◌, [], ◌∷◌, ◌++◌, Option, IsSome, IsFalse, IfSome}
 use Rattle.hg_base.specs.declared.rid.Rid.{Rid}
 use Rattle.hg_base.specs.declared.image.Image.{Image}
 use Rattle.hg_base.specs.declared.line.Answer.TheVariants as answers
 use Rattle.hg_base.specs.Lists.{Each}
-use Rattle.hg_core.specs.declared.log.LogEntry.{LogEntry}
 use Rattle.hg_core.specs.declared.log.LogEntry.TheVariants.{Refused, Wrote, Over}
 use Rattle.hg_core.specs.Phases.{IsSession}
 use Rattle.hg_core.specs.Reading.{close}

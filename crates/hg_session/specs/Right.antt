@@ -1,16 +1,15 @@
 -- What a view tells of a reply that it has heard.
-use Rattle.std.specs.Prelude.{◌≡◌, ℕ, List, ⊤}
+use Rattle.std.specs.Prelude.{ℕ, List, ⊤}
 use Rattle.hg_base.specs.History.{History}
 use Rattle.hg_base.specs.Lists.{Each}
 use Rattle.hg_base.specs.Transcript.{Said}
 use Rattle.hg_core.specs.declared.log.LogEntry.{LogEntry}
-use Rattle.hg_core.specs.Answered.{StandsAt, IsAnswered}
+use Rattle.hg_core.specs.Answered.{IsAnswered}
 use Rattle.hg_core.specs.Reading.{Unprinted}
 use Rattle.hg_rule.specs.declared.view.Sight.{Sight}
 use Rattle.hg_rule.specs.declared.view.Sight.TheVariants.{Saw, Heard, Took, Did}
-use Rattle.hg_rule.specs.declared.view.Sizes.{Sizes}
 use Rattle.hg_rule.specs.declared.view.View.{View}
-use Rattle.hg_rule.specs.Facts.{StartsWith, EndsWith, IsAmong}
+use Rattle.hg_rule.specs.Facts.{StartsWith, EndsWith}
 use Rattle.hg_headline.specs.Logged.{Logged}
 
 -- a history begins with what was seen of it, and logs end with what was heard of them

@@ -1,7 +1,7 @@
-use Rattle.std.proofs.Common.{◌≡◌, [], ◌∷◌, ◌++◌, Some, None, Err, refl, sym, subst, rules, append_assoc}
+use Rattle.std.proofs.Common.{◌≡◌, [], ◌∷◌, Some, None, Err, sym, subst, rules, append_assoc}
 use Rattle.std.specs.Prelude.{OnErr}
 use Rattle.hg_base.specs.Transcript.{only}
-use Rattle.hg_core.specs.declared.log.LogEntry.TheVariants.{Began, Over}
+use Rattle.hg_core.specs.declared.log.LogEntry.TheVariants.{Began}
 use Rattle.hg_core.specs.Reading.{saws}
 use Rattle.hg_core.specs.Logs.{current}
 use Rattle.hg_rule.specs.Views.{session}
