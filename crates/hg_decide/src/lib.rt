@@ -11,11 +11,14 @@
 //! which says of a text that is not sound in which part it first fails.
 //!
 //! The functions are laws. They do nothing, and their contracts say what the definitions make of the worked examples of
-//! `specs/Examples.antt`: which texts they take, byte for byte, and which they refuse.
+//! `specs/Examples.antt`: which texts they take, byte for byte, and which they refuse. One more says which numbers the
+//! limits of `hg_base` are.
 #![tactic(auto)]
 
 mod examples;
+mod limits;
 
 pub use examples::{
     broken_texts_are_not_sound, worked_examples_are_sound, worked_examples_print_their_text,
 };
+pub use limits::limits_are_these_numbers;
