@@ -66,22 +66,22 @@ module _ {X V : Type 0} (fits : ℕ → X → Type 0) where
         (at_set s.words i k 0 (suc m) e);
   }
 
-  -- a swap takes the slot where it finds the lock free, and leaves it held
-  swaps_at : (i to : ℕ) (v : V) (s : State (Option X) V) → Guarded fits s → i < length s.words → (n : ℕ) → n ≡ slice_index s.words i
-      → (w : V) × (a : Act (Option X)) × Valid s.homes [] a × Guarded fits record { words = set s.words i (suc to); homes = homes_after s.homes [] a; views = s.views ++ w ∷ [] } × (n ≡ 0 → HasValue fits i (w, carried_after [] a))
-  swaps_at i to v s g below zero is =
+  -- a swap takes the slot where it finds the lock free, and leaves it held; the new seat's view is what it is told
+  swaps_at : (told : V → Type 0) (i to : ℕ) (v : V) → told v → (s : State (Option X) V) → Guarded fits s → i < length s.words → (n : ℕ) → n ≡ slice_index s.words i
+      → (w : V) × (a : Act (Option X)) × Valid s.homes [] a × Guarded fits record { words = set s.words i (suc to); homes = homes_after s.homes [] a; views = s.views ++ w ∷ [] } × (told w × (n ≡ 0 → HasValue fits i (w, carried_after [] a)))
+  swaps_at told i to v tells s g below zero is =
       let at = word_at s.words i 0 below is in
-      let t = g.free i at in (v, takes i (Some t.0), t.1, seized s _ i to g at, λ _. (t.0, refl, t.2))
-  swaps_at i to v s g below (suc m) is =
-      let at = word_at s.words i (suc m) below is in (v, keeps, tt, marked s _ i m to g at, λ (z : suc m ≡ 0). absurd (omega arith))
+      let t = g.free i at in (v, takes i (Some t.0), t.1, seized s _ i to g at, (tells, λ _. (t.0, refl, t.2)))
+  swaps_at told i to v tells s g below (suc m) is =
+      let at = word_at s.words i (suc m) below is in (v, keeps, tt, marked s _ i m to g at, (tells, λ (z : suc m ≡ 0). absurd (omega arith)))
 
-  pub swaps : (slots i word : ℕ) (v : V) → i < slots → 0 < word → Arrives (Guarded {V = V} fits) slots i (λ _. word) (λ found me. found ≡ 0 → HasValue fits i me)
-  swaps slots i zero v below held s g wide small = absurd (omega arith)
-  swaps slots i (suc to) v below held s g wide small = swaps_at i to v s g (let p = g.paired in omega arith) (slice_index s.words i) refl
+  pub swaps : (told : V → Type 0) (slots i word : ℕ) (v : V) → told v → i < slots → 0 < word → Arrives (Guarded {V = V} fits) slots i (λ _. word) (λ found me. told me.0 × (found ≡ 0 → HasValue fits i me))
+  swaps told slots i zero v tells below held s g wide small = absurd (omega arith)
+  swaps told slots i (suc to) v tells below held s g wide small = swaps_at told i to v tells s g (let p = g.paired in omega arith) (slice_index s.words i) refl
 
 -- a swap to 0 by who has the slot brings it home
 pub releases : {X T : Type 0} (fits : ℕ → X → Type 0) (slots id i : ℕ) (m : Me (Option X) (Seen T)) (x : X) → i < slots → m.1 ≡ (i, Some x) ∷ [] → fits i x
     → Allows (Guarded {V = Seen T} fits) slots id m i (λ _. 0) (λ found me. (me.1 ≡ []) × (me.0.found ≡ found))
 releases {X} {T} fits slots id i m x below has ok s g wide at small =
     let n = slice_index s.words i in
-    subst (λ (c : List (ℕ × Option X)). (w : Seen T) × (a : Act (Option X)) × Valid s.homes c a × Guarded fits (stepped s i 0 id c w a) × ((carried_after c a ≡ []) × (w.found ≡ n))) (sym has) (record { tag = m.0.tag; found = n }, gives, tt, released fits s _ i x g (omega arith) ok, (refl, refl))
+    subst (λ (c : List (ℕ × Option X)). (w : Seen T) × (a : Act (Option X)) × Valid s.homes c a × Guarded fits (stepped s i 0 id c w a) × ((carried_after c a ≡ []) × (w.found ≡ n))) (sym has) (record { tag = m.0.tag; found = n; left = 0 }, gives, tt, released fits s _ i x g (omega arith) ok, (refl, refl))

@@ -16,8 +16,9 @@ pub const AWAITED: u64 = 2;
 /// What a seat knows. No value of it is made.
 pub struct Seen<T> {
     pub tag: T,
-    // The word that its last step found.
+    // The word that its last step found, and the one that it left.
     pub found: u64,
+    pub left: u64,
 }
 
 pub struct Guard<X> {
@@ -29,10 +30,10 @@ impl<X: Fits> TableRule<Option<X>, Seen<X::Tag>, X::Tag> for Guard<X> {
 
     ghost holds = { λ tag. Guarded (X.fits tag) };
 
-    ghost first = { λ tag. record { tag = tag; found = 0 } };
+    ghost first = { λ tag. record { tag = tag; found = 0; left = 0 } };
 }
 
-/// A step that takes the slot where it finds the lock free.
+/// A step that takes the slot where it finds the lock free, and tells which word it left.
 pub struct Seize<X> {
     marker: PhantomData<X>,
 }
@@ -41,7 +42,7 @@ impl<X: Fits> Play<Option<X>, Seen<X::Tag>> for Seize<X> {
     ghost use Rattle.std.specs.Prelude.{◌≡◌};
     ghost use Rattle.hg_lock.specs.Guarded.{HasValue};
 
-    ghost then = { λ step before found after. found ≡ 0 → HasValue (X.fits before.0.tag) step.word after };
+    ghost then = { λ step before found after. (after.0.left ≡ step.first) × (found ≡ 0 → HasValue (X.fits before.0.tag) step.word after) };
 }
 
 /// A step that brings the slot home, and tells which word it found.

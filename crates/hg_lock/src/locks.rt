@@ -1,6 +1,6 @@
 //! A list of locks.
 
-ghost use Rattle.std.specs.Prelude.{◌≡◌, ◌<◌, ◌==◌, Some, [], length, map, IfOk};
+ghost use Rattle.std.specs.Prelude.{◌≡◌, ◌⊎◌, ◌<◌, ◌==◌, Some, [], length, map, IfOk, IsTrue, IsFalse};
 
 use crate::fits::Fits;
 use crate::guard::{AWAITED, FREE, Guard, HELD, Release, Seen, Seize};
@@ -21,7 +21,7 @@ pub struct Locks<X: Fits> {
     ghost paired: { table.shared.table_id.words ≡ table.shared.table_id.slots },
 }
 
-// A lock that was freed. It has no `Drop`: whoever sleeps on it is owed a wake.
+// A lock that was freed. It has no `Drop`: it ends in `wake` where somebody may sleep on it, and else in `settle`.
 struct Freed<X, T> {
     place: usize,
     awaited: bool,
@@ -29,6 +29,17 @@ struct Freed<X, T> {
     ghost home: { seat.me.1 ≡ [] },
     // Somebody may sleep exactly where the step that freed the lock found `AWAITED`.
     ghost told: { awaited ≡ (seat.me.0.found == 2) },
+}
+
+// Nobody sleeps on the lock, so nobody is woken.
+fn settle<X: Drop, T>(freed: Freed<X, T>)
+    requires { IsFalse freed.awaited }
+{
+    let Freed {
+        place: _,
+        awaited: _,
+        seat: _,
+    } = freed;
 }
 
 fn filled<X: Drop>(alloc: Global, values: Vec<X>) -> Result<Vec<Option<X>>, AllocError>
@@ -79,7 +90,12 @@ impl<X: Fits + Drop> Locks<X> {
         requires fits { X.fits (tag_of self.now) (place_of loan) value }
         requires loan { IsLoanOf self.now loan }
     {
-        self.wake(self.free(value, loan));
+        let freed = self.free(value, loan);
+        if freed.awaited {
+            self.wake(freed);
+        } else {
+            settle(freed);
+        }
     }
 
     // Takes the slot, by one step where the lock is free.
@@ -87,6 +103,7 @@ impl<X: Fits + Drop> Locks<X> {
         requires { place < count_of self.now }
         ensures list { result.table_id ≡ self.now.table.shared.table_id }
         ensures value { HasValue (X.fits (tag_of self.now)) place result.me }
+        ensures left { (result.me.0.left ≡ 1) ⊎ (result.me.0.left ≡ 2) }
     {
         match self.seize(place, HELD) {
             Ok(seat) => seat,
@@ -94,18 +111,28 @@ impl<X: Fits + Drop> Locks<X> {
         }
     }
 
-    // Takes the slot of a lock that was found held, and sleeps until it is free.
+    // Takes the slot of a lock that was found held. `HELD` may have been written over `AWAITED` then, which is put back.
     fn wait<R: Wait>(&self, rt: &R, place: usize, found: u64) -> Seat<Option<X>, Seen<X::Tag>>
         requires { place < count_of self.now }
         ensures list { result.table_id ≡ self.now.table.shared.table_id }
         ensures value { HasValue (X.fits (tag_of self.now)) place result.me }
+        ensures left { (result.me.0.left ≡ 2) ⊎ ((found ≡ 1) × (result.me.0.left ≡ 1)) }
     {
         if found == HELD && self.look(place) == FREE {
             if let Ok(seat) = self.seize(place, HELD) {
                 return seat;
             }
         }
-        // `HELD` may have been written over `AWAITED`, which is put back before anything else.
+        self.sleep(rt, place)
+    }
+
+    // Takes the slot, and sleeps until it can. Others may sleep still.
+    fn sleep<R: Wait>(&self, rt: &R, place: usize) -> Seat<Option<X>, Seen<X::Tag>>
+        requires { place < count_of self.now }
+        ensures list { result.table_id ≡ self.now.table.shared.table_id }
+        ensures value { HasValue (X.fits (tag_of self.now)) place result.me }
+        ensures left { result.me.0.left ≡ 2 }
+    {
         for _ in rt.forever() {
             if let Ok(seat) = self.seize(place, AWAITED) {
                 return seat;
@@ -123,6 +150,7 @@ impl<X: Fits + Drop> Locks<X> {
         requires held { FREE < word }
         ensures list { IfOk result (λ seat. seat.table_id ≡ self.now.table.shared.table_id) }
         ensures value { IfOk result (λ seat. HasValue (X.fits (tag_of self.now)) place seat.me) }
+        ensures left { IfOk result (λ seat. seat.me.0.left ≡ word) }
     {
         let (found, seat) = self.table.shared.swap_new_seat::<Seize<X>>(place, word);
         if found == FREE { Ok(seat) } else { Err(found) }
@@ -160,17 +188,16 @@ impl<X: Fits + Drop> Locks<X> {
         }
     }
 
-    // Wakes one who sleeps on the lock, where somebody may.
+    // Wakes one who sleeps on the lock.
     fn wake(&self, freed: Freed<X, X::Tag>)
-        requires { freed.place < count_of self.now }
+        requires place { freed.place < count_of self.now }
+        requires awaited { IsTrue freed.awaited }
     {
         let Freed {
             place,
-            awaited,
+            awaited: _,
             seat: _,
         } = freed;
-        if awaited {
-            self.table.shared.wake_one(place);
-        }
+        self.table.shared.wake_one(place);
     }
 }
