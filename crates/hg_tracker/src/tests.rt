@@ -1,6 +1,6 @@
 //! Sessions begin and end in threads of their own while a collector gathers.
 
-ghost use Rattle.std.specs.Prelude.{All};
+ghost use Rattle.std.specs.Prelude.{◌≡◌, All};
 ghost use Rattle.hg_rule.specs.Views.{HasOnlySession};
 ghost use Rattle.hg_rule.specs.Seats.{session_view, IsPassOf};
 ghost use Rattle.hg_tracker.specs.Gathers.{IsMadeFor};
@@ -8,7 +8,8 @@ ghost use Rattle.hg_tracker.specs.Boards.{board_table, board_sizes};
 ghost use Rattle.hg_tracker.specs.Ready.{IsReady};
 
 use super::*;
-use hg_base::{Scope, TableId};
+use hg_base::{Entry, Scope, TableId};
+use hg_core::Register;
 use hg_rule::{Board, CollectorPass, SessionPass};
 use std::test::Fail;
 use std::thread;
@@ -117,5 +118,59 @@ fn one_pass_takes_in_the_others(rt: HostRuntime) -> Result<(), Fail> {
     assert_eq!(rt; trackers.move_long(&mut collector, &mut gathered, 1), 0);
     assert_eq!(rt; trackers.board().look_at(&mut collector), 0);
     assert_eq!(rt; gathered.entries().len(), 0);
+    Ok(())
+}
+
+// Session 1 enters at 4 while others commit to 9, as in the steps of the rule. It has no entry, and holds each bound back.
+#[test]
+fn an_entering_session_holds_the_horizon_back(rt: HostRuntime) -> Result<(), Fail> {
+    let mut gathered = Gathered::new(rt.alloc(), 2, 1)?;
+    gathered.start(9);
+    gathered.note(1, Register::Entering(4));
+    gathered.note(2, Register::Idle);
+    gathered.sum_up();
+    assert_eq!(rt; gathered.mark(), 9);
+    assert_eq!(rt; gathered.horizon(), 4);
+    assert_eq!(rt; gathered.least(), 4);
+    assert_eq!(rt; gathered.bound(TableId(0)), 4);
+    assert_eq!(rt; gathered.entries().len(), 0);
+    Ok(())
+}
+
+// The first session enters, and each other takes a snapshot of table 1.
+fn enter_and_begin(trackers: &Trackers, sessions: Vec<SessionPass>)
+    requires tables { (board_sizes trackers.now).tables ≡ 2 }
+    requires sessions { All (IsReady (board_table trackers.now) (board_sizes trackers.now) 1) sessions.items }
+{
+    let mut is_first = true;
+    for session in sessions {
+        let mut session = session;
+        if is_first {
+            let from = trackers.board().probe(&mut session);
+            trackers.board().enter(&mut session, from);
+            is_first = false;
+        } else {
+            trackers.begin(&mut session, Scope::Declared(2));
+        }
+    }
+}
+
+// Nobody published, so the mark is 0. A session that enters has no entry, and one that is live has.
+#[test]
+fn one_enters_and_one_is_live(rt: HostRuntime) -> Result<(), Fail> {
+    let (board, seats) = Board::new(rt.alloc(), 2, 2, 1, 1)?;
+    let mut collector = seats.table;
+    let trackers = Trackers::new(board);
+    enter_and_begin(&trackers, seats.sessions.into_vec());
+    let mut gathered = Gathered::new(rt.alloc(), 2, 2)?;
+    trackers.gather(&mut collector, &mut gathered);
+    let live = Entry {
+        session: 2,
+        number: 0,
+        scope: Scope::Declared(2),
+        moved: false,
+    };
+    assert_eq!(rt; gathered.horizon(), 0);
+    assert_eq!(rt; gathered.entries(), [live].as_slice());
     Ok(())
 }
