@@ -2,6 +2,7 @@
 use Rattle.std.proofs.Common.{◌≡◌, inl, inr, ℕ, ◌+◌, List, [], ◌∷◌, ◌++◌, length, refl, sym, ap, ◌∙◌, subst, append_assoc, length-append}
 use Rattle.hg_base.specs.History.{Commit, Group, History}
 use Rattle.hg_base.specs.Lists.{Each}
+use Rattle.hg_core.specs.Commits.{commits_in}
 use Rattle.hg_core.specs.Logs.{begans}
 use Rattle.hg_rule.specs.declared.view.Sight.{Sight}
 use Rattle.hg_rule.specs.declared.view.Sight.TheVariants.{Saw}
@@ -13,7 +14,6 @@ use Rattle.hg_rule.specs.Steps.{Ends}
 use Rattle.hg_rule.specs.Views.{number, session}
 use Rattle.hg_rule.specs.Writes.{with_published}
 use Rattle.hg_group.specs.declared.receipt.Receipt.{Receipt}
-use Rattle.hg_group.specs.Contexts.{commits_in}
 use Rattle.hg_group.specs.Order.{StandsIn, flat}
 use Rattle.hg_group.specs.Submitting.{HasCommitted}
 use Rattle.hg_session.specs.Finished.{AreAmong}
