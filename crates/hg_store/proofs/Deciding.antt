@@ -29,7 +29,7 @@ use Rattle.hg_core.specs.Phases.{IsSession, snapshot_in}
 use Rattle.hg_core.specs.Replies.{same_writer, refused_over, refused_by, refusal}
 use Rattle.hg_bucket.specs.declared.refusal.WriteRefusal.{WriteRefusal}
 use Rattle.hg_bucket.specs.declared.refusal.WriteRefusal.TheVariants.{Open, Newer, NoMemory}
-use Rattle.hg_bucket.specs.Conflicts.{holder, newer, conflict}
+use Rattle.hg_bucket.specs.Conflicts.{holder, newer, conflict, open_by}
 use Rattle.hg_bucket.specs.Conflicts as bucket_words
 use Rattle.hg_bucket.specs.Held.{Kept, versions_of, begins_open}
 use Rattle.hg_rule.specs.declared.view.View.{View}
@@ -45,7 +45,7 @@ use Rattle.hg_store.specs.Kept.{refusal_of}
 use Rattle.hg_store.specs.Ends.{HasNoEnd}
 use Rattle.hg_store.specs.Stores.{held_number, held_records, Holds}
 use Rattle.hg_store.specs.Writing.{refused_at, IsCause, OwnerGoesOn}
-use Rattle.hg_store.proofs.Refusing.{IsUnstamped, conflict_kept, free_of}
+use Rattle.hg_store.proofs.Refusing.{IsUnstamped, conflict_kept, same_opened, free_of}
 use Rattle.hg_store.proofs.Changing.{open_kept}
 use Rattle.hg_store.proofs.Backing.{unstamped_in, owner_goes_on, none_ends}
 use Rattle.hg_store.proofs.Bounding.{made_below, newest_seen, falls_seen, behind_seen}
@@ -131,10 +131,10 @@ free_seen n w at (v ∷ vs) o u newest none = go v.stamp o newest none (free_of 
 
 -- ---- as the bucket decides it
 
-pub told_conflict : {T : Type 0} (by : Writer) (at n : ℕ) (ks : List Kept) (answer : Result T WriteRefusal) → IfSome (holder by n ks) (λ w. answer ≡ Err (Open w)) → (holder by n ks ≡ None → IfSome (newer at ks) (λ m. answer ≡ Err (Newer m))) → IfSome (conflict by at n ks) (λ e. answer ≡ Err e)
+pub told_conflict : {T : Type 0} (by : Writer) (at n : ℕ) (ks : List Kept) (answer : Result T WriteRefusal) → IfSome (holder by n ks) (λ w. answer ≡ Err (open_by w)) → (holder by n ks ≡ None → IfSome (newer at ks) (λ m. answer ≡ Err (Newer m))) → IfSome (conflict by at n ks) (λ e. answer ≡ Err e)
 told_conflict by at n ks answer a b = go (holder by n ks) (newer at ks) a b
   where
-    go : (o : Option Writer) (m : Option ℕ) → IfSome o (λ w. answer ≡ Err (Open w)) → (o ≡ None → IfSome m (λ m. answer ≡ Err (Newer m))) → IfSome (option_or (option_map Open o) (option_map Newer m)) (λ e. answer ≡ Err e)
+    go : (o : Option Writer) (m : Option ℕ) → IfSome o (λ w. answer ≡ Err (open_by w)) → (o ≡ None → IfSome m (λ m. answer ≡ Err (Newer m))) → IfSome (option_or (option_map open_by o) (option_map Newer m)) (λ e. answer ≡ Err e)
     go (Some w) m a b = a
     go None (Some m) a b = b refl
     go None None a b = tt
@@ -144,34 +144,34 @@ pub same_conflict : (z : Sizes) (n : ℕ) (v : View) (h : Held) (r : Rid) → Ho
 same_conflict z n v h r hold d = ap (conflict (writer v) (snapshot v) n) (hold.keeps.versions r) ∙ conflict_kept n (writer v) (snapshot v) (held v r) d.ordered d.unstamped
 
 pub same_cause : (z : Sizes) (n : ℕ) (v : View) (h : Held) (r : Rid) (e : WriteRefusal) → Holds v h → Decided z n v r → bucket_words.IsCause (writer v) (snapshot v) n (versions_of (held_records h).records r) e → IsCause n v r e
-same_cause z n v h r (Open w) hold d k = sym (same_conflict z n v h r hold d) ∙ ap (λ o. option_or (option_map Open o) (option_map Newer (newer (snapshot v) (versions_of (held_records h).records r)))) k
-same_cause z n v h r (Newer m) hold d k = sym (same_conflict z n v h r hold d) ∙ (λ i. option_or (option_map Open (k.0 i)) (option_map Newer (k.1 i)))
+same_cause z n v h r (Open s x) hold d k = sym (same_conflict z n v h r hold d) ∙ ap (λ o. option_or (option_map open_by o) (option_map Newer (newer (snapshot v) (versions_of (held_records h).records r)))) k
+same_cause z n v h r (Newer m) hold d k = sym (same_conflict z n v h r hold d) ∙ (λ i. option_or (option_map open_by (k.0 i)) (option_map Newer (k.1 i)))
 same_cause z n v h r NoMemory hold d k = (
-  sym (same_conflict z n v h r hold d) ∙ (λ i. option_or (option_map Open (k.0 i)) (option_map Newer (k.1 i))),
+  sym (same_conflict z n v h r hold d) ∙ (λ i. option_or (option_map open_by (k.0 i)) (option_map Newer (k.1 i))),
   λ mine. let open_first = subst (λ ks. IsTrue (begins_open (writer v) ks)) (sym (hold.keeps.versions r)) (open_kept (writer v) (held v r) mine) in let both = sym k.2 ∙ open_first in absurd cc,
 )
 
 -- who has it open
-pub opened_by : (n : ℕ) (w o : Writer) (at : ℕ) (vs : List Version) → option_and_then refusal_of (refusal n w at vs) ≡ Some (Open o) → (image : Image) × (unpublished n vs ≡ Some (o, image))
+pub opened_by : (n : ℕ) (w o : Writer) (at : ℕ) (vs : List Version) → option_and_then refusal_of (refusal n w at vs) ≡ Some (open_by o) → (image : Image) × (unpublished n vs ≡ Some (o, image))
 opened_by n w o at vs e = go (unpublished n vs) refl e
   where
-    none : (p : Option (ℕ × Image)) → option_and_then refusal_of (refused_over at p) ≡ Some (Open o) → ⊥
-    none None e = none-some (Open o) e
+    none : (p : Option (ℕ × Image)) → option_and_then refusal_of (refused_over at p) ≡ Some (open_by o) → ⊥
+    none None e = none-some (open_by o) e
     none (Some p) e = late (nat_le p.0 at) e
       where
-        late : (b : Bool) → option_and_then refusal_of (cond b None (Some (answers.Newer p.0))) ≡ Some (Open o) → ⊥
-        late true e = none-some (Open o) e
+        late : (b : Bool) → option_and_then refusal_of (cond b None (Some (answers.Newer p.0))) ≡ Some (open_by o) → ⊥
+        late true e = none-some (open_by o) e
         late false e = cc
 
-    go : (p : Option (Writer × Image)) → unpublished n vs ≡ p → option_and_then refusal_of (refused_by w p (refused_over at (newest_at n vs))) ≡ Some (Open o) → (image : Image) × (unpublished n vs ≡ Some (o, image))
+    go : (p : Option (Writer × Image)) → unpublished n vs ≡ p → option_and_then refusal_of (refused_by w p (refused_over at (newest_at n vs))) ≡ Some (open_by o) → (image : Image) × (unpublished n vs ≡ Some (o, image))
     go None k e = absurd (none (newest_at n vs) e)
     go (Some p) k e = theirs (same_writer p.0 w) e
       where
-        theirs : (b : Bool) → option_and_then refusal_of (cond b None (Some (answers.OpenBy p.0))) ≡ Some (Open o) → (image : Image) × (unpublished n vs ≡ Some (o, image))
-        theirs true e = absurd (none-some (Open o) e)
-        theirs false e = let same : p.0 ≡ o = cc in (p.1, k ∙ ap (λ x. Some (x, p.1)) same)
+        theirs : (b : Bool) → option_and_then refusal_of (cond b None (Some (answers.OpenBy p.0))) ≡ Some (open_by o) → (image : Image) × (unpublished n vs ≡ Some (o, image))
+        theirs true e = absurd (none-some (open_by o) e)
+        theirs false e = let same = same_opened p.0 o e in (p.1, k ∙ ap (λ x. Some (x, p.1)) same)
 
 pub owner_is : (z : Sizes) (n : ℕ) (v : View) (r : Rid) (e : WriteRefusal) → Decided z n v r → IsCause n v r e → OwnerGoesOn v.sights e
-owner_is z n v r (Open w) d k = let o = opened_by n (writer v) w (snapshot v) (held v r) k in d.goes w o.0 o.1
+owner_is z n v r (Open s x) d k = let w : Writer = record { session = s; transaction = x } in let o = opened_by n (writer v) w (snapshot v) (held v r) k in d.goes w o.0 o.1
 owner_is z n v r (Newer m) d k = tt
 owner_is z n v r NoMemory d k = tt

@@ -24,6 +24,7 @@ use Rattle.hg_core.proofs.Replies.{writer_itself, writer_same as same_writers}
 use Rattle.hg_bucket.specs.declared.refusal.WriteRefusal.{WriteRefusal}
 use Rattle.hg_bucket.specs.declared.refusal.WriteRefusal.TheVariants.{Open, Newer, NoMemory}
 use Rattle.hg_bucket.specs.Conflicts as bucket_words
+use Rattle.hg_bucket.specs.Conflicts.{open_by}
 use Rattle.hg_bucket.specs.Held.{versions_of, begins_open}
 use Rattle.hg_base.specs.Lists.{Each}
 use Rattle.hg_rule.specs.declared.view.Part.TheVariants.{OfSession, OfBucket}
@@ -43,6 +44,7 @@ use Rattle.hg_store.specs.Writing.{IsCause, IsAnothers}
 use Rattle.hg_store.proofs.Changing.{open_kept}
 use Rattle.hg_store.proofs.Holding.{number_is, held_is}
 use Rattle.hg_store.proofs.Stepping.{look_holds}
+use Rattle.hg_store.proofs.Refusing.{same_opened}
 use Rattle.hg_store.proofs.Deciding.{Decided, opened_by, same_cause}
 use Rattle.hg_store.proofs.Storing.{writer_same_after, content_after}
 use Rattle.hg_store.proofs.Mine.{mine_unstamped, mine_logged}
@@ -97,30 +99,33 @@ module _ (z : Sizes) (n : ℕ) (v w : View) (h : Held) (r : Rid) (hold : Holds v
 
   -- ---- who refuses it
 
-  apart : (o : Writer) → option_and_then refusal_of (refusal n (writer v) (snapshot v) (held v r)) ≡ Some (Open o) → same_writer o (writer v) ≡ false
+  apart : (o : Writer) → option_and_then refusal_of (refusal n (writer v) (snapshot v) (held v r)) ≡ Some (open_by o) → same_writer o (writer v) ≡ false
   apart o e = go (unpublished n (held v r)) e
     where
-      late : (p : Option (ℕ × Image)) → option_and_then refusal_of (refused_over (snapshot v) p) ≡ Some (Open o) → ⊥
-      late None e = none-some (Open o) e
+      late : (p : Option (ℕ × Image)) → option_and_then refusal_of (refused_over (snapshot v) p) ≡ Some (open_by o) → ⊥
+      late None e = none-some (open_by o) e
       late (Some p) e = go (nat_le p.0 (snapshot v)) e
         where
-          go : (b : Bool) → option_and_then refusal_of (cond b None (Some (answers.Newer p.0))) ≡ Some (Open o) → ⊥
-          go true e = none-some (Open o) e
+          go : (b : Bool) → option_and_then refusal_of (cond b None (Some (answers.Newer p.0))) ≡ Some (open_by o) → ⊥
+          go true e = none-some (open_by o) e
           go false e = cc
 
-      go : (p : Option (Writer × Image)) → option_and_then refusal_of (refused_by (writer v) p (refused_over (snapshot v) (newest_at n (held v r)))) ≡ Some (Open o) → same_writer o (writer v) ≡ false
+      go : (p : Option (Writer × Image)) → option_and_then refusal_of (refused_by (writer v) p (refused_over (snapshot v) (newest_at n (held v r)))) ≡ Some (open_by o) → same_writer o (writer v) ≡ false
       go None e = absurd (late (newest_at n (held v r)) e)
       go (Some p) e = theirs (same_writer p.0 (writer v)) refl e
         where
-          theirs : (b : Bool) → same_writer p.0 (writer v) ≡ b → option_and_then refusal_of (cond b None (Some (answers.OpenBy p.0))) ≡ Some (Open o) → same_writer o (writer v) ≡ false
-          theirs true f e = absurd (none-some (Open o) e)
-          theirs false f e = let same : p.0 ≡ o = cc in ap (λ x. same_writer x (writer v)) (sym same) ∙ f
+          theirs : (b : Bool) → same_writer p.0 (writer v) ≡ b → option_and_then refusal_of (cond b None (Some (answers.OpenBy p.0))) ≡ Some (open_by o) → same_writer o (writer v) ≡ false
+          theirs true f e = absurd (none-some (open_by o) e)
+          theirs false f e = let same = same_opened p.0 o e in ap (λ x. same_writer x (writer v)) (sym same) ∙ f
 
   pub anothers : (e : WriteRefusal) → IsCause n v r e → IsAnothers z (number v) e
   anothers (Newer m) c = tt
   anothers NoMemory c = tt
-  anothers (Open o) c = (is_there (ltb 0 o.session) (ltb o.session (suc z.sessions)) refl refl, is_other (o.session == number v) refl)
+  anothers (Open s x) c = (is_there (ltb 0 o.session) (ltb o.session (suc z.sessions)) refl refl, is_other (o.session == number v) refl)
     where
+      o : Writer
+      o = record { session = s; transaction = x }
+
       out : (image : Image) × (unpublished n (held v r) ≡ Some (o, image))
       out = opened_by n (writer v) o (snapshot v) (held v r) c
 

@@ -13,8 +13,8 @@ use Rattle.hg_core.specs.Versions.{pair_of, first_at, newest_at, is_numbered, un
 use Rattle.hg_core.specs.Replies.{same_writer, refused_over, refused_by, refusal}
 use Rattle.hg_core.specs.Ordered.{IsOrdered}
 use Rattle.hg_core.proofs.Replies.{writer_same}
-use Rattle.hg_bucket.specs.declared.refusal.WriteRefusal.TheVariants.{Open, Newer}
-use Rattle.hg_bucket.specs.Conflicts.{conflict}
+use Rattle.hg_bucket.specs.declared.refusal.WriteRefusal.TheVariants.{Newer}
+use Rattle.hg_bucket.specs.Conflicts.{conflict, open_by}
 use Rattle.hg_store.specs.Kept.{kept, refusal_of}
 
 -- what isn't published of the transaction's own has no number
@@ -34,7 +34,7 @@ pub conflict_kept : (mark : ℕ) (w : Writer) (at : ℕ) (vs : List Version) →
 conflict_kept mark w at [] o u = refl
 conflict_kept mark w at (v ∷ vs) o u = go v.stamp o u
   where
-    by_open : (by : Writer) (b : Bool) → option_or (option_map Open (cond (not b || false) (Some by) None)) None ≡ option_and_then refusal_of (cond b None (Some (answers.OpenBy by)))
+    by_open : (by : Writer) (b : Bool) → option_or (option_map open_by (cond (not b || false) (Some by) None)) None ≡ option_and_then refusal_of (cond b None (Some (answers.OpenBy by)))
     by_open by true = refl
     by_open by false = refl
 
@@ -45,11 +45,11 @@ conflict_kept mark w at (v ∷ vs) o u = go v.stamp o u
         mine : nat_le n mark ≡ false → same_writer by w ≡ true → ⊥
         mine late same = let k = u v.image (ap (λ b. cond b None (Some (by, v.image))) late ∙ ap (λ x. Some (x, v.image)) (writer_same by w same)) in cc
 
-        theirs : (b : Bool) → same_writer by w ≡ b → nat_le n mark ≡ false → Some (Open by) ≡ option_and_then refusal_of (cond b None (Some (answers.OpenBy by)))
+        theirs : (b : Bool) → same_writer by w ≡ b → nat_le n mark ≡ false → Some (open_by by) ≡ option_and_then refusal_of (cond b None (Some (answers.OpenBy by)))
         theirs true s late = absurd (mine late s)
         theirs false s late = refl
 
-        published : (a b : Bool) → b ≡ cond a false true → nat_le n mark ≡ a → option_or (option_map Open (cond b (Some by) None)) (option_map Newer (cond (nat_lt at n) (Some n) None)) ≡ option_and_then refusal_of (refused_by w (cond a None (Some (by, v.image))) (refused_over at (newest_at mark (record { stamp = Numbered n by; image = v.image } ∷ vs))))
+        published : (a b : Bool) → b ≡ cond a false true → nat_le n mark ≡ a → option_or (option_map open_by (cond b (Some by) None)) (option_map Newer (cond (nat_lt at n) (Some n) None)) ≡ option_and_then refusal_of (refused_by w (cond a None (Some (by, v.image))) (refused_over at (newest_at mark (record { stamp = Numbered n by; image = v.image } ∷ vs))))
         published true false e k = over_is n at ∙ ap (λ b. option_and_then refusal_of (refused_over at (pair_of (cond b (Some (record { stamp = Numbered n by; image = v.image })) (first_at mark vs))))) (sym k)
         published false true e k = theirs (same_writer by w) refl k
         published true true e k = absurd cc
@@ -57,9 +57,16 @@ conflict_kept mark w at (v ∷ vs) o u = go v.stamp o u
     go (Oldest n) f u =
         let k : nat_le n mark ≡ true = grind (arith, nat_tests, f.0) in
         let l : nat_lt mark n ≡ false = grind (arith, nat_tests, f.0) in
-        ap (λ b. option_or (option_map Open (cond b None None)) (option_map Newer (cond (nat_lt at n) (Some n) None))) l
+        ap (λ b. option_or (option_map open_by (cond b None None)) (option_map Newer (cond (nat_lt at n) (Some n) None))) l
         ∙ over_is n at
         ∙ ap (λ b. option_and_then refusal_of (refused_over at (pair_of (cond b (Some (record { stamp = Oldest n; image = v.image })) (first_at mark vs))))) (sym k)
+
+-- refusals for open writes that are the same name the same transaction
+pub same_opened : (a b : Writer) → Some (open_by a) ≡ Some (open_by b) → a ≡ b
+same_opened a b e =
+    let session : a.session ≡ b.session = cc in
+    let transaction : a.transaction ≡ b.transaction = cc in
+    λ i. record { session = session i; transaction = transaction i }
 
 -- ---- where it isn't refused
 

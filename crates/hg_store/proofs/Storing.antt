@@ -15,8 +15,8 @@ use Rattle.hg_core.specs.Replies.{same_writer, refused_over, refused_by, refusal
 use Rattle.hg_core.proofs.Replies.{writer_itself}
 use Rattle.hg_core.proofs.Versions.{installed_ordered}
 use Rattle.hg_bucket.specs.declared.refusal.WriteRefusal.{WriteRefusal}
-use Rattle.hg_bucket.specs.declared.refusal.WriteRefusal.TheVariants.{Open, Newer}
-use Rattle.hg_bucket.specs.Conflicts.{holder, newer, conflict}
+use Rattle.hg_bucket.specs.declared.refusal.WriteRefusal.TheVariants.{Newer}
+use Rattle.hg_bucket.specs.Conflicts.{holder, newer, conflict, open_by}
 use Rattle.hg_bucket.specs.Conflicts as bucket_words
 use Rattle.hg_bucket.specs.Held as held_words
 use Rattle.hg_bucket.specs.Held.{Kept, versions_of, OthersStay, begins_open, is_open_by, is_at_most, read_at}
@@ -40,7 +40,7 @@ same_holds w h h' hold n r = record { has = subst (λ m. HoldsBucket m w) (sym n
 
 -- the bucket's refusal, where it refuses, is the content's
 pub refusal_told : {T : Type 0} (z : Sizes) (n : ℕ) (v : View) (h : Held) (r : Rid) (answer : Result T WriteRefusal) → Holds v h → Decided z n v r
-    → IfSome (holder (writer v) n (versions_of (held_records h).records r)) (λ w. answer ≡ Err (Open w)) → (holder (writer v) n (versions_of (held_records h).records r) ≡ None → IfSome (newer (snapshot v) (versions_of (held_records h).records r)) (λ m. answer ≡ Err (Newer m)))
+    → IfSome (holder (writer v) n (versions_of (held_records h).records r)) (λ w. answer ≡ Err (open_by w)) → (holder (writer v) n (versions_of (held_records h).records r) ≡ None → IfSome (newer (snapshot v) (versions_of (held_records h).records r)) (λ m. answer ≡ Err (Newer m)))
     → IfSome (refused_at n v r) (λ e. answer ≡ Err e)
 refusal_told z n v h r answer hold d a b = subst (λ o. IfSome o (λ e. answer ≡ Err e)) (same_conflict z n v h r hold d) (told_conflict (writer v) (snapshot v) n (versions_of (held_records h).records r) answer a b)
 
@@ -75,7 +75,7 @@ none_refused n w at (Some p) q e = go (same_writer p.0 w) e
   where
     go : (b : Bool) → option_and_then refusal_of (cond b None (Some (answers.OpenBy p.0))) ≡ None → cond b None (Some (answers.OpenBy p.0)) ≡ None
     go true e = refl
-    go false e = absurd (none-some (Open p.0) (sym e))
+    go false e = absurd (none-some (open_by p.0) (sym e))
 
 pub free_at : {S : Type 0} (n : ℕ) (v : View) (r : Rid) (found : Result S WriteRefusal) (x : S) → found ≡ Ok x → IfSome (refused_at n v r) (λ e. found ≡ Err e) → refusal n (writer v) (snapshot v) (held v r) ≡ None
 free_at n v r found x is told = none_refused n (writer v) (snapshot v) (unpublished n (held v r)) (newest_at n (held v r)) (not_refused (refused_at n v r) found x is told)

@@ -42,7 +42,7 @@ AreOrdered content = (r : Rid) → (mark : ℕ) × IsOrdered mark (look r conten
 -- a refusal as a bucket says it
 abbrev pub refusal_of : Answer → Option WriteRefusal
 refusal_of (answers.Newer number) = Some (Newer number)
-refusal_of (answers.OpenBy by) = Some (Open by)
+refusal_of (answers.OpenBy by) = Some (Open by.session by.transaction)
 refusal_of _ = None
 
 -- ---- what a caller reads

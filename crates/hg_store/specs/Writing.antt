@@ -23,19 +23,19 @@ refused_at mark v rid = option_and_then refusal_of (refusal mark (writer v) (sna
 
 -- a refusal for a conflict is that of the content; memory is asked for only where the record isn't refused and isn't held open
 abbrev pub IsCause : ℕ → View → Rid → WriteRefusal → Type 0
-IsCause mark v rid (Open w) = refused_at mark v rid ≡ Some (Open w)
+IsCause mark v rid (Open session transaction) = refused_at mark v rid ≡ Some (Open session transaction)
 IsCause mark v rid (Newer n) = refused_at mark v rid ≡ Some (Newer n)
 IsCause mark v rid NoMemory = (refused_at mark v rid ≡ None) × (IsOpenBy (writer v) (held v rid) → ⊥)
 
 -- the transaction that has the record open goes on, by what was seen
 abbrev pub OwnerGoesOn : List Sight → WriteRefusal → Type 0
-OwnerGoesOn sights (Open w) = Each (HasNoEnd w) sights
+OwnerGoesOn sights (Open session transaction) = Each (HasNoEnd (record { session = session; transaction = transaction })) sights
 OwnerGoesOn sights (Newer n) = ⊤
 OwnerGoesOn sights NoMemory = ⊤
 
 -- who has the record open is another session of the board
 abbrev pub IsAnothers : Sizes → ℕ → WriteRefusal → Type 0
-IsAnothers z j (Open w) = IsSession z.sessions w.session × IsFalse (w.session == j)
+IsAnothers z j (Open session transaction) = IsSession z.sessions session × IsFalse (session == j)
 IsAnothers z j (Newer n) = ⊤
 IsAnothers z j NoMemory = ⊤
 

@@ -5,7 +5,7 @@ ghost use Rattle.std.specs.Option.{option_copied};
 ghost use Rattle.hg_base.specs.History.{nothing};
 ghost use Rattle.hg_core.specs.Contents.{look};
 ghost use Rattle.hg_core.specs.Replies.{read_by};
-ghost use Rattle.hg_bucket.specs.Held.{record_at, IsNextKey};
+ghost use Rattle.hg_bucket.specs.Held.{record_at, read_at, versions_of, IsNextKey};
 ghost use Rattle.hg_rule.specs.declared.view.View.{View};
 ghost use Rattle.hg_rule.specs.Holding.{bucket, held};
 ghost use Rattle.hg_store.specs.Kept.{AreCountsOf, NoneBetween};
@@ -15,9 +15,10 @@ use crate::held::Held;
 use hg_base::{Image, Rid, TableId, Totals, Writer};
 
 impl<'a> Held<'a> {
-    /// What a transaction reads of a record: none is as an image of nothing.
+    /// What a transaction reads of a record: a deletion is an image of nothing, and none is where it sees no version.
     pub fn read(&self, rid: Rid, snapshot: u64, own: Writer) -> Option<&Image>
-        ensures { (v : View) → Holds v self.now → unwrap_or (option_copied result) nothing ≡ read_by own snapshot (held v rid) }
+        ensures exact { option_copied result ≡ read_at own snapshot (versions_of (held_records self.now).records rid) }
+        ensures shown { (v : View) → Holds v self.now → unwrap_or (option_copied result) nothing ≡ read_by own snapshot (held v rid) }
     {
         self.bucket.read(rid, snapshot, own)
     }

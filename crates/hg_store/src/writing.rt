@@ -113,7 +113,7 @@ impl<'a> Held<'a> {
     {
         let mark = board.look(pass, &Ask::Write(rid));
         let written = Snapshot::of(&image);
-        let added = self.bucket.write(rid, by, image, snapshot, mark)?;
+        let added = self.bucket.write(rid, image, snapshot, mark, by)?;
         board.install(pass, rid, written);
         Ok(added)
     }

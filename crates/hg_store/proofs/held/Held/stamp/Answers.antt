@@ -1,8 +1,5 @@
-use Rattle.std.proofs.Common.{◌≡◌, ◌∙◌, refl, subst, ap}
-use Rattle.hg_core.specs.Versions.{IsOpenBy}
-use Rattle.hg_bucket.specs.Held.{stamped, versions_of}
+use Rattle.std.proofs.Common.{refl, subst}
 use Rattle.hg_rule.specs.Rules.{IsBacked}
-use Rattle.hg_rule.specs.Holding.{held}
 use Rattle.hg_rule.specs.Seats.{session_view, sizes_of}
 use Rattle.hg_rule.specs.Handing.{Stamps}
 use Rattle.hg_store.proofs.Stepping.{over_by, stamp_holds}

@@ -1,8 +1,8 @@
 use Rattle.std.proofs.Common.{◌≡◌, ◌+◌, Err, None, refl, sym, ap, ◌∙◌, subst, arith, rules}
 use Rattle.std.specs.Prelude.{not, IfOk, IfErr, IfSome, OnOk, OnErr, if◌then◌else◌}
 use Rattle.hg_base.specs.declared.writer.Writer.{Writer}
-use Rattle.hg_bucket.specs.declared.refusal.WriteRefusal.TheVariants.{Open, Newer}
-use Rattle.hg_bucket.specs.Conflicts.{holder, newer, IsCause}
+use Rattle.hg_bucket.specs.declared.refusal.WriteRefusal.TheVariants.{Newer}
+use Rattle.hg_bucket.specs.Conflicts.{holder, newer, IsCause, open_by}
 use Rattle.hg_bucket.specs.Held.{Held as Records, versions_of, installed, begins_open}
 use Rattle.hg_rule.specs.Seats.{session_view, sizes_of}
 use Rattle.hg_rule.specs.Holding.{writer, snapshot, held}
@@ -32,7 +32,7 @@ returns-in_err-added-clause-step c =
     let d = decided (sizes_of c.args.board.now) n v w (boxed c.args.self.now c.deref_mut.result.now) r (boxed_holds c.args.self.now c.deref_mut.result.now c.deref_mut.ensures.value c.requires.holds) c.look-mark.ensures.step c.look-mark.ensures.told c.requires.here c.requires.unstamped c.requires.live in
     let same : c.from_residual.result ≡ Err c.in_err-added.field-0.0 = search rules in
     let told = refusal_told (sizes_of c.args.board.now) n v (boxed c.args.self.now c.deref_mut.result.now) r c.write.result (boxed_holds c.args.self.now c.deref_mut.result.now c.deref_mut.ensures.value c.requires.holds) d
-    (subst (λ (b : Writer). IfSome (holder b n ks) (λ x. c.write.result ≡ Err (Open x))) c.requires.by c.write.ensures.open)
+    (subst (λ (b : Writer). IfSome (holder b n ks) (λ x. c.write.result ≡ Err (open_by x))) c.requires.by c.write.ensures.open)
     (subst (λ (b : Writer). holder b n ks ≡ None → IfSome (newer (snapshot v) ks) (λ m. c.write.result ≡ Err (Newer m))) c.requires.by (subst (λ s. holder c.args.by n ks ≡ None → IfSome (newer s ks) (λ m. c.write.result ≡ Err (Newer m))) c.requires.snapshot c.write.ensures.newer)) in
     refused_writes (sizes_of c.args.board.now) n v w (boxed c.args.self.now c.deref_mut.result.now) r c.args.image c.write.result c.from_residual.result c.in_err-added.field-0.0 (boxed_holds c.args.self.now c.deref_mut.result.now c.deref_mut.ensures.value c.requires.holds) d c.look-mark.ensures.step c.in_err-added.was same told
     (subst (λ (b : Writer). IfErr c.write.result (IsCause b (snapshot v) n ks)) c.requires.by (subst (λ s. IfErr c.write.result (IsCause c.args.by s n ks)) c.requires.snapshot c.write.ensures.cause))
@@ -52,7 +52,7 @@ install-requires-clause-free c =
     let ks = versions_of c.deref_mut.result.now.records r in
     let d = decided (sizes_of c.args.board.now) n v w (boxed c.args.self.now c.deref_mut.result.now) r (boxed_holds c.args.self.now c.deref_mut.result.now c.deref_mut.ensures.value c.requires.holds) c.look-mark.ensures.step c.look-mark.ensures.told c.requires.here c.requires.unstamped c.requires.live in
     let told = refusal_told (sizes_of c.args.board.now) n v (boxed c.args.self.now c.deref_mut.result.now) r c.write.result (boxed_holds c.args.self.now c.deref_mut.result.now c.deref_mut.ensures.value c.requires.holds) d
-    (subst (λ (b : Writer). IfSome (holder b n ks) (λ x. c.write.result ≡ Err (Open x))) c.requires.by c.write.ensures.open)
+    (subst (λ (b : Writer). IfSome (holder b n ks) (λ x. c.write.result ≡ Err (open_by x))) c.requires.by c.write.ensures.open)
     (subst (λ (b : Writer). holder b n ks ≡ None → IfSome (newer (snapshot v) ks) (λ m. c.write.result ≡ Err (Newer m))) c.requires.by (subst (λ s. holder c.args.by n ks ≡ None → IfSome (newer s ks) (λ m. c.write.result ≡ Err (Newer m))) c.requires.snapshot c.write.ensures.newer)) in
     seen_after (sizes_of c.args.board.now) n v w r d c.look-mark.ensures.step (free_at n v r c.write.result _ c.in_ok-added.was told)
 
@@ -67,7 +67,7 @@ returns-clause-holds c =
     let ks = versions_of old.records r in
     let d = decided (sizes_of c.args.board.now) n v w (boxed c.args.self.now c.deref_mut.result.now) r (boxed_holds c.args.self.now c.deref_mut.result.now c.deref_mut.ensures.value c.requires.holds) c.look-mark.ensures.step c.look-mark.ensures.told c.requires.here c.requires.unstamped c.requires.live in
     let told = refusal_told (sizes_of c.args.board.now) n v (boxed c.args.self.now c.deref_mut.result.now) r c.write.result (boxed_holds c.args.self.now c.deref_mut.result.now c.deref_mut.ensures.value c.requires.holds) d
-    (subst (λ (b : Writer). IfSome (holder b n ks) (λ x. c.write.result ≡ Err (Open x))) c.requires.by c.write.ensures.open)
+    (subst (λ (b : Writer). IfSome (holder b n ks) (λ x. c.write.result ≡ Err (open_by x))) c.requires.by c.write.ensures.open)
     (subst (λ (b : Writer). holder b n ks ≡ None → IfSome (newer (snapshot v) ks) (λ m. c.write.result ≡ Err (Newer m))) c.requires.by (subst (λ s. holder c.args.by n ks ≡ None → IfSome (newer s ks) (λ m. c.write.result ≡ Err (Newer m))) c.requires.snapshot c.write.ensures.newer)) in
     let free = free_at n v r c.write.result _ c.in_ok-added.was told in
     let by = c.requires.by ∙ sym (writer_same_after n v w r c.look-mark.ensures.step) in
