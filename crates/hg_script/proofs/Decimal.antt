@@ -10,7 +10,7 @@ use Rattle.std.specs.Str.Parse.{AllDigits, digits_value}
 use Rattle.hg_script.specs.Number.{is_digit, is_natural, natural_of}
 use Rattle.hg_script.specs.declared.number.Natural.TheVariants as n
 
-all-told : (ds : List ℕ) → list_all is_digit ds ≡ true → AllDigits 10 ds
+pub all-told : (ds : List ℕ) → list_all is_digit ds ≡ true → AllDigits 10 ds
 all-told [] e = tt
 all-told (d ∷ ds) e =
     let k = both _ _ e in

@@ -2,6 +2,8 @@
 use Rattle.std.proofs.Common.{◌≡◌, ◌<◌, ◌+◌, ◌∙◌, ℕ, zero, suc, List, [], ◌∷◌, ◌++◌, length, map, get_or, refl, ap, arith}
 use Rattle.hg_base.specs.declared.statement.Record.{Record}
 use Rattle.hg_base.specs.declared.statement.Statement.{Statement}
+use Rattle.hg_script.specs.declared.asked.Asked.{Asked}
+use Rattle.hg_script.specs.Asked.{asked_by, said_by}
 use Rattle.hg_script.specs.Numbered.{numbered}
 
 pub numbered_many : (place : ℕ) (xs : List (ℕ × Statement)) → length (numbered place xs) ≡ length xs
@@ -35,3 +37,10 @@ numbered_sessions place (x ∷ xs) = ap (λ ns. x.0 ∷ ns) (numbered_sessions (
 pub none_numbered : (place other : ℕ) (xs : List (ℕ × Statement)) → numbered place xs ≡ [] → numbered other xs ≡ []
 none_numbered place other [] h = refl
 none_numbered place other (x ∷ xs) h = absurd (let no : ⊥ = cc h in no)
+
+-- what is asked at i, whatever its place
+pub numbered_asks : (place : ℕ) (xs : List (ℕ × Statement)) (i : ℕ) (d : Record) (e : ℕ × Statement) → i < length xs
+    → said_by (get_or (numbered place xs) i d) ≡ ((get_or xs i e).0, asked_by (get_or xs i e).1)
+numbered_asks place [] i d e less = absurd (omega (arith, less))
+numbered_asks place (x ∷ xs) zero d e less = refl
+numbered_asks place (x ∷ xs) (suc i) d e less = numbered_asks (place + 1) xs i d e (omega (arith, less))

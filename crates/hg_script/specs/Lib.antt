@@ -6,6 +6,7 @@ pub mod Codes
 pub mod Rules
 pub mod Meaning
 pub mod Lawful
+pub mod Asked
 -- What the reader keeps.
 pub mod Sessions
 pub mod Packed

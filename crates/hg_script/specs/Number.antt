@@ -10,9 +10,13 @@ use Rattle.hg_script.specs.declared.number.Integer.TheVariants as signed
 abbrev pub is_digit : ℕ → Bool
 is_digit c = nat_le 48 c && nat_le c 57
 
+-- a `0` that is not alone
+abbrev pub leads_with_zero : List ℕ → Bool
+leads_with_zero text = slice_index text 0 == 48 && nat_lt 1 (length text)
+
 -- written as a number: some digits, of which the first is `0` only where it is alone
 abbrev pub is_natural : List ℕ → Bool
-is_natural text = nat_lt 0 (length text) && (not (slice_index text 0 == 48 && nat_lt 1 (length text)) && list_all is_digit text)
+is_natural text = nat_lt 0 (length text) && (not (leads_with_zero text) && list_all is_digit text)
 
 -- a number below 2 ^ 64
 abbrev pub natural_of : List ℕ → Natural

@@ -39,6 +39,7 @@
 //! what a script is that is not refused.
 #![tactic(auto)]
 
+mod asked;
 mod code;
 mod draft;
 mod law;
@@ -56,6 +57,7 @@ mod tests;
 mod values;
 mod word;
 
+pub use asked::Asked;
 pub use code::Code;
 pub use law::{numbers_are_decimal, scopes_have_what_is_named};
 pub use number::{Integer, Natural, read_integer, read_natural};

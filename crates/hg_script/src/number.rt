@@ -1,8 +1,10 @@
 //! Numbers as a script writes them.
 
-ghost use Rattle.std.specs.Prelude.{◌≡◌};
+ghost use Rattle.std.specs.Prelude.{◌≡◌, ◌≤◌, Some, None, length, if◌then◌else◌};
 ghost use Rattle.std.specs.List.{list_all};
-ghost use Rattle.hg_script.specs.Number.{integer_of, is_between, is_digit, is_natural, is_no, is_over, minus, natural_of, plus, value_of};
+ghost use Rattle.std.specs.Str.Parse.{digits_value};
+ghost use Rattle.hg_script.specs.declared.number.TheConstants.{MOST_SAFE_DIGITS};
+ghost use Rattle.hg_script.specs.Number.{integer_of, is_between, is_digit, is_no, is_over, leads_with_zero, minus, natural_of, plus, value_of};
 
 /// What a field is as a number of 64 bits without a sign.
 #[derive(Clone, Copy, Debug, PartialEq, Eq)]
@@ -101,27 +103,30 @@ impl Natural {
     }
 }
 
+fn is_digit(c: u8) -> bool
+    ensures { result ≡ is_digit c }
+{
+    c >= b'0' && c <= b'9'
+}
+
 fn has_digits_alone(text: &[u8]) -> bool
     ensures { result ≡ list_all is_digit text.now }
 {
-    text.iter().all(|c| *c >= b'0' && *c <= b'9')
+    text.iter().all(|c| is_digit(*c))
 }
 
-fn is_written_well(text: &[u8]) -> bool
-    ensures { result ≡ is_natural text.now }
+fn leads_with_zero(text: &[u8]) -> bool
+    ensures { result ≡ leads_with_zero text.now }
 {
-    if text.is_empty() {
-        return false;
-    }
-    let leads_with_zero = text[0] == b'0' && text.len() > 1;
-    !leads_with_zero && has_digits_alone(text)
+    text.len() > 1 && text[0] == b'0'
 }
 
-/// Reads a number of 64 bits without a sign.
-pub fn read_natural(text: &[u8]) -> Natural
+// A number of any length. It is read twice, and each sum is tested.
+fn read_long(text: &[u8]) -> Natural
+    requires { 1 ≤ length text.now }
     ensures { result ≡ natural_of text.now }
 {
-    if !is_written_well(text) {
+    if leads_with_zero(text) || !has_digits_alone(text) {
         return Natural::No;
     }
     let mut value: u64 = 0;
@@ -133,6 +138,40 @@ pub fn read_natural(text: &[u8]) -> Natural
         value = value * 10 + digit;
     }
     Natural::Is(value)
+}
+
+// What so few digits write, where all are digits: no sum passes 64 bits.
+fn short_value(text: &[u8]) -> Option<u64>
+    requires { length text.now ≤ MOST_SAFE_DIGITS }
+    ensures { result ≡ (if list_all is_digit text.now then Some (digits_value 10 text.now) else None) }
+{
+    let mut value: u64 = 0;
+    for c in text {
+        if !is_digit(*c) {
+            return None;
+        }
+        value = value * 10 + (*c - b'0') as u64;
+    }
+    Some(value)
+}
+
+// 10 ^ 19 is less than 2 ^ 64.
+const MOST_SAFE_DIGITS: usize = 19;
+
+/// Reads a number of 64 bits without a sign.
+pub fn read_natural(text: &[u8]) -> Natural
+    ensures { result ≡ natural_of text.now }
+{
+    if text.is_empty() || leads_with_zero(text) {
+        return Natural::No;
+    }
+    if text.len() > MOST_SAFE_DIGITS {
+        return read_long(text);
+    }
+    match short_value(text) {
+        Some(value) => Natural::Is(value),
+        None => Natural::No,
+    }
 }
 
 /// Reads a number of 64 bits that may have a minus.

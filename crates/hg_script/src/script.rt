@@ -2,9 +2,12 @@
 
 ghost use Rattle.std.specs.Prelude.{◌≡◌, ◌≤◌, ◌<◌, ◌+◌, ◌∷◌, ◌++◌, [], IfOk, OnOk, get_or, length, map, max};
 ghost use Rattle.hg_base.specs.Lists.{greatest};
+ghost use Rattle.hg_base.specs.declared.statement.Record.{Record};
+ghost use Rattle.hg_script.specs.Asked.{said_by};
 ghost use Rattle.hg_script.specs.Meaning.{nothing};
 ghost use Rattle.hg_script.specs.Numbered.{AreNumbered};
 
+use crate::asked::Asked;
 use crate::statements::StatementList;
 use crate::table::Table;
 use hg_base::{MOST_RECORDS, MOST_TABLES, NoMemory, Record, Statement};
@@ -71,6 +74,14 @@ impl Script {
             session,
             statement,
         })
+    }
+
+    /// The session of the statement at i, and what it asks. This takes no memory.
+    pub fn asked(&self, i: usize) -> (u32, Asked)
+        requires { i < length self.now.records }
+        ensures { (d : Record) → result ≡ said_by (get_or self.now.records i d) }
+    {
+        self.statements.asked(i)
     }
 
     /// The greatest number of a session, and 1 where there is no statement.

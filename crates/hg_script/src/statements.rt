@@ -3,10 +3,13 @@
 //! The values of all rows stand in one list, and a put keeps where its own begin and how many they are. So a statement takes
 //! 40 bytes, and 8 more for each value.
 
-ghost use Rattle.std.specs.Prelude.{◌≡◌, ◌≤◌, ◌<◌, ◌+◌, ◌^◌, ◌∷◌, ◌++◌, [], IfOk, OnErr, OnOk, fold, get_or, length, map, max};
+ghost use Rattle.std.specs.Prelude.{◌≡◌, ℕ, ℤ, List, ◌≤◌, ◌<◌, ◌+◌, ◌^◌, ◌∷◌, ◌++◌, [], IfOk, OnErr, OnOk, fold, get_or, length, map, max};
 ghost use Rattle.hg_base.specs.Lists.{greatest};
-ghost use Rattle.hg_script.specs.Packed.{added, packed_as};
+ghost use Rattle.hg_base.specs.declared.statement.Statement.{Statement};
+ghost use Rattle.hg_script.specs.Asked.{asked_by};
+ghost use Rattle.hg_script.specs.Packed.{added, packed_as, statement_in};
 
+use crate::asked::Asked;
 use hg_base::{Kind, MOST_COLUMNS, MOST_RECORDS, NoMemory, Rid, Row, Scope, Statement, TableId};
 use std::alloc::Global;
 use std::marker::Model;
@@ -30,6 +33,23 @@ pub(crate) enum Packed {
     Commit,
     Rollback,
     Gc(Kind),
+}
+
+impl Packed {
+    fn asked(self) -> Asked
+        ensures { (values : List ℤ) → result ≡ asked_by (statement_in values self) }
+    {
+        match self {
+            Packed::Begin(_) => Asked::Begin,
+            Packed::Get(rid) => Asked::Get(rid.table),
+            Packed::Put(rid, _) => Asked::Put(rid.table),
+            Packed::Del(rid) => Asked::Del(rid.table),
+            Packed::Scan { table, .. } => Asked::Scan(table),
+            Packed::Commit => Asked::Commit,
+            Packed::Rollback => Asked::Rollback,
+            Packed::Gc(_) => Asked::Gc,
+        }
+    }
 }
 
 #[derive(Clone, Copy, Debug)]
@@ -142,6 +162,15 @@ impl StatementList {
             Packed::Gc(kind) => Statement::Gc(kind),
         };
         Ok((entry.session, statement))
+    }
+
+    /// The session at i, and what its statement asks.
+    pub(crate) fn asked(&self, i: usize) -> (u32, Asked)
+        requires { i < length self.now }
+        ensures { (d : ℕ × Statement) → let said = get_or self.now i d in result ≡ (said.0, asked_by said.1) }
+    {
+        let entry = self.entries[i];
+        (entry.session, entry.packed.asked())
     }
 
     /// The greatest session, and 1 where there is no statement.

@@ -1,7 +1,7 @@
 use Rattle.std.proofs.Common.{◌≡◌, true, arith, rules}
 use Rattle.hg_script.specs.Number.{is_natural}
 use Rattle.hg_script.proofs.Digits.{value-more, is-over}
-use Rattle.hg_script.proofs.number.read_natural.Goals as goal
+use Rattle.hg_script.proofs.number.read_long.Goals as goal
 
 pub returns-then-value-digit : goal.returns-then-value-digit
 returns-then-value-digit c =
