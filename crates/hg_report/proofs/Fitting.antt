@@ -1,5 +1,5 @@
 -- Whatever is guessed fits the script: where it is written as the record stands there, the record may come next.
-use Rattle.std.proofs.Common.{◌≡◌, ◌<◌, ◌≤◌, ◌+◌, ◌^◌, ℕ, zero, suc, ℤ, pos, neg_ℤ, List, [], ◌∷◌, ◌++◌, length, length-append, drop, get_or, false, ◌==◌, ◌&&◌, Option, Some, None, nat_lt, nat_le, refl, arith}
+use Rattle.std.proofs.Common.{◌≡◌, ◌<◌, ◌≤◌, ◌+◌, ◌^◌, ℕ, zero, suc, ℤ, pos, neg_ℤ, List, [], ◌∷◌, ◌++◌, length, length-append, drop, get_or, false, ◌==◌, ◌&&◌, Option, Some, None, nat_lt, nat_le, refl, arith, subst}
 use Rattle.std.specs.Prelude.{IsTrue, IfSome, is_some, option_map, option_and_then, codes, ⊤}
 use Rattle.std.specs.Str.Parse.{digits_value}
 use Rattle.std.proofs.lemmas.Bool.{and_parts as both, ltb-true, leb-true, cond_both}
@@ -24,6 +24,7 @@ use Rattle.hg_script.specs.declared.number.Natural.TheVariants as n
 use Rattle.hg_script.specs.declared.number.Integer.{Integer}
 use Rattle.hg_script.specs.declared.number.Integer.TheVariants as signed
 use Rattle.hg_script.specs.Number.{natural_of, value_of, plus, minus, is_natural}
+use Rattle.hg_script.specs.Asked.{asked_by, table_asked}
 use Rattle.hg_report.specs.declared.piece.Piece.{Piece}
 use Rattle.hg_report.specs.declared.piece.Piece.TheVariants as piece
 use Rattle.hg_report.specs.declared.progress.Open.{Open}
@@ -31,6 +32,7 @@ use Rattle.hg_report.specs.declared.progress.Open.TheVariants as opens
 use Rattle.hg_report.specs.Fields.{nth, says, number_in, session_in, narrow, integer_in, integer_value, values_in, row_in}
 use Rattle.hg_report.specs.Guess.{answer_guess, answer_place, answered_guess, at_guess, first_guess, head_guess, held_guess, number_guess, piece_of, refusal_guess, row_guess, statement_at, sweep_guess, table_columns}
 use Rattle.hg_report.specs.Progress.{guess_after, scan_line, sweep_line}
+use Rattle.hg_report.proofs.Asking.{same_table}
 
 -- ---- the numbers of fields have their widths
 
@@ -126,7 +128,7 @@ found_fits : (tables : List Declaration) (r : Rid) (o : Option (List ℤ)) → I
 found_fits tables r None h = tt
 found_fits tables r (Some row) h = (h, tt)
 
-answer_fits : (tables : List Declaration) (statement : Statement) (fields : List Field) (i : ℕ) → IfSome (answer_guess tables statement fields i) (IsGuess tables statement)
+answer_fits : (tables : List Declaration) (statement : Statement) (fields : List Field) (i : ℕ) → IfSome (answer_guess tables (asked_by statement) fields i) (IsGuess tables statement)
 answer_fits tables (Begin scope) fields i = (number_fits fields (i + 1), tt)
 answer_fits tables (Get r) fields i =
     let P = λ (o : Option Answer). IfSome o (IsGuess tables (Get r)) in
@@ -169,7 +171,7 @@ number_fits_write : (answer : Answer) (fields : List Field) (i : ℕ) → IfSome
 number_fits_write answer fields i = cond_both (is_write answer && says fields (i + 1) (codes "committed")) (Some (number_in fields (i + 2))) None (λ (o : Option ℕ). IfSome o (λ c. Fits64 c × IsTrue (is_write answer)))
     (λ e. (number_fits fields (i + 2), (both _ _ e).0)) (λ e. tt)
 
-rows_fit_statement : (tables : List Declaration) (statement : Statement) (rows more : List (ℕ × List ℤ)) → FitsAnswer tables statement (Rows rows) → Fits64 (length more) → Each (FitsKey (table_columns tables statement)) more → FitsAnswer tables statement (Rows more)
+rows_fit_statement : (tables : List Declaration) (statement : Statement) (rows more : List (ℕ × List ℤ)) → FitsAnswer tables statement (Rows rows) → Fits64 (length more) → Each (FitsKey (table_columns tables (asked_by statement))) more → FitsAnswer tables statement (Rows more)
 rows_fit_statement tables (Scan table low high) rows more h many each = (many, rows_fit tables table more each)
 rows_fit_statement tables statement rows more h many each = absurd h
 
@@ -181,31 +183,31 @@ module _ (script : Script) (session place : ℕ) (narrow_session : Fits32 sessio
     short_fits : (answer : Answer) → FitsAnswer script.tables statement answer → Fits script (record { session = session; place = place; reply = record { at = at; answer = answer; number = number_guess answer fields i } })
     short_fits answer h = line_fits _ (record { at = wide_at; answer = h; number = number_fits_write answer fields i })
 
-    scan_fits : (rows more : List (ℕ × List ℤ)) → FitsAnswer script.tables statement (Rows rows) → Fits64 (length more) → Each (FitsKey (table_columns script.tables statement)) more → FitsAnswer script.tables statement (Rows more)
+    scan_fits : (rows more : List (ℕ × List ℤ)) → FitsAnswer script.tables statement (Rows rows) → Fits64 (length more) → Each (FitsKey (table_columns script.tables (asked_by statement))) more → FitsAnswer script.tables statement (Rows more)
     scan_fits rows more h many each = rows_fit_statement script.tables statement rows more h many each
 
-    head_fits : (answer : Answer) → IsGuess script.tables statement answer → FitsHead script (piece_of script.tables statement session place at fields i answer)
+    head_fits : (answer : Answer) → IsGuess script.tables statement answer → FitsHead script (piece_of script.tables (asked_by statement) session place at fields i answer)
     head_fits (Rows rows) h = λ more many each. line_fits _ (record { at = wide_at; answer = scan_fits rows more h.0 (rw many (number_fits fields (i + 1))) each; number = tt })
     head_fits (Swept sweep) h = (h.1, line_fits _ (record { at = tt; answer = h.0; number = tt }))
     head_fits answer h = (short_fits answer h.0, tt)
 
-    pub answered_fits : (o : Option Answer) → IfSome o (IsGuess script.tables statement) → IfSome (option_map (piece_of script.tables statement session place at fields i) o) (FitsHead script)
+    pub answered_fits : (o : Option Answer) → IfSome o (IsGuess script.tables statement) → IfSome (option_map (piece_of script.tables (asked_by statement) session place at fields i) o) (FitsHead script)
     answered_fits None h = tt
     answered_fits (Some answer) h = head_fits answer h
 
-at_fits : (statement : Statement) (fields : List Field) → IfSome (at_guess statement fields) (λ s. Fits64 s × IsTrue (is_some (table_of statement)))
-at_fits statement fields = cond_both (is_some (table_of statement) && says fields 2 (codes "at")) (Some (number_in fields 3)) None (λ (o : Option ℕ). IfSome o (λ s. Fits64 s × IsTrue (is_some (table_of statement))))
-    (λ e. (number_fits fields 3, (both _ _ e).0)) (λ e. tt)
+at_fits : (statement : Statement) (fields : List Field) → IfSome (at_guess (asked_by statement) fields) (λ s. Fits64 s × IsTrue (is_some (table_of statement)))
+at_fits statement fields = cond_both (is_some (table_asked (asked_by statement)) && says fields 2 (codes "at")) (Some (number_in fields 3)) None (λ (o : Option ℕ). IfSome o (λ s. Fits64 s × IsTrue (is_some (table_of statement))))
+    (λ e. (number_fits fields 3, subst (λ (o : Option TableId). IsTrue (is_some o)) (same_table statement) (both _ _ e).0)) (λ e. tt)
 
 module _ (script : Script) (fields : List Field) where
   abbrev replied : ℕ → ℕ → Option Statement → Option Piece
-  replied session place o = option_and_then (λ statement. answered_guess script.tables statement session place (at_guess statement fields) fields) o
+  replied session place o = option_and_then (λ asked. answered_guess script.tables asked session place (at_guess asked fields) fields) (option_map asked_by o)
 
   reply_fits : (session place : ℕ) → Fits32 session → Fits64 place → (session == 0) ≡ false → (o : Option Statement) → statement_at script.records session place ≡ o → IfSome (replied session place o) (FitsHead script)
   reply_fits session place h k some None is = tt
   reply_fits session place h k some (Some statement) is =
-      let at = at_guess statement fields in
-      answered_fits script session place h k some statement is fields at (at_fits statement fields) (answer_place at) (answer_guess script.tables statement fields (answer_place at)) (answer_fits script.tables statement fields (answer_place at))
+      let at = at_guess (asked_by statement) fields in
+      answered_fits script session place h k some statement is fields at (at_fits statement fields) (answer_place at) (answer_guess script.tables (asked_by statement) fields (answer_place at)) (answer_fits script.tables statement fields (answer_place at))
 
   report_fits : Fits script (sweep_line 0 (number_in fields 1) (sweep_guess fields 2))
   report_fits = record { session = omega arith; place = number_fits fields 1; reply = record { at = refl; answer = sweep_fits fields 2; number = refl } }

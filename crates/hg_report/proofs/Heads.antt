@@ -16,6 +16,7 @@ use Rattle.hg_base.specs.declared.line.Answer.TheVariants.{Begun, Stored, Found,
 use Rattle.hg_base.specs.Script.{Declaration}
 use Rattle.hg_base.specs.Text.{Field, Fits64, FitsRefusal, FitsBegin, FitsGet, FitsPut, FitsDel, FitsScan, FitsCommit, FitsRollback, FitsSweep, FitsGc, FitsAnswer, answer_fields, kind_word, told_as, columns_of, is_write}
 use Rattle.hg_report.specs.Fields.{nth}
+use Rattle.hg_script.specs.Asked.{asked_by}
 use Rattle.hg_report.specs.Guess.{answer_guess, get_guess, put_guess, del_guess, scan_guess, commit_guess, gc_guess, refusal_guess, sweep_guess, kind_guess, number_guess}
 use Rattle.hg_report.proofs.ReadBack.{number_read, session_read, row_read}
 use Rattle.hg_report.proofs.Columns.{HasColumns, IsNarrow}
@@ -82,7 +83,7 @@ module _ (tables : List Declaration) (fields : List Field) (i : ℕ) (tail : Lis
   refusal_read table (Undeclared other) are h = rw (are.later 1) (undeclared table other h)
   refusal_read table answer are h = absurd h
 
-  begin_read : (scope : Scope) (answer : Answer) → Answers answer → FitsBegin answer → answer_guess tables (Begin scope) fields i ≡ Some (emptied answer)
+  begin_read : (scope : Scope) (answer : Answer) → Answers answer → FitsBegin answer → answer_guess tables (asked_by (Begin scope)) fields i ≡ Some (emptied answer)
   begin_read scope (Begun s) are h = ap (λ n. Some (Begun n)) (number_read fields (i + 1) s h (are.later 1))
   begin_read scope answer are h = absurd h
 
@@ -131,7 +132,7 @@ module _ (tables : List Declaration) (fields : List Field) (i : ℕ) (tail : Lis
   gc_read (Swept sweep) are h = rw are.first (ap Swept (sweep_read sweep are h))
   gc_read answer are h = absurd h
 
-  pub answer_read : (statement : Statement) (answer : Answer) → Answers answer → HasColumns tables statement → FitsAnswer tables statement answer → answer_guess tables statement fields i ≡ Some (emptied answer)
+  pub answer_read : (statement : Statement) (answer : Answer) → Answers answer → HasColumns tables statement → FitsAnswer tables statement answer → answer_guess tables (asked_by statement) fields i ≡ Some (emptied answer)
   answer_read (Begin scope) answer are narrow h = begin_read scope answer are h
   answer_read (Get r) answer are narrow h = get_read r.table answer are narrow h
   answer_read (Put r row) answer are narrow h = ap Some (put_read r.table answer are h)

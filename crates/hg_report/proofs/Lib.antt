@@ -15,3 +15,4 @@ pub mod Taking
 pub mod Looping
 pub mod Answering
 pub mod Shorter
+pub mod Asking

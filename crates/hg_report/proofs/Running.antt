@@ -29,8 +29,10 @@ use Rattle.hg_report.specs.declared.progress.Open.{Open}
 use Rattle.hg_report.specs.declared.progress.Open.TheVariants as opens
 use Rattle.hg_report.specs.declared.progress.Progress.{Progress}
 use Rattle.hg_report.specs.Fields.{says, number_in, session_in}
+use Rattle.hg_script.specs.Asked.{asked_by, table_asked}
 use Rattle.hg_report.specs.Guess.{behind, total_word, answer_place, answered_guess, at_guess, first_guess, head_guess, reply_guess, piece_of, statement_at, sweep_guess, table_columns}
 use Rattle.hg_report.specs.Progress.{guess_after, sweep_line, lines_of, no_totals, totals_of, with_total, after, at_start, IsNext, Runs}
+use Rattle.hg_report.proofs.Asking.{same_table}
 use Rattle.hg_report.proofs.Fitting.{IsFree, IsShort, FitsKey, FitsTold}
 use Rattle.hg_report.proofs.Stands.{row_records}
 use Rattle.hg_report.proofs.ReadBack.{number_read, session_read, row_read}
@@ -88,7 +90,7 @@ keys_fit : (tables : List Declaration) (table : TableId) (rows : List (ℕ × Li
 keys_fit tables table [] h = tt
 keys_fit tables table (p ∷ ps) h = ((h.0.0, h.0.1.0, h.0.1.1), keys_fit tables table ps h.1)
 
-scan_facts : (tables : List Declaration) (statement : Statement) (rows : List (ℕ × List ℤ)) → FitsAnswer tables statement (Rows rows) → HasColumns tables statement → ScanFacts (table_columns tables statement) rows
+scan_facts : (tables : List Declaration) (statement : Statement) (rows : List (ℕ × List ℤ)) → FitsAnswer tables statement (Rows rows) → HasColumns tables statement → ScanFacts (table_columns tables (asked_by statement)) rows
 scan_facts tables (Scan table low high) rows h narrow = record { narrow = narrow; many = h.0; each = keys_fit tables table rows h.1 }
 scan_facts tables statement rows h narrow = absurd h
 
@@ -231,20 +233,20 @@ module _ (script : Script) where
     abbrev IsAt : Option ℕ → Type 0
     IsAt at = IfSome at (λ s. Fits64 s × IsTrue (is_some (table_of statement)))
 
-    at_read : (at : Option ℕ) (answer : Answer) (number : Option ℕ) → IsAt at → at_guess statement (head_fields (line_of at answer number)) ≡ at
+    at_read : (at : Option ℕ) (answer : Answer) (number : Option ℕ) → IsAt at → at_guess (asked_by statement) (head_fields (line_of at answer number)) ≡ at
     at_read None answer number h =
         let none = (answer_begins script.tables answer (told_as (codes "committed") number)).0 in
-        cond-false _ _ _ (ap (λ b. is_some (table_of statement) && b) none ∙ and_none (is_some (table_of statement)))
+        cond-false _ _ _ (ap (λ b. is_some (table_asked (asked_by statement)) && b) none ∙ and_none (is_some (table_asked (asked_by statement))))
     at_read (Some s) answer number h =
         let fields = head_fields (line_of (Some s) answer number) in
-        cond-true (is_some (table_of statement) && true) _ _ (ap (λ b. b && true) h.1) ∙ ap Some (number_read fields 3 s h.0 refl)
+        cond-true (is_some (table_asked (asked_by statement)) && true) _ _ (ap (λ b. b && true) (ap (λ (o : Option TableId). is_some o) (same_table statement) ∙ h.1)) ∙ ap Some (number_read fields 3 s h.0 refl)
 
     answer_from : (at : Option ℕ) (answer : Answer) (number : Option ℕ) → Answers script.tables (head_fields (line_of at answer number)) (answer_place at) (told_as (codes "committed") number) answer
     answer_from None answer number = record { first = refl; later = two_fields_at (decimal session) (decimal place) (answer_fields script.tables answer ++ told_as (codes "committed") number) }
     answer_from (Some s) answer number = record { first = refl; later = row_fields_at (decimal session) (decimal place) (codes "at") (decimal s) (answer_fields script.tables answer ++ told_as (codes "committed") number) }
 
     replied : (at : Option ℕ) (answer : Answer) (number : Option ℕ) → IsAt at → FitsAnswer script.tables statement answer
-        → guess_after script progress.last (head_fields (line_of at answer number)) ≡ Some (piece_of script.tables statement session place at (head_fields (line_of at answer number)) (answer_place at) (emptied answer))
+        → guess_after script progress.last (head_fields (line_of at answer number)) ≡ Some (piece_of script.tables (asked_by statement) session place at (head_fields (line_of at answer number)) (answer_place at) (emptied answer))
     replied at answer number h k =
         let line = line_of at answer number in
         let fields = head_fields line in
@@ -252,15 +254,15 @@ module _ (script : Script) where
         ∙ ap (λ s. if s == 0 then Some (piece.Sweep 0 (number_in fields 1) (sweep_guess fields 2)) else reply_guess script s (number_in fields 1) fields) (session_read fields 0 session small refl)
         ∙ cond-false (session == 0) _ _ some
         ∙ ap (λ p. reply_guess script session p fields) (number_read fields 1 place wide refl)
-        ∙ ap (λ o. option_and_then (λ statement. answered_guess script.tables statement session place (at_guess statement fields) fields) o) is
-        ∙ ap (λ at. answered_guess script.tables statement session place at fields) (at_read at answer number h)
-        ∙ ap (λ o. option_map (piece_of script.tables statement session place at fields (answer_place at)) o)
+        ∙ ap (λ o. option_and_then (λ asked. answered_guess script.tables asked session place (at_guess asked fields) fields) (option_map asked_by o)) is
+        ∙ ap (λ at. answered_guess script.tables (asked_by statement) session place at fields) (at_read at answer number h)
+        ∙ ap (λ o. option_map (piece_of script.tables (asked_by statement) session place at fields (answer_place at)) o)
         (answer_read script.tables fields (answer_place at) (told_as (codes "committed") number) statement answer (answer_from at answer number) narrow k)
 
     scan_line_runs : (at : Option ℕ) (rows : List (ℕ × List ℤ)) → IsAt at → FitsAnswer script.tables statement (Rows rows) → LineRuns progress (line_of at (Rows rows) None)
     scan_line_runs at rows h k =
         let fields = head_fields (line_of at (Rows rows) None) in
-        let columns = table_columns script.tables statement in
+        let columns = table_columns script.tables (asked_by statement) in
         let facts = scan_facts script.tables statement rows k narrow in
         let count : number_in fields (answer_place at + 1) ≡ length rows = number_read fields (answer_place at + 1) (length rows) facts.many ((answer_from at (Rows rows) None).later 1) in
         let guess : guess_after script progress.last fields ≡ Some (piece.Scan session place at columns (length rows)) = replied at (Rows rows) None h k ∙ ap (λ n. Some (piece.Scan session place at columns n)) count in

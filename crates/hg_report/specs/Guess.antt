@@ -3,7 +3,6 @@ use Rattle.std.specs.Prelude.{ℕ, ◌+◌, List, [], ◌∷◌, ◌++◌, ◌==
 use Rattle.std.specs.Option.{option_map_or}
 use Rattle.hg_base.specs.declared.rid.TableId.{TableId}
 use Rattle.hg_base.specs.declared.statement.Statement.{Statement}
-use Rattle.hg_base.specs.declared.statement.Statement.TheVariants.{Begin, Get, Put, Del, Scan, Commit as CommitIt, Rollback, Gc}
 use Rattle.hg_base.specs.declared.statement.Record.{Record}
 use Rattle.hg_base.specs.declared.report.Kind.{Kind}
 use Rattle.hg_base.specs.declared.report.Kind.TheVariants as kinds
@@ -11,8 +10,10 @@ use Rattle.hg_base.specs.declared.report.Sweep.{Sweep}
 use Rattle.hg_base.specs.declared.line.Answer.{Answer}
 use Rattle.hg_base.specs.declared.line.Answer.TheVariants.{Begun, Stored, Found, Nothing, Gone, Rows, Committed, Ended, Undone, Newer, OpenBy, Undeclared, Swept, Beside}
 use Rattle.hg_base.specs.Script.{Declaration, Script}
-use Rattle.hg_base.specs.Transcript.{table_of}
 use Rattle.hg_base.specs.Text.{Field, columns_of, answer_fields, held_fields, row_fields, told_as, total_fields, is_write}
+use Rattle.hg_script.specs.declared.asked.Asked.{Asked}
+use Rattle.hg_script.specs.declared.asked.Asked.TheVariants.{Begin, Get, Put, Del, Scan, Commit as CommitIt, Rollback, Gc}
+use Rattle.hg_script.specs.Asked.{asked_by, table_asked}
 use Rattle.hg_report.specs.declared.piece.Piece.{Piece}
 use Rattle.hg_report.specs.declared.piece.Piece.TheVariants as piece
 use Rattle.hg_report.specs.Fields.{says, number_in, session_in, row_in}
@@ -53,7 +54,7 @@ refusal_guess table fields i =
     else if says fields (i + 1) (codes "open") then OpenBy (record { session = session_in fields (i + 2); transaction = number_in fields (i + 3) })
     else Undeclared table
 
--- by the statement; the rows of a scan come later
+-- by what the statement asks; the rows of a scan come later
 abbrev pub get_guess : List Declaration → TableId → List Field → ℕ → Option Answer
 get_guess tables table fields i =
     if says fields i (codes "row") then option_map Found (row_in fields (i + 1) (columns_of tables table))
@@ -74,21 +75,21 @@ commit_guess fields i = if says fields i (codes "committed") then Committed (num
 abbrev pub gc_guess : List Field → ℕ → Answer
 gc_guess fields i = if says fields i (codes "beside") then Beside else Swept (sweep_guess fields i)
 
-abbrev pub answer_guess : List Declaration → Statement → List Field → ℕ → Option Answer
-answer_guess tables (Begin scope) fields i = Some (Begun (number_in fields (i + 1)))
-answer_guess tables (Get r) fields i = get_guess tables r.table fields i
-answer_guess tables (Put r row) fields i = Some (put_guess r.table fields i)
-answer_guess tables (Del r) fields i = Some (del_guess r.table fields i)
-answer_guess tables (Scan table low high) fields i = Some (scan_guess table fields i)
+abbrev pub answer_guess : List Declaration → Asked → List Field → ℕ → Option Answer
+answer_guess tables Begin fields i = Some (Begun (number_in fields (i + 1)))
+answer_guess tables (Get table) fields i = get_guess tables table fields i
+answer_guess tables (Put table) fields i = Some (put_guess table fields i)
+answer_guess tables (Del table) fields i = Some (del_guess table fields i)
+answer_guess tables (Scan table) fields i = Some (scan_guess table fields i)
 answer_guess tables CommitIt fields i = Some (commit_guess fields i)
 answer_guess tables Rollback fields i = Some Undone
-answer_guess tables (Gc kind) fields i = Some (gc_guess fields i)
+answer_guess tables Gc fields i = Some (gc_guess fields i)
 
 -- ---- the guess of a line's first record
 
 -- the snapshot of a statement on a table
-abbrev pub at_guess : Statement → List Field → Option ℕ
-at_guess statement fields = if is_some (table_of statement) && says fields 2 (codes "at") then Some (number_in fields 3) else None
+abbrev pub at_guess : Asked → List Field → Option ℕ
+at_guess asked fields = if is_some (table_asked asked) && says fields 2 (codes "at") then Some (number_in fields 3) else None
 
 -- where the answer begins
 abbrev pub answer_place : Option ℕ → ℕ
@@ -98,27 +99,31 @@ answer_place at = if is_some at then 4 else 2
 abbrev pub number_guess : Answer → List Field → ℕ → Option ℕ
 number_guess answer fields i = if is_write answer && says fields (i + 1) (codes "committed") then Some (number_in fields (i + 2)) else None
 
-abbrev pub table_columns : List Declaration → Statement → ℕ
-table_columns tables statement = option_map_or (λ table. columns_of tables table) (table_of statement) 0
+abbrev pub table_columns : List Declaration → Asked → ℕ
+table_columns tables asked = option_map_or (λ table. columns_of tables table) (table_asked asked) 0
 
 -- the piece that an answer is
-abbrev pub piece_of : List Declaration → Statement → ℕ → ℕ → Option ℕ → List Field → ℕ → Answer → Piece
-piece_of tables statement session place at fields i (Rows rows) = piece.Scan session place at (table_columns tables statement) (number_in fields (i + 1))
-piece_of tables statement session place at fields i (Swept sweep) = piece.Sweep session place sweep
-piece_of tables statement session place at fields i answer =
+abbrev pub piece_of : List Declaration → Asked → ℕ → ℕ → Option ℕ → List Field → ℕ → Answer → Piece
+piece_of tables asked session place at fields i (Rows rows) = piece.Scan session place at (table_columns tables asked) (number_in fields (i + 1))
+piece_of tables asked session place at fields i (Swept sweep) = piece.Sweep session place sweep
+piece_of tables asked session place at fields i answer =
     piece.Line (record { session = session; place = place; reply = record { at = at; answer = answer; number = number_guess answer fields i } })
 
-abbrev pub answered_guess : List Declaration → Statement → ℕ → ℕ → Option ℕ → List Field → Option Piece
-answered_guess tables statement session place at fields =
-    option_map (piece_of tables statement session place at fields (answer_place at)) (answer_guess tables statement fields (answer_place at))
+abbrev pub answered_guess : List Declaration → Asked → ℕ → ℕ → Option ℕ → List Field → Option Piece
+answered_guess tables asked session place at fields =
+    option_map (piece_of tables asked session place at fields (answer_place at)) (answer_guess tables asked fields (answer_place at))
 
 -- the statement of that session and place
 abbrev pub statement_at : List Record → ℕ → ℕ → Option Statement
 statement_at records session place = option_map_or (λ r. Some r.statement) (find (λ r. (r.place == place) && (r.session == session)) records) None
 
+-- and what it asks
+abbrev pub asked_at : List Record → ℕ → ℕ → Option Asked
+asked_at records session place = option_map asked_by (statement_at records session place)
+
 abbrev pub reply_guess : Script → ℕ → ℕ → List Field → Option Piece
 reply_guess script session place fields =
-    option_and_then (λ statement. answered_guess script.tables statement session place (at_guess statement fields) fields) (statement_at script.records session place)
+    option_and_then (λ asked. answered_guess script.tables asked session place (at_guess asked fields) fields) (asked_at script.records session place)
 
 -- a report of a run where the session is 0, and else a reply
 abbrev pub head_guess : Script → List Field → Option Piece

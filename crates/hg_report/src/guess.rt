@@ -2,17 +2,16 @@
 
 ghost use Rattle.std.specs.Prelude.{◌≡◌, ◌≢◌, ℕ, ◌+◌, ◌<◌, ◌≤◌, IfNone, IfOk, IfSome, length};
 ghost use Rattle.hg_base.specs.Text.{columns_of, is_write};
-ghost use Rattle.hg_base.specs.Transcript.{table_of};
 ghost use Rattle.hg_script.specs.Numbered.{AreNumbered};
 ghost use Rattle.hg_report.specs.Fields.{fields_of};
-ghost use Rattle.hg_report.specs.Guess.{answer_guess, answer_place, answered_guess, at_guess, commit_guess, del_guess, first_guess, gc_guess, get_guess, head_guess, held_guess, kind_guess, number_guess, piece_of, put_guess, refusal_guess, reply_guess, row_guess, scan_guess, statement_at, sweep_guess, table_columns};
+ghost use Rattle.hg_report.specs.Guess.{answer_guess, answer_place, answered_guess, asked_at, at_guess, commit_guess, del_guess, first_guess, gc_guess, get_guess, head_guess, held_guess, kind_guess, number_guess, piece_of, put_guess, refusal_guess, reply_guess, row_guess, scan_guess, sweep_guess, table_columns};
 
 use crate::fields::{number_in, row_in, says, session_in};
 use crate::piece::Piece;
 use hg_base::{
-    Answer, Kind, Line, NoMemory, Reply, RowList, Statement, Sweep, TableId, Told, ToldList, Writer,
+    Answer, Kind, Line, NoMemory, Reply, RowList, Sweep, TableId, Told, ToldList, Writer,
 };
-use hg_script::{Script, Table};
+use hg_script::{Asked, Script, Table};
 use std::alloc::Global;
 
 fn columns_of(tables: &[Table], table: TableId) -> u8
@@ -146,51 +145,39 @@ fn gc_guess(alloc: Global, row: &[&[u8]], i: usize) -> Answer
 fn answer_guess(
     alloc: Global,
     tables: &[Table],
-    statement: &Statement,
+    asked: Asked,
     row: &[&[u8]],
     i: usize,
 ) -> Result<Option<Answer>, NoMemory>
     requires { i ≤ 4 }
-    ensures { IfOk result (λ o. o ≡ answer_guess tables.now statement.now (fields_of row.now) i) }
+    ensures { IfOk result (λ o. o ≡ answer_guess tables.now asked (fields_of row.now) i) }
 {
-    match statement {
-        Statement::Begin(_) => Ok(Some(Answer::Begun(number_in(row, i + 1)))),
-        Statement::Get(r) => get_guess(alloc, tables, r.table, row, i),
-        Statement::Put(r, _) => Ok(Some(put_guess(r.table, row, i))),
-        Statement::Del(r) => Ok(Some(del_guess(r.table, row, i))),
-        Statement::Scan { table, .. } => Ok(Some(scan_guess(alloc, *table, row, i))),
-        Statement::Commit => Ok(Some(commit_guess(row, i))),
-        Statement::Rollback => Ok(Some(Answer::Undone)),
-        Statement::Gc(_) => Ok(Some(gc_guess(alloc, row, i))),
+    match asked {
+        Asked::Begin => Ok(Some(Answer::Begun(number_in(row, i + 1)))),
+        Asked::Get(table) => get_guess(alloc, tables, table, row, i),
+        Asked::Put(table) => Ok(Some(put_guess(table, row, i))),
+        Asked::Del(table) => Ok(Some(del_guess(table, row, i))),
+        Asked::Scan(table) => Ok(Some(scan_guess(alloc, table, row, i))),
+        Asked::Commit => Ok(Some(commit_guess(row, i))),
+        Asked::Rollback => Ok(Some(Answer::Undone)),
+        Asked::Gc => Ok(Some(gc_guess(alloc, row, i))),
     }
 }
 
-fn table_of(statement: &Statement) -> Option<TableId>
-    ensures { result ≡ table_of statement.now }
+fn at_guess(asked: Asked, row: &[&[u8]]) -> Option<u64>
+    ensures { result ≡ at_guess asked (fields_of row.now) }
 {
-    match statement {
-        Statement::Get(r) => Some(r.table),
-        Statement::Put(r, _) => Some(r.table),
-        Statement::Del(r) => Some(r.table),
-        Statement::Scan { table, .. } => Some(*table),
-        _ => None,
-    }
-}
-
-fn at_guess(statement: &Statement, row: &[&[u8]]) -> Option<u64>
-    ensures { result ≡ at_guess statement.now (fields_of row.now) }
-{
-    if table_of(statement).is_some() && says(row, 2, b"at") {
+    if asked.table().is_some() && says(row, 2, b"at") {
         Some(number_in(row, 3))
     } else {
         None
     }
 }
 
-fn table_columns(tables: &[Table], statement: &Statement) -> u8
-    ensures { result ≡ table_columns tables.now statement.now }
+fn table_columns(tables: &[Table], asked: Asked) -> u8
+    ensures { result ≡ table_columns tables.now asked }
 {
-    match table_of(statement) {
+    match asked.table() {
         Some(table) => columns_of(tables, table),
         None => 0,
     }
@@ -227,7 +214,7 @@ fn answer_place(at: Option<u64>) -> usize
 // The piece that an answer is.
 fn piece_of(
     tables: &[Table],
-    statement: &Statement,
+    asked: Asked,
     session: u32,
     place: u64,
     at: Option<u64>,
@@ -236,14 +223,14 @@ fn piece_of(
     answer: Answer,
 ) -> Piece
     requires { i ≤ 4 }
-    ensures { result ≡ piece_of tables.now statement.now session place at (fields_of row.now) i answer }
+    ensures { result ≡ piece_of tables.now asked session place at (fields_of row.now) i answer }
 {
     match answer {
         Answer::Rows(_) => Piece::Scan {
             session,
             place,
             at,
-            columns: table_columns(tables, statement),
+            columns: table_columns(tables, asked),
             left: number_in(row, i + 1),
         },
         Answer::Swept(sweep) => Piece::Sweep {
@@ -265,17 +252,17 @@ fn piece_of(
 fn answered_guess(
     alloc: Global,
     tables: &[Table],
-    statement: &Statement,
+    asked: Asked,
     session: u32,
     place: u64,
     row: &[&[u8]],
 ) -> Result<Option<Piece>, NoMemory>
-    ensures { IfOk result (λ o. o ≡ answered_guess tables.now statement.now session place (at_guess statement.now (fields_of row.now)) (fields_of row.now)) }
+    ensures { IfOk result (λ o. o ≡ answered_guess tables.now asked session place (at_guess asked (fields_of row.now)) (fields_of row.now)) }
 {
-    let at = at_guess(statement, row);
+    let at = at_guess(asked, row);
     let i = answer_place(at);
-    match answer_guess(alloc, tables, statement, row, i)? {
-        Some(answer) => Ok(Some(piece_of(tables, statement, session, place, at, row, i, answer))),
+    match answer_guess(alloc, tables, asked, row, i)? {
+        Some(answer) => Ok(Some(piece_of(tables, asked, session, place, at, row, i, answer))),
         None => Ok(None),
     }
 }
@@ -291,19 +278,15 @@ fn index_of(script: &Script, place: u64) -> Option<usize>
     if i < count { Some(i) } else { None }
 }
 
-// The statement of that session and place.
-fn statement_at(script: &Script, session: u32, place: u64) -> Result<Option<Statement>, NoMemory>
-    ensures { IfOk result (λ o. o ≡ statement_at script.now.records session place) }
+// What the record of that session and place asks.
+fn asked_at(script: &Script, session: u32, place: u64) -> Option<Asked>
+    ensures { result ≡ asked_at script.now.records session place }
 {
     let Some(i) = index_of(script, place) else {
-        return Ok(None);
+        return None;
     };
-    let record = script.record(i)?;
-    if record.session == session {
-        Ok(Some(record.statement))
-    } else {
-        Ok(None)
-    }
+    let (by, asked) = script.asked(i);
+    if by == session { Some(asked) } else { None }
 }
 
 fn reply_guess(
@@ -315,8 +298,8 @@ fn reply_guess(
 ) -> Result<Option<Piece>, NoMemory>
     ensures { IfOk result (λ o. o ≡ reply_guess script.now session place (fields_of row.now)) }
 {
-    match statement_at(script, session, place)? {
-        Some(statement) => answered_guess(alloc, script.tables(), &statement, session, place, row),
+    match asked_at(script, session, place) {
+        Some(asked) => answered_guess(alloc, script.tables(), asked, session, place, row),
         None => Ok(None),
     }
 }
