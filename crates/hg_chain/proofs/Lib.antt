@@ -4,3 +4,11 @@ pub mod Sweeps
 pub mod Turns
 pub mod Cleanness
 pub mod Readers
+pub mod Strands
+pub mod Removals
+pub mod Unlinks
+pub mod Writes
+pub mod Rooms
+pub mod Walks
+pub mod Settling
+pub mod Held

@@ -30,11 +30,16 @@
 //! after as many turns as there were versions the others are gone, none was copied, and no memory was taken.
 #![tactic(auto)]
 
+mod arena;
 mod chain;
+mod chains;
+mod cursor;
 mod merge;
+mod node;
 mod version;
 
 pub use chain::{Chain, Cut, Swept};
+pub use chains::Chains;
 pub use version::{Stamp, Version};
 
 #[cfg(test)]

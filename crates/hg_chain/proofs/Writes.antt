@@ -1,0 +1,270 @@
+-- A version is put in front of a place's chain, or the first one is written over.
+use Rattle.std.proofs.Common.{◌≡◌, ◌≢◌, ℕ, zero, suc, ◌+◌, ◌-◌, ◌<◌, ◌≤◌, ◌^◌, List, ◌∷◌, length, drop, set, Bool, true, false, refl, sym, ap, ◌∙◌, subst, arith, get_or-set_same, get_or-set_other, inl, inr}
+use Rattle.std.specs.Prelude.{IsTrue, ◌⊎◌, if◌then◌else◌}
+use Rattle.std.proofs.lemmas.List.{length-set}
+use Rattle.std.proofs.lemmas.Bool.{cases_eq}
+use Rattle.std.proofs.lemmas.Bool.Decides.{nat_tests}
+use Rattle.hg_base.specs.declared.writer.Writer.{Writer}
+use Rattle.hg_base.specs.declared.image.Image.{Image}
+use Rattle.hg_chain.specs.declared.version.Version.{Version}
+use Rattle.hg_chain.specs.declared.node.Node.{Node}
+use Rattle.hg_chain.specs.declared.node.Strand.{Strand}
+use Rattle.hg_chain.specs.declared.node.Head.{Head}
+use Rattle.hg_chain.specs.Versions.{NoOther, is_open_by, open_write, installed, stamped, has_writer}
+use Rattle.hg_chain.specs.declared.version.Stamp.TheVariants.{Written, Numbered}
+use Rattle.hg_chain.specs.Strands.{blank, node_at, head_at, writer_in, version_in, versions, versions_of, IsStrand, strand_of, AreStrands}
+use Rattle.hg_chain.proofs.Strands.{Stays, frame, frame_versions, put, put_here, put_apart, has_head, head_here, head_apart, recount, tops}
+use Rattle.hg_chain.proofs.Removals.{First, first}
+
+-- ---- a node that no strand has is put in front of a chain
+
+pub record Took (nodes : List Node) (free : Strand) (x : Node) (i : ℕ) (nodes' : List Node) (free' : Strand) : Type 0 where
+  pub here : node_at nodes' i ≡ x
+  pub within : i < length nodes'
+  pub others : (j : ℕ) → j < length nodes → j ≢ i → node_at nodes' j ≡ node_at nodes j
+  pub grown : free.count ≡ 0 → (i ≡ length nodes) × (length nodes' ≡ length nodes + 1) × (free' ≡ free)
+  pub reused : 0 < free.count → (i ≡ free.first) × (length nodes' ≡ length nodes) × (free'.first ≡ (node_at nodes free.first).next) × (free'.count + 1 ≡ free.count)
+
+-- the node was in no strand of a place, and isn't in what is left of the free ones
+pub record Loose (heads : List Head) (nodes : List Node) (free : Strand) (a : AreStrands heads nodes free) (i : ℕ) (nodes' : List Node) (free' : Strand) : Type 0 where
+  pub bound : ℕ
+  pub strand : IsStrand nodes a.owner a.rank 0 bound free'.count free'.first
+  pub owned : i < length nodes → a.owner i ≡ 0
+  pub over : i < length nodes → bound ≤ a.rank i
+  pub more : length nodes ≤ length nodes'
+  pub count : length nodes' + free.count ≡ length nodes + free'.count + 1
+  pub fits : length nodes' < 2 ^ 32
+
+pub loose : (heads : List Head) (nodes : List Node) (free : Strand) (a : AreStrands heads nodes free) (x : Node) (i : ℕ) (nodes' : List Node) (free' : Strand) → Took nodes free x i nodes' free' → (free.count ≡ 0 → length nodes + 1 < 2 ^ 32) → Loose heads nodes free a i nodes' free'
+loose heads nodes free a x i nodes' free' t room = go free.count refl
+  where
+    go : (n : ℕ) → free.count ≡ n → Loose heads nodes free a i nodes' free'
+    go zero e =
+        let g = t.grown e in
+        let past : i ≡ length nodes = g.0 in
+        let longer : length nodes' ≡ length nodes + 1 = g.1 in
+        let same : free'.count ≡ free.count = ap (λ (s : Strand). s.count) g.2 in
+        let small : length nodes + 1 < 2 ^ 32 = room e in
+        record {
+          bound = a.top 0;
+          strand = subst (λ (s : Strand). IsStrand nodes a.owner a.rank 0 (a.top 0) s.count s.first) (sym g.2) (a.strands 0);
+          owned = λ within. absurd (omega (arith, past, within));
+          over = λ within. absurd (omega (arith, past, within));
+          more = omega (arith, longer);
+          count = omega (arith, longer, e, same);
+          fits = omega (arith, longer, small);
+        }
+    go (suc n) e =
+        let r = t.reused (omega (arith, e)) in
+        let s : IsStrand nodes a.owner a.rank 0 (a.top 0) (suc n) free.first = subst (λ m. IsStrand nodes a.owner a.rank 0 (a.top 0) m free.first) e (a.strands 0) in
+        let less : free'.count + 1 ≡ free.count = r.3 in
+        let n_left : n ≡ free'.count = omega (arith, less, e) in
+        let same : length nodes' ≡ length nodes = r.1 in
+        let was : length nodes < 2 ^ 32 = a.fits in
+        let here : i ≡ free.first = r.0 in
+        record {
+          bound = a.rank free.first;
+          strand = subst (λ m. IsStrand nodes a.owner a.rank 0 (a.rank free.first) m free'.first) n_left (subst (IsStrand nodes a.owner a.rank 0 (a.rank free.first) n) (sym r.2) s.3);
+          owned = λ within. ap a.owner here ∙ s.1;
+          over = λ within. (let k : a.rank i ≡ a.rank free.first = ap a.rank here in omega (arith, k));
+          more = omega (arith, same);
+          count = omega (arith, same, less, e);
+          fits = omega (arith, same, was);
+        }
+
+abbrev pub with_front : List Head → ℕ → ℕ → Head
+with_front heads p i = record { strand = record { first = i; count = (head_at heads p).strand.count + 1 }; is_open = true }
+
+pub record Pushed (heads : List Head) (nodes : List Node) (p : ℕ) (x : Node) (i : ℕ) (nodes' : List Node) (free' : Strand) : Type 0 where
+  pub arena : AreStrands (set heads p (with_front heads p i)) nodes' free'
+  pub here : versions_of nodes' (head_at (set heads p (with_front heads p i)) p) ≡ version_in true x ∷ versions nodes false (head_at heads p).strand.count (head_at heads p).strand.first
+  pub others : (q : ℕ) → q ≢ p → versions_of nodes' (head_at (set heads p (with_front heads p i)) q) ≡ versions_of nodes (head_at heads q)
+
+pub pushed : (heads : List Head) (nodes : List Node) (free : Strand) (a : AreStrands heads nodes free) (p : ℕ) (x : Node) (i : ℕ) (nodes' : List Node) (free' : Strand) → p < length heads → x.next ≡ (head_at heads p).strand.first → Took nodes free x i nodes' free' → Loose heads nodes free a i nodes' free' → Pushed heads nodes p x i nodes' free'
+pushed heads nodes free a p x i nodes' free' within link t l =
+    record {
+      arena = record {
+        owner = put a.owner i (suc p);
+        rank = put a.rank i (a.top (suc p));
+        top = tops a.top l.bound p (suc (a.top (suc p)));
+        strands = strands;
+        all = (let e = recount heads p (with_front heads p i) within in let c = l.count in let all = a.all in omega (arith, e, c, all));
+        fits = l.fits;
+      };
+      here = ap (versions_of nodes') (head_here heads p (with_front heads p i) within) ∙ ap (λ n. versions nodes' true n i) next_count ∙ (λ k. version_in true (t.here k) ∷ versions nodes' false (head_at heads p).strand.count (t.here k).next) ∙ ap (λ j. version_in true x ∷ versions nodes' false (head_at heads p).strand.count j) link ∙ ap (λ vs. version_in true x ∷ vs) (same_versions (suc p) (suc_zero p) (a.top (suc p)) false (head_at heads p).strand.count (head_at heads p).strand.first (a.strands (suc p)));
+      others = λ q apart. ap (versions_of nodes') (head_apart heads p q (with_front heads p i) apart) ∙ same_versions (suc q) (suc_zero q) (a.top (suc q)) (head_at heads q).is_open (head_at heads q).strand.count (head_at heads q).strand.first (a.strands (suc q));
+    }
+  where
+    next_count : (head_at heads p).strand.count + 1 ≡ suc (head_at heads p).strand.count
+    next_count = omega arith
+
+    suc_zero : (q : ℕ) → suc q ≢ 0
+    suc_zero q e = omega (arith, e)
+
+    apart_from : (who : ℕ) → who ≢ 0 → (j : ℕ) → j < length nodes → a.owner j ≡ who → j ≢ i
+    apart_from who some j x e k = some (sym e ∙ ap a.owner k ∙ l.owned (subst (λ m. m < length nodes) k x))
+
+    same_versions : (who : ℕ) → who ≢ 0 → (bound : ℕ) (begins : Bool) (n j : ℕ) → IsStrand nodes a.owner a.rank who bound n j → versions nodes' begins n j ≡ versions nodes begins n j
+    same_versions who some bound begins n j s = frame_versions nodes a.owner a.rank nodes' begins who bound n j (λ k x y z. t.others k x (apart_from who some k x y)) s
+
+    stays : (j : ℕ) → j < length nodes → j ≢ i → Stays nodes a.owner a.rank nodes' (put a.owner i (suc p)) (put a.rank i (a.top (suc p))) j
+    stays j within apart =
+        record {
+          next = ap (λ (n : Node). n.next) (t.others j within apart);
+          owned = put_apart a.owner i (suc p) j apart;
+          ranked = put_apart a.rank i (a.top (suc p)) j apart;
+        }
+
+    kept : (who : ℕ) → who ≢ 0 → (bound n j : ℕ) → IsStrand nodes a.owner a.rank who bound n j → IsStrand nodes' (put a.owner i (suc p)) (put a.rank i (a.top (suc p))) who bound n j
+    kept who some bound n j s = frame nodes a.owner a.rank nodes' (put a.owner i (suc p)) (put a.rank i (a.top (suc p))) l.more who bound n j (λ k x y z. stays k x (apart_from who some k x y)) s
+
+    free_strand : IsStrand nodes' (put a.owner i (suc p)) (put a.rank i (a.top (suc p))) 0 l.bound free'.count free'.first
+    free_strand =
+        frame nodes a.owner a.rank nodes' (put a.owner i (suc p)) (put a.rank i (a.top (suc p))) l.more 0 l.bound free'.count free'.first
+        (λ k x y z. stays k x (λ e. absurd (let o = l.over (subst (λ m. m < length nodes) e x) in let r : a.rank k ≡ a.rank i = ap a.rank e in omega (arith, o, r, z)))) l.strand
+
+    front : (n : ℕ) → n ≡ suc (head_at heads p).strand.count → IsStrand nodes' (put a.owner i (suc p)) (put a.rank i (a.top (suc p))) (suc p) (suc (a.top (suc p))) n i
+    front zero e = tt
+    front (suc n) e = (
+      t.within,
+      put_here a.owner i (suc p),
+      (let k = put_here a.rank i (a.top (suc p)) in omega (arith, k)),
+      subst (λ b. IsStrand nodes' (put a.owner i (suc p)) (put a.rank i (a.top (suc p))) (suc p) b n (node_at nodes' i).next) (sym (put_here a.rank i (a.top (suc p))))
+          (subst (IsStrand nodes' (put a.owner i (suc p)) (put a.rank i (a.top (suc p))) (suc p) (a.top (suc p)) n) (sym (ap (λ (m : Node). m.next) t.here ∙ link))
+          (subst (λ m. IsStrand nodes' (put a.owner i (suc p)) (put a.rank i (a.top (suc p))) (suc p) (a.top (suc p)) m (head_at heads p).strand.first) (let k : (head_at heads p).strand.count ≡ n = omega (arith, e) in k) (kept (suc p) (suc_zero p) (a.top (suc p)) (head_at heads p).strand.count (head_at heads p).strand.first (a.strands (suc p))))),
+    )
+
+    strands : (who : ℕ) → IsStrand nodes' (put a.owner i (suc p)) (put a.rank i (a.top (suc p))) who (tops a.top l.bound p (suc (a.top (suc p))) who) (strand_of (set heads p (with_front heads p i)) free' who).count (strand_of (set heads p (with_front heads p i)) free' who).first
+    strands zero = free_strand
+    strands (suc q) = go (cases_eq q p)
+      where
+        go : (q ≡ p) ⊎ (q ≡ p → ⊥) → IsStrand nodes' (put a.owner i (suc p)) (put a.rank i (a.top (suc p))) (suc q) (put (λ q. a.top (suc q)) p (suc (a.top (suc p))) q) (head_at (set heads p (with_front heads p i)) q).strand.count (head_at (set heads p (with_front heads p i)) q).strand.first
+        go (inl e) =
+            subst (λ r. IsStrand nodes' (put a.owner i (suc p)) (put a.rank i (a.top (suc p))) (suc r) (put (λ q. a.top (suc q)) p (suc (a.top (suc p))) r) (head_at (set heads p (with_front heads p i)) r).strand.count (head_at (set heads p (with_front heads p i)) r).strand.first) (sym e)
+            (subst (λ (h : Head). IsStrand nodes' (put a.owner i (suc p)) (put a.rank i (a.top (suc p))) (suc p) (put (λ q. a.top (suc q)) p (suc (a.top (suc p))) p) h.strand.count h.strand.first) (sym (head_here heads p (with_front heads p i) within))
+            (subst (λ b. IsStrand nodes' (put a.owner i (suc p)) (put a.rank i (a.top (suc p))) (suc p) b ((head_at heads p).strand.count + 1) i) (sym (put_here (λ q. a.top (suc q)) p (suc (a.top (suc p))))) (front ((head_at heads p).strand.count + 1) next_count)))
+        go (inr apart) =
+            subst (λ (h : Head). IsStrand nodes' (put a.owner i (suc p)) (put a.rank i (a.top (suc p))) (suc q) (put (λ q. a.top (suc q)) p (suc (a.top (suc p))) q) h.strand.count h.strand.first) (sym (head_apart heads p q (with_front heads p i) apart))
+            (subst (λ b. IsStrand nodes' (put a.owner i (suc p)) (put a.rank i (a.top (suc p))) (suc q) b (head_at heads q).strand.count (head_at heads q).strand.first) (sym (put_apart (λ q. a.top (suc q)) p (suc (a.top (suc p))) q apart))
+            (kept (suc q) (suc_zero q) (a.top (suc q)) (head_at heads q).strand.count (head_at heads q).strand.first (a.strands (suc q))))
+
+-- where no version is an open write, the first isn't one
+pub unopened : (by : Writer) (nodes : List Node) (begins : Bool) (n i : ℕ) → NoOther by (versions nodes begins n i) → is_open_by by (versions nodes begins n i) ≡ false → versions nodes false n i ≡ versions nodes begins n i
+unopened by nodes begins zero i h e = refl
+unopened by nodes false (suc n) i h e = refl
+unopened by nodes true (suc n) i h e = absurd (let k = h.0 in let l = e in let m : has_writer by (Written (writer_in (node_at nodes i))) ≡ true = k in cc)
+
+-- ---- the first version is written over: the links stay
+
+abbrev pub begun : List Head → ℕ → Bool → Head
+begun heads p begins = record { strand = (head_at heads p).strand; is_open = begins }
+
+pub record Rewritten (heads : List Head) (nodes : List Node) (free : Strand) (p : ℕ) (x : Node) (begins : Bool) : Type 0 where
+  pub arena : AreStrands (set heads p (begun heads p begins)) (set nodes (head_at heads p).strand.first x) free
+  pub here : versions_of (set nodes (head_at heads p).strand.first x) (head_at (set heads p (begun heads p begins)) p) ≡ version_in begins x ∷ drop 1 (versions_of nodes (head_at heads p))
+  pub others : (q : ℕ) → q ≢ p → versions_of (set nodes (head_at heads p).strand.first x) (head_at (set heads p (begun heads p begins)) q) ≡ versions_of nodes (head_at heads q)
+
+pub rewritten : (heads : List Head) (nodes : List Node) (free : Strand) → AreStrands heads nodes free → (p : ℕ) (x : Node) (begins : Bool) → 0 < (head_at heads p).strand.count → x.next ≡ (node_at nodes (head_at heads p).strand.first).next → Rewritten heads nodes free p x begins
+rewritten heads nodes free a p x begins some link =
+    record {
+      arena = record {
+        owner = a.owner;
+        rank = a.rank;
+        top = a.top;
+        strands = strands;
+        all = (let e = recount heads p (begun heads p begins) within in let all = a.all in let s = same in omega (arith, e, all, s));
+        fits = (let f = a.fits in let s = same in omega (arith, s, f));
+      };
+      here = ap (versions_of (set nodes (head_at heads p).strand.first x)) (head_here heads p (begun heads p begins) within) ∙ ap (λ n. versions (set nodes (head_at heads p).strand.first x) begins n (head_at heads p).strand.first) many ∙ (λ k. version_in begins (now k) ∷ versions (set nodes (head_at heads p).strand.first x) false ((head_at heads p).strand.count - 1) (now k).next)
+          ∙ ap (λ j. version_in begins x ∷ versions (set nodes (head_at heads p).strand.first x) false ((head_at heads p).strand.count - 1) j) link
+          ∙ ap (λ vs. version_in begins x ∷ vs) (frame_versions nodes a.owner a.rank (set nodes (head_at heads p).strand.first x) false (suc p) (a.rank (head_at heads p).strand.first) ((head_at heads p).strand.count - 1) (node_at nodes (head_at heads p).strand.first).next (λ j u v w. apart j (λ e. absurd (let l : a.rank j ≡ a.rank (head_at heads p).strand.first = ap a.rank e in omega (arith, l, w)))) f.rest)
+          ∙ sym (ap (λ n. version_in begins x ∷ drop 1 (versions nodes (head_at heads p).is_open n (head_at heads p).strand.first)) many);
+      others = λ q other. ap (versions_of (set nodes (head_at heads p).strand.first x)) (head_apart heads p q (begun heads p begins) other) ∙ frame_versions nodes a.owner a.rank (set nodes (head_at heads p).strand.first x) (head_at heads q).is_open (suc q) (a.top (suc q)) (head_at heads q).strand.count (head_at heads q).strand.first (λ j u v w. apart j (λ e. other (let k : suc q ≡ suc p = sym v ∙ ap a.owner e ∙ f.owned in let l : q ≡ p = omega (arith, k) in l))) (a.strands (suc q));
+    }
+  where
+    within : p < length heads
+    within = has_head heads p some
+
+    many : (head_at heads p).strand.count ≡ suc ((head_at heads p).strand.count - 1)
+    many = omega (arith, some)
+
+    f : First heads nodes free a p (head_at heads p).strand.first ((head_at heads p).strand.count - 1)
+    f = first heads nodes free a p ((head_at heads p).strand.count - 1) many
+
+    same : length (set nodes (head_at heads p).strand.first x) ≡ length nodes
+    same = length-set nodes (head_at heads p).strand.first x
+
+    now : node_at (set nodes (head_at heads p).strand.first x) (head_at heads p).strand.first ≡ x
+    now = get_or-set_same nodes (head_at heads p).strand.first x blank f.within
+
+    apart : (j : ℕ) → j ≢ (head_at heads p).strand.first → node_at (set nodes (head_at heads p).strand.first x) j ≡ node_at nodes j
+    apart j other = get_or-set_other nodes (head_at heads p).strand.first j x blank other
+
+    next_same : (j : ℕ) → (node_at (set nodes (head_at heads p).strand.first x) j).next ≡ (node_at nodes j).next
+    next_same j = go (cases_eq j (head_at heads p).strand.first)
+      where
+        go : (j ≡ (head_at heads p).strand.first) ⊎ (j ≡ (head_at heads p).strand.first → ⊥) → (node_at (set nodes (head_at heads p).strand.first x) j).next ≡ (node_at nodes j).next
+        go (inl e) = ap (λ i. (node_at (set nodes (head_at heads p).strand.first x) i).next) e ∙ ap (λ (n : Node). n.next) now ∙ link ∙ sym (ap (λ i. (node_at nodes i).next) e)
+        go (inr other) = ap (λ (n : Node). n.next) (apart j other)
+
+    kept : (who bound n i : ℕ) → IsStrand nodes a.owner a.rank who bound n i → IsStrand (set nodes (head_at heads p).strand.first x) a.owner a.rank who bound n i
+    kept who bound n i s =
+        frame nodes a.owner a.rank (set nodes (head_at heads p).strand.first x) a.owner a.rank (let e = same in omega (arith, e)) who bound n i
+        (λ j u v w. record {
+          next = next_same j;
+          owned = refl;
+          ranked = refl;
+        })
+        s
+
+    strands : (who : ℕ) → IsStrand (set nodes (head_at heads p).strand.first x) a.owner a.rank who (a.top who) (strand_of (set heads p (begun heads p begins)) free who).count (strand_of (set heads p (begun heads p begins)) free who).first
+    strands zero = kept 0 (a.top 0) free.count free.first (a.strands 0)
+    strands (suc q) = go (cases_eq q p)
+      where
+        same_strand : (q : ℕ) → (head_at (set heads p (begun heads p begins)) q).strand ≡ (head_at heads q).strand → IsStrand (set nodes (head_at heads p).strand.first x) a.owner a.rank (suc q) (a.top (suc q)) (head_at (set heads p (begun heads p begins)) q).strand.count (head_at (set heads p (begun heads p begins)) q).strand.first
+        same_strand q e = subst (λ (s : Strand). IsStrand (set nodes (head_at heads p).strand.first x) a.owner a.rank (suc q) (a.top (suc q)) s.count s.first) (sym e) (kept (suc q) (a.top (suc q)) (head_at heads q).strand.count (head_at heads q).strand.first (a.strands (suc q)))
+
+        go : (q ≡ p) ⊎ (q ≡ p → ⊥) → IsStrand (set nodes (head_at heads p).strand.first x) a.owner a.rank (suc q) (a.top (suc q)) (head_at (set heads p (begun heads p begins)) q).strand.count (head_at (set heads p (begun heads p begins)) q).strand.first
+        go (inl e) = same_strand q (ap (λ r. (head_at (set heads p (begun heads p begins)) r).strand) e ∙ ap (λ (h : Head). h.strand) (head_here heads p (begun heads p begins) within) ∙ sym (ap (λ r. (head_at heads r).strand) e))
+        go (inr other) = same_strand q (ap (λ (h : Head). h.strand) (head_apart heads p q (begun heads p begins) other))
+
+-- ---- an open write of a transaction
+
+same_writer : (by : Writer) (w : Writer) → has_writer by (Written w) ≡ true → w ≡ by
+same_writer by w e = (λ i. record { session = same.0 i; transaction = same.1 i })
+  where
+    same : (w.session ≡ by.session) × (w.transaction ≡ by.transaction)
+    same = (grind (arith, nat_tests), grind (arith, nat_tests))
+
+pub record Opened (by : Writer) (nodes : List Node) (begins : Bool) (i : ℕ) : Type 0 where
+  pub begun : begins ≡ true
+  pub writer : writer_in (node_at nodes i) ≡ by
+
+pub opened : (by : Writer) (nodes : List Node) (begins : Bool) (n i : ℕ) → IsTrue (is_open_by by (versions nodes begins n i)) → Opened by nodes begins i
+opened by nodes begins zero i h = absurd (let k = h in cc)
+opened by nodes false (suc n) i h = absurd (let k = h in cc)
+opened by nodes true (suc n) i h =
+    record {
+      begun = refl;
+      writer = same_writer by (writer_in (node_at nodes i)) h;
+    }
+
+pub some_open : (by : Writer) (nodes : List Node) (begins : Bool) (n i : ℕ) → IsTrue (is_open_by by (versions nodes begins n i)) → 0 < n
+some_open by nodes begins zero i h = absurd (let k = h in cc)
+some_open by nodes begins (suc n) i h = omega arith
+
+-- the version that was first, with another image
+pub reimaged : (by : Writer) (image : Image) (nodes : List Node) (begins : Bool) (n i : ℕ) → IsTrue (is_open_by by (versions nodes begins n i)) → version_in begins (record (node_at nodes i) { image = image }) ∷ drop 1 (versions nodes begins n i) ≡ installed by image (versions nodes begins n i)
+reimaged by image nodes begins n i h =
+    let o = opened by nodes begins n i h in
+    let vs = drop 1 (versions nodes begins n i) in
+    ap (λ b. version_in b (record (node_at nodes i) { image = image }) ∷ vs) o.begun
+    ∙ ap (λ w. open_write w image ∷ vs) o.writer
+    ∙ sym (ap (λ b. open_write by image ∷ (if b then vs else versions nodes begins n i)) h)
+
+-- and with a number
+pub renumbered : (by : Writer) (number : ℕ) (nodes : List Node) (begins : Bool) (n i : ℕ) → IsTrue (is_open_by by (versions nodes begins n i)) → version_in false (record (node_at nodes i) { number = number }) ∷ drop 1 (versions nodes begins n i) ≡ stamped by number (versions nodes begins n i)
+renumbered by number nodes begins zero i h = absurd (let k = h in cc)
+renumbered by number nodes begins (suc n) i h =
+    let o = opened by nodes begins (suc n) i h in
+    ap (λ (w : Writer). let v : Version = record { stamp = Numbered number w; image = (node_at nodes i).image } in v ∷ versions nodes false n (node_at nodes i).next) o.writer

@@ -1,0 +1,9 @@
+use Rattle.std.proofs.Common.{◌≤◌, ◌+◌, ◌-◌, length, vec_len, arith}
+use Rattle.hg_chain.proofs.Rooms.{padded_arena}
+use Rattle.hg_chain.proofs.arena.Arena.reserve_head.Goals as goal
+
+pub returns-in_ok-resize-clause-arena : goal.returns-in_ok-resize-clause-arena
+returns-in_ok-resize-clause-arena c =
+    let heads = c.args.self.now.heads.items in
+    let less : length heads ≤ c.args.place + 1 = (let l = c.if-len-place.true in let m = c.len.ensures in omega (arith, l, m)) in
+    rw (c.in_ok-resize.ensures.items) (padded_arena heads c.args.self.now.nodes.items c.args.self.now.free c.requires.arena (c.args.place + 1) (c.args.place + 1 - vec_len c.args.self.now.heads) less)

@@ -1,0 +1,283 @@
+//! The versions of all records of a bucket.
+
+ghost use Rattle.std.specs.Prelude.{◌≡◌, ◌+◌, ◌-◌, ◌<◌, ◌≤◌, ◌^◌, ◌==◌, ◌&&◌, ℕ, [], drop, not, length, if◌then◌else◌, take, IsTrue, IsSome, IfOk, IfErr, IsOk, OnOk, OnErr, option_to_list};
+ghost use Rattle.std.specs.Bool.{OnFalse};
+ghost use Rattle.std.specs.Option.{option_copied};
+ghost use Rattle.hg_base.specs.Lists.{Each};
+ghost use Rattle.hg_chain.specs.Sweeps.{Rises, swept, swept_away, goes, last_number, IsClean, MayStay, IsProtected};
+ghost use Rattle.hg_chain.specs.Versions.{IsChain, NoOther, IsBelow, number_in, is_open_by, image_at, image_by, installed, stamped, left_by, newest, oldest_at, others_at};
+ghost use Rattle.hg_chain.specs.Strands.{node_at};
+ghost use Rattle.hg_chain.specs.Arenas.{IsArena, IsAt, OthersStayIn, head_in, list_in};
+ghost use Rattle.hg_chain.specs.Places.{OthersStay, list_at, nodes_of};
+
+use crate::arena::Arena;
+use crate::chain::{Cut, Swept};
+use crate::cursor::Cursor;
+use crate::merge::Merge;
+use crate::node::Head;
+use crate::version::Stamp;
+use hg_base::{Image, NoMemory, Steps, Writer};
+use std::alloc::Global;
+use std::marker::Model;
+use std::sync::ledger::Ledger;
+
+/// A chain of versions for each place.
+#[derive(Debug, Drop)]
+pub struct Chains {
+    arena: Arena,
+}
+
+impl Model for Chains {
+    ghost use Rattle.hg_chain.specs.Places.{Places};
+
+    ghost Value = { Places };
+
+    ghost use Rattle.hg_chain.specs.Arenas.{Holds, places_in};
+
+    ghost view = { λ a. places_in a.arena };
+
+    ghost invariant = { λ a. Holds a.arena };
+}
+
+impl Chains {
+    /// No place has a version. It takes no memory.
+    pub fn new(alloc: Global) -> Chains
+        ensures { result ≡ record { lists = []; free = 0 } }
+    {
+        Chains {
+            arena: Arena::new(alloc),
+        }
+    }
+
+    /// How many nodes there are, the free ones included.
+    pub fn nodes(&self) -> u64
+        ensures { result ≡ nodes_of self.now }
+    {
+        self.arena.nodes.len() as u64
+    }
+
+    /// How many nodes are free.
+    pub fn free(&self) -> u64
+        ensures { result ≡ self.now.free }
+    {
+        u64::from(self.arena.free.count)
+    }
+
+    /// Whether a place has no version.
+    pub fn is_empty(&self, place: u64) -> bool
+        ensures { result ≡ (length (list_at self.now place) == 0) }
+    {
+        self.arena.head(place).strand.count == 0
+    }
+
+    /// Who wrote the newest version, and its number if it has one. All others have one.
+    pub fn newest(&self, place: u64) -> Option<Stamp>
+        ensures newest { result ≡ newest (list_at self.now place) }
+        ensures others { Each (λ v. IsSome (number_in v.stamp)) (drop 1 (list_at self.now place)) }
+    {
+        let Head { strand, is_open } = self.arena.head(place);
+        if strand.count == 0 {
+            return None;
+        }
+        Some(self.arena.nodes[strand.first as usize].stamp(is_open))
+    }
+
+    /// What a reader at the snapshot sees.
+    pub fn visible(&self, place: u64, at: u64) -> Option<&Image>
+        ensures { option_copied result ≡ image_at at (list_at self.now place) }
+    {
+        let cursor = self.arena.passed(place, at);
+        if cursor.kept == self.arena.head(place).strand.count {
+            return None;
+        }
+        Some(&self.arena.nodes[cursor.at as usize].image)
+    }
+
+    fn is_open_by(&self, place: u64, by: Writer) -> bool
+        ensures { result ≡ is_open_by by (list_at self.now place) }
+    {
+        match self.newest(place) {
+            Some(Stamp::Written(writer)) => {
+                writer.session == by.session && writer.transaction == by.transaction
+            }
+            _ => false,
+        }
+    }
+
+    /// What the transaction wrote itself.
+    pub fn own(&self, place: u64, by: Writer) -> Option<&Image>
+        ensures { option_copied result ≡ image_by by (list_at self.now place) }
+    {
+        let at = self.arena.head(place).strand.first;
+        if !self.is_open_by(place, by) {
+            return None;
+        }
+        Some(&self.arena.nodes[at as usize].image)
+    }
+
+    /// Writes an image. The answer says whether a version was added: the transaction's open write, if it has one, is
+    /// replaced, and no memory is taken then. A refusal hands the image back. There is one where memory has run out, or
+    /// where there are as many nodes as a `u32` counts.
+    pub fn install(
+        &mut self,
+        place: u64,
+        by: Writer,
+        image: Image,
+    ) -> Result<bool, (Image, NoMemory)>
+        requires place { place < 2 ^ 40 }
+        requires own { NoOther by (list_at self.old place) }
+        ensures added { IfOk result (λ added. added ≡ not (is_open_by by (list_at self.old place))) }
+        ensures ok { OnOk result (list_at self.new place ≡ installed by image (list_at self.old place)) }
+        ensures others { OthersStay place self.old self.new }
+
+        // A node is added only where none is free.
+        ensures nodes { IfOk result (λ added. nodes_of self.new ≡ nodes_of self.old + (if added && (self.old.free == 0) then 1 else 0)) }
+        ensures free { IfOk result (λ added. self.new.free ≡ self.old.free - (if added then 1 else 0)) }
+        ensures refused { IfErr result (λ e. e.0 ≡ image) }
+        ensures same { OnErr result (self.new ≡ self.old) }
+        ensures replaced { IsTrue (is_open_by by (list_at self.old place)) → IsOk result }
+        ensures room { 0 < self.old.free → place < length self.old.lists → IsOk result }
+    {
+        if self.is_open_by(place, by) {
+            self.arena.set_image(place, image);
+            return Ok(false);
+        }
+        match self.arena.make_room(place) {
+            Ok(()) => {
+                self.arena.push(place, by, image);
+                Ok(true)
+            }
+            Err(refused) => Err((image, refused)),
+        }
+    }
+
+    /// Removes the transaction's open write.
+    pub fn undo(&mut self, place: u64, by: Writer)
+        requires { IsTrue (is_open_by by (list_at self.old place)) }
+        ensures here { list_at self.new place ≡ drop 1 (list_at self.old place) }
+        ensures others { OthersStay place self.old self.new }
+        ensures nodes { nodes_of self.new ≡ nodes_of self.old }
+        ensures free { self.new.free ≡ self.old.free + 1 }
+    {
+        let _ = by;
+        let _ = self.arena.pop(place);
+    }
+
+    /// Gives the transaction's open write its number.
+    pub fn stamp(&mut self, place: u64, by: Writer, number: u64)
+        requires open_write { IsTrue (is_open_by by (list_at self.old place)) }
+        requires over { Each (IsBelow number) (drop 1 (list_at self.old place)) }
+        ensures here { list_at self.new place ≡ stamped by number (list_at self.old place) }
+        ensures others { OthersStay place self.old self.new }
+        ensures nodes { nodes_of self.new ≡ nodes_of self.old }
+        ensures free { self.new.free ≡ self.old.free }
+    {
+        let _ = by;
+        self.arena.set_number(place, number);
+    }
+
+    /// Removes every version numbered at or below the bound, and hands out the newest of them.
+    pub fn cut(&mut self, place: u64, bound: u64) -> Cut
+        ensures left { list_at self.new place ≡ left_by bound (list_at self.old place) }
+        ensures image { result.image ≡ oldest_at bound (list_at self.old place) }
+        ensures gone { result.gone ≡ others_at bound (list_at self.old place) }
+        ensures others { OthersStay place self.old self.new }
+        ensures nodes { nodes_of self.new ≡ nodes_of self.old }
+    {
+        let cursor = self.arena.passed(place, bound);
+        let all = self.arena.head(place).strand.count;
+        if cursor.kept == all {
+            return Cut {
+                image: None,
+                gone: 0,
+            };
+        }
+        let others = all - cursor.kept - 1;
+        Cut {
+            image: Some(remove_behind(&mut self.arena, place, cursor, others)),
+            gone: u64::from(others),
+        }
+    }
+
+    /// Removes every version that no snapshot sees: its successor is numbered at or below the horizon, and none of the
+    /// ascending snapshots lies in its lifetime, which runs from its own number up to, and not including, its
+    /// successor's. The answer says the same of an oldest image numbered `base` that stands behind the chain. One turn
+    /// settles one version or passes one snapshot.
+    pub fn sweep<L: Ledger>(
+        &mut self,
+        place: u64,
+        base: Option<u64>,
+        horizon: u64,
+        snapshots: &[u64],
+        steps: &mut Steps<L>,
+    ) -> Swept
+        requires { Rises snapshots.now }
+        ensures left { list_at self.new place ≡ swept horizon snapshots.now (list_at self.old place) }
+        ensures gone { result.gone ≡ swept_away horizon snapshots.now (list_at self.old place) }
+        ensures base_gone { result.base_gone ≡ goes horizon snapshots.now (last_number (list_at self.old place)) base }
+        ensures clean { IsClean horizon snapshots.now (list_at self.new place) }
+        ensures base_clean { OnFalse result.base_gone (MayStay horizon snapshots.now (last_number (list_at self.new place)) base) }
+        ensures seen { (s : ℕ) → IsProtected horizon snapshots.now s → image_at s (list_at self.new place) ≡ image_at s (list_at self.old place) }
+        ensures cost { steps.new ≤ steps.old + length (list_at self.old place) + length (option_to_list base) + length snapshots.now }
+        ensures others { OthersStay place self.old self.new }
+        ensures nodes { nodes_of self.new ≡ nodes_of self.old }
+    {
+        sweep_all(&mut self.arena, place, base, horizon, snapshots, steps)
+    }
+}
+
+// Removes the version before which the walk stands, and so many others behind it, and hands out the first.
+fn remove_behind(arena: &mut Arena, place: u64, cursor: Cursor, others: u32) -> (u64, Image)
+    requires arena { IsArena arena.old }
+    requires at { IsAt arena.old place cursor }
+    requires others { cursor.kept + others + 1 ≡ (head_in arena.old place).strand.count }
+    ensures arena { IsArena arena.new }
+    ensures left { list_in arena.new place ≡ take cursor.kept (list_in arena.old place) }
+    ensures others { OthersStayIn place arena.old arena.new }
+    ensures nodes { length arena.new.nodes.items ≡ length arena.old.nodes.items }
+    ensures held { result ≡ ((node_at arena.old.nodes.items cursor.at).number, (node_at arena.old.nodes.items cursor.at).image) }
+{
+    let mut cursor = cursor;
+    let first = arena.remove(place, &mut cursor);
+    for _other in 0..others {
+        let _ = arena.remove(place, &mut cursor);
+    }
+    first
+}
+
+// The walk passes each version that stays, and removes the others.
+fn sweep_all<L: Ledger>(
+    arena: &mut Arena,
+    place: u64,
+    base: Option<u64>,
+    horizon: u64,
+    snapshots: &[u64],
+    steps: &mut Steps<L>,
+) -> Swept
+    requires arena { IsArena arena.old }
+    requires chain { IsChain (list_in arena.old place) }
+    requires rises { Rises snapshots.now }
+    ensures arena { IsArena arena.new }
+    ensures left { list_in arena.new place ≡ swept horizon snapshots.now (list_in arena.old place) }
+    ensures others { OthersStayIn place arena.old arena.new }
+    ensures nodes { length arena.new.nodes.items ≡ length arena.old.nodes.items }
+    ensures gone { result.gone ≡ swept_away horizon snapshots.now (list_in arena.old place) }
+    ensures base_gone { result.base_gone ≡ goes horizon snapshots.now (last_number (list_in arena.old place)) base }
+    ensures cost { steps.new ≤ steps.old + length (list_in arena.old place) + length (option_to_list base) + length snapshots.now }
+{
+    let all = arena.head(place).strand.count;
+    let mut merge = Merge {
+        left: snapshots.len(),
+        successor: None,
+    };
+    let mut cursor = arena.start(place);
+    for _turn in 0..all {
+        let number = arena.number(arena.head(place), cursor);
+        let goes = merge.settle(horizon, snapshots, number, steps);
+        arena.remove_or_pass(place, &mut cursor, goes);
+    }
+    Swept {
+        gone: u64::from(all - cursor.kept),
+        base_gone: base.is_some() && merge.settle(horizon, snapshots, base, steps),
+    }
+}
