@@ -12,3 +12,4 @@ pub mod Rooms
 pub mod Walks
 pub mod Settling
 pub mod Held
+pub mod TestFacts

@@ -286,12 +286,13 @@ impl Arena {
         ensures room { OnOk result (self.old.free.count ≡ 0 → (vec_len self.new.nodes < vec_capacity self.new.nodes) × (vec_len self.new.nodes + 1 < 2 ^ 32)) }
         ensures enough { 0 < self.old.free.count → IsOk result }
     {
-        if self.free.count == 0 {
-            if self.nodes.len() >= u32::MAX as usize {
-                return Err(NoMemory);
-            }
-            self.nodes.reserve(1)?;
+        if self.free.count > 0 {
+            return Ok(());
         }
+        if self.nodes.len() >= u32::MAX as usize {
+            return Err(NoMemory);
+        }
+        self.nodes.reserve(1)?;
         Ok(())
     }
 

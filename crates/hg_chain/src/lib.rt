@@ -28,6 +28,24 @@
 //! Numbers and snapshots are both in order, so one merge from the greatest down tells all, and each turn settles one
 //! version or passes one snapshot. Each version leaves the list at the front, and comes back at the end if it stays:
 //! after as many turns as there were versions the others are gone, none was copied, and no memory was taken.
+//!
+//! # Chains
+//!
+//! A bucket has the chains of all its records in one array of nodes (`Chains`), by their places. A head tells where the
+//! chain of its place begins, how long it is, and whether the first version is an open write; a node has a version and
+//! the number of the node behind it. The free nodes are one more chain, linked the same way. Here place 0 has the
+//! versions 9 and 5, place 1 has none, place 2 has an open write over a 3, and two nodes are free:
+//!
+//!     place   first node   length   open          node   0      1         2      3      4         5
+//!     0       2            2                           [ 5 ]  ( free )  [ 9 ]  [ 3 ]  ( free )  [ 3/7 ]
+//!     1       -            0                      next   -      4         0      -      -         3
+//!     2       5            2        yes
+//!     free    1            2
+//!
+//! So only a write takes a node, and memory only where none is free: reads, cuts and sweeps take none. A node that they
+//! take out of a chain is put in front of the free ones, and nothing else moves. No node is in two chains, since each
+//! has one owner, a place or the free ones, and along a chain each ranks below the one in front of it. Each call does
+//! to the list of its place what `Chain`'s call of that name does to a single record's, and leaves the others alone.
 #![tactic(auto)]
 
 mod arena;
