@@ -1,6 +1,7 @@
 -- The exit status that each status gives, and the status that each refusal gives.
-use Rattle.std.specs.Prelude.{ℕ, List, [], ◌++◌, Option, Some, None, codes, decimal}
+use Rattle.std.specs.Prelude.{ℕ, List, [], ◌++◌, codes, decimal}
 use Rattle.hg_base.specs.declared.limits.TheConstants.{MOST_SCRIPT_BYTES}
+use Rattle.hg_script.specs.Codes.{code_text}
 use Rattle.hg_script.specs.declared.refusal.ScriptRefusal.{ScriptRefusal}
 use Rattle.hg_script.specs.declared.refusal.ScriptRefusal.TheVariants as refusal
 use Rattle.hg_run.specs.declared.reading.ReadError.{ReadError}
@@ -17,15 +18,15 @@ exit_code_of WriteFault = 5
 exit_code_of TooLong = 6
 exit_code_of NoMemory = 7
 
--- what the program says of a status; for a refused record, whose code has its own text, nothing is claimed here
-abbrev pub said_of : Status → Option (List ℕ)
-said_of Done = Some []
-said_of Usage = Some (codes "usage: hybridgc replay or run or load SEED, with --buckets N, --long N, --rounds N")
-said_of (BadScript line code) = None
-said_of ReadFault = Some (codes "read fault")
-said_of WriteFault = Some (codes "write fault")
-said_of TooLong = Some (codes "script longer than " ++ decimal MOST_SCRIPT_BYTES ++ codes " bytes")
-said_of NoMemory = Some (codes "out of memory")
+-- what the program says of a status
+abbrev pub said_of : Status → List ℕ
+said_of Done = []
+said_of Usage = codes "usage: hybridgc replay or run or load SEED, with --buckets N, --long N, --rounds N"
+said_of (BadScript line code) = codes "script record " ++ decimal line ++ codes ": " ++ code_text code
+said_of ReadFault = codes "read fault"
+said_of WriteFault = codes "write fault"
+said_of TooLong = codes "script longer than " ++ decimal MOST_SCRIPT_BYTES ++ codes " bytes"
+said_of NoMemory = codes "out of memory"
 
 abbrev pub status_of_read : ReadError → Status
 status_of_read error.Fault = ReadFault

@@ -43,9 +43,10 @@ impl Status {
 
 // What the program says of it: nothing of `Done`.
 impl fmt::Display for Status {
+    ghost use Rattle.std.specs.Prelude.{Some};
     ghost use Rattle.hg_run.specs.Status.{said_of};
 
-    ghost output = { said_of };
+    ghost output = { λ status. Some (said_of status) };
 
     fn fmt<W: fmt::Write>(&self, f: &mut fmt::Formatter<W>) -> fmt::Result {
         match self {
