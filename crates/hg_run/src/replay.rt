@@ -1,6 +1,6 @@
 //! The run of a script on one thread.
 
-ghost use Rattle.std.specs.Prelude.{◌≡◌, IfOk, length};
+ghost use Rattle.std.specs.Prelude.{◌≡◌, length, map, IfOk};
 ghost use Rattle.hg_script.specs.Lawful.{IsLawful};
 ghost use Rattle.hg_run.specs.Printing.{IsPrintedFor};
 
@@ -13,9 +13,10 @@ use hg_tracker::Gathered;
 use std::alloc::Global;
 use std::sync::Wait;
 
-// The tables that a script declares.
+// The tables that a script declares, each with its columns. An engine counts them, and reads no columns.
 fn declared(alloc: Global, script: &Script) -> Result<Vec<TableDecl>, NoMemory>
-    ensures { IfOk result (λ tables. length tables.items ≡ length script.now.tables) }
+    ensures many { IfOk result (λ tables. length tables.items ≡ length script.now.tables) }
+    ensures columns { IfOk result (λ tables. map (λ t. t.columns) tables.items ≡ map (λ d. d.columns) script.now.tables) }
 {
     let mut tables = Vec::new(alloc);
     for table in script.tables() {
