@@ -5,26 +5,41 @@
 //! What is said beside the answers goes to standard error. The exit status tells how the call ended.
 #![tactic(auto)]
 
+ghost use Rattle.std.specs.Prelude.{◌≡◌, ◌↔◌};
+ghost use Rattle.std_io.specs.IoError.{error_kind};
+ghost use Rattle.std_io.specs.declared.io.kind.ErrorKind.TheVariants.{OutOfMemory};
+
 use hg_base::{NoGate, StdinSource, StdoutSink};
 use hg_run::{Status, serve};
-use std::env;
 use std::process::ExitCode;
+use std::{env, io};
 
-// The words behind the program's name, where they can be had and are text.
-fn words_of(rt: &HostRuntime) -> Option<Vec<String>> {
-    let mut words = Vec::new(rt.alloc());
-    for word in env::args(rt).ok()?.skip(1) {
-        words.push(word).ok()?;
+// How the call ends where the words can't be had. Those that are not text are not accepted.
+fn status_of(error: &io::Error) -> Status
+    ensures memory { (result ≡ Status.NoMemory) ↔ (error_kind error.now ≡ OutOfMemory) }
+    ensures usage { (result ≡ Status.Usage) ↔ ¬ (error_kind error.now ≡ OutOfMemory) }
+{
+    match error.kind() {
+        io::ErrorKind::OutOfMemory => Status::NoMemory,
+        _ => Status::Usage,
     }
-    Some(words)
+}
+
+// The words behind the program's name.
+fn words_of(rt: &HostRuntime) -> Result<Vec<String>, Status> {
+    let mut words = Vec::new(rt.alloc());
+    for word in env::args(rt).map_err(|error| status_of(&error))?.skip(1) {
+        words.push(word).map_err(|_| Status::NoMemory)?;
+    }
+    Ok(words)
 }
 
 fn main(rt: HostRuntime) -> ExitCode {
     let mut source = StdinSource::new(rt.stdin());
     let mut sink = StdoutSink::new(rt.stdout());
     let status = match words_of(&rt) {
-        Some(words) => serve(&rt, rt.alloc(), &words, &mut source, &mut sink, &NoGate),
-        None => Status::Usage,
+        Ok(words) => serve(&rt, rt.alloc(), &words, &mut source, &mut sink, &NoGate),
+        Err(status) => status,
     };
     if status != Status::Done {
         // Where standard error takes nothing, the exit status alone tells.
