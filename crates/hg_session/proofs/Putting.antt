@@ -98,7 +98,7 @@ module _ (z : Sizes) (s : Statement) (u : Unprinted) (v w : View) (rid : Rid) (i
   stored_inside c e g = answers_inside z v w s a u (inside_now c e) (subst (λ es. Gains v es w) (sym k.stores) g) k.fits (if_none _ _ k.at_none) (if_none _ _ k.number_none) (if_none _ _ (k.newer_none None None)) (k.goes v)
 
   pub refused_inside : (c : Snapshot) (at : ℕ) (e : WriteRefusal) → current (session v).log ≡ Some c → Gains v (entries_of {T = ⊤} rid image (Err e) ++ seen) w → IsRefusedBy z v at e → IfSome (refused_reply false (refused_at at e)) (λ reply. Answers z v s reply w)
-  refused_inside c at (Open o) e g r = answers_inside z v w s (answers.OpenBy o) u (inside_now c e) (subst (λ es. Gains v es w) (sym (k.opened o)) g) (k.fits_opened o) tt (if_none _ _ (k.none_opened None o)) tt r
+  refused_inside c at (Open j x) e g r = let o : Writer = record { session = j; transaction = x } in answers_inside z v w s (answers.OpenBy o) u (inside_now c e) (subst (λ es. Gains v es w) (sym (k.opened o)) g) (k.fits_opened o) tt (if_none _ _ (k.none_opened None o)) tt r
   refused_inside c at (Newer n) e g r = answers_inside z v w s (answers.Newer n) u (inside_now c e) (subst (λ es. Gains v es w) (sym (k.newer n)) g) (k.fits_newer n) tt (if_none _ _ (k.none_newer None n)) (omega (arith, r)) tt
   refused_inside c at NoMemory e g r = tt
 
@@ -157,13 +157,13 @@ puts z u own rid row = record {
 -- ---- a write in a transaction of its own, and its end
 
 pub refused_over : (z : Sizes) (v m w : View) (rid : Rid) (image : Image) (at : ℕ) (e : WriteRefusal) → Gains v (entries_of {T = ⊤} rid image (Err e)) m → Gains m (Over ∷ []) w → IsRefusedBy z v at e → IsRefusedAlone z v rid image at w (refused_at at e)
-refused_over z v m w rid image at (Open o) a b r = (refl, (gains_on v m w _ (Over ∷ []) a b (λ l. refl), r))
+refused_over z v m w rid image at (Open j x) a b r = (refl, (gains_on v m w _ (Over ∷ []) a b (λ l. refl), r))
 refused_over z v m w rid image at (Newer n) a b r = (refl, (gains_on v m w _ (Over ∷ []) a b (λ l. refl), r))
 refused_over z v m w rid image at NoMemory a b r = inl (gains_on v m w [] (Over ∷ []) a b (λ l. refl))
 
 -- a refused write leaves no stored one
 pub refused_bare : (v m : View) (rid : Rid) (image : Image) (e : WriteRefusal) → Gains v (entries_of {T = ⊤} rid image (Err e)) m → own_writes (session v).log ≡ [] → own_writes (session m).log ≡ []
-refused_bare v m rid image (Open o) a bare = ap own_writes a.log ∙ bare
+refused_bare v m rid image (Open j x) a bare = ap own_writes a.log ∙ bare
 refused_bare v m rid image (Newer n) a bare = ap own_writes a.log ∙ bare
 refused_bare v m rid image NoMemory a bare = ap own_writes a.log ∙ bare
 

@@ -32,7 +32,7 @@ saws_there table low high part (suc n) = ((refl, (refl, refl)), saws_there table
 
 -- a refused write leaves the looks before it
 pub looked_before : (v w : View) (rid : Rid) (image : Image) (at : ℕ) (looks : List LogEntry) → Each (IsLookAt rid.table rid.key rid.key) looks → (e : WriteRefusal) → Gains v (entries_of {T = ⊤} rid image (Err e) ++ looks) w → refused_at at e ≡ put.NoMemory → HasLooked rid.table rid.key rid.key v w
-looked_before v w rid image at looks there (Open o) g same = absurd (let q = same in cc)
+looked_before v w rid image at looks there (Open j x) g same = absurd (let q = same in cc)
 looked_before v w rid image at looks there (Newer n) g same = absurd (let q = same in cc)
 looked_before v w rid image at looks there NoMemory g same = record { looks = looks; there = there; gains = g }
 

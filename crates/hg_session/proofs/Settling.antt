@@ -19,6 +19,7 @@ use Rattle.hg_session.specs.Engines.{engine_table, engine_sizes}
 use Rattle.hg_session.specs.Ties.{Ties, IsHeard}
 use Rattle.hg_session.specs.Sessions.{IsIn, pass_of, view_of, log_of, seen_by, left_of, opened_of, written_of}
 use Rattle.std.specs.Prelude.{IsFalse, ◌==◌}
+use Rattle.hg_base.specs.declared.writer.Writer.{Writer}
 use Rattle.hg_base.specs.Lists.{Each}
 use Rattle.hg_bucket.specs.declared.refusal.WriteRefusal.{WriteRefusal}
 use Rattle.hg_bucket.specs.declared.refusal.WriteRefusal.TheVariants.{Open, Newer, NoMemory}
@@ -75,6 +76,6 @@ gains_on u v w es fs a b assoc = record {
 
 -- who refuses a write, as it was before the call
 pub refused_before : (z : Sizes) (v m : View) (at : ℕ) (e : WriteRefusal) (es : List LogEntry) → Gains v es m → IsRefusedBy z m at e → IsRefusedBy z v at e
-refused_before z v m at (Open o) es g r = (r.0, (subst (λ j. IsFalse (o.session == j)) g.number_is r.1.0, each_left (HasNoEnd o) v.sights g.kept.0 (subst (Each (HasNoEnd o)) g.kept.1 r.1.1)))
+refused_before z v m at (Open j x) es g r = let o : Writer = record { session = j; transaction = x } in (r.0, (subst (λ n. IsFalse (j == n)) g.number_is r.1.0, each_left (HasNoEnd o) v.sights g.kept.0 (subst (Each (HasNoEnd o)) g.kept.1 r.1.1)))
 refused_before z v m at (Newer n) es g r = r
 refused_before z v m at NoMemory es g r = tt

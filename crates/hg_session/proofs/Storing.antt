@@ -27,19 +27,21 @@ use Rattle.hg_rule.specs.Holding.{held, writer, snapshot}
 use Rattle.hg_rule.specs.Writes.{with_log, with_entry, log_asked, Installs}
 use Rattle.hg_rule.specs.Places.{without_bucket}
 use Rattle.hg_rule.proofs.Lists.{each_left}
+use Rattle.hg_bucket.specs.Conflicts.{open_by}
 use Rattle.hg_store.specs.Ends.{HasNoEnd}
 use Rattle.hg_store.specs.Kept.{refusal_of}
 use Rattle.hg_store.specs.Writing.{Writes, IsCause, IsAnothers, OwnerGoesOn}
+use Rattle.hg_store.proofs.Refusing.{same_opened}
 use Rattle.hg_store.proofs.Storing.{free_at}
 use Rattle.hg_session.specs.Gains.{entries_of, IsRefusedBy}
 use Rattle.hg_session.proofs.Trips.{Beside, first_number, first_session, looked, installed}
 use Rattle.hg_session.proofs.Settling.{Trip, trip}
 
-told_open : (o : Option Answer) (w : Writer) → option_and_then refusal_of o ≡ Some (Open w) → o ≡ Some (answers.OpenBy w)
-told_open None w e = absurd (none-some (Open w) e)
-told_open (Some (answers.OpenBy x)) w e = let same : x ≡ w = cc in ap (λ y. Some (answers.OpenBy y)) same
+told_open : (o : Option Answer) (w : Writer) → option_and_then refusal_of o ≡ Some (open_by w) → o ≡ Some (answers.OpenBy w)
+told_open None w e = absurd (none-some (open_by w) e)
+told_open (Some (answers.OpenBy x)) w e = let same : x ≡ w = same_opened x w e in ap (λ y. Some (answers.OpenBy y)) same
 told_open (Some (answers.Newer n)) w e = absurd cc
-told_open (Some _) w e = absurd (none-some (Open w) e)
+told_open (Some _) w e = absurd (none-some (open_by w) e)
 
 told_newer : (o : Option Answer) (m : ℕ) → option_and_then refusal_of o ≡ Some (Newer m) → o ≡ Some (answers.Newer m)
 told_newer None m e = absurd (none-some (Newer m) e)
@@ -63,7 +65,7 @@ over_snapshot n at m w (Some p) q e = go (same_writer p.0 w) e
 
 -- what the look of a write that is refused logs
 refused_log : (n : ℕ) (u : View) (rid : Rid) (image : Image) (e : WriteRefusal) (rows : List (ℕ × List ℤ)) → IsCause n u rid e → log_asked u (Write rid) n rows ≡ entries_of {T = Bool} rid image (Err e) ++ (session u).log
-refused_log n u rid image (Open w) rows c = ap (λ o. with_refusal rid o (session u).log) (told_open (refusal n (writer u) (snapshot u) (held u rid)) w c)
+refused_log n u rid image (Open j x) rows c = ap (λ o. with_refusal rid o (session u).log) (told_open (refusal n (writer u) (snapshot u) (held u rid)) (record { session = j; transaction = x }) c)
 refused_log n u rid image (Newer m) rows c = ap (λ o. with_refusal rid o (session u).log) (told_newer (refusal n (writer u) (snapshot u) (held u rid)) m c)
 refused_log n u rid image NoMemory rows c =
     let found : Result Bool WriteRefusal = Ok true in
@@ -94,11 +96,12 @@ module _ (j b : ℕ) (part : SessionPart) (old : List Sight) (rid : Rid) (image 
       trip j b _ old w x i.0 i.1 gives
 
   pub refused_told : (z : Sizes) (v : View) (at : ℕ) (e : WriteRefusal) → answer ≡ Err e → number v ≡ j → old ≡ v.sights → at ≡ snapshot u → IfErr answer (IsAnothers z (number u)) → IsRefusedBy z v at e
-  refused_told z v at (Open o) is n s a owner =
+  refused_told z v at (Open i y) is n s a owner =
+      let o : Writer = record { session = i; transaction = y } in
       let who = subst (λ r. IfErr r (IsAnothers z (number u))) is owner in
       let goes = subst (λ r. IfErr r (OwnerGoesOn u.sights)) is k.goes_on in
       let seen : Each (HasNoEnd o) (v.sights ++ h.kept.0) = subst (Each (HasNoEnd o)) (h.kept.1 ∙ ap (λ l. l ++ h.kept.0) s) goes in
-      (who.0, (subst (λ i. IsFalse (o.session == i)) (first_number u j part _ h.parts ∙ sym n) who.1, each_left (HasNoEnd o) v.sights h.kept.0 seen))
+      (who.0, (subst (λ m. IsFalse (o.session == m)) (first_number u j part _ h.parts ∙ sym n) who.1, each_left (HasNoEnd o) v.sights h.kept.0 seen))
   refused_told z v at (Newer m) is n s a owner =
       let cause = subst (λ r. IfErr r (IsCause k.mark u rid)) is k.cause in
       subst (λ y. y < m) (sym a) (over_snapshot k.mark (snapshot u) m (writer u) (unpublished k.mark (held u rid)) (newest_at k.mark (held u rid)) (told_newer (refusal k.mark (writer u) (snapshot u) (held u rid)) m cause))

@@ -139,7 +139,7 @@ ties_wrote each left writes opened written part r image new e t =
 
 -- a refusal, which leaves one entry or none
 pub ties_refused : (each left begins writes : ℕ) (opened : Option Snapshot) (written : List Rid) (part : SessionPart) (r : Rid) (image : Image) (e : WriteRefusal) → Ties each opened written left begins writes part → Ties each opened written left begins writes (with_log (entries_of {T = Bool} r image (Err e) ++ part.log) part)
-ties_refused each left begins writes opened written part r image (Open w) t = ties_quiet each left begins writes opened written part (Refused r (answers.OpenBy w)) tt t
+ties_refused each left begins writes opened written part r image (Open j x) t = ties_quiet each left begins writes opened written part (Refused r (answers.OpenBy (record { session = j; transaction = x }))) tt t
 ties_refused each left begins writes opened written part r image (Newer n) t = ties_quiet each left begins writes opened written part (Refused r (answers.Newer n)) tt t
 ties_refused each left begins writes opened written part r image NoMemory t = t
 

@@ -45,14 +45,14 @@ rows_at key (Some row) = (key, row) ∷ []
 -- what a write leaves in the log, newest first, by its answer
 abbrev pub entries_of : {T : Type 0} → Rid → Image → Result T WriteRefusal → List LogEntry
 entries_of rid image (Ok t) = Wrote rid image ∷ []
-entries_of rid image (Err (Open writer)) = Refused rid (answers.OpenBy writer) ∷ []
+entries_of rid image (Err (Open j x)) = Refused rid (answers.OpenBy (record { session = j; transaction = x })) ∷ []
 entries_of rid image (Err (Newer number)) = Refused rid (answers.Newer number) ∷ []
 entries_of rid image (Err NoMemory) = []
 
 -- Who refuses a write: another session of the board, whose transaction goes on, by all that was seen; or a group over the
 -- snapshot.
 abbrev pub IsRefusedBy : Sizes → View → ℕ → WriteRefusal → Type 0
-IsRefusedBy z v at (Open writer) = IsSession z.sessions writer.session × (IsFalse (writer.session == number v) × Each (HasNoEnd writer) v.sights)
+IsRefusedBy z v at (Open j x) = IsSession z.sessions j × (IsFalse (j == number v) × Each (HasNoEnd (record { session = j; transaction = x })) v.sights)
 IsRefusedBy z v at (Newer number) = at < number
 IsRefusedBy z v at NoMemory = ⊤
 

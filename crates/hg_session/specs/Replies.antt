@@ -146,6 +146,6 @@ IsRefusedIf (Some snapshot) table result e = (IsFalse (has snapshot.scope table)
 
 -- a refused write, with the snapshot at which it was
 abbrev pub refused_at : ℕ → WriteRefusal → PutRefusal
-refused_at at (bucket.Open writer) = put.Open at writer.session writer.transaction
+refused_at at (bucket.Open session transaction) = put.Open at session transaction
 refused_at at (bucket.Newer number) = put.Newer at number
 refused_at at bucket.NoMemory = put.NoMemory

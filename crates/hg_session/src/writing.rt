@@ -17,7 +17,7 @@ use crate::answers::{PutRefusal, Written};
 use crate::engine::Engine;
 use crate::reading::only;
 use crate::session::Session;
-use hg_base::{Image, NoMemory, Rid, Row, Snapshot, TableId, Writer};
+use hg_base::{Image, NoMemory, Rid, Row, Snapshot, TableId};
 use hg_bucket::WriteRefusal;
 use std::sync::Wait;
 
@@ -26,17 +26,15 @@ pub(crate) fn refused_at(at: u64, refusal: WriteRefusal) -> PutRefusal
     ensures { result ≡ refused_at at refusal }
 {
     match refusal {
-        WriteRefusal::Open(
-            Writer {
-                session,
-                transaction,
-            },
-        ) => PutRefusal::Open {
+        WriteRefusal::Open {
+            session,
+            transaction,
+        } => PutRefusal::Open {
             at,
             session,
             transaction,
         },
-        WriteRefusal::Newer(number) => PutRefusal::Newer { at, number },
+        WriteRefusal::Newer { number } => PutRefusal::Newer { at, number },
         WriteRefusal::NoMemory => PutRefusal::NoMemory,
     }
 }

@@ -30,7 +30,7 @@ made g c =
     let by = writer_beside (number v) b (session v) v.sights u c.writer-by.result h c.writer-by.ensures.session c.writer-by.ensures.transaction in
     let at = snapshot_beside (number v) b (session v) v.sights u h in
     let live : c.args.snapshot.at ≡ loaded_in (session v).phase = search rules in
-    let read = c.read.ensures u c.take-held.ensures.holds in
+    let read = c.read.ensures.shown u c.take-held.ensures.holds in
     let log = saw_log (engine_sizes c.args.engine.now).buckets (number v) b c.see.ensures.step.0 (session v) v.sights rid u (session_view c.see.new.pass) row h c.bucket_of-bucket.ensures.own c.see.ensures.step.1
     (ap (λ i. i.row) ((λ i. read_by (sym by i) ((at ∙ sym live) i) (held u rid)) ∙ sym read)) in
     let l = looked (number v) (session v) b c.see.ensures.step.0 v.sights (Read rid.table rid.key rid.key) u (session_view c.see.new.pass) h c.see.ensures.step.1 in

@@ -25,7 +25,7 @@ use Rattle.hg_session.proofs.session.Session.write_row.Goals as goal
 
 -- what a refusal logs, whatever the answer would have been
 same_entries : (rid : Rid) (image : Image) (e : WriteRefusal) → entries_of {T = Bool} rid image (Err e) ≡ entries_of {T = ⊤} rid image (Err e)
-same_entries rid image (Open by) = refl
+same_entries rid image (Open j x) = refl
 same_entries rid image (Newer n) = refl
 same_entries rid image NoMemory = refl
 
