@@ -12,3 +12,5 @@ mod Turns
 mod OpenAfter
 mod Going
 mod Closes
+-- Rows that are printed.
+mod Rows

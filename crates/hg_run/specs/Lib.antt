@@ -5,5 +5,6 @@ pub mod Heard
 pub mod Listed
 pub mod Asked
 pub mod Closed
+pub mod Rows
 pub mod Printing
 pub mod Serving

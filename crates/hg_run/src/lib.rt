@@ -18,6 +18,7 @@
 
 mod asking;
 mod closing;
+mod laws;
 mod playing;
 mod reading;
 mod replay;
@@ -28,6 +29,7 @@ mod turning;
 mod words;
 mod writing;
 
+pub use laws::rows_have_their_columns;
 pub use serving::serve;
 pub use status::Status;
 
