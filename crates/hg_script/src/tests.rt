@@ -35,10 +35,12 @@ fn reads_every_statement(rt: HostRuntime) -> Result<(), Fail> {
     ] {
         let text = format!(in rt.alloc(); "table,t,1\ntable,u,8\n{text}\n")?;
         let script = read_script(rt.alloc(), text.as_bytes())?;
-        let last = script.record(script.record_count() - 1)?;
+        let count = script.record_count();
+        assert!(rt; count > 0, "at {text}");
+        let last = script.record(count - 1)?;
         let found = format!(in rt.alloc(); "{:?}", last.statement)?;
         assert_eq!(rt; found.as_str(), statement, "at {text}");
-        assert_eq!(rt; last.place, 2 + script.record_count() as u64);
+        assert_eq!(rt; last.place, 2 + count as u64);
     }
     Ok(())
 }
