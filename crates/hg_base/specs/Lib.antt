@@ -11,6 +11,8 @@ pub mod Freshness
 pub mod Counts
 pub mod Sound
 pub mod Text
+-- What a collector may take.
+pub mod Lifetimes
 -- The outside: reports as they are printed, faults, and what lies in memory.
 pub mod Reports
 pub mod Faults

@@ -11,7 +11,7 @@ use Rattle.hg_base.specs.History.{same_rid}
 use Rattle.hg_base.specs.Lists.{Each}
 use Rattle.hg_base.proofs.HistoryFacts.{same_rid_equal}
 use Rattle.hg_base.proofs.ListFacts.{cases}
-use Rattle.hg_chain.specs.Sweeps.{goes}
+use Rattle.hg_base.specs.Lifetimes.{goes}
 use Rattle.hg_bucket.specs.Held.{Kept, versions_of, record_at, IsBelow, OthersStay, is_at_most, survivor, cut_at, installed, stamped, begins_open}
 use Rattle.hg_bucket.specs.Sweeping.{swept}
 use Rattle.hg_bucket.proofs.Cutting.{found_is}

@@ -7,7 +7,8 @@ use Rattle.std.specs.Bool.{OnFalse}
 use Rattle.hg_base.specs.declared.rid.Rid.{Rid}
 use Rattle.hg_chain.specs.declared.version.Version.{Version}
 use Rattle.hg_chain.specs.Sweeps as chain
-use Rattle.hg_chain.specs.Sweeps.{goes, MayStay, last_number, swept_away}
+use Rattle.hg_chain.specs.Sweeps.{last_number, swept_away}
+use Rattle.hg_base.specs.Lifetimes.{goes, MayStay}
 use Rattle.hg_space.specs.Index.{place_of, IsIndex}
 use Rattle.hg_space.specs.Places.{Seat, Oldest, taken, image_at}
 use Rattle.hg_bucket.specs.Held.{versions_of, left, OthersStay}

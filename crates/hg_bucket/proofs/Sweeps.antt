@@ -13,7 +13,8 @@ use Rattle.hg_chain.specs.declared.version.Stamp.TheVariants.{Written, Numbered}
 use Rattle.hg_chain.specs.declared.version.Version.{Version}
 use Rattle.hg_chain.specs.Versions.{number_in}
 use Rattle.hg_chain.specs.Sweeps as chain
-use Rattle.hg_chain.specs.Sweeps.{goes, MayStay, IsProtected, is_within, is_in_use, last_number, swept_away}
+use Rattle.hg_chain.specs.Sweeps.{last_number, swept_away}
+use Rattle.hg_base.specs.Lifetimes.{is_within, is_in_use, goes, MayStay, IsGuarded}
 use Rattle.hg_chain.proofs.Sweeps as runs
 use Rattle.hg_chain.proofs.Sweeps.{last_after, last_of_all, swept_sum}
 use Rattle.hg_chain.proofs.Readers.{lies, over_horizon, in_use_stays}
@@ -144,7 +145,7 @@ abbrev IsBefore : ℕ → Option ℕ → Type 0
 IsBefore s None = ⊤
 IsBefore s (Some up) = s < up
 
-seen_stays : (horizon s : ℕ) (xs : List ℕ) (up n : Option ℕ) (v : Kept) → IsProtected horizon xs s → IsBefore s up → v.number ≡ n → is_at_most s v ≡ true → goes horizon xs up n ≡ false
+seen_stays : (horizon s : ℕ) (xs : List ℕ) (up n : Option ℕ) (v : Kept) → IsGuarded horizon xs s → IsBefore s up → v.number ≡ n → is_at_most s v ≡ true → goes horizon xs up n ≡ false
 seen_stays horizon s xs None n v g b k e = refl
 seen_stays horizon s xs (Some up) None v g b k e = refl
 seen_stays horizon s xs (Some up) (Some n) v (inl g) b k e = over_horizon horizon up n s xs g b
@@ -160,7 +161,7 @@ before_next : (s : ℕ) (v : Kept) (n : Option ℕ) → v.number ≡ n → is_at
 before_next s v None k e = tt
 before_next s v (Some n) k e = let f : nat_le n s ≡ false = ap (λ o. is_at_most s (record { number = o; by = None; image = v.image })) (sym k) ∙ e in grind (arith, nat_tests, f)
 
-found_from : (horizon s : ℕ) (xs : List ℕ) (up : Option ℕ) (vs : List Kept) → IsProtected horizon xs s → IsBefore s up → find (is_at_most s) (swept_from horizon xs up vs) ≡ find (is_at_most s) vs
+found_from : (horizon s : ℕ) (xs : List ℕ) (up : Option ℕ) (vs : List Kept) → IsGuarded horizon xs s → IsBefore s up → find (is_at_most s) (swept_from horizon xs up vs) ≡ find (is_at_most s) vs
 found_from horizon s xs up [] g b = refl
 found_from horizon s xs up (v ∷ vs) g b =
     cases (is_at_most s v)
@@ -201,5 +202,5 @@ own_from own horizon xs up (v ∷ vs) =
     ∙ ap (λ t. cond t (Some v) (find (is_open_by own) (swept_from horizon xs v.number vs))) e
     ∙ later ∙ sym unseen))
 
-pub read_same : (own : Writer) (horizon s : ℕ) (xs : List ℕ) (vs : List Kept) → IsProtected horizon xs s → read_at own s (swept horizon xs vs) ≡ read_at own s vs
+pub read_same : (own : Writer) (horizon s : ℕ) (xs : List ℕ) (vs : List Kept) → IsGuarded horizon xs s → read_at own s (swept horizon xs vs) ≡ read_at own s vs
 read_same own horizon s xs vs g = λ i. option_map (λ v. v.image) (option_or (own_from own horizon xs None vs i) (found_from horizon s xs None vs g tt i))

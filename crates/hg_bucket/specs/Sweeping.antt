@@ -3,7 +3,7 @@ use Rattle.std.specs.Prelude.{ℕ, ◌+◌, List, [], ◌∷◌, map, filter, le
 use Rattle.hg_base.specs.declared.rid.Rid.{Rid}
 use Rattle.hg_base.specs.declared.rid.TableId.{TableId}
 use Rattle.hg_base.specs.Lists.{Each}
-use Rattle.hg_chain.specs.Sweeps.{goes, MayStay}
+use Rattle.hg_base.specs.Lifetimes.{goes, MayStay}
 use Rattle.hg_bucket.specs.Held.{Kept}
 
 -- each version with its successor's number, where up is that of the first

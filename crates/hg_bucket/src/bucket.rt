@@ -10,7 +10,8 @@ ghost use Rattle.hg_base.specs.declared.rid.Rid.{Rid};
 ghost use Rattle.hg_bucket.specs.declared.refusal.WriteRefusal.TheVariants.{Open, Newer};
 ghost use Rattle.hg_bucket.specs.Conflicts.{holder, newer, IsCause};
 ghost use Rattle.hg_base.specs.declared.writer.Writer.{Writer};
-ghost use Rattle.hg_chain.specs.Sweeps.{Rises, IsProtected};
+ghost use Rattle.hg_chain.specs.Sweeps.{Rises};
+ghost use Rattle.hg_base.specs.Lifetimes.{IsGuarded};
 ghost use Rattle.hg_bucket.specs.Sweeping.{swept, IsClean, record_steps, sweep_steps};
 ghost use Rattle.hg_bucket.specs.Long.{IsNextLong};
 ghost use Rattle.hg_bucket.specs.Held.{versions_of, begins_open, installed, stamped, OthersStay, IsBelow, read_at, record_at, cut_at, left, counts_of, IsBalanced, IsNextKey};
@@ -149,7 +150,7 @@ impl Bucket {
         requires { Rises snapshots.now }
         ensures here { versions_of self.new.records rid ≡ swept horizon snapshots.now (versions_of self.old.records rid) }
         ensures clean { IsClean horizon snapshots.now (versions_of self.new.records rid) }
-        ensures seen { (s : ℕ) (own : Writer) → IsProtected horizon snapshots.now s → read_at own s (versions_of self.new.records rid) ≡ read_at own s (versions_of self.old.records rid) }
+        ensures seen { (s : ℕ) (own : Writer) → IsGuarded horizon snapshots.now s → read_at own s (versions_of self.new.records rid) ≡ read_at own s (versions_of self.old.records rid) }
         ensures others { OthersStay self.old.records self.new.records rid }
         ensures gone { length (versions_of self.new.records rid) + result ≡ length (versions_of self.old.records rid) }
         ensures interval { self.new ≡ record self.old { records = self.new.records; interval = self.old.interval + result } }
@@ -202,7 +203,7 @@ impl Bucket {
         requires { Rises snapshots.now }
         ensures each { (k : ℕ) → versions_of self.new.records (record_at table k) ≡ swept horizon snapshots.now (versions_of self.old.records (record_at table k)) }
         ensures clean { (k : ℕ) → IsClean horizon snapshots.now (versions_of self.new.records (record_at table k)) }
-        ensures seen { (k s : ℕ) (own : Writer) → IsProtected horizon snapshots.now s → read_at own s (versions_of self.new.records (record_at table k)) ≡ read_at own s (versions_of self.old.records (record_at table k)) }
+        ensures seen { (k s : ℕ) (own : Writer) → IsGuarded horizon snapshots.now s → read_at own s (versions_of self.new.records (record_at table k)) ≡ read_at own s (versions_of self.old.records (record_at table k)) }
         ensures others { (q : Rid) → (q.table ≡ table → ⊥) → versions_of self.new.records q ≡ versions_of self.old.records q }
         ensures gone { left self.new.records + result ≡ left self.old.records }
         ensures counted { self.new ≡ record self.old { records = self.new.records; interval = self.old.interval + result } }

@@ -7,7 +7,8 @@ use Rattle.hg_base.specs.Lists.{Each}
 use Rattle.hg_base.proofs.ListFacts.{cases}
 use Rattle.hg_chain.specs.declared.version.Version.{Version}
 use Rattle.hg_chain.specs.Versions.{number_in, IsChain}
-use Rattle.hg_chain.specs.Sweeps.{goes, is_within, is_in_use, with_successors, last_number, swept, MayStay, IsClean}
+use Rattle.hg_chain.specs.Sweeps.{with_successors, last_number, swept, IsClean}
+use Rattle.hg_base.specs.Lifetimes.{is_within, is_in_use, goes, MayStay}
 use Rattle.hg_chain.specs.Merging.{Follows}
 use Rattle.hg_chain.proofs.Sweeps.{Under, under_next, under_follows, swept_from, last_after, last_of_all, swept_goes, swept_stays}
 

@@ -4,7 +4,8 @@ use Rattle.std.specs.Prelude.{nat_le}
 use Rattle.std.proofs.lemmas.Bool.Decides.{nat_tests}
 use Rattle.hg_base.specs.Lists.{Each}
 use Rattle.hg_base.proofs.ListFacts.{cases, each_keeps}
-use Rattle.hg_chain.specs.Sweeps.{Rises, is_within, is_in_use, goes}
+use Rattle.hg_chain.specs.Sweeps.{Rises}
+use Rattle.hg_base.specs.Lifetimes.{is_within, is_in_use, goes}
 use Rattle.hg_chain.specs.Merging.{Follows, HasPassed, last_reaches}
 
 not_within : (n up s : ℕ) (b : Bool) → up ≤ s → b ≡ false → (is_within n up s || b) ≡ false

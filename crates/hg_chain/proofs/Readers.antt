@@ -8,10 +8,10 @@ use Rattle.hg_chain.specs.declared.version.Stamp.{Stamp}
 use Rattle.hg_chain.specs.declared.version.Stamp.TheVariants.{Written, Numbered}
 use Rattle.hg_chain.specs.declared.version.Version.{Version}
 use Rattle.hg_chain.specs.Versions.{number_in}
-use Rattle.hg_chain.specs.Sweeps.{goes, is_within, is_in_use, swept}
+use Rattle.hg_chain.specs.Sweeps.{swept}
+use Rattle.hg_base.specs.Lifetimes.{is_within, is_in_use, goes, IsGuarded}
 use Rattle.hg_chain.proofs.Sweeps.{swept_from, swept_goes, swept_stays}
 use Rattle.hg_chain.specs.Versions.{is_at_most, has_at_most, image_at}
-use Rattle.hg_chain.specs.Sweeps.{IsProtected}
 
 -- a reader is below the number, if that is one
 abbrev IsBefore : ℕ → Option ℕ → Type 0
@@ -43,7 +43,7 @@ over : (n s : ℕ) → nat_le n s ≡ false → s < n
 over n s e = grind (arith, nat_tests)
 
 -- what it sees stays
-seen_stays : (horizon s : ℕ) (xs : List ℕ) (up : Option ℕ) (v : Stamp) → IsProtected horizon xs s → IsBefore s up → has_at_most s v ≡ true → goes horizon xs up (number_in v) ≡ false
+seen_stays : (horizon s : ℕ) (xs : List ℕ) (up : Option ℕ) (v : Stamp) → IsGuarded horizon xs s → IsBefore s up → has_at_most s v ≡ true → goes horizon xs up (number_in v) ≡ false
 seen_stays horizon s xs None v g b e = refl
 seen_stays horizon s xs (Some up) (Written w) g b e = refl
 seen_stays horizon s xs (Some up) (Numbered n by) (inl g) b e = over_horizon horizon up n s xs g b
@@ -53,7 +53,7 @@ before_next : (s : ℕ) (v : Stamp) → has_at_most s v ≡ false → IsBefore s
 before_next s (Written w) e = tt
 before_next s (Numbered n by) e = over n s e
 
-found_swept : (horizon s : ℕ) (xs : List ℕ) (up : Option ℕ) (vs : List Version) → IsProtected horizon xs s → IsBefore s up → find (is_at_most s) (swept_from horizon xs up vs) ≡ find (is_at_most s) vs
+found_swept : (horizon s : ℕ) (xs : List ℕ) (up : Option ℕ) (vs : List Version) → IsGuarded horizon xs s → IsBefore s up → find (is_at_most s) (swept_from horizon xs up vs) ≡ find (is_at_most s) vs
 found_swept horizon s xs up [] g b = refl
 found_swept horizon s xs up (v ∷ vs) g b =
     cases (is_at_most s v)
@@ -71,5 +71,5 @@ found_swept horizon s xs up (v ∷ vs) g b =
     ∙ ap (λ t. cond t (Some v) (find (is_at_most s) (swept_from horizon xs (number_in v.stamp) vs))) e
     ∙ later ∙ sym unseen))
 
-pub seen_same : (horizon : ℕ) (xs : List ℕ) (vs : List Version) (s : ℕ) → IsProtected horizon xs s → image_at s (swept horizon xs vs) ≡ image_at s vs
+pub seen_same : (horizon : ℕ) (xs : List ℕ) (vs : List Version) (s : ℕ) → IsGuarded horizon xs s → image_at s (swept horizon xs vs) ≡ image_at s vs
 seen_same horizon xs vs s g = ap (option_map (λ v. v.image)) (found_swept horizon s xs None vs g tt)

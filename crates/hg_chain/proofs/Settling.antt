@@ -3,7 +3,8 @@ use Rattle.std.proofs.Common.{◌≡◌, ℕ, ◌+◌, ◌-◌, ◌<◌, ◌≤�
 use Rattle.std.proofs.lemmas.List.{take_more, drop_more, take_at, drop_at, length-take-le, length-append, length-drop, take_all, drop_all, drop-drop, append_assoc, append-nil}
 use Rattle.hg_chain.specs.declared.version.Version.{Version}
 use Rattle.hg_chain.specs.Versions.{number_in, IsChain}
-use Rattle.hg_chain.specs.Sweeps.{goes, last_number, swept, swept_away}
+use Rattle.hg_chain.specs.Sweeps.{last_number, swept, swept_away}
+use Rattle.hg_base.specs.Lifetimes.{goes}
 use Rattle.hg_chain.specs.Merging.{Follows}
 use Rattle.hg_chain.proofs.Sweeps.{Under, under_next, under_follows, swept_from, last_after, last_of_all, swept_stays, swept_goes, swept_sum}
 

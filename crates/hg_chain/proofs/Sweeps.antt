@@ -9,7 +9,8 @@ use Rattle.hg_chain.specs.declared.version.Stamp.{Stamp}
 use Rattle.hg_chain.specs.declared.version.Stamp.TheVariants.{Written, Numbered}
 use Rattle.hg_chain.specs.declared.version.Version.{Version}
 use Rattle.hg_chain.specs.Versions.{number_in, HasBelow, IsBelow, FallsTo, IsChain}
-use Rattle.hg_chain.specs.Sweeps.{goes, goes_after, with_successors, last_number}
+use Rattle.hg_chain.specs.Sweeps.{goes_after, with_successors, last_number}
+use Rattle.hg_base.specs.Lifetimes.{goes}
 use Rattle.hg_chain.specs.Merging.{Follows}
 
 -- ---- a sweep of the rest of a chain, where up is the successor's number of its first version

@@ -1,7 +1,7 @@
 -- What a sweep removes: versions that no reader sees, also in the middle of a chain.
-use Rattle.std.specs.Prelude.{ℕ, ◌≤◌, List, [], ◌∷◌, map, filter, count_by, Bool, false, not, ◌&&◌, nat_le, nat_lt, IsTrue, Option, Some, None, ⊤, ◌⊎◌, Contains}
-use Rattle.std.specs.List.{list_any}
+use Rattle.std.specs.Prelude.{ℕ, ◌≤◌, List, [], ◌∷◌, map, filter, count_by, Bool, not, Option, None, ⊤}
 use Rattle.hg_base.specs.Lists.{Each}
+use Rattle.hg_base.specs.Lifetimes.{goes, MayStay}
 use Rattle.hg_chain.specs.declared.version.Version.{Version}
 use Rattle.hg_chain.specs.Versions.{number_in}
 
@@ -9,32 +9,6 @@ use Rattle.hg_chain.specs.Versions.{number_in}
 abbrev pub Rises : List ℕ → Type 0
 Rises [] = ⊤
 Rises (a ∷ more) = Each (λ b. a ≤ b) more × Rises more
-
--- ---- lifetimes: from a version's own number n up to, and not including, its successor's, which is up
-
--- whether a snapshot lies in the lifetime
-abbrev pub is_within : ℕ → ℕ → ℕ → Bool
-is_within n up s = nat_le n s && nat_lt s up
-
--- whether one of the snapshots does
-abbrev pub is_in_use : List ℕ → ℕ → ℕ → Bool
-is_in_use snapshots n up = list_any (is_within n up) snapshots
-
--- whether a version goes: its successor is numbered at or below the horizon, and no snapshot lies in its lifetime
-abbrev pub goes : ℕ → List ℕ → Option ℕ → Option ℕ → Bool
-goes horizon snapshots (Some up) (Some n) = nat_le up horizon && not (is_in_use snapshots n up)
-goes horizon snapshots None n = false
-goes horizon snapshots (Some up) None = false
-
--- whether it may stay: where its successor is numbered at or below the horizon, a snapshot lies in its lifetime
-abbrev pub MayStay : ℕ → List ℕ → Option ℕ → Option ℕ → Type 0
-MayStay horizon snapshots (Some up) (Some n) = up ≤ horizon → IsTrue (is_in_use snapshots n up)
-MayStay horizon snapshots None n = ⊤
-MayStay horizon snapshots (Some up) None = ⊤
-
--- a reader that a sweep has to leave as it is: its snapshot is at or over the horizon, or is one of those handed in
-abbrev pub IsProtected : ℕ → List ℕ → ℕ → Type 0
-IsProtected horizon snapshots s = (horizon ≤ s) ⊎ Contains snapshots s
 
 -- ---- the versions of a record
 

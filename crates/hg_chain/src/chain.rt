@@ -4,7 +4,8 @@ ghost use Rattle.std.specs.Prelude.{ℕ, ◌≡◌, [], drop, not, IsTrue, IsSom
 ghost use Rattle.std.specs.Bool.{OnFalse};
 ghost use Rattle.std.specs.Option.{option_copied};
 ghost use Rattle.hg_base.specs.Lists.{Each};
-ghost use Rattle.hg_chain.specs.Sweeps.{Rises, swept, swept_away, goes, last_number, IsClean, MayStay, IsProtected};
+ghost use Rattle.hg_chain.specs.Sweeps.{Rises, swept, swept_away, last_number, IsClean};
+ghost use Rattle.hg_base.specs.Lifetimes.{goes, MayStay, IsGuarded};
 ghost use Rattle.hg_chain.specs.Versions.{IsChain, NoOther, IsBelow, number_in, is_open_by, image_at, image_by, installed, stamped, left_by, newest, oldest_at, others_at, numbered_image, is_at_most};
 
 use crate::merge::Merge;
@@ -200,7 +201,7 @@ impl Chain {
         ensures base_gone { result.base_gone ≡ goes horizon snapshots.now (last_number self.old) base }
         ensures clean { IsClean horizon snapshots.now self.new }
         ensures base_clean { OnFalse result.base_gone (MayStay horizon snapshots.now (last_number self.new) base) }
-        ensures seen { (s : ℕ) → IsProtected horizon snapshots.now s → image_at s self.new ≡ image_at s self.old }
+        ensures seen { (s : ℕ) → IsGuarded horizon snapshots.now s → image_at s self.new ≡ image_at s self.old }
         ensures cost { steps.new ≤ steps.old + length self.old + length (option_to_list base) + length snapshots.now }
     {
         sweep_all(&mut self.versions, base, horizon, snapshots, steps)

@@ -4,7 +4,8 @@ ghost use Rattle.std.specs.Prelude.{◌≡◌, ◌+◌, ◌-◌, ◌<◌, ◌≤
 ghost use Rattle.std.specs.Bool.{OnFalse};
 ghost use Rattle.std.specs.Option.{option_copied};
 ghost use Rattle.hg_base.specs.Lists.{Each};
-ghost use Rattle.hg_chain.specs.Sweeps.{Rises, swept, swept_away, goes, last_number, IsClean, MayStay, IsProtected};
+ghost use Rattle.hg_chain.specs.Sweeps.{Rises, swept, swept_away, last_number, IsClean};
+ghost use Rattle.hg_base.specs.Lifetimes.{goes, MayStay, IsGuarded};
 ghost use Rattle.hg_chain.specs.Versions.{IsChain, NoOther, IsBelow, number_in, is_open_by, image_at, image_by, installed, stamped, left_by, newest, oldest_at, others_at};
 ghost use Rattle.hg_chain.specs.Strands.{node_at};
 ghost use Rattle.hg_chain.specs.Arenas.{IsArena, IsAt, OthersStayIn, head_in, list_in};
@@ -217,7 +218,7 @@ impl Chains {
         ensures base_gone { result.base_gone ≡ goes horizon snapshots.now (last_number (list_at self.old place)) base }
         ensures clean { IsClean horizon snapshots.now (list_at self.new place) }
         ensures base_clean { OnFalse result.base_gone (MayStay horizon snapshots.now (last_number (list_at self.new place)) base) }
-        ensures seen { (s : ℕ) → IsProtected horizon snapshots.now s → image_at s (list_at self.new place) ≡ image_at s (list_at self.old place) }
+        ensures seen { (s : ℕ) → IsGuarded horizon snapshots.now s → image_at s (list_at self.new place) ≡ image_at s (list_at self.old place) }
         ensures cost { steps.new ≤ steps.old + length (list_at self.old place) + length (option_to_list base) + length snapshots.now }
         ensures others { OthersStay place self.old self.new }
         ensures nodes { nodes_of self.new ≡ nodes_of self.old }

@@ -2,7 +2,8 @@
 
 ghost use Rattle.std.specs.Prelude.{◌≡◌, ◌+◌, ◌<◌, ◌≤◌, length, drop, slice_index, ◌-◌};
 ghost use Rattle.hg_base.specs.Lists.{Each};
-ghost use Rattle.hg_chain.specs.Sweeps.{Rises, goes};
+ghost use Rattle.hg_chain.specs.Sweeps.{Rises};
+ghost use Rattle.hg_base.specs.Lifetimes.{goes};
 ghost use Rattle.hg_chain.specs.Merging.{Follows, HasPassed, last_reaches};
 
 use hg_base::Steps;

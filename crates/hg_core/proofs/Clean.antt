@@ -12,9 +12,10 @@ use Rattle.hg_core.specs.declared.version.Stamp.TheVariants.{Written, Numbered, 
 use Rattle.hg_core.specs.declared.version.Version.{Version}
 use Rattle.hg_core.specs.Versions.{stamp_number, is_up_to, installed, undone, stamped, IsOpenBy, first_at}
 use Rattle.hg_core.specs.Passes.{PassRecord, horizon, recorded, group_bound, table_bound}
-use Rattle.hg_core.specs.Removal.{any_between, goes, swept, oldest, cut, reclaimed}
+use Rattle.hg_core.specs.Removal.{swept, oldest, cut, reclaimed}
+use Rattle.hg_base.specs.Lifetimes.{is_in_use, goes, MayStay}
 use Rattle.hg_core.specs.Ordered.{Falls, IsOrdered}
-use Rattle.hg_core.specs.Clean.{MayStay, MayAllStay, IsClean, IsOneRow, up_to, IsCutAt, with_successors, not_gone, past, as_oldest}
+use Rattle.hg_core.specs.Clean.{MayAllStay, IsClean, IsOneRow, up_to, IsCutAt, with_successors, not_gone, past, as_oldest}
 
 -- ---- cut at a bound
 
@@ -129,13 +130,13 @@ cut_reclaimed bound Interval table pass vs k = cut_swept bound (horizon pass) (r
 abbrev pub IsBehind : Option ℕ → Option ℕ → Type 0
 IsBehind now before = (now ≡ before) ⊎ ((a : ℕ) × (b : ℕ) × (now ≡ Some a) × (before ≡ Some b) × (b ≤ a))
 
-between_wider : (n u w : ℕ) (snapshots : List ℕ) → u ≤ w → IsTrue (any_between n u snapshots) → IsTrue (any_between n w snapshots)
+between_wider : (n u w : ℕ) (snapshots : List ℕ) → u ≤ w → IsTrue (is_in_use snapshots n u) → IsTrue (is_in_use snapshots n w)
 between_wider n u w [] le e = absurd (let k : false ≡ true = e in cc)
 between_wider n u w (s ∷ ss) le e = go (nat_le n s && nat_lt s u) refl e (λ k. between_wider n u w ss le k)
   where
-    go : (b : Bool) → (nat_le n s && nat_lt s u) ≡ b → (b || any_between n u ss) ≡ true → (any_between n u ss ≡ true → any_between n w ss ≡ true) → ((nat_le n s && nat_lt s w) || any_between n w ss) ≡ true
-    go true p e later = let here : (nat_le n s && nat_lt s w) ≡ true = grind (arith, nat_tests) in ap (λ b. b || any_between n w ss) here
-    go false p e later = or_true (nat_le n s && nat_lt s w) (any_between n w ss) (later e)
+    go : (b : Bool) → (nat_le n s && nat_lt s u) ≡ b → (b || is_in_use ss n u) ≡ true → (is_in_use ss n u ≡ true → is_in_use ss n w ≡ true) → ((nat_le n s && nat_lt s w) || is_in_use ss n w) ≡ true
+    go true p e later = let here : (nat_le n s && nat_lt s w) ≡ true = grind (arith, nat_tests) in ap (λ b. b || is_in_use ss n w) here
+    go false p e later = or_true (nat_le n s && nat_lt s w) (is_in_use ss n w) (later e)
       where
         or_true : (a b : Bool) → b ≡ true → (a || b) ≡ true
         or_true a b e = grind arith
@@ -152,9 +153,9 @@ stays_behind horizon snapshots now before (Some n) (inr q) m =
 goes_not : (horizon : ℕ) (snapshots : List ℕ) (successor number : Option ℕ) → goes horizon snapshots successor number ≡ false → MayStay horizon snapshots successor number
 goes_not horizon snapshots None number e = tt
 goes_not horizon snapshots (Some u) None e = tt
-goes_not horizon snapshots (Some u) (Some n) e = λ le. go (any_between n u snapshots) refl le
+goes_not horizon snapshots (Some u) (Some n) e = λ le. go (is_in_use snapshots n u) refl le
   where
-    go : (b : Bool) → any_between n u snapshots ≡ b → u ≤ horizon → IsTrue (any_between n u snapshots)
+    go : (b : Bool) → is_in_use snapshots n u ≡ b → u ≤ horizon → IsTrue (is_in_use snapshots n u)
     go true q le = q
     go false q le = absurd (let k : nat_le u horizon ≡ true = grind (arith, nat_tests) in let z = rw (k, q) at e in cc)
 

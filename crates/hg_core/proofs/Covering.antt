@@ -20,7 +20,8 @@ use Rattle.hg_core.specs.Ordered.{Falls, IsOrdered}
 use Rattle.hg_core.specs.Covered.{image_of, last_pair, Reads, IsProtected, Covers}
 use Rattle.hg_core.specs.Marks.{PhaseUpTo}
 use Rattle.hg_core.proofs.Versions.{same_pair}
-use Rattle.hg_core.proofs.Sweep.{IsGuarded, swept_first, cut_newest}
+use Rattle.hg_core.proofs.Sweep.{swept_first, cut_newest}
+use Rattle.hg_base.specs.Lifetimes.{IsGuarded}
 use Rattle.hg_core.proofs.Groups.{length_more}
 use Rattle.hg_core.proofs.Past.{last_more, visible_last, last_bounds, writes_new, writes_old}
 

@@ -10,27 +10,24 @@ use Rattle.hg_core.specs.declared.version.Stamp.{Stamp}
 use Rattle.hg_core.specs.declared.version.Stamp.TheVariants.{Written, Numbered, Oldest}
 use Rattle.hg_core.specs.declared.version.Version.{Version}
 use Rattle.hg_core.specs.Versions.{stamp_number, is_up_to, first_at, paired, pair_of, newest_at, is_numbered, unpublished}
-use Rattle.hg_core.specs.Removal.{any_between, goes, swept, oldest, cut}
+use Rattle.hg_core.specs.Removal.{swept, oldest, cut}
+use Rattle.hg_base.specs.Lifetimes.{is_in_use, goes, IsGuarded}
 use Rattle.hg_core.specs.Ordered.{Falls, IsOrdered, IsBacked}
 use Rattle.hg_core.proofs.Versions.{falls_more}
 use Rattle.hg_core.proofs.Backing.{image_backed}
 
 -- ---- a sweep
 
--- s is at or over the horizon, or is one of the snapshots
-abbrev pub IsGuarded : ℕ → List ℕ → ℕ → Type 0
-IsGuarded horizon snapshots s = (horizon ≤ s) ⊎ Contains snapshots s
-
 -- s is below a number, where there is one
 abbrev pub IsUnder : ℕ → Option ℕ → Type 0
 IsUnder s None = ⊤
 IsUnder s (Some u) = s < u
 
-between : (s n u : ℕ) (snapshots : List ℕ) → Contains snapshots s → n ≤ s → s < u → any_between n u snapshots ≡ true
+between : (s n u : ℕ) (snapshots : List ℕ) → Contains snapshots s → n ≤ s → s < u → is_in_use snapshots n u ≡ true
 between s n u [] c a b = absurd (let k = c.1 in omega arith)
 between s n u (x ∷ xs) c a b = go c.0 c.1 c.2 (λ k. between s n u xs k a b)
   where
-    go : (k : ℕ) → k < length (x ∷ xs) → slice_index_or (x ∷ xs) k s ≡ s → (Contains xs s → any_between n u xs ≡ true) → ((nat_le n x && nat_lt x u) || any_between n u xs) ≡ true
+    go : (k : ℕ) → k < length (x ∷ xs) → slice_index_or (x ∷ xs) k s ≡ s → (Contains xs s → is_in_use xs n u ≡ true) → ((nat_le n x && nat_lt x u) || is_in_use xs n u) ≡ true
     go zero below e later = let same : x ≡ s = e in grind (arith, nat_tests)
     go (suc k) below e later = let less : k < length xs = omega arith in let z = later (k, less, e) in rw z (or_true (nat_le n x && nat_lt x u))
       where
@@ -43,7 +40,7 @@ seen_stays : (horizon s : ℕ) (snapshots : List ℕ) (successor number : Option
 seen_stays horizon s snapshots None number g b e = refl
 seen_stays horizon s snapshots (Some u) None g b e = refl
 seen_stays horizon s snapshots (Some u) (Some n) (inl g) b e = grind (arith, nat_tests)
-seen_stays horizon s snapshots (Some u) (Some n) (inr g) b e = let k : any_between n u snapshots ≡ true = between s n u snapshots g (grind (arith, nat_tests)) b in rw k (grind (arith, nat_tests))
+seen_stays horizon s snapshots (Some u) (Some n) (inr g) b e = let k : is_in_use snapshots n u ≡ true = between s n u snapshots g (grind (arith, nat_tests)) b in rw k (grind (arith, nat_tests))
 
 under_next : (s : ℕ) (number : Option ℕ) → is_up_to s number ≡ false → IsUnder s number
 under_next s None e = tt

@@ -21,7 +21,8 @@ use Rattle.hg_core.specs.Versions.{stamp_number, is_up_to, unpublished, unpublis
 use Rattle.hg_core.specs.Logs.{own_writes}
 use Rattle.hg_core.specs.Phases.{IsSession}
 use Rattle.hg_core.specs.Passes.{PassRecord, horizon, recorded, group_bound, table_bound}
-use Rattle.hg_core.specs.Removal.{goes, swept, oldest, cut, reclaimed}
+use Rattle.hg_core.specs.Removal.{swept, oldest, cut, reclaimed}
+use Rattle.hg_base.specs.Lifetimes.{goes}
 use Rattle.hg_core.specs.Contents.{Content, bucket_of, look, store, versions, stored}
 use Rattle.hg_core.specs.Sums.{sum_to, sum_below}
 use Rattle.hg_core.specs.Counters.{removed_by, removed_more, added, total, is_of, first_writes, undos, removed_in, CountersBalance}

@@ -1,14 +1,9 @@
 -- What a collector's pass leaves of a record's versions.
-use Rattle.std.specs.Prelude.{ℕ, ◌≤◌, List, [], ◌∷◌, map, filter, not, Option, Some, None, IsSome, IsTrue, ⊤}
+use Rattle.std.specs.Prelude.{ℕ, List, [], ◌∷◌, map, filter, not, Option, Some, None, IsSome, ⊤}
 use Rattle.hg_core.specs.declared.version.Version.{Version}
 use Rattle.hg_core.specs.Versions.{stamp_number, is_up_to}
-use Rattle.hg_core.specs.Removal.{any_between, goes, oldest}
-
--- a version may stay behind a successor: where that is at or below the horizon, a snapshot is in the version's lifetime
-abbrev pub MayStay : ℕ → List ℕ → Option ℕ → Option ℕ → Type 0
-MayStay horizon snapshots (Some u) (Some n) = u ≤ horizon → IsTrue (any_between n u snapshots)
-MayStay horizon snapshots None number = ⊤
-MayStay horizon snapshots (Some u) None = ⊤
+use Rattle.hg_base.specs.Lifetimes.{goes, MayStay}
+use Rattle.hg_core.specs.Removal.{oldest}
 
 -- each version may stay; the first is behind a successor with that number
 abbrev pub MayAllStay : ℕ → List ℕ → Option ℕ → List Version → Type 0

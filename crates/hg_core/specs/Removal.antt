@@ -1,26 +1,15 @@
 -- What a collector's pass takes of a record's versions.
 -- The interval rule, and a bound for each table, are those of Lee et al., "Hybrid Garbage Collection for Multi-Version
 -- Concurrency Control in SAP HANA", SIGMOD 2016, in outline.
-use Rattle.std.specs.Prelude.{ℕ, ℤ, List, [], ◌∷◌, Option, Some, None, Bool, false, ◌&&◌, not, nat_le, nat_lt, if◌then◌else◌}
-use Rattle.std.specs.List.{list_any}
+use Rattle.std.specs.Prelude.{ℕ, ℤ, List, [], ◌∷◌, Option, Some, None, if◌then◌else◌}
 use Rattle.hg_base.specs.declared.rid.TableId.{TableId}
 use Rattle.hg_base.specs.declared.report.Kind.{Kind}
 use Rattle.hg_base.specs.declared.report.Kind.TheVariants.{Group, Interval, Table}
+use Rattle.hg_base.specs.Lifetimes.{goes}
 use Rattle.hg_core.specs.Passes.{PassRecord, horizon, recorded, group_bound, table_bound}
 use Rattle.hg_core.specs.declared.version.Stamp.TheVariants.{Oldest}
 use Rattle.hg_core.specs.declared.version.Version.{Version}
 use Rattle.hg_core.specs.Versions.{stamp_number, is_up_to}
-
--- whether a snapshot is at or over n and below u
-abbrev pub any_between : ℕ → ℕ → List ℕ → Bool
-any_between n u snapshots = list_any (λ s. nat_le n s && nat_lt s u) snapshots
-
--- Whether a version goes. It lives from its number up to, and not including, its successor's. It goes where the successor
--- is at or below the horizon, and no snapshot is in that lifetime. The newest stays, and an open write.
-abbrev pub goes : ℕ → List ℕ → Option ℕ → Option ℕ → Bool
-goes horizon snapshots None number = false
-goes horizon snapshots (Some u) None = false
-goes horizon snapshots (Some u) (Some n) = nat_le u horizon && not (any_between n u snapshots)
 
 -- what a sweep leaves of the versions behind a successor with that number
 abbrev pub swept : ℕ → List ℕ → Option ℕ → List Version → List Version

@@ -13,7 +13,8 @@ use Rattle.hg_core.specs.declared.version.Version.{Version}
 use Rattle.hg_core.specs.Versions.{stamp_number}
 use Rattle.hg_core.specs.Passes.{PassRecord, horizon, recorded, group_bound, table_bound}
 use Rattle.hg_core.specs.Removal as core
-use Rattle.hg_core.specs.Removal.{any_between, reclaimed}
+use Rattle.hg_core.specs.Removal.{reclaimed}
+use Rattle.hg_base.specs.Lifetimes.{is_in_use}
 use Rattle.hg_core.specs.Ordered.{IsOrdered}
 use Rattle.hg_chain.specs.Sweeps as chain
 use Rattle.hg_bucket.specs.Held.{Kept, cut_at}

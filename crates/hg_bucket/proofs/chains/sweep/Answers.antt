@@ -3,7 +3,8 @@ use Rattle.std.specs.Prelude.{IfSome}
 use Rattle.std.specs.Option.{option_copied_mut}
 use Rattle.std.specs.Bool.{OnFalse}
 use Rattle.hg_chain.specs.declared.version.Version.{Version}
-use Rattle.hg_chain.specs.Sweeps.{swept, swept_away, goes, last_number, IsClean, MayStay}
+use Rattle.hg_chain.specs.Sweeps.{swept, swept_away, last_number, IsClean}
+use Rattle.hg_base.specs.Lifetimes.{goes, MayStay}
 use Rattle.hg_bucket.specs.Parts.{chain_of, ChainIs}
 use Rattle.hg_bucket.proofs.Reading.{looked_up}
 use Rattle.hg_bucket.proofs.Chaining.{lent, not_lent, unchanged}

@@ -1,6 +1,6 @@
 use Rattle.std.proofs.Common.{◌≡◌, ◌<◌, ◌∷◌, false, sym, ◌∙◌, subst, arith}
 use Rattle.hg_chain.specs.Versions.{number_in}
-use Rattle.hg_chain.specs.Sweeps.{goes}
+use Rattle.hg_base.specs.Lifetimes.{goes}
 use Rattle.hg_chain.specs.Merging.{Follows}
 use Rattle.hg_chain.proofs.Merges.{none_behind}
 use Rattle.hg_chain.proofs.Turns.{Turned, begun, turn_stays, follows, ended_length}

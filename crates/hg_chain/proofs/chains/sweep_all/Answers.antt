@@ -3,7 +3,7 @@ use Rattle.std.specs.Prelude.{◌==◌}
 use Rattle.hg_chain.specs.declared.version.Version.{Version}
 use Rattle.hg_chain.specs.declared.node.Head.{Head}
 use Rattle.hg_chain.specs.Versions.{number_in}
-use Rattle.hg_chain.specs.Sweeps.{goes}
+use Rattle.hg_base.specs.Lifetimes.{goes}
 use Rattle.hg_chain.specs.Merging.{Follows}
 use Rattle.hg_chain.specs.Strands.{node_at, stamp_in, version_in}
 use Rattle.hg_chain.specs.Arenas.{head_in, list_in}

@@ -1,5 +1,5 @@
 use Rattle.std.proofs.Common.{◌≡◌, ◌∙◌, Some, subst, arith}
-use Rattle.hg_chain.specs.Sweeps.{is_in_use}
+use Rattle.hg_base.specs.Lifetimes.{is_in_use}
 use Rattle.hg_chain.specs.Merging.{Follows}
 use Rattle.hg_chain.proofs.Merges.{in_use, goes_here, passed_on}
 use Rattle.hg_chain.proofs.merge.Merge.settle.Goals as goal
