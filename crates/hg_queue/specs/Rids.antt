@@ -7,6 +7,6 @@ pub record Rids : Type 0 where
   pub list : List Rid
   pub room : ℕ
 
--- what no memory was taken for
+-- no record, and room for one, which takes no memory
 abbrev pub no_rids : Rids
-no_rids = record { list = []; room = 0 }
+no_rids = record { list = []; room = 1 }

@@ -1,33 +1,28 @@
 //! Lists of records.
 
-ghost use Rattle.std.specs.Prelude.{◌≡◌, ◌+◌, ◌-◌, ◌<◌, ◌≤◌, ◌==◌, ◌++◌, ◌∷◌, [], length, vec_len, vec_capacity, OnOk, OnErr};
+ghost use Rattle.std.specs.Prelude.{◌≡◌, ◌+◌, ◌-◌, ◌<◌, ◌≤◌, ◌==◌, ◌++◌, ◌∷◌, [], length, OnOk, OnErr, option_to_list, IsSome, ◌↔◌};
 ghost use Rattle.hg_queue.specs.Rids.{no_rids};
 
 use hg_base::{NoMemory, Rid};
+use smallvec::SmallVec;
 use std::alloc::Global;
 use std::marker::Model;
 
-/// Records by their ids. A place can be reserved before it is used, so that what comes between can't fail.
+/// Records by their ids. A place can be reserved before it is used, so that what comes between can't fail. One record lies in
+/// the list itself: the transaction of a lone statement takes no block of the heap.
 #[derive(Debug, Drop)]
 pub struct RidList {
-    rids: Vec<Rid>,
+    rids: SmallVec<Rid, 1>,
 }
 
 impl Model for RidList {
-    ghost use Rattle.std.specs.Prelude.{◌-◌, vec_len, vec_capacity};
+    ghost use Rattle.std.specs.Prelude.{◌-◌};
+    ghost use Rattle.smallvec.specs.SmallVec.{small_vec_len};
     ghost use Rattle.hg_queue.specs.Rids.{Rids};
 
     ghost Value = { Rids };
 
-    ghost view = { λ a. record { list = a.rids.items; room = vec_capacity a.rids - vec_len a.rids } };
-}
-
-impl From<Vec<Rid>> for RidList {
-    ghost from_gives = { λ rids list. list.list ≡ rids.items };
-
-    fn from(rids: Vec<Rid>) -> RidList {
-        RidList { rids }
-    }
+    ghost view = { λ a. record { list = a.rids.items; room = a.rids.capacity - small_vec_len a.rids } };
 }
 
 impl RidList {
@@ -36,7 +31,7 @@ impl RidList {
         ensures { result ≡ no_rids }
     {
         RidList {
-            rids: Vec::new(alloc),
+            rids: SmallVec::new(alloc),
         }
     }
 
@@ -70,7 +65,7 @@ impl RidList {
     pub fn as_slice(&self) -> &[Rid]
         ensures { result.now ≡ self.now.list }
     {
-        &self.rids
+        self.rids.as_slice()
     }
 
     pub fn len(&self) -> usize
@@ -85,9 +80,11 @@ impl RidList {
         self.rids.is_empty()
     }
 
-    pub fn into_vec(self) -> Vec<Rid>
-        ensures { result.items ≡ self.list }
+    /// Takes the last one out. The room that it had stays.
+    pub fn pop(&mut self) -> Option<Rid>
+        ensures last { self.old.list ≡ self.new.list ++ option_to_list result }
+        ensures some { IsSome result ↔ (0 < length self.old.list) }
     {
-        self.rids
+        self.rids.pop()
     }
 }

@@ -45,24 +45,24 @@ fn undo_one<R: Wait>(rt: &R, engine: &Engine, pass: &mut SessionPass, rid: Rid, 
     held.give(board, pass);
 }
 
-// Takes these writes back, the last one first.
+// Takes these writes back, the last one first. The list keeps its room.
 fn undo_each<R: Wait>(
     rt: &R,
     engine: &Engine,
     pass: &mut SessionPass,
-    records: Vec<Rid>,
+    records: &mut RidList,
     by: Writer,
 )
     requires own { IsSessionOf (engine_table engine.now) (engine_sizes engine.now) pass.old }
     requires only { HasOnlySession (session_view pass.old) }
     requires unstamped { (session (session_view pass.old)).stamped ≡ false }
     requires by { by ≡ writer_of (session_view pass.old) }
-    requires once { NoneTwice records.items }
-    requires mine { (rid : Rid) → IsTrue (is_among rid records.items) → IsSome (open_in rid (session (session_view pass.old)).log) }
-    ensures undone { HasUndone (session_view pass.old) records.items (session_view pass.new) }
+    requires once { NoneTwice records.old.list }
+    requires mine { (rid : Rid) → IsTrue (is_among rid records.old.list) → IsSome (open_in rid (session (session_view pass.old)).log) }
+    ensures undone { HasUndone (session_view pass.old) records.old.list (session_view pass.new) }
+    ensures emptied { records.new.list ≡ [] }
     ensures own { IsSessionOf (engine_table engine.now) (engine_sizes engine.now) pass.new }
 {
-    let mut records = records;
     while let Some(rid) = records.pop() {
         undo_one(rt, engine, pass, rid, by);
     }
@@ -138,8 +138,7 @@ impl Session {
         ensures own { IsIn engine.now 0 0 self.new }
     {
         let by = self.pass.writer();
-        let records = mem::replace(&mut self.written, RidList::new(self.alloc));
-        undo_each(rt, engine, &mut self.pass, records.into_vec(), by);
+        undo_each(rt, engine, &mut self.pass, &mut self.written, by);
         engine.trackers.end(&mut self.pass);
         self.opened = None;
     }

@@ -14,9 +14,8 @@ use Rattle.hg_core.specs.Versions.{stamp_number}
 use Rattle.hg_core.specs.Passes.{PassRecord, horizon, recorded, group_bound, table_bound}
 use Rattle.hg_core.specs.Removal as core
 use Rattle.hg_core.specs.Removal.{reclaimed}
-use Rattle.hg_base.specs.Lifetimes.{is_in_use}
+use Rattle.hg_base.specs.Lifetimes.{is_within, goes}
 use Rattle.hg_core.specs.Ordered.{IsOrdered}
-use Rattle.hg_chain.specs.Sweeps as chain
 use Rattle.hg_bucket.specs.Held.{Kept, cut_at}
 use Rattle.hg_bucket.specs.Sweeping.{swept}
 use Rattle.hg_bucket.specs.Long.{IsShort}
@@ -84,11 +83,11 @@ any_same p xs ys same = go (list_any p xs) (list_any p ys) refl refl
     go true false e f = let x = found_any p xs e in sym (any_of p ys x.0 ((same x.0).0 x.1.0) x.1.1) ∙ f
     go false true e f = let x = found_any p ys f in sym e ∙ any_of p xs x.0 ((same x.0).1 x.1.0) x.1.1
 
-goes_same : (h : ℕ) (xs ys : List ℕ) → HaveSame xs ys → (up number : Option ℕ) → chain.goes h xs up number ≡ core.goes h ys up number
+goes_same : (h : ℕ) (xs ys : List ℕ) → HaveSame xs ys → (up number : Option ℕ) → goes h xs up number ≡ goes h ys up number
 goes_same h xs ys same None None = refl
 goes_same h xs ys same None (Some n) = refl
 goes_same h xs ys same (Some u) None = refl
-goes_same h xs ys same (Some u) (Some n) = ap (λ b. nat_le u h && not b) (any_same (λ s. nat_le n s && nat_lt s u) xs ys same)
+goes_same h xs ys same (Some u) (Some n) = ap (λ b. nat_le u h && not b) (any_same (is_within n u) xs ys same)
 
 number_kept : (x : Stamp) (image : Image) → (kept_as x image).number ≡ stamp_number x
 number_kept (Written by) image = refl
@@ -97,7 +96,7 @@ number_kept (Oldest n) image = refl
 
 swept_behind : (h : ℕ) (xs ys : List ℕ) → HaveSame xs ys → (up : Option ℕ) (vs : List Version) → swept_from h xs up (map kept vs) ≡ map kept (core.swept h ys up vs)
 swept_behind h xs ys same up [] = refl
-swept_behind h xs ys same up (v ∷ vs) = go (core.goes h ys up n) refl (ap (λ m. swept_from h xs m (map kept vs)) number ∙ swept_behind h xs ys same (stamp_number v.stamp) vs)
+swept_behind h xs ys same up (v ∷ vs) = go (goes h ys up n) refl (ap (λ m. swept_from h xs m (map kept vs)) number ∙ swept_behind h xs ys same (stamp_number v.stamp) vs)
   where
     n : Option ℕ
     n = stamp_number v.stamp
@@ -105,10 +104,10 @@ swept_behind h xs ys same up (v ∷ vs) = go (core.goes h ys up n) refl (ap (λ 
     number : (kept v).number ≡ n
     number = number_kept v.stamp v.image
 
-    test : chain.goes h xs up (kept v).number ≡ core.goes h ys up n
-    test = ap (chain.goes h xs up) number ∙ goes_same h xs ys same up n
+    test : goes h xs up (kept v).number ≡ goes h ys up n
+    test = ap (goes h xs up) number ∙ goes_same h xs ys same up n
 
-    go : (b : Bool) → core.goes h ys up n ≡ b → swept_from h xs (kept v).number (map kept vs) ≡ map kept (core.swept h ys n vs) → swept_from h xs up (kept v ∷ map kept vs) ≡ map kept (if b then core.swept h ys n vs else v ∷ core.swept h ys n vs)
+    go : (b : Bool) → goes h ys up n ≡ b → swept_from h xs (kept v).number (map kept vs) ≡ map kept (core.swept h ys n vs) → swept_from h xs up (kept v ∷ map kept vs) ≡ map kept (if b then core.swept h ys n vs else v ∷ core.swept h ys n vs)
     go true e rest = first_goes h xs up (kept v) (map kept vs) (test ∙ e) ∙ rest
     go false e rest = first_stays h xs up (kept v) (map kept vs) (test ∙ e) ∙ ap (λ ks. kept v ∷ ks) rest
 

@@ -8,10 +8,10 @@ use Rattle.hg_session.proofs.closing.undo_each.Given as goal
 abbrev pub invariant-loop-rid : goal.invariant-loop-rid
 invariant-loop-rid g l = record {
   gone : List Rid;
-  all : l.fn.records.items ≡ l.records.items ++ gone;
+  all : l.fn.records.list ≡ l.records.list ++ gone;
   undone : HasUndone (session_view l.fn.pass) gone (session_view l.pass);
   own : IsSessionOf (engine_table l.engine) (engine_sizes l.engine) l.pass;
 }
 
 abbrev pub decreases-loop-rid : goal.decreases-loop-rid
-decreases-loop-rid g l = length l.records.items
+decreases-loop-rid g l = length l.records.list
