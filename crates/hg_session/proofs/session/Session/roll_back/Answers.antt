@@ -8,7 +8,6 @@ use Rattle.hg_rule.specs.Writes.{with_log}
 use Rattle.hg_rule.specs.Seats.{session_view, IsSessionOf}
 use Rattle.hg_session.specs.Engines.{engine_table, engine_sizes}
 use Rattle.hg_session.specs.Ties.{Ties}
-use Rattle.hg_session.specs.Gains.{HasUndone}
 use Rattle.hg_session.proofs.Settling.{settled, gained}
 use Rattle.hg_session.proofs.Undoing.{undone_log, all_undone, none_open, rolled_back, ties_rolled}
 use Rattle.hg_session.proofs.session.Session.roll_back.Goals as goal
@@ -16,26 +15,23 @@ use Rattle.hg_session.proofs.session.Session.roll_back.Goals as goal
 pub end-requires-clause-none : goal.end-requires-clause-none
 end-requires-clause-none g c =
     let v = session_view c.args.self.now.pass in
-    let list : c.into_vec.result.items ≡ c.args.self.now.written.list = search rules in
-    let d = subst (λ l. HasUndone v l (session_view c.undo_each.new.pass)) list c.undo_each.ensures.undone in
+    let d = c.undo_each.ensures.undone in
     λ rid. ap (open_in rid) (undone_log v (session_view c.undo_each.new.pass) c.args.self.now.written.list d) ∙ none_open c.args.self.now.written.list (session v).log rid c.requires.own.ties.written_is
 
 pub returns-clause-gains : goal.returns-clause-gains
 returns-clause-gains g c =
     let v = session_view c.args.self.now.pass in
-    let list : c.into_vec.result.items ≡ c.args.self.now.written.list = search rules in
-    let d = subst (λ l. HasUndone v l (session_view c.undo_each.new.pass)) list c.undo_each.ensures.undone in
+    let d = c.undo_each.ensures.undone in
     let r = rolled_back v (session_view c.undo_each.new.pass) (session_view c.end.new.pass) c.args.self.now.written.list d c.end.ensures.step in
     (c.args.self.now.written.list, (all_undone c.args.self.now.written.list (session v).log c.requires.own.ties.plain c.requires.own.ties.written_is, gained v (session_view c.end.new.pass) _ (Over ∷ map Undid c.args.self.now.written.list) r.alone refl))
 
 pub returns-clause-own : goal.returns-clause-own
 returns-clause-own g c =
     let v = session_view c.args.self.now.pass in
-    let list : c.into_vec.result.items ≡ c.args.self.now.written.list = search rules in
-    let d = subst (λ l. HasUndone v l (session_view c.undo_each.new.pass)) list c.undo_each.ensures.undone in
+    let d = c.undo_each.ensures.undone in
     let r = rolled_back v (session_view c.undo_each.new.pass) (session_view c.end.new.pass) c.args.self.now.written.list d c.end.ensures.step in
     let own : IsSessionOf (engine_table c.args.engine.now) (engine_sizes c.args.engine.now) c.end.new.pass = search rules in
-    let none : c.replace-records.new.dest.list ≡ [] = search rules in
+    let none : c.undo_each.new.records.list ≡ [] = c.undo_each.ensures.emptied in
     let part = logging Over Idle (with_log (map Undid c.args.self.now.written.list ++ (session v).log) (session v)) in
     let ties = ties_rolled (engine_sizes c.args.engine.now).each c.args.self.now.left 0 0 _ _ c.args.self.now.written.list (session v) c.requires.own.ties in
     settled c.args.engine.now 0 0 v _ part v.sights own r.alone (subst (λ l. Ties (engine_sizes c.args.engine.now).each None l c.args.self.now.left 0 0 part) (sym none) ties) r.heard
