@@ -1,5 +1,5 @@
 -- What a sweep of a table costs.
-use Rattle.std.proofs.Common.{◌≡◌, ℕ, ◌+◌, ◌≤◌, List, [], ◌∷◌, length, Bool, true, false, Option, Some, None, refl, sym, ap, ◌∙◌, cond, arith}
+use Rattle.std.proofs.Common.{◌≡◌, ℕ, ◌+◌, ◌≤◌, ◌<◌, List, [], ◌∷◌, length, Bool, true, false, Option, Some, None, refl, sym, ap, ◌∙◌, cond, arith}
 use Rattle.std.specs.Prelude.{◌&&◌, ◌==◌, nat_le, sum_by, filter, unwrap_or, option_to_list, option_map}
 use Rattle.std.specs.Map.{lookup}
 use Rattle.std.proofs.lemmas.Bool.Decides.{nat_tests}
@@ -122,10 +122,10 @@ whole_long v [] None = written v.stamp v.image
 whole_long v [] (Some p) = refl
 whole_long v (w ∷ vs) im = refl
 
--- a record without a chain costs nothing, and another one its versions and the snapshots
-pub record_paid : (n before after : ℕ) (vs : List Version) (im : Oldest) → (vs ≡ [] → after ≡ before) → after ≤ before + length vs + length (option_to_list (option_map (λ p. p.0) im)) + n → after ≤ before + cost_of n (whole vs im)
-record_paid n before after [] im none some = omega (arith, none refl)
-record_paid n before after (v ∷ vs) im none some =
+-- a record that has a chain costs its versions and the snapshots
+pub record_paid : (n before after : ℕ) (vs : List Version) (im : Oldest) → 0 < length vs → after ≤ before + length vs + length (option_to_list (option_map (λ p. p.0) im)) + n → after ≤ before + cost_of n (whole vs im)
+record_paid n before after [] im long some = absurd (omega (arith, long))
+record_paid n before after (v ∷ vs) im long some =
     let cost : cost_of n (whole (v ∷ vs) im) ≡ length (whole (v ∷ vs) im) + n = ap (λ b. cond b (length (whole (v ∷ vs) im) + n) 0) (whole_long v vs im) in
     omega (arith, some, cost, whole_sum (v ∷ vs) im, numbers im)
   where

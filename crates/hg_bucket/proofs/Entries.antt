@@ -18,11 +18,11 @@ use Rattle.hg_base.specs.Lists.{Each}
 use Rattle.hg_base.specs.RidOrder.{rid_cmp}
 use Rattle.hg_base.proofs.RidOrder.{rids_equiv, at_rid, is_same}
 use Rattle.hg_base.proofs.HistoryFacts.{same_rid_equal}
-use Rattle.hg_chain.specs.declared.version.Version.{Version}
+use Rattle.hg_chain.specs.Places.{Places}
 use Rattle.hg_space.specs.Index.{place_of, IsIndex}
-use Rattle.hg_space.specs.Places.{Seat, image_at}
-use Rattle.hg_bucket.specs.Held.{Kept, left}
-use Rattle.hg_bucket.specs.Parts.{chain_of, whole, records_of}
+use Rattle.hg_space.specs.Places.{Seat}
+use Rattle.hg_bucket.specs.Held.{left}
+use Rattle.hg_bucket.specs.Parts.{versions_at, records_of}
 
 pub distinct : (es : List (Rid × ℕ)) → IsIndex es → IsDistinct same_rid (keys_of es)
 distinct es h = subst (λ (test : Rid → Rid → Bool). IsDistinct test (keys_of es)) (λ i a b. at_rid a b i) (IsDistinct-from_sorted rid_cmp (keys_of es) h.ascends)
@@ -96,15 +96,12 @@ one_added f (e ∷ es) r p h = go (rid_cmp r e.0) (ap is_some h) (sym (at_rid r 
 
 -- ---- how many versions are held
 
-abbrev pub versions_in : List (Rid × List Version) → List Seat → Rid × ℕ → List Kept
-versions_in cs places e = whole (chain_of cs e.0) (image_at places e.1)
+abbrev pub how_many : Places → List Seat → Rid × ℕ → ℕ
+how_many cs places e = length (versions_at cs places e.1)
 
-abbrev pub how_many : List (Rid × List Version) → List Seat → Rid × ℕ → ℕ
-how_many cs places e = length (versions_in cs places e)
-
-pub left_is : (es : List (Rid × ℕ)) (cs : List (Rid × List Version)) (places : List Seat) → left (records_of es cs places) ≡ sum_by (how_many cs places) es
+pub left_is : (es : List (Rid × ℕ)) (cs : Places) (places : List Seat) → left (records_of es cs places) ≡ sum_by (how_many cs places) es
 left_is [] cs places = refl
 left_is (e ∷ es) cs places =
-    sum_by-cons (λ x. length x.1) (e.0, versions_in cs places e) (records_of es cs places)
+    sum_by-cons (λ x. length x.1) (e.0, versions_at cs places e.1) (records_of es cs places)
     ∙ ap (λ n. how_many cs places e + n) (left_is es cs places)
     ∙ sym (sum_by-cons (how_many cs places) e es)

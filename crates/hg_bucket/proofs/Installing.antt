@@ -1,50 +1,28 @@
 -- A write: when it is refused, and what it makes of a record.
-use Rattle.std.proofs.Common.{◌≡◌, ℕ, ◌+◌, ◌<◌, List, [], ◌∷◌, length, Bool, true, false, Option, Some, None, refl, sym, ap, ◌∙◌, cond, subst, drop, not, arith}
-use Rattle.std.specs.Prelude.{IsTrue, IsSome, is_some, unwrap_or, option_map, option_and_then, nat_lt, ◌||◌}
-use Rattle.std.specs.Map.{lookup}
+use Rattle.std.proofs.Common.{◌≡◌, ℕ, ◌+◌, List, [], ◌∷◌, length, Bool, true, false, Option, Some, None, refl, sym, ap, ◌∙◌, cond, drop, not, arith}
+use Rattle.std.specs.Prelude.{IsTrue, IsSome, is_some, option_map, option_and_then, nat_lt, ◌||◌}
 use Rattle.std.specs.Option.{option_or}
 use Rattle.std.proofs.lemmas.Option.{none-some, same_Some}
 use Rattle.hg_base.specs.declared.rid.Rid.{Rid}
 use Rattle.hg_base.specs.declared.image.Image.{Image}
 use Rattle.hg_base.specs.declared.writer.Writer.{Writer}
-use Rattle.hg_base.specs.History.{same_rid}
 use Rattle.hg_base.specs.Lists.{Each}
 use Rattle.hg_chain.specs.declared.version.Stamp.{Stamp}
 use Rattle.hg_chain.specs.declared.version.Stamp.TheVariants.{Written, Numbered}
 use Rattle.hg_chain.specs.declared.version.Version.{Version}
 use Rattle.hg_chain.specs.Versions as chain
+use Rattle.hg_chain.specs.Places.{Places, list_at, OthersStay as ListsStay}
 use Rattle.hg_space.specs.Index.{place_of, IsIndex}
 use Rattle.hg_space.specs.Places.{Seat, Oldest, image_at}
 use Rattle.hg_bucket.specs.declared.refusal.WriteRefusal.{WriteRefusal}
 use Rattle.hg_bucket.specs.declared.refusal.WriteRefusal.TheVariants.{Newer}
 use Rattle.hg_bucket.specs.Held.{Kept, versions_of, left, begins_open, is_open_by, same_writer, installed, OthersStay}
 use Rattle.hg_bucket.specs.Conflicts.{conflict, open_by, NoOther, is_unpublished}
-use Rattle.hg_bucket.specs.Parts.{kept, kept_as, oldest, chain_of, whole, records_of, ChainIs, AreWhole, IsOver, Names}
-use Rattle.hg_bucket.proofs.Reading.{found, open_kept}
-use Rattle.hg_bucket.proofs.Changing.{versions_there, open_chain}
-use Rattle.hg_bucket.proofs.Turning.{Turns, turned_here, turned_others, turned_left, turned, filled}
-use Rattle.hg_bucket.proofs.Naming.{named_here, named_others, named_left, named}
+use Rattle.hg_bucket.specs.Parts.{kept, kept_as, oldest, whole, records_of, AreWhole, IsOver}
+use Rattle.hg_bucket.proofs.Reading.{versions_there, open_kept}
+use Rattle.hg_bucket.proofs.Changing.{open_chain}
+use Rattle.hg_bucket.proofs.Turning.{turned_here, turned_others, turned_left, turned_whole, kept_turns}
 use Rattle.hg_bucket.proofs.Bare.{whole_sum}
-
--- ---- a record that has no place
-
-pub no_versions : (es : List (Rid × ℕ)) (cs : List (Rid × List Version)) (places : List Seat) (r : Rid) → place_of es r ≡ None → versions_of (records_of es cs places) r ≡ []
-no_versions es cs places r h = ap (λ o. unwrap_or o []) (found es cs places r ∙ ap (option_map (λ p. whole (chain_of cs r) (image_at places p))) h)
-
-pub unplaced : (es : List (Rid × ℕ)) (cs : List (Rid × List Version)) (places : List Seat) (r : Rid) → AreWhole es cs places → place_of es r ≡ None → lookup (same_rid r) cs ≡ None
-unplaced es cs places r old h = go (lookup (same_rid r) cs) refl
-  where
-    go : (o : Option (List Version)) → lookup (same_rid r) cs ≡ o → o ≡ None
-    go None e = refl
-    go (Some vs) e = let k = sym (ap is_some h) ∙ (old.chained r vs e).0 in absurd cc
-
--- a record's versions are those of its chain, with an oldest image behind them or none
-pub chained : (es : List (Rid × ℕ)) (cs : List (Rid × List Version)) (places : List Seat) (r : Rid) → AreWhole es cs places → (im : Oldest) × (versions_of (records_of es cs places) r ≡ whole (chain_of cs r) im)
-chained es cs places r old = go (place_of es r) refl
-  where
-    go : (o : Option ℕ) → place_of es r ≡ o → (im : Oldest) × (versions_of (records_of es cs places) r ≡ whole (chain_of cs r) im)
-    go None e = (None, no_versions es cs places r e ∙ ap (λ o. whole (unwrap_or o []) None) (sym (unplaced es cs places r old e)))
-    go (Some p) e = (image_at places p, versions_there es cs places r p e)
 
 -- ---- conflicts
 
@@ -99,6 +77,10 @@ free_chain by (v ∷ vs) im h = (one v.stamp v.image h.0, free_chain by vs im h.
     one (Numbered n w) image k = tt
     one (Written w) image k = k
 
+pub none_free : (by : Writer) (vs : List Version) → None ≡ chain.newest vs → chain.NoOther by vs
+none_free by [] e = tt
+none_free by (v ∷ vs) e = absurd (none-some v.stamp e)
+
 -- ---- an open write
 
 pub whole_installed : (by : Writer) (image : Image) (vs : List Version) (im : Oldest) → installed by image (whole vs im) ≡ whole (chain.installed by image vs) im
@@ -128,50 +110,27 @@ installed_over by image (v ∷ vs) im h = go (chain.is_written_by by v)
     go true = (tt, h.1)
     go false = (tt, (h.0, h.1))
 
-pub record Installs (es fs : List (Rid × ℕ)) (cs ds : List (Rid × List Version)) (places seats : List Seat) (r : Rid) (by : Writer) (image : Image) : Type 0 where
+pub record Installs (es fs : List (Rid × ℕ)) (cs ds : Places) (places seats : List Seat) (r : Rid) (by : Writer) (image : Image) : Type 0 where
   pub whole : AreWhole fs ds seats
   pub here : versions_of (records_of fs ds seats) r ≡ installed by image (versions_of (records_of es cs places) r)
   pub others : OthersStay (records_of es cs places) (records_of fs ds seats) r
-  pub left : left (records_of fs ds seats) ≡ left (records_of es cs places) + cond (not (chain.is_open_by by (chain_of cs r))) 1 0
-  pub begins : chain.is_open_by by (chain_of cs r) ≡ begins_open by (versions_of (records_of es cs places) r)
+  pub left : left (records_of fs ds seats) ≡ left (records_of es cs places) + cond (not (begins_open by (versions_of (records_of es cs places) r))) 1 0
 
 -- where the record has a place, index and places stay
-pub extends : (es : List (Rid × ℕ)) (cs ds : List (Rid × List Version)) (places : List Seat) (r : Rid) (by : Writer) (image : Image) → IsIndex es → AreWhole es cs places → ChainIs cs ds r (chain.installed by image (chain_of cs r)) → IsSome (place_of es r) → Installs es es cs ds places places r by image
-extends es cs ds places r by image index old is placed = go (place_of es r) refl placed
-  where
-    at_place : (p : ℕ) → place_of es r ≡ Some p → Installs es es cs ds places places r by image
-    at_place p has =
-        let vs = chain_of cs r in
-        let ws = chain.installed by image vs in
-        let im = image_at places p in
-        let there = versions_there es cs places r p has in
-        let turns : Turns es cs ds places places r p ws im = record { has = has; chain = is; taken = old.taken r p has; image = refl; apart = λ q n k apart. refl; none = λ n t. t } in
-        let long = whole_sum ws im in
-        let some : 0 < length ws = omega (arith, installed_length by image vs) in
-        let now = turned_left es cs ds places places r p ws im index turns in
-        record {
-          whole = filled r es ds places (turned es cs ds places places r p ws im old turns (installed_over by image vs im (old.falls r p has)) (old.rows r p has)) (λ n k. subst (λ us. 0 < length us) (sym (turned_here es cs ds places places r p ws im turns) ∙ versions_there es ds places r n k) (omega (arith, long, some)));
-          here = turned_here es cs ds places places r p ws im turns ∙ sym (whole_installed by image vs im) ∙ ap (installed by image) (sym there);
-          others = turned_others es cs ds places places r p ws im turns;
-          left = omega (arith, now, long, whole_sum vs im, installed_length by image vs);
-          begins = sym (open_chain by vs im) ∙ ap (begins_open by) (sym there);
-        }
-
-    go : (o : Option ℕ) → place_of es r ≡ o → IsSome o → Installs es es cs ds places places r by image
-    go None e k = absurd (let j = k in cc)
-    go (Some p) e k = at_place p e
-
--- where it has none, it gets one
-pub begins : (es fs : List (Rid × ℕ)) (cs ds : List (Rid × List Version)) (places seats : List Seat) (r : Rid) (by : Writer) (image : Image) → IsIndex es → AreWhole es cs places → (p : ℕ) × Names es fs places seats r p → ChainIs cs ds r (chain.installed by image []) → Installs es fs cs ds places seats r by image
-begins es fs cs ds places seats r by image index old place begun =
-    let p = place.0 in
-    let ws = chain.open_write by image ∷ [] in
-    let bare : chain_of cs r ≡ [] = ap (λ o. unwrap_or o []) (unplaced es cs places r old place.1.new) in
-    let empty = no_versions es cs places r place.1.new in
+pub extends : (es : List (Rid × ℕ)) (cs ds : Places) (places : List Seat) (r : Rid) (p : ℕ) (by : Writer) (image : Image) → IsIndex es → AreWhole es cs places → place_of es r ≡ Some p → list_at ds p ≡ chain.installed by image (list_at cs p) → ListsStay p cs ds → Installs es es cs ds places places r by image
+extends es cs ds places r p by image index old has is lists =
+    let vs = list_at cs p in
+    let ws = chain.installed by image vs in
+    let im = image_at places p in
+    let there = versions_there es cs places r p has in
+    let turns = kept_turns es cs ds places r p ws index old has is lists in
+    let falls = old.falls p (old.taken r p has) in
+    let long = whole_sum ws im in
+    let begins : begins_open by (versions_of (records_of es cs places) r) ≡ chain.is_open_by by vs = ap (begins_open by) there ∙ open_chain by vs im in
+    let more : length ws ≡ length vs + cond (not (begins_open by (versions_of (records_of es cs places) r))) 1 0 = installed_length by image vs ∙ (λ i. length vs + cond (not (sym begins i)) 1 0) in
     record {
-      whole = named es fs cs ds places seats r p (chain.open_write by image) [] old place.1 begun;
-      here = named_here es fs cs ds places seats r p ws place.1 begun ∙ ap (installed by image) (sym empty);
-      others = named_others es fs cs ds places seats r p ws place.1 begun;
-      left = named_left es fs cs ds places seats r p ws index place.1 begun ∙ ap (λ vs. left (records_of es cs places) + cond (not (chain.is_open_by by vs)) 1 0) (sym bare);
-      begins = ap (chain.is_open_by by) bare ∙ ap (begins_open by) (sym empty);
+      whole = turned_whole es cs ds places places r p ws im old turns (record { over = installed_over by image vs im falls.over; row = falls.row }) (omega (arith, long));
+      here = turned_here es cs ds places places r p ws im turns ∙ sym (whole_installed by image vs im) ∙ ap (installed by image) (sym there);
+      others = turned_others es cs ds places places r p ws im turns;
+      left = omega (arith, turned_left es cs ds places places r p ws im turns, long, whole_sum vs im, more);
     }

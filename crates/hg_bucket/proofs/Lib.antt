@@ -1,5 +1,4 @@
 pub mod Reading
-pub mod Chaining
 pub mod Changing
 pub mod Entries
 pub mod Turning
@@ -13,7 +12,6 @@ pub mod Refusing
 pub mod Putting
 pub mod Cutting
 pub mod Shortening
-pub mod Ranging
 pub mod Settling
 pub mod Walking
 pub mod Sweeps

@@ -1,7 +1,6 @@
 -- A record comes: it gets a place, and a chain.
-use Rattle.std.proofs.Common.{◌≡◌, ℕ, suc, ◌+◌, ◌<◌, List, [], ◌∷◌, length, Bool, true, false, Option, Some, None, refl, sym, ap, ◌∙◌, cond, subst, arith}
-use Rattle.std.specs.Prelude.{IsSome, is_some, unwrap_or, option_map, slice_index_or}
-use Rattle.std.specs.Map.{lookup}
+use Rattle.std.proofs.Common.{◌≡◌, ℕ, ◌+◌, ◌<◌, List, [], ◌∷◌, length, Bool, true, false, Option, Some, None, refl, sym, ap, ◌∙◌, subst, drop, arith}
+use Rattle.std.specs.Prelude.{◌≢◌, IsFalse, is_some, unwrap_or, option_map, ◌^◌}
 use Rattle.std.specs.BTreeMap.{insert_entry}
 use Rattle.std.proofs.lemmas.Option.{none-some, same_Some}
 use Rattle.hg_base.specs.declared.rid.Rid.{Rid}
@@ -11,21 +10,15 @@ use Rattle.hg_base.specs.RidOrder.{rid_cmp}
 use Rattle.hg_chain.specs.declared.version.Stamp.{Stamp}
 use Rattle.hg_chain.specs.declared.version.Stamp.TheVariants.{Written, Numbered}
 use Rattle.hg_chain.specs.declared.version.Version.{Version}
+use Rattle.hg_chain.specs.Places.{Places, list_at, OthersStay as ListsStay}
 use Rattle.hg_space.specs.Index.{place_of, IsIndex}
 use Rattle.hg_space.specs.Places.{Seat, free, image_at, IsTaken}
 use Rattle.hg_bucket.specs.Held.{versions_of, left, OthersStay}
-use Rattle.hg_bucket.specs.Parts.{chain_of, whole, records_of, ChainIs, AreWhole, IsOver, IsRow, SeatsStay, NoneTaken, Names}
-use Rattle.hg_bucket.proofs.Reading.{found, alike}
-use Rattle.hg_bucket.proofs.Changing.{chain_here, chain_apart, versions_there}
-use Rattle.hg_bucket.proofs.Turning.{seat_image}
-use Rattle.hg_bucket.proofs.Entries.{distinct, each_entry, one_added, sums_alike, left_is, how_many, versions_in}
-
-pub apart_from : (es : List (Rid × ℕ)) (r q : Rid) (n : ℕ) → place_of es r ≡ None → place_of es q ≡ Some n → same_rid r q ≡ false
-apart_from es r q n none k = go (same_rid r q) refl
-  where
-    go : (b : Bool) → same_rid r q ≡ b → b ≡ false
-    go false e = refl
-    go true e = absurd (none-some n (sym none ∙ sym (alike es r q e) ∙ k))
+use Rattle.hg_bucket.specs.Parts.{kept, whole, versions_at, records_of, seat_at, AreAlike, IsGiven, Falls, AreWhole, IsOver}
+use Rattle.hg_bucket.proofs.Reading.{found, alike, versions_there}
+use Rattle.hg_bucket.proofs.Seating.{each_place, same_image, not_taken, given_taken}
+use Rattle.hg_bucket.proofs.Turning.{versions_stay, taken_again, taken_before, falls_again, held_again}
+use Rattle.hg_bucket.proofs.Entries.{distinct, each_entry, one_added, sums_alike, left_is, how_many}
 
 pub over_none : (s : Stamp) → IsOver s None
 over_none (Written w) = tt
@@ -35,127 +28,122 @@ pub all_over_none : (vs : List Version) → Each (λ v. IsOver v.stamp None) vs
 all_over_none [] = tt
 all_over_none (v ∷ vs) = (over_none v.stamp, all_over_none vs)
 
-pub whole_bare : (vs : List Version) → length (whole vs None) ≡ length vs
-whole_bare [] = refl
-whole_bare (v ∷ vs) = ap suc (whole_bare vs)
+-- ---- places without a record
 
-pub named_here : (es fs : List (Rid × ℕ)) (cs ds : List (Rid × List Version)) (places seats : List Seat) (r : Rid) (p : ℕ) (ws : List Version) → Names es fs places seats r p → ChainIs cs ds r ws → versions_of (records_of fs ds seats) r ≡ whole ws None
-named_here es fs cs ds places seats r p ws h is = versions_there fs ds seats r p h.here ∙ (λ i. whole (chain_here cs ds r ws is i) (h.bare i))
-
-pub named_others : (es fs : List (Rid × ℕ)) (cs ds : List (Rid × List Version)) (places seats : List Seat) (r : Rid) (p : ℕ) (ws : List Version) → Names es fs places seats r p → ChainIs cs ds r ws → OthersStay (records_of es cs places) (records_of fs ds seats) r
-named_others es fs cs ds places seats r p ws h is q apart =
-    ap (λ o. unwrap_or o [])
-    (found fs ds seats q
-    ∙ ap (option_map (λ n. whole (chain_of ds q) (image_at seats n))) (h.others q apart)
-    ∙ go (place_of es q) refl
-    ∙ sym (found es cs places q))
+-- a place that is not taken has no chain
+pub bare_free : (es : List (Rid × ℕ)) (cs : Places) (places : List Seat) (p : ℕ) → AreWhole es cs places → seat_at places p ≡ free → list_at cs p ≡ []
+bare_free es cs places p old e = go (list_at cs p) refl
   where
-    go : (o : Option ℕ) → place_of es q ≡ o → option_map (λ n. whole (chain_of ds q) (image_at seats n)) o ≡ option_map (λ n. whole (chain_of cs q) (image_at places n)) o
+    go : (vs : List Version) → list_at cs p ≡ vs → vs ≡ []
+    go [] k = refl
+    go (v ∷ vs) k = absurd (not_taken places p e (old.chained p (subst (λ us. 0 < length us) (sym k) (omega arith))))
+
+-- and is no record's
+pub unnamed : (es : List (Rid × ℕ)) (cs : Places) (places : List Seat) (q : Rid) (n p : ℕ) → AreWhole es cs places → seat_at places p ≡ free → place_of es q ≡ Some n → n ≢ p
+unnamed es cs places q n p old e k same = not_taken places p e (old.taken q p (k ∙ ap Some same))
+
+-- the record r comes to the place p, with one version
+pub record Comes (es fs : List (Rid × ℕ)) (cs ds : Places) (places seats : List Seat) (r : Rid) (p : ℕ) (w : Version) : Type 0 where
+  pub index : IsIndex es
+  pub old : AreWhole es cs places
+  pub new : place_of es r ≡ None
+  pub list : fs ≡ insert_entry rid_cmp es r p
+  pub here : place_of fs r ≡ Some p
+  pub others : (q : Rid) → IsFalse (same_rid r q) → place_of fs q ≡ place_of es q
+  pub given : IsGiven places seats p
+  pub fits : p < 2 ^ 40
+  pub chain : list_at ds p ≡ w ∷ []
+  pub lists : ListsStay p cs ds
+
+come_at : (es fs : List (Rid × ℕ)) (cs ds : Places) (places seats : List Seat) (r : Rid) (p : ℕ) (w : Version) → Comes es fs cs ds places seats r p w → versions_at ds seats p ≡ kept w ∷ []
+come_at es fs cs ds places seats r p w h = λ i. whole (h.chain i) (ap (λ seat. image_at (seat ∷ []) 0) h.given.now i)
+
+come_apart : (es fs : List (Rid × ℕ)) (cs ds : Places) (places seats : List Seat) (r : Rid) (p : ℕ) (w : Version) → Comes es fs cs ds places seats r p w → (q : Rid) (n : ℕ) → place_of es q ≡ Some n → versions_at ds seats n ≡ versions_at cs places n
+come_apart es fs cs ds places seats r p w h q n k = versions_stay cs ds places seats p n h.lists h.given.others (unnamed es cs places q n p h.old h.given.was k)
+
+pub come_here : (es fs : List (Rid × ℕ)) (cs ds : Places) (places seats : List Seat) (r : Rid) (p : ℕ) (w : Version) → Comes es fs cs ds places seats r p w → versions_of (records_of fs ds seats) r ≡ kept w ∷ []
+come_here es fs cs ds places seats r p w h = versions_there fs ds seats r p h.here ∙ come_at es fs cs ds places seats r p w h
+
+pub come_others : (es fs : List (Rid × ℕ)) (cs ds : Places) (places seats : List Seat) (r : Rid) (p : ℕ) (w : Version) → Comes es fs cs ds places seats r p w → OthersStay (records_of es cs places) (records_of fs ds seats) r
+come_others es fs cs ds places seats r p w h q apart = ap (λ o. unwrap_or o []) (found fs ds seats q ∙ ap (option_map (versions_at ds seats)) (h.others q apart) ∙ go (place_of es q) refl ∙ sym (found es cs places q))
+  where
+    go : (o : Option ℕ) → place_of es q ≡ o → option_map (versions_at ds seats) o ≡ option_map (versions_at cs places) o
     go None k = refl
-    go (Some n) k = λ i. Some (whole (unwrap_or (chain_apart cs ds r q ws is apart i) []) (seat_image places seats n (h.stay q n k) i))
+    go (Some n) k = ap Some (come_apart es fs cs ds places seats r p w h q n k)
 
-pub named_left : (es fs : List (Rid × ℕ)) (cs ds : List (Rid × List Version)) (places seats : List Seat) (r : Rid) (p : ℕ) (ws : List Version) → IsIndex es → Names es fs places seats r p → ChainIs cs ds r ws → left (records_of fs ds seats) ≡ left (records_of es cs places) + length ws
-named_left es fs cs ds places seats r p ws index h is =
+pub come_left : (es fs : List (Rid × ℕ)) (cs ds : Places) (places seats : List Seat) (r : Rid) (p : ℕ) (w : Version) → Comes es fs cs ds places seats r p w → left (records_of fs ds seats) ≡ left (records_of es cs places) + 1
+come_left es fs cs ds places seats r p w h =
     let come = one_added (how_many ds seats) es r p h.new in
-    let stay = sums_alike (how_many ds seats) (how_many cs places) es (each_entry (λ e. how_many ds seats e ≡ how_many cs places e) es (distinct es index) stays) in
-    let here : how_many ds seats (r, p) ≡ length ws = (λ i. length (whole (chain_here cs ds r ws is i) (h.bare i))) ∙ whole_bare ws in
+    let stay = sums_alike (how_many ds seats) (how_many cs places) es (each_entry (λ e. how_many ds seats e ≡ how_many cs places e) es (distinct es h.index) (λ q n k. ap (λ vs. length vs) (come_apart es fs cs ds places seats r p w h q n k))) in
+    let here : how_many ds seats (r, p) ≡ 1 = ap (λ vs. length vs) (come_at es fs cs ds places seats r p w h) in
     ap (λ gs. left (records_of gs ds seats)) h.list ∙ omega (arith, left_is (insert_entry rid_cmp es r p) ds seats, left_is es cs places, come, stay, here)
-  where
-    stays : (q : Rid) (n : ℕ) → place_of es q ≡ Some n → how_many ds seats (q, n) ≡ how_many cs places (q, n)
-    stays q n k = λ i. length (whole (unwrap_or (chain_apart cs ds r q ws is (apart_from es r q n h.new k) i) []) (seat_image places seats n (h.stay q n k) i))
 
-pub named : (es fs : List (Rid × ℕ)) (cs ds : List (Rid × List Version)) (places seats : List Seat) (r : Rid) (p : ℕ) (w : Version) (ws : List Version) → AreWhole es cs places → Names es fs places seats r p → ChainIs cs ds r (w ∷ ws) → AreWhole fs ds seats
-named es fs cs ds places seats r p w ws old h is =
+pub come_whole : (es fs : List (Rid × ℕ)) (cs ds : Places) (places seats : List Seat) (r : Rid) (p : ℕ) (w : Version) → Comes es fs cs ds places seats r p w → AreWhole fs ds seats
+come_whole es fs cs ds places seats r p w h =
     record {
       taken = λ q n k. taken q n k (same_rid r q) refl;
-      named = λ n t. owner n t (slice_index_or places n free) refl;
-      held = λ q n k. held q n k (same_rid r q) refl;
-      chained = λ q us k. chained q us k (same_rid r q) refl;
-      falls = λ q n k. falls q n k (same_rid r q) refl;
-      rows = λ q n k. rows q n k (same_rid r q) refl;
+      named = λ n t. each_place (λ m. IsTaken seats m → (q : Rid) × (place_of fs q ≡ Some m)) p n (λ now. (r, h.here)) (λ apart now. owner n apart now) t;
+      chained = λ n long. each_place (IsTaken seats) p n (given_taken places seats p h.given) (λ apart. taken_again places seats p h.given.others n apart (old.chained n (subst (λ vs. 0 < length vs) (h.lists n apart) long)));
+      held = λ n t. each_place (λ m. 0 < length (versions_at ds seats m)) p n long_here (λ apart. held_again cs ds places seats p h.lists h.given.others n apart (old.held n (before n apart t)));
+      falls = λ n t. each_place (λ m. Falls (list_at ds m) (image_at seats m)) p n falls_here (λ apart. falls_again cs ds places seats p h.lists h.given.others n apart (old.falls n (before n apart t)));
+      fits = λ n t. each_place (λ m. m < 2 ^ 40) p n h.fits (λ apart. old.fits n (before n apart t));
     }
   where
-    was : (q : Rid) (n : ℕ) → same_rid r q ≡ false → place_of fs q ≡ Some n → place_of es q ≡ Some n
-    was q n apart k = sym (h.others q apart) ∙ k
+    old : AreWhole es cs places
+    old = h.old
 
-    here : (q : Rid) (n : ℕ) → same_rid r q ≡ true → place_of fs q ≡ Some n → p ≡ n
-    here q n same k = same_Some p n (sym h.here ∙ sym (alike fs r q same) ∙ k)
-
-    bare : (q : Rid) (n : ℕ) → same_rid r q ≡ true → place_of fs q ≡ Some n → image_at seats n ≡ None
-    bare q n same k = ap (image_at seats) (sym (here q n same k)) ∙ h.bare
-
-    chain_now : (q : Rid) → same_rid r q ≡ true → chain_of ds q ≡ w ∷ ws
-    chain_now q same = ap (λ o. unwrap_or o []) (alike ds r q same) ∙ chain_here cs ds r (w ∷ ws) is
-
-    chain_stays : (q : Rid) → same_rid r q ≡ false → chain_of ds q ≡ chain_of cs q
-    chain_stays q apart = ap (λ o. unwrap_or o []) (chain_apart cs ds r q (w ∷ ws) is apart)
-
-    image_stays : (q : Rid) (n : ℕ) → same_rid r q ≡ false → place_of fs q ≡ Some n → image_at seats n ≡ image_at places n
-    image_stays q n apart k = seat_image places seats n (h.stay q n (was q n apart k))
-
-    owner : (n : ℕ) → IsTaken seats n → (x : Seat) → slice_index_or places n free ≡ x → (q : Rid) × (place_of fs q ≡ Some n)
-    owner n t None e = (r, h.here ∙ ap Some (sym (h.one n t e)))
-    owner n t (Some x) e = let q = old.named n (ap is_some e) in (q.0, h.others q.0 (apart_from es r q.0 n h.new q.1) ∙ q.1)
+    before : (n : ℕ) → n ≢ p → IsTaken seats n → IsTaken places n
+    before n apart t = taken_before places seats p h.given.others n apart t
 
     taken : (q : Rid) (n : ℕ) → place_of fs q ≡ Some n → (b : Bool) → same_rid r q ≡ b → IsTaken seats n
-    taken q n k true same = subst (IsTaken seats) (here q n same k) h.taken
-    taken q n k false apart = subst IsSome (sym (h.stay q n (was q n apart k))) (old.taken q n (was q n apart k))
+    taken q n k true same = subst (IsTaken seats) (same_Some p n (sym h.here ∙ sym (alike fs r q same) ∙ k)) (given_taken places seats p h.given)
+    taken q n k false apart = let had = sym (h.others q apart) ∙ k in taken_again places seats p h.given.others n (unnamed es cs places q n p old h.given.was had) (old.taken q n had)
 
-    held : (q : Rid) (n : ℕ) → place_of fs q ≡ Some n → (b : Bool) → same_rid r q ≡ b → 0 < length (whole (chain_of ds q) (image_at seats n))
-    held q n k true same = subst (λ vs. 0 < length (whole vs (image_at seats n))) (sym (chain_now q same)) (omega arith)
-    held q n k false apart = subst (λ vs. 0 < length (whole vs (image_at seats n))) (sym (chain_stays q apart)) (subst (λ x. 0 < length (whole (chain_of cs q) x)) (sym (image_stays q n apart k)) (old.held q n (was q n apart k)))
+    apart_from : (q : Rid) (n : ℕ) → place_of es q ≡ Some n → same_rid r q ≡ false
+    apart_from q n k = go (same_rid r q) refl
+      where
+        go : (b : Bool) → same_rid r q ≡ b → b ≡ false
+        go false e = refl
+        go true e = absurd (none-some n (sym h.new ∙ sym (alike es r q e) ∙ k))
 
-    falls : (q : Rid) (n : ℕ) → place_of fs q ≡ Some n → (b : Bool) → same_rid r q ≡ b → Each (λ v. IsOver v.stamp (image_at seats n)) (chain_of ds q)
-    falls q n k true same = subst (λ x. Each (λ v. IsOver v.stamp x) (chain_of ds q)) (sym (bare q n same k)) (all_over_none (chain_of ds q))
-    falls q n k false apart = subst (λ vs. Each (λ v. IsOver v.stamp (image_at seats n)) vs) (sym (chain_stays q apart)) (subst (λ x. Each (λ v. IsOver v.stamp x) (chain_of cs q)) (sym (image_stays q n apart k)) (old.falls q n (was q n apart k)))
+    owner : (n : ℕ) → n ≢ p → IsTaken seats n → (q : Rid) × (place_of fs q ≡ Some n)
+    owner n apart t = let q = old.named n (before n apart t) in (q.0, h.others q.0 (apart_from q.0 n q.1) ∙ q.1)
 
-    rows : (q : Rid) (n : ℕ) → place_of fs q ≡ Some n → (b : Bool) → same_rid r q ≡ b → IsRow (image_at seats n)
-    rows q n k true same = subst IsRow (sym (bare q n same k)) tt
-    rows q n k false apart = subst IsRow (sym (image_stays q n apart k)) (old.rows q n (was q n apart k))
+    long_here : 0 < length (versions_at ds seats p)
+    long_here = subst (λ vs. 0 < length vs) (sym (come_at es fs cs ds places seats r p w h)) (omega arith)
 
-    chained : (q : Rid) (us : List Version) → lookup (same_rid q) ds ≡ Some us → (b : Bool) → same_rid r q ≡ b → IsSome (place_of fs q) × (0 < length us)
-    chained q us k true same = (ap is_some (alike fs r q same ∙ h.here), subst (λ vs. 0 < length vs) (same_Some (w ∷ ws) us (sym (ap (λ b. cond b (Some (w ∷ ws)) (lookup (same_rid q) cs)) same) ∙ sym (is q) ∙ k)) (omega arith))
-    chained q us k false apart = let c = old.chained q us (sym (chain_apart cs ds r q (w ∷ ws) is apart) ∙ k) in (subst IsSome (sym (h.others q apart)) c.0, c.1)
+    falls_here : Falls (list_at ds p) (image_at seats p)
+    falls_here = subst (Falls (list_at ds p)) (sym (ap (λ seat. image_at (seat ∷ []) 0) h.given.now)) (record { over = all_over_none (list_at ds p); row = tt })
 
--- ---- nothing changes but places that the index doesn't name
+-- ---- each place has what it had
 
-abbrev pub ChainsStay : List (Rid × List Version) → List (Rid × List Version) → Type 0
-ChainsStay cs ds = (q : Rid) → lookup (same_rid q) ds ≡ lookup (same_rid q) cs
+abbrev pub ListsAlike : Places → Places → Type 0
+ListsAlike cs ds = (q : ℕ) → list_at ds q ≡ list_at cs q
 
-pub records_stay : (es : List (Rid × ℕ)) (cs ds : List (Rid × List Version)) (places seats : List Seat) → IsIndex es → ChainsStay cs ds → SeatsStay es places seats → records_of es ds seats ≡ records_of es cs places
-records_stay es cs ds places seats index same stay = go es (each_entry (λ e. versions_in ds seats e ≡ versions_in cs places e) es (distinct es index) one)
-  where
-    one : (q : Rid) (n : ℕ) → place_of es q ≡ Some n → versions_in ds seats (q, n) ≡ versions_in cs places (q, n)
-    one q n k = λ i. whole (unwrap_or (same q i) []) (seat_image places seats n (stay q n k) i)
+versions_alike : (cs ds : Places) (places seats : List Seat) → ListsAlike cs ds → AreAlike places seats → (n : ℕ) → versions_at ds seats n ≡ versions_at cs places n
+versions_alike cs ds places seats lists stay n = λ i. whole (lists n i) (same_image places seats n (stay n) i)
 
-    go : (fs : List (Rid × ℕ)) → Each (λ e. versions_in ds seats e ≡ versions_in cs places e) fs → records_of fs ds seats ≡ records_of fs cs places
-    go [] h = refl
-    go (f ∷ fs) h = λ i. (f.0, h.0 i) ∷ go fs h.1 i
+pub records_stay : (es : List (Rid × ℕ)) (cs ds : Places) (places seats : List Seat) → ListsAlike cs ds → AreAlike places seats → records_of es ds seats ≡ records_of es cs places
+records_stay [] cs ds places seats lists stay = refl
+records_stay (e ∷ es) cs ds places seats lists stay = λ i. (e.0, versions_alike cs ds places seats lists stay e.1 i) ∷ records_stay es cs ds places seats lists stay i
 
-pub stays_whole : (es : List (Rid × ℕ)) (cs ds : List (Rid × List Version)) (places seats : List Seat) → AreWhole es cs places → ChainsStay cs ds → SeatsStay es places seats → NoneTaken places seats → AreWhole es ds seats
-stays_whole es cs ds places seats old same stay none =
+pub stays_whole : (es : List (Rid × ℕ)) (cs ds : Places) (places seats : List Seat) → AreWhole es cs places → ListsAlike cs ds → AreAlike places seats → AreWhole es ds seats
+stays_whole es cs ds places seats old lists stay =
     record {
-      taken = λ q n k. subst IsSome (sym (stay q n k)) (old.taken q n k);
-      named = λ n t. old.named n (none n t);
-      held = λ q n k. subst (λ vs. 0 < length vs) (sym (versions q n k)) (old.held q n k);
-      chained = λ q vs k. old.chained q vs (sym (same q) ∙ k);
-      falls = λ q n k. subst (λ vs. Each (λ v. IsOver v.stamp (image_at seats n)) vs) (sym (chain q)) (subst (λ x. Each (λ v. IsOver v.stamp x) (chain_of cs q)) (sym (image q n k)) (old.falls q n k));
-      rows = λ q n k. subst IsRow (sym (image q n k)) (old.rows q n k);
+      taken = λ q n k. again n (old.taken q n k);
+      named = λ n t. old.named n (before n t);
+      chained = λ n long. again n (old.chained n (subst (λ vs. 0 < length vs) (lists n) long));
+      held = λ n t. subst (λ vs. 0 < length vs) (sym (versions_alike cs ds places seats lists stay n)) (old.held n (before n t));
+      falls = λ n t. subst (λ vs. Falls vs (image_at seats n)) (sym (lists n)) (subst (Falls (list_at cs n)) (sym (same_image places seats n (stay n))) (old.falls n (before n t)));
+      fits = λ n t. old.fits n (before n t);
     }
   where
-    chain : (q : Rid) → chain_of ds q ≡ chain_of cs q
-    chain q = ap (λ o. unwrap_or o []) (same q)
+    again : (n : ℕ) → IsTaken places n → IsTaken seats n
+    again n t = subst (λ seat. is_some seat ≡ true) (sym (stay n)) t
 
-    image : (q : Rid) (n : ℕ) → place_of es q ≡ Some n → image_at seats n ≡ image_at places n
-    image q n k = seat_image places seats n (stay q n k)
+    before : (n : ℕ) → IsTaken seats n → IsTaken places n
+    before n t = subst (λ seat. is_some seat ≡ true) (stay n) t
 
-    versions : (q : Rid) (n : ℕ) → place_of es q ≡ Some n → whole (chain_of ds q) (image_at seats n) ≡ whole (chain_of cs q) (image_at places n)
-    versions q n k = λ i. whole (chain q i) (image q n k i)
-
--- a chain that was begun, and ended again
-pub ended_again : (cs ds bs : List (Rid × List Version)) (r : Rid) (ws : List Version) → lookup (same_rid r) cs ≡ None → ChainIs cs ds r ws → ChainIs ds bs r [] → ChainsStay cs bs
-ended_again cs ds bs r ws none begun end q = end q ∙ go (same_rid r q) refl
-  where
-    go : (b : Bool) → same_rid r q ≡ b → cond b None (lookup (same_rid q) ds) ≡ lookup (same_rid q) cs
-    go true e = sym (alike cs r q e ∙ none)
-    go false e = chain_apart cs ds r q ws begun e
+-- a version that was added, and taken back
+pub taken_back : (cs ds bs : Places) (p : ℕ) (w : Version) → list_at cs p ≡ [] → list_at ds p ≡ w ∷ [] → ListsStay p cs ds → list_at bs p ≡ drop 1 (list_at ds p) → ListsStay p ds bs → ListsAlike cs bs
+taken_back cs ds bs p w bare added before here after q = each_place (λ n. list_at bs n ≡ list_at cs n) p q (here ∙ ap (drop 1) added ∙ sym bare) (λ apart. after q apart ∙ before q apart)

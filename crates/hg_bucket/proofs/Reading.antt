@@ -1,10 +1,9 @@
 -- What is found in a bucket's parts.
-use Rattle.std.proofs.Common.{◌≡◌, ℕ, List, [], ◌∷◌, Bool, true, false, Option, Some, None, refl, sym, ap, ◌∙◌, cond}
+use Rattle.std.proofs.Common.{◌≡◌, ℕ, List, [], ◌∷◌, Bool, true, false, Option, Some, None, refl, sym, ap, ◌∙◌, cond, subst}
 use Rattle.std.specs.Prelude.{is_some, unwrap_or, option_map, find, option_to_list, nat_le}
 use Rattle.std.specs.Option.{option_or, option_copied}
 use Rattle.std.specs.Borrow.{Bor}
 use Rattle.std.specs.Map.{lookup}
-use Rattle.std.specs.BTreeMap.{is_at}
 use Rattle.hg_base.specs.declared.rid.Rid.{Rid}
 use Rattle.hg_base.specs.declared.rid.TableId.{TableId}
 use Rattle.hg_base.specs.declared.image.Image.{Image}
@@ -14,40 +13,47 @@ use Rattle.hg_chain.specs.declared.version.Stamp.{Stamp}
 use Rattle.hg_chain.specs.declared.version.Stamp.TheVariants.{Written, Numbered}
 use Rattle.hg_chain.specs.declared.version.Version.{Version}
 use Rattle.hg_chain.specs.Versions as chain
+use Rattle.hg_chain.specs.Places.{Places, list_at}
 use Rattle.hg_space.specs.Index as index
-use Rattle.hg_base.specs.RidOrder.{rid_cmp}
 use Rattle.hg_space.specs.Index.{place_of}
 use Rattle.hg_space.specs.Places.{Seat, Oldest, image_at}
-use Rattle.hg_base.proofs.RidOrder.{at_rid, rids_equiv}
+use Rattle.hg_base.proofs.RidOrder.{rids_equiv}
 use Rattle.hg_bucket.specs.Held.{Kept, versions_of, read_at, is_at_most, is_open_by, IsNextKey}
-use Rattle.hg_bucket.specs.Parts.{kept, kept_as, oldest, chain_of, whole, records_of, oldest_by}
-
-pub looked_up : {X : Type 0} (es : List (Rid × X)) (r : Rid) → lookup (is_at (rid_cmp r)) es ≡ lookup (same_rid r) es
-looked_up es r = ap (λ (test : Rid → Bool). lookup test es) (λ i k. at_rid r k i)
+use Rattle.hg_bucket.specs.Parts.{kept, kept_as, oldest, whole, versions_at, records_of, oldest_by}
 
 -- a record that a test tells apart, for its look-ups: those of the same record are alike
 pub alike : {X : Type 0} (es : List (Rid × X)) (r q : Rid) → same_rid r q ≡ true → lookup (same_rid q) es ≡ lookup (same_rid r) es
 alike es r q h = ap (λ (test : Rid → Bool). lookup test es) (λ i k. sym (rids_equiv.congr r q k h) i)
 
 -- the versions of a record of the index
-pub found : (es : List (Rid × ℕ)) (chains : List (Rid × List Version)) (places : List Seat) (r : Rid) → lookup (same_rid r) (records_of es chains places) ≡ option_map (λ p. whole (chain_of chains r) (image_at places p)) (place_of es r)
-found [] chains places r = refl
-found (e ∷ es) chains places r = go (same_rid r e.0) refl (found es chains places r)
+pub found : (es : List (Rid × ℕ)) (cs : Places) (places : List Seat) (r : Rid) → lookup (same_rid r) (records_of es cs places) ≡ option_map (versions_at cs places) (place_of es r)
+found [] cs places r = refl
+found (e ∷ es) cs places r = go (same_rid r e.0) (found es cs places r)
   where
-    go : (b : Bool) → same_rid r e.0 ≡ b → lookup (same_rid r) (records_of es chains places) ≡ option_map (λ p. whole (chain_of chains r) (image_at places p)) (place_of es r) → cond b (Some (whole (chain_of chains e.0) (image_at places e.1))) (lookup (same_rid r) (records_of es chains places)) ≡ option_map (λ p. whole (chain_of chains r) (image_at places p)) (cond b (Some e.1) (place_of es r))
-    go true h rest = ap (λ vs. Some (whole (unwrap_or vs []) (image_at places e.1))) (alike chains r e.0 h)
-    go false h rest = rest
+    go : (b : Bool) → lookup (same_rid r) (records_of es cs places) ≡ option_map (versions_at cs places) (place_of es r) → cond b (Some (versions_at cs places e.1)) (lookup (same_rid r) (records_of es cs places)) ≡ option_map (versions_at cs places) (cond b (Some e.1) (place_of es r))
+    go true rest = refl
+    go false rest = rest
 
-pub there : (es : List (Rid × ℕ)) (chains : List (Rid × List Version)) (places : List Seat) (r : Rid) → is_some (lookup (same_rid r) (records_of es chains places)) ≡ is_some (place_of es r)
-there es chains places r = ap is_some (found es chains places r) ∙ mapped (place_of es r)
+-- at the place that the record has, and of a record that has none
+pub versions_there : (es : List (Rid × ℕ)) (cs : Places) (places : List Seat) (r : Rid) (p : ℕ) → place_of es r ≡ Some p → versions_of (records_of es cs places) r ≡ versions_at cs places p
+versions_there es cs places r p h = ap (λ o. unwrap_or o []) (found es cs places r ∙ ap (option_map (versions_at cs places)) h)
+
+pub no_versions : (es : List (Rid × ℕ)) (cs : Places) (places : List Seat) (r : Rid) → place_of es r ≡ None → versions_of (records_of es cs places) r ≡ []
+no_versions es cs places r h = ap (λ o. unwrap_or o []) (found es cs places r ∙ ap (option_map (versions_at cs places)) h)
+
+pub there : (es : List (Rid × ℕ)) (cs : Places) (places : List Seat) (r : Rid) → is_some (lookup (same_rid r) (records_of es cs places)) ≡ is_some (place_of es r)
+there es cs places r = ap is_some (found es cs places r) ∙ mapped (place_of es r)
   where
-    mapped : (o : Option ℕ) → is_some (option_map (λ p. whole (chain_of chains r) (image_at places p)) o) ≡ is_some o
+    mapped : (o : Option ℕ) → is_some (option_map (versions_at cs places) o) ≡ is_some o
     mapped None = refl
     mapped (Some p) = refl
 
-pub next_of_records : (es : List (Rid × ℕ)) (chains : List (Rid × List Version)) (places : List Seat) (t : TableId) (from : ℕ) (o : Option ℕ) → index.IsNextKey es t from o → IsNextKey (records_of es chains places) t from o
-next_of_records es chains places t from None h = λ k le is. h k le (sym (there es chains places (index.record_at t k)) ∙ is)
-next_of_records es chains places t from (Some n) h = (h.0, there es chains places (index.record_at t n) ∙ h.1, λ k le is. h.2 k le (sym (there es chains places (index.record_at t k)) ∙ is))
+pub next_of_records : (es : List (Rid × ℕ)) (cs : Places) (places : List Seat) (t : TableId) (from : ℕ) (o : Option ℕ) → index.IsNextKey es t from o → IsNextKey (records_of es cs places) t from o
+next_of_records es cs places t from None h = λ k le is. h k le (sym (there es cs places (index.record_at t k)) ∙ is)
+next_of_records es cs places t from (Some n) h = (h.0, there es cs places (index.record_at t n) ∙ h.1, λ k le is. h.2 k le (sym (there es cs places (index.record_at t k)) ∙ is))
+
+pub next_here : (es : List (Rid × ℕ)) (cs : Places) (places : List Seat) (t : TableId) (from : ℕ) (o : Option ℕ) (now : List (Rid × List Kept)) → records_of es cs places ≡ now → index.IsNextKey es t from o → IsNextKey now t from o
+next_here es cs places t from o now is h = subst (λ records. IsNextKey records t from o) is (next_of_records es cs places t from o h)
 
 -- ---- reading a record
 
@@ -110,13 +116,12 @@ read_whole own at vs im =
     ∙ or_assoc (chain.image_by own vs) (chain.image_at at vs) (oldest_by at im)
 
 -- of a record that has a place, and of one that has none
-pub read_there : (es : List (Rid × ℕ)) (chains : List (Rid × List Version)) (places : List Seat) (r : Rid) (p : ℕ) (own : Writer) (at : ℕ) → place_of es r ≡ Some p → read_at own at (versions_of (records_of es chains places) r) ≡ option_or (option_or (chain.image_by own (chain_of chains r)) (chain.image_at at (chain_of chains r))) (oldest_by at (image_at places p))
-read_there es chains places r p own at h =
-    ap (λ o. read_at own at (unwrap_or o [])) (found es chains places r ∙ ap (option_map (λ p. whole (chain_of chains r) (image_at places p))) h)
-    ∙ read_whole own at (chain_of chains r) (image_at places p)
+pub read_there : (es : List (Rid × ℕ)) (cs : Places) (places : List Seat) (r : Rid) (p : ℕ) (own : Writer) (at : ℕ) → place_of es r ≡ Some p → read_at own at (versions_of (records_of es cs places) r) ≡ option_or (option_or (chain.image_by own (list_at cs p)) (chain.image_at at (list_at cs p))) (oldest_by at (image_at places p))
+read_there es cs places r p own at h =
+    ap (read_at own at) (versions_there es cs places r p h) ∙ read_whole own at (list_at cs p) (image_at places p)
 
-pub read_absent : (es : List (Rid × ℕ)) (chains : List (Rid × List Version)) (places : List Seat) (r : Rid) (own : Writer) (at : ℕ) → place_of es r ≡ None → read_at own at (versions_of (records_of es chains places) r) ≡ None
-read_absent es chains places r own at h = ap (λ o. read_at own at (unwrap_or o [])) (found es chains places r ∙ ap (option_map (λ p. whole (chain_of chains r) (image_at places p))) h)
+pub read_absent : (es : List (Rid × ℕ)) (cs : Places) (places : List Seat) (r : Rid) (own : Writer) (at : ℕ) → place_of es r ≡ None → read_at own at (versions_of (records_of es cs places) r) ≡ None
+read_absent es cs places r own at h = ap (read_at own at) (no_versions es cs places r h)
 
 pub copied_either : {X : Type 0} (a b : Option (Bor X)) → option_copied (option_or a b) ≡ option_or (option_copied a) (option_copied b)
 copied_either None b = refl

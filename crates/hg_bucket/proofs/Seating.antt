@@ -1,80 +1,89 @@
--- A place is given: it was none of those that are taken, and these stay.
-use Rattle.std.proofs.Common.{◌≡◌, ℕ, zero, suc, List, [], ◌∷◌, ◌++◌, length, Bool, true, false, Some, None, refl, sym, ap, ◌∙◌, cond, subst, set, slice_get}
-use Rattle.std.specs.Prelude.{IsSome, is_some, slice_index_or, option_and_then}
+-- Places, one by one: one is set, given, or given back.
+use Rattle.std.proofs.Common.{◌≡◌, ℕ, zero, suc, List, [], ◌∷◌, ◌++◌, length, Bool, true, false, Option, Some, None, refl, sym, ap, ◌∙◌, cond, subst, set, slice_get, inl, inr}
+use Rattle.std.specs.Prelude.{◌≢◌, ◌⊎◌, IsSome, is_some, option_and_then}
 use Rattle.std.specs.Bool.{OnTrue, OnFalse}
+use Rattle.std.proofs.lemmas.Bool.{cases_eq}
 use Rattle.std.proofs.lemmas.Option.{none-some}
 use Rattle.hg_space.specs.Places.{Seat, free, taken, has_free, image_at, IsTaken}
-use Rattle.hg_space.proofs.PlaceFacts.{given_not_taken}
-use Rattle.hg_bucket.specs.Parts.{NoneTaken}
-use Rattle.hg_bucket.proofs.Dropping.{seat_apart, freed_free, freed_was}
+use Rattle.hg_bucket.specs.Parts.{seat_at, AreAlike, IsGiven}
 
-pub record Given (places seats : List Seat) (p : ℕ) : Type 0 where
-  pub was_free : OnTrue (has_free places) (slice_get places p ≡ Some free)
-  pub is_added : OnFalse (has_free places) (p ≡ length places)
-  pub is_set : seats ≡ cond (has_free places) (set places p (taken None)) (places ++ taken None ∷ [])
+-- what is so of a place and of each other one is so of all
+pub each_place : (P : ℕ → Type 0) (p q : ℕ) → P p → (q ≢ p → P q) → P q
+each_place P p q here there = go (cases_eq q p)
+  where
+    go : (q ≡ p) ⊎ (q ≢ p) → P q
+    go (inl e) = subst P (sym e) here
+    go (inr apart) = there apart
 
-pub appended : (places : List Seat) (n : ℕ) (x : Seat) → IsTaken places n → slice_index_or (places ++ x ∷ []) n free ≡ slice_index_or places n free
-appended [] n x t = absurd (let k = t in cc)
-appended (y ∷ places) zero x t = refl
-appended (y ∷ places) (suc n) x t = appended places n x t
+pub same_image : (old new : List Seat) (q : ℕ) → seat_at new q ≡ seat_at old q → image_at new q ≡ image_at old q
+same_image old new q e = ap (option_and_then (λ oldest. oldest)) e
 
-pub set_here : (places : List Seat) (p : ℕ) (x y : Seat) → slice_get places p ≡ Some y → slice_index_or (set places p x) p free ≡ x
+pub not_taken : (places : List Seat) (p : ℕ) → seat_at places p ≡ free → IsTaken places p → ⊥
+not_taken places p e t = let k = subst IsSome e t in absurd cc
+
+-- ---- one is set
+
+pub seat_apart : (places : List Seat) (p q : ℕ) (x : Seat) → q ≢ p → seat_at (set places p x) q ≡ seat_at places q
+seat_apart [] p q x h = refl
+seat_apart (y ∷ places) zero zero x h = absurd (h refl)
+seat_apart (y ∷ places) zero (suc q) x h = refl
+seat_apart (y ∷ places) (suc p) zero x h = refl
+seat_apart (y ∷ places) (suc p) (suc q) x h = seat_apart places p q x (λ e. h (ap suc e))
+
+pub seat_here : (places : List Seat) (p : ℕ) (x : Seat) → IsTaken places p → seat_at (set places p x) p ≡ x
+seat_here [] p x t = absurd (let k = t in cc)
+seat_here (y ∷ places) zero x t = refl
+seat_here (y ∷ places) (suc p) x t = seat_here places p x t
+
+pub freed_here : (places : List Seat) (p : ℕ) → seat_at (set places p free) p ≡ free
+freed_here [] p = refl
+freed_here (y ∷ places) zero = refl
+freed_here (y ∷ places) (suc p) = freed_here places p
+
+-- ---- one is given
+
+free_get : (places : List Seat) (p : ℕ) (x : Seat) → slice_get places p ≡ Some x → seat_at places p ≡ x
+free_get [] p x h = absurd (none-some x h)
+free_get (y ∷ places) zero x h = ap (λ o. seat_of o) h
+  where
+    seat_of : Option Seat → Seat
+    seat_of None = free
+    seat_of (Some z) = z
+free_get (y ∷ places) (suc p) x h = free_get places p x h
+
+free_past : (places : List Seat) → seat_at places (length places) ≡ free
+free_past [] = refl
+free_past (y ∷ places) = free_past places
+
+set_here : (places : List Seat) (p : ℕ) (x y : Seat) → slice_get places p ≡ Some y → seat_at (set places p x) p ≡ x
 set_here [] p x y h = absurd (none-some y h)
 set_here (z ∷ places) zero x y h = refl
 set_here (z ∷ places) (suc p) x y h = set_here places p x y h
 
-pub appended_here : (places : List Seat) (x : Seat) → slice_index_or (places ++ x ∷ []) (length places) free ≡ x
+appended_here : (places : List Seat) (x : Seat) → seat_at (places ++ x ∷ []) (length places) ≡ x
 appended_here [] x = refl
 appended_here (y ∷ places) x = appended_here places x
 
-pub given_stays : (places seats : List Seat) (p : ℕ) → Given places seats p → (n : ℕ) → IsTaken places n → slice_index_or seats n free ≡ slice_index_or places n free
-given_stays places seats p g n t = ap (λ ps. slice_index_or ps n free) g.is_set ∙ go (has_free places)
+appended_apart : (places : List Seat) (q : ℕ) (x : Seat) → q ≢ length places → seat_at (places ++ x ∷ []) q ≡ seat_at places q
+appended_apart [] zero x h = absurd (h refl)
+appended_apart [] (suc q) x h = refl
+appended_apart (y ∷ places) zero x h = refl
+appended_apart (y ∷ places) (suc q) x h = appended_apart places q x (λ e. h (ap suc e))
+
+pub given : (places seats : List Seat) (p : ℕ) → OnTrue (has_free places) (slice_get places p ≡ Some free) → OnFalse (has_free places) (p ≡ length places) → seats ≡ cond (has_free places) (set places p (taken None)) (places ++ taken None ∷ []) → IsGiven places seats p
+given places seats p was_free is_added is_set = subst (λ ps. IsGiven places ps p) (sym is_set) (go (has_free places) was_free is_added)
   where
-    go : (any : Bool) → slice_index_or (cond any (set places p (taken None)) (places ++ taken None ∷ [])) n free ≡ slice_index_or places n free
-    go true = seat_apart places p n (taken None) (λ same. given_not_taken places p g.was_free g.is_added (subst (IsTaken places) same t))
-    go false = appended places n (taken None) t
+    go : (any : Bool) → OnTrue any (slice_get places p ≡ Some free) → OnFalse any (p ≡ length places) → IsGiven places (cond any (set places p (taken None)) (places ++ taken None ∷ [])) p
+    go true a b = record { was = free_get places p free a; now = set_here places p (taken None) free a; others = λ q apart. seat_apart places p q (taken None) apart }
+    go false a b =
+        subst (IsGiven places (places ++ taken None ∷ [])) (sym b)
+        (record { was = free_past places; now = appended_here places (taken None); others = λ q apart. appended_apart places q (taken None) apart })
 
-pub given_here : (places seats : List Seat) (p : ℕ) → Given places seats p → slice_index_or seats p free ≡ taken None
-given_here places seats p g = ap (λ ps. slice_index_or ps p free) g.is_set ∙ go (has_free places) g.was_free g.is_added
-  where
-    go : (any : Bool) → OnTrue any (slice_get places p ≡ Some free) → OnFalse any (p ≡ length places) → slice_index_or (cond any (set places p (taken None)) (places ++ taken None ∷ [])) p free ≡ taken None
-    go true a b = set_here places p (taken None) free a
-    go false a b = ap (λ n. slice_index_or (places ++ taken None ∷ []) n free) b ∙ appended_here places (taken None)
+pub given_taken : (places seats : List Seat) (p : ℕ) → IsGiven places seats p → IsTaken seats p
+given_taken places seats p g = ap is_some g.now
 
-pub given_bare : (places seats : List Seat) (p : ℕ) → Given places seats p → image_at seats p ≡ None
-given_bare places seats p g = ap (option_and_then (λ oldest. oldest)) (given_here places seats p g)
-
--- it is the only one that was free
-set_new : (places : List Seat) (p n : ℕ) → IsTaken (set places p (taken None)) n → slice_index_or places n free ≡ free → n ≡ p
-set_new [] p n t e = absurd (let k = t in cc)
-set_new (y ∷ places) zero zero t e = refl
-set_new (y ∷ places) zero (suc n) t e = absurd (let k = subst IsSome e t in cc)
-set_new (y ∷ places) (suc p) zero t e = absurd (let k = subst IsSome e t in cc)
-set_new (y ∷ places) (suc p) (suc n) t e = ap suc (set_new places p n t e)
-
-appended_new : (places : List Seat) (n : ℕ) → IsTaken (places ++ taken None ∷ []) n → slice_index_or places n free ≡ free → n ≡ length places
-appended_new [] zero t e = refl
-appended_new [] (suc n) t e = absurd (let k = t in cc)
-appended_new (y ∷ places) zero t e = absurd (let k = subst IsSome e t in cc)
-appended_new (y ∷ places) (suc n) t e = ap suc (appended_new places n t e)
-
-pub given_one : (places seats : List Seat) (p : ℕ) → Given places seats p → (n : ℕ) → IsTaken seats n → slice_index_or places n free ≡ free → n ≡ p
-given_one places seats p g n t e = go (has_free places) g.is_added (subst (λ ps. IsTaken ps n) g.is_set t)
-  where
-    go : (any : Bool) → OnFalse any (p ≡ length places) → IsTaken (cond any (set places p (taken None)) (places ++ taken None ∷ [])) n → n ≡ p
-    go true b k = set_new places p n k e
-    go false b k = appended_new places n k e ∙ sym b
-
--- given back, none is taken that was free
-pub back_none : (places seats : List Seat) (p : ℕ) → Given places seats p → NoneTaken places (set seats p free)
-back_none places seats p g n t = go (slice_index_or places n free) refl
-  where
-    go : (x : Seat) → slice_index_or places n free ≡ x → IsTaken places n
-    go None e = absurd (freed_free seats p (subst (IsTaken (set seats p free)) (given_one places seats p g n (freed_was seats p n t) e) t))
-    go (Some x) e = ap is_some e
-
--- given back, the others are as before
-pub back_stays : (places seats : List Seat) (p : ℕ) → Given places seats p → (n : ℕ) → IsTaken places n → slice_index_or (set seats p free) n free ≡ slice_index_or places n free
-back_stays places seats p g n t =
-    seat_apart seats p n free (λ same. given_not_taken places p g.was_free g.is_added (subst (IsTaken places) same t))
-    ∙ given_stays places seats p g n t
+-- given back, all are as before
+pub given_back : (places seats back : List Seat) (p : ℕ) → IsGiven places seats p → back ≡ set seats p free → AreAlike places back
+given_back places seats back p g e q =
+    ap (λ ps. seat_at ps q) e
+    ∙ each_place (λ n. seat_at (set seats p free) n ≡ seat_at places n) p q (freed_here seats p ∙ sym g.was) (λ apart. seat_apart seats p q free apart ∙ g.others q apart)

@@ -1,33 +1,24 @@
 -- Records that can't be shortened, and those that have a chain.
 use Rattle.std.proofs.Common.{◌≡◌, ℕ, List, [], ◌∷◌, ◌++◌, Bool, true, false, Option, Some, None, refl, sym, ap, ◌∙◌, cond, subst, not, ◌<◌, length, arith}
-use Rattle.std.specs.Prelude.{unwrap_or, is_some, IsSome, IfSome}
-use Rattle.std.specs.Map.{lookup}
+use Rattle.std.specs.Prelude.{is_some, IsSome, IfSome}
+use Rattle.std.specs.Bool.{OnTrue, OnFalse}
 use Rattle.hg_base.specs.declared.rid.Rid.{Rid}
 use Rattle.hg_base.specs.declared.rid.TableId.{TableId}
-use Rattle.hg_base.specs.History.{same_rid}
 use Rattle.hg_chain.specs.declared.version.Version.{Version}
+use Rattle.hg_chain.specs.Places.{Places, list_at}
 use Rattle.hg_space.specs.Index.{place_of}
 use Rattle.hg_space.specs.Places.{Seat, Oldest, image_at}
 use Rattle.hg_bucket.specs.Held.{Kept, versions_of, record_at, cut_at, is_at_most, survivor, IsNextKey}
-use Rattle.hg_bucket.specs.Parts.{whole, records_of, AreWhole, IsRow, IsSettled, IsNextChain}
+use Rattle.hg_bucket.specs.Parts.{whole, records_of, AreWhole, IsRow}
 use Rattle.hg_bucket.specs.Sweeping.{is_long}
-use Rattle.hg_bucket.specs.Long.{IsShort, IsNextLong}
-use Rattle.hg_bucket.proofs.Reading.{there}
-use Rattle.hg_bucket.proofs.Changing.{versions_there}
-use Rattle.hg_bucket.proofs.Installing.{no_versions}
+use Rattle.hg_bucket.specs.Long.{IsShort}
+use Rattle.hg_bucket.proofs.Reading.{there, versions_there, no_versions}
 use Rattle.hg_bucket.proofs.Costing.{whole_long}
-use Rattle.hg_bucket.proofs.Sweeps.{settled_swept, settled_clean}
+use Rattle.hg_bucket.proofs.Sweeps.{IsSettled, settled_swept, settled_clean}
 
 pub oldest_settled : (im : Oldest) → IsRow im → IsSettled (whole [] im)
 oldest_settled None row = tt
 oldest_settled (Some p) row = (refl, refl, row)
-
-pub unchained : (es : List (Rid × ℕ)) (cs : List (Rid × List Version)) (places : List Seat) (r : Rid) → AreWhole es cs places → lookup (same_rid r) cs ≡ None → IsSettled (versions_of (records_of es cs places) r)
-unchained es cs places r h none = go (place_of es r) refl
-  where
-    go : (o : Option ℕ) → place_of es r ≡ o → IsSettled (versions_of (records_of es cs places) r)
-    go None e = subst IsSettled (sym (no_versions es cs places r e)) tt
-    go (Some p) e = subst IsSettled (sym (versions_there es cs places r p e ∙ ap (λ o. whole (unwrap_or o []) (image_at places p)) none)) (oldest_settled (image_at places p) (h.rows r p e))
 
 pub settled_cut : (bound : ℕ) (vs : List Kept) → IsSettled vs → cut_at bound vs ≡ vs
 settled_cut bound [] h = refl
@@ -49,32 +40,36 @@ settled_short {vs} h = record { one = one vs h; cut = λ bound. settled_cut boun
     one (v ∷ []) h = ap is_some h.0
     one (v ∷ w ∷ vs) h = absurd h
 
--- a record that has a chain is long
-pub chained : (es : List (Rid × ℕ)) (cs : List (Rid × List Version)) (places : List Seat) (r : Rid) → AreWhole es cs places → IsSome (lookup (same_rid r) cs) → is_long (versions_of (records_of es cs places) r) ≡ true
-chained es cs places r h some = go (lookup (same_rid r) cs) refl some
+-- a record that has no chain is short, and one that has one is long
+pub bare_short : (es : List (Rid × ℕ)) (cs : Places) (places : List Seat) (r : Rid) (p : ℕ) → AreWhole es cs places → place_of es r ≡ Some p → list_at cs p ≡ [] → IsShort (versions_of (records_of es cs places) r)
+bare_short es cs places r p h has bare = settled_short (subst IsSettled (sym (versions_there es cs places r p has ∙ ap (λ vs. whole vs (image_at places p)) bare)) (oldest_settled (image_at places p) (h.falls p (h.taken r p has)).row))
+
+pub absent_short : (es : List (Rid × ℕ)) (cs : Places) (places : List Seat) (r : Rid) → place_of es r ≡ None → IsShort (versions_of (records_of es cs places) r)
+absent_short es cs places r none = settled_short (subst IsSettled (sym (no_versions es cs places r none)) tt)
+
+pub chained_long : (es : List (Rid × ℕ)) (cs : Places) (places : List Seat) (r : Rid) (p : ℕ) → place_of es r ≡ Some p → 0 < length (list_at cs p) → is_long (versions_of (records_of es cs places) r) ≡ true
+chained_long es cs places r p has some = ap is_long (versions_there es cs places r p has) ∙ long (list_at cs p) (image_at places p) some
   where
     long : (vs : List Version) (im : Oldest) → 0 < length vs → is_long (whole vs im) ≡ true
     long [] im less = absurd (omega (arith, less))
     long (v ∷ vs) im less = whole_long v vs im
 
-    placed : (vs : List Version) → lookup (same_rid r) cs ≡ Some vs → 0 < length vs → (p : Option ℕ) → place_of es r ≡ p → IsSome p → is_long (versions_of (records_of es cs places) r) ≡ true
-    placed vs e less None k has = absurd cc
-    placed vs e less (Some p) k has = ap is_long (versions_there es cs places r p k ∙ ap (λ o. whole (unwrap_or o []) (image_at places p)) e) ∙ long vs (image_at places p) less
-
-    go : (o : Option (List Version)) → lookup (same_rid r) cs ≡ o → IsSome o → is_long (versions_of (records_of es cs places) r) ≡ true
-    go None e some = absurd cc
-    go (Some vs) e some = let told = h.chained r vs e in placed vs e told.1 (place_of es r) refl told.0
-
-pub next_long : (es : List (Rid × ℕ)) (cs : List (Rid × List Version)) (places : List Seat) (t : TableId) (from : ℕ) (found : Option ℕ) → AreWhole es cs places → IsNextChain cs t from found → IsNextLong (records_of es cs places) t from found
-next_long es cs places t from None h next = λ k le. settled_short (unchained es cs places (record_at t k) h (next k le))
-next_long es cs places t from (Some n) h next = (next.0, chained es cs places (record_at t n) h next.1, λ k le less. settled_short (unchained es cs places (record_at t k) h (next.2 k le less)))
-
 -- ---- a record of the index has a version
 
-pub some_at : (es : List (Rid × ℕ)) (cs : List (Rid × List Version)) (places : List Seat) (t : TableId) (from : ℕ) (found : Option ℕ) → AreWhole es cs places → IsNextKey (records_of es cs places) t from found → IfSome found (λ k. 0 < length (versions_of (records_of es cs places) (record_at t k)))
+pub some_at : (es : List (Rid × ℕ)) (cs : Places) (places : List Seat) (t : TableId) (from : ℕ) (found : Option ℕ) → AreWhole es cs places → IsNextKey (records_of es cs places) t from found → IfSome found (λ k. 0 < length (versions_of (records_of es cs places) (record_at t k)))
 some_at es cs places t from None h next = tt
 some_at es cs places t from (Some k) h next = go (place_of es (record_at t k)) refl (sym (there es cs places (record_at t k)) ∙ next.1)
   where
     go : (o : Option ℕ) → place_of es (record_at t k) ≡ o → IsSome o → 0 < length (versions_of (records_of es cs places) (record_at t k))
     go None e some = absurd cc
-    go (Some p) e some = subst (λ vs. 0 < length vs) (sym (versions_there es cs places (record_at t k) p e)) (h.held (record_at t k) p e)
+    go (Some p) e some = subst (λ vs. 0 < length vs) (sym (versions_there es cs places (record_at t k) p e)) (h.held p (h.taken (record_at t k) p e))
+
+-- ---- of an answer that is turned
+
+pub on_true : {P : Type 0} (b : Bool) → (b ≡ false → P) → OnTrue (not b) P
+on_true true f = tt
+on_true false f = f refl
+
+pub on_false : {P : Type 0} (b : Bool) → (b ≡ true → P) → OnFalse (not b) P
+on_false true f = f refl
+on_false false f = tt

@@ -1,6 +1,6 @@
 -- What a sweep makes of a record's versions.
 use Rattle.std.proofs.Common.{◌≡◌, ℕ, inl, inr, ◌+◌, ◌<◌, ◌≤◌, List, [], ◌∷◌, length, Bool, true, false, not, Option, Some, None, refl, ap, sym, ◌∙◌, cond, subst, map, arith}
-use Rattle.std.specs.Prelude.{filter, find, option_map, option_to_list, nat_le, ⊤}
+use Rattle.std.specs.Prelude.{IsSome, IsTrue, is_some, filter, find, option_map, option_to_list, nat_le, ⊤}
 use Rattle.std.specs.Option.{option_or}
 use Rattle.std.specs.Bool.{OnFalse}
 use Rattle.std.proofs.lemmas.Bool.Decides.{nat_tests}
@@ -21,7 +21,7 @@ use Rattle.hg_chain.proofs.Readers.{lies, over_horizon, in_use_stays}
 use Rattle.hg_space.specs.Places.{Oldest}
 use Rattle.hg_bucket.specs.Held.{Kept, is_at_most, is_open_by, read_at}
 use Rattle.hg_bucket.specs.Sweeping.{with_successors, goes_after, swept, IsClean}
-use Rattle.hg_bucket.specs.Parts.{kept, kept_as, oldest, whole, some_chain, IsOver, IsSettled}
+use Rattle.hg_bucket.specs.Parts.{kept, kept_as, oldest, whole, IsOver}
 use Rattle.hg_bucket.proofs.Bare.{whole_sum}
 use Rattle.hg_bucket.proofs.Naming.{all_over_none}
 
@@ -91,10 +91,6 @@ pub some_left : (horizon : ℕ) (xs : List ℕ) (vs : List Kept) → 0 < length 
 some_left horizon xs [] h = h
 some_left horizon xs (v ∷ vs) h = omega arith
 
-pub some_chain_left : (horizon : ℕ) (xs : List ℕ) (vs : List Version) → 0 < length vs → some_chain (chain.swept horizon xs vs) ≡ Some (chain.swept horizon xs vs)
-some_chain_left horizon xs [] h = absurd (omega (arith, h))
-some_chain_left horizon xs (v ∷ vs) h = refl
-
 -- what is left is over the oldest image that is left
 each_from : (P : Version → Type 0) (horizon : ℕ) (xs : List ℕ) (up : Option ℕ) (vs : List Version) → Each P vs → Each P (runs.swept_from horizon xs up vs)
 each_from P horizon xs up [] h = tt
@@ -128,6 +124,12 @@ whole_clean horizon xs ws im true h base = clean_from horizon xs None ws None h 
 whole_clean horizon xs ws im false h base = clean_from horizon xs None ws im h (subst (λ n. MayStay horizon xs n (base_of im)) (sym (last_of_all ws)) base)
 
 -- ---- a record that can't be shortened
+
+-- nothing can be shortened: there is an oldest image alone, which is a row, or nothing
+abbrev pub IsSettled : List Kept → Type 0
+IsSettled [] = ⊤
+IsSettled (v ∷ []) = (v.by ≡ None) × IsSome v.number × IsTrue (is_some v.image.row)
+IsSettled (v ∷ w ∷ vs) = ⊥
 
 pub settled_swept : (horizon : ℕ) (xs : List ℕ) (vs : List Kept) → IsSettled vs → vs ≡ swept horizon xs vs
 settled_swept horizon xs [] h = refl

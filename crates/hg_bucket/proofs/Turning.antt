@@ -1,103 +1,110 @@
 -- One record's chain and oldest image change, and its place stays.
-use Rattle.std.proofs.Common.{◌≡◌, ℕ, ◌+◌, ◌<◌, List, [], ◌∷◌, length, Bool, true, false, Option, Some, None, refl, sym, ap, ◌∙◌, cond, subst, arith}
-use Rattle.std.specs.Prelude.{IsSome, is_some, unwrap_or, option_map, option_and_then, slice_index_or}
-use Rattle.std.specs.Map.{lookup}
-use Rattle.std.proofs.lemmas.Option.{none-some, same_Some}
+use Rattle.std.proofs.Common.{◌≡◌, ℕ, ◌+◌, ◌<◌, List, [], ◌∷◌, length, true, false, Option, Some, None, refl, sym, ap, ◌∙◌, subst, arith}
+use Rattle.std.specs.Prelude.{◌≢◌, IsSome, is_some, unwrap_or, option_map}
 use Rattle.hg_base.specs.declared.rid.Rid.{Rid}
 use Rattle.hg_base.specs.History.{same_rid}
-use Rattle.hg_base.specs.Lists.{Each}
-use Rattle.hg_base.proofs.HistoryFacts.{same_rid_equal}
 use Rattle.hg_chain.specs.declared.version.Version.{Version}
+use Rattle.hg_chain.specs.Places.{Places, list_at, OthersStay as ListsStay}
 use Rattle.hg_space.specs.Index.{place_of, IsIndex}
-use Rattle.hg_space.specs.Places.{Seat, Oldest, free, image_at, IsTaken}
+use Rattle.hg_space.specs.Places.{Seat, Oldest, taken, image_at, IsTaken}
 use Rattle.hg_bucket.specs.Held.{versions_of, left, OthersStay}
-use Rattle.hg_bucket.specs.Parts.{chain_of, whole, records_of, some_chain, ChainIs, AreWhole, IsOver, IsRow, NoneTaken, MayBeBare}
-use Rattle.hg_bucket.proofs.Reading.{found, alike}
-use Rattle.hg_bucket.proofs.Changing.{chain_here, chain_apart, versions_there}
+use Rattle.hg_bucket.specs.Parts.{whole, versions_at, records_of, seat_at, SeatsStay, Falls, AreWhole, MayBeBare}
+use Rattle.hg_bucket.proofs.Reading.{found, versions_there}
+use Rattle.hg_bucket.proofs.Seating.{each_place, same_image}
 use Rattle.hg_bucket.proofs.Entries.{distinct, each_entry, one_changed, left_is, how_many}
 
--- the record r has the place p, and now the chain ws and the oldest image im
-pub record Turns (es : List (Rid × ℕ)) (cs ds : List (Rid × List Version)) (places seats : List Seat) (r : Rid) (p : ℕ) (ws : List Version) (im : Oldest) : Type 0 where
+-- the record r has the place p, where now the chain ws and the oldest image im stand
+pub record Turns (es : List (Rid × ℕ)) (cs ds : Places) (places seats : List Seat) (r : Rid) (p : ℕ) (ws : List Version) (im : Oldest) : Type 0 where
+  pub index : IsIndex es
   pub has : place_of es r ≡ Some p
-  pub chain : ChainIs cs ds r ws
-  pub taken : IsTaken seats p
-  pub image : image_at seats p ≡ im
-  pub apart : (q : Rid) (n : ℕ) → place_of es q ≡ Some n → same_rid r q ≡ false → slice_index_or seats n free ≡ slice_index_or places n free
-  pub none : NoneTaken places seats
+  pub chain : list_at ds p ≡ ws
+  pub lists : ListsStay p cs ds
+  pub seat : seat_at seats p ≡ taken im
+  pub stay : SeatsStay p places seats
 
-pub seat_image : (places seats : List Seat) (n : ℕ) → slice_index_or seats n free ≡ slice_index_or places n free → image_at seats n ≡ image_at places n
-seat_image places seats n e = ap (option_and_then (λ oldest. oldest)) e
+-- another record has another place
+pub place_apart : (es : List (Rid × ℕ)) (r q : Rid) (p n : ℕ) → IsIndex es → place_of es r ≡ Some p → place_of es q ≡ Some n → same_rid r q ≡ false → n ≢ p
+place_apart es r q p n index has k apart e =
+    let same : same_rid r q ≡ true = index.distinct r q p has (k ∙ ap Some e) in
+    let both : true ≡ false = sym same ∙ apart in
+    absurd cc
 
-pub turned_here : (es : List (Rid × ℕ)) (cs ds : List (Rid × List Version)) (places seats : List Seat) (r : Rid) (p : ℕ) (ws : List Version) (im : Oldest) → Turns es cs ds places seats r p ws im → versions_of (records_of es ds seats) r ≡ whole ws im
-turned_here es cs ds places seats r p ws im h = versions_there es ds seats r p h.has ∙ (λ i. whole (chain_here cs ds r ws h.chain i) (h.image i))
+-- the versions at each place but one stay
+pub versions_stay : (cs ds : Places) (places seats : List Seat) (p n : ℕ) → ListsStay p cs ds → SeatsStay p places seats → n ≢ p → versions_at ds seats n ≡ versions_at cs places n
+versions_stay cs ds places seats p n lists stay apart = λ i. whole (lists n apart i) (same_image places seats n (stay n apart) i)
 
-pub turned_others : (es : List (Rid × ℕ)) (cs ds : List (Rid × List Version)) (places seats : List Seat) (r : Rid) (p : ℕ) (ws : List Version) (im : Oldest) → Turns es cs ds places seats r p ws im → OthersStay (records_of es cs places) (records_of es ds seats) r
-turned_others es cs ds places seats r p ws im h q apart =
-    ap (λ o. unwrap_or o []) (found es ds seats q ∙ go (place_of es q) refl ∙ sym (found es cs places q))
+pub turned_at : (es : List (Rid × ℕ)) (cs ds : Places) (places seats : List Seat) (r : Rid) (p : ℕ) (ws : List Version) (im : Oldest) → Turns es cs ds places seats r p ws im → versions_at ds seats p ≡ whole ws im
+turned_at es cs ds places seats r p ws im h = λ i. whole (h.chain i) (image i)
   where
-    go : (o : Option ℕ) → place_of es q ≡ o → option_map (λ n. whole (chain_of ds q) (image_at seats n)) o ≡ option_map (λ n. whole (chain_of cs q) (image_at places n)) o
-    go None k = refl
-    go (Some n) k = λ i. Some (whole (unwrap_or (chain_apart cs ds r q ws h.chain apart i) []) (seat_image places seats n (h.apart q n k apart) i))
+    image : image_at seats p ≡ im
+    image = ap (λ seat. image_at (seat ∷ []) 0) h.seat
 
-pub turned_left : (es : List (Rid × ℕ)) (cs ds : List (Rid × List Version)) (places seats : List Seat) (r : Rid) (p : ℕ) (ws : List Version) (im : Oldest) → IsIndex es → Turns es cs ds places seats r p ws im → left (records_of es ds seats) + length (whole (chain_of cs r) (image_at places p)) ≡ left (records_of es cs places) + length (whole ws im)
-turned_left es cs ds places seats r p ws im index h =
-    let d = distinct es index in
+pub turned_here : (es : List (Rid × ℕ)) (cs ds : Places) (places seats : List Seat) (r : Rid) (p : ℕ) (ws : List Version) (im : Oldest) → Turns es cs ds places seats r p ws im → versions_of (records_of es ds seats) r ≡ whole ws im
+turned_here es cs ds places seats r p ws im h = versions_there es ds seats r p h.has ∙ turned_at es cs ds places seats r p ws im h
+
+pub turned_others : (es : List (Rid × ℕ)) (cs ds : Places) (places seats : List Seat) (r : Rid) (p : ℕ) (ws : List Version) (im : Oldest) → Turns es cs ds places seats r p ws im → OthersStay (records_of es cs places) (records_of es ds seats) r
+turned_others es cs ds places seats r p ws im h q apart = ap (λ o. unwrap_or o []) (found es ds seats q ∙ go (place_of es q) refl ∙ sym (found es cs places q))
+  where
+    go : (o : Option ℕ) → place_of es q ≡ o → option_map (versions_at ds seats) o ≡ option_map (versions_at cs places) o
+    go None k = refl
+    go (Some n) k = ap Some (versions_stay cs ds places seats p n h.lists h.stay (place_apart es r q p n h.index h.has k apart))
+
+pub turned_left : (es : List (Rid × ℕ)) (cs ds : Places) (places seats : List Seat) (r : Rid) (p : ℕ) (ws : List Version) (im : Oldest) → Turns es cs ds places seats r p ws im → left (records_of es ds seats) + length (versions_at cs places p) ≡ left (records_of es cs places) + length (whole ws im)
+turned_left es cs ds places seats r p ws im h =
+    let d = distinct es h.index in
     let same = one_changed (how_many ds seats) (how_many cs places) es r p d h.has (each_entry (λ e. same_rid r e.0 ≡ false → how_many ds seats e ≡ how_many cs places e) es d stays) in
-    let now : how_many ds seats (r, p) ≡ length (whole ws im) = (λ i. length (whole (chain_here cs ds r ws h.chain i) (h.image i))) in
+    let now : how_many ds seats (r, p) ≡ length (whole ws im) = ap (λ vs. length vs) (turned_at es cs ds places seats r p ws im h) in
     omega (arith, left_is es ds seats, left_is es cs places, same, now)
   where
     stays : (q : Rid) (n : ℕ) → place_of es q ≡ Some n → same_rid r q ≡ false → how_many ds seats (q, n) ≡ how_many cs places (q, n)
-    stays q n k apart = λ i. length (whole (unwrap_or (chain_apart cs ds r q ws h.chain apart i) []) (seat_image places seats n (h.apart q n k apart) i))
+    stays q n k apart = ap (λ vs. length vs) (versions_stay cs ds places seats p n h.lists h.stay (place_apart es r q p n h.index h.has k apart))
 
 -- ---- what is always so, where the record may have no version left
 
-pub turned : (es : List (Rid × ℕ)) (cs ds : List (Rid × List Version)) (places seats : List Seat) (r : Rid) (p : ℕ) (ws : List Version) (im : Oldest) → AreWhole es cs places → Turns es cs ds places seats r p ws im → Each (λ v. IsOver v.stamp im) ws → IsRow im → MayBeBare r es ds seats
-turned es cs ds places seats r p ws im old h over row =
+-- what is so at each place but one is so still
+pub taken_again : (places seats : List Seat) (p : ℕ) → SeatsStay p places seats → (n : ℕ) → n ≢ p → IsTaken places n → IsTaken seats n
+taken_again places seats p stay n apart t = subst IsSome (sym (stay n apart)) t
+
+pub taken_before : (places seats : List Seat) (p : ℕ) → SeatsStay p places seats → (n : ℕ) → n ≢ p → IsTaken seats n → IsTaken places n
+taken_before places seats p stay n apart t = subst IsSome (stay n apart) t
+
+pub falls_again : (cs ds : Places) (places seats : List Seat) (p : ℕ) → ListsStay p cs ds → SeatsStay p places seats → (n : ℕ) → n ≢ p → Falls (list_at cs n) (image_at places n) → Falls (list_at ds n) (image_at seats n)
+falls_again cs ds places seats p lists stay n apart f = subst (λ vs. Falls vs (image_at seats n)) (sym (lists n apart)) (subst (Falls (list_at cs n)) (sym (same_image places seats n (stay n apart))) f)
+
+pub held_again : (cs ds : Places) (places seats : List Seat) (p : ℕ) → ListsStay p cs ds → SeatsStay p places seats → (n : ℕ) → n ≢ p → 0 < length (versions_at cs places n) → 0 < length (versions_at ds seats n)
+held_again cs ds places seats p lists stay n apart long = subst (λ vs. 0 < length vs) (sym (versions_stay cs ds places seats p n lists stay apart)) long
+
+pub turned : (es : List (Rid × ℕ)) (cs ds : Places) (places seats : List Seat) (r : Rid) (p : ℕ) (ws : List Version) (im : Oldest) → AreWhole es cs places → Turns es cs ds places seats r p ws im → Falls ws im → MayBeBare p es ds seats
+turned es cs ds places seats r p ws im old h falls =
     record {
-      taken = λ q n k. taken q n k (same_rid r q) refl;
-      named = λ n t. old.named n (h.none n t);
-      held = λ q n apart k. subst (λ vs. 0 < length (whole vs (image_at seats n))) (sym (chain_stays q apart)) (subst (λ x. 0 < length (whole (chain_of cs q) x)) (sym (image_stays q n apart k)) (old.held q n k));
-      chained = λ q us e. chained q us e (same_rid r q) refl;
-      falls = λ q n k. falls q n k (same_rid r q) refl;
-      rows = λ q n k. rows q n k (same_rid r q) refl;
+      taken = λ q n k. each_place (IsTaken seats) p n here (λ apart. taken_again places seats p h.stay n apart (old.taken q n k));
+      named = λ n t. old.named n (was n t);
+      chained = λ n long. each_place (IsTaken seats) p n here (λ apart. taken_again places seats p h.stay n apart (old.chained n (subst (λ vs. 0 < length vs) (h.lists n apart) long)));
+      held = λ n apart t. held_again cs ds places seats p h.lists h.stay n apart (old.held n (was n t));
+      falls = λ n t. each_place (λ m. Falls (list_at ds m) (image_at seats m)) p n falls_here (λ apart. falls_again cs ds places seats p h.lists h.stay n apart (old.falls n (was n t)));
+      fits = λ n t. old.fits n (was n t);
     }
   where
-    here : (q : Rid) (n : ℕ) → same_rid r q ≡ true → place_of es q ≡ Some n → p ≡ n
-    here q n same k = same_Some p n (sym h.has ∙ sym (alike es r q same) ∙ k)
+    here : IsTaken seats p
+    here = ap is_some h.seat
 
-    chain_stays : (q : Rid) → same_rid r q ≡ false → chain_of ds q ≡ chain_of cs q
-    chain_stays q apart = ap (λ o. unwrap_or o []) (chain_apart cs ds r q ws h.chain apart)
+    was : (n : ℕ) → IsTaken seats n → IsTaken places n
+    was n t = each_place (IsTaken places) p n (old.taken r p h.has) (λ apart. taken_before places seats p h.stay n apart t)
 
-    image_stays : (q : Rid) (n : ℕ) → same_rid r q ≡ false → place_of es q ≡ Some n → image_at seats n ≡ image_at places n
-    image_stays q n apart k = seat_image places seats n (h.apart q n k apart)
+    falls_here : Falls (list_at ds p) (image_at seats p)
+    falls_here = subst (λ vs. Falls vs (image_at seats p)) (sym h.chain) (subst (Falls ws) (sym (ap (λ seat. image_at (seat ∷ []) 0) h.seat)) falls)
 
-    taken : (q : Rid) (n : ℕ) → place_of es q ≡ Some n → (b : Bool) → same_rid r q ≡ b → IsTaken seats n
-    taken q n k true same = subst (IsTaken seats) (here q n same k) h.taken
-    taken q n k false apart = subst IsSome (sym (h.apart q n k apart)) (old.taken q n k)
+-- there is one
+pub filled : (p : ℕ) (es : List (Rid × ℕ)) (cs : Places) (places : List Seat) → MayBeBare p es cs places → 0 < length (versions_at cs places p) → AreWhole es cs places
+filled p es cs places h some = record { taken = h.taken; named = h.named; chained = h.chained; held = λ n t. each_place (λ m. 0 < length (versions_at cs places m)) p n some (λ apart. h.held n apart t); falls = h.falls; fits = h.fits }
 
-    falls : (q : Rid) (n : ℕ) → place_of es q ≡ Some n → (b : Bool) → same_rid r q ≡ b → Each (λ v. IsOver v.stamp (image_at seats n)) (chain_of ds q)
-    falls q n k true same =
-        let chain : chain_of ds q ≡ ws = ap (λ o. unwrap_or o []) (alike ds r q same) ∙ chain_here cs ds r ws h.chain in
-        let image : image_at seats n ≡ im = ap (image_at seats) (sym (here q n same k)) ∙ h.image in
-        subst (λ vs. Each (λ v. IsOver v.stamp (image_at seats n)) vs) (sym chain) (subst (λ x. Each (λ v. IsOver v.stamp x) ws) (sym image) over)
-    falls q n k false apart = subst (λ vs. Each (λ v. IsOver v.stamp (image_at seats n)) vs) (sym (chain_stays q apart)) (subst (λ x. Each (λ v. IsOver v.stamp x) (chain_of cs q)) (sym (image_stays q n apart k)) (old.falls q n k))
+pub turned_whole : (es : List (Rid × ℕ)) (cs ds : Places) (places seats : List Seat) (r : Rid) (p : ℕ) (ws : List Version) (im : Oldest) → AreWhole es cs places → Turns es cs ds places seats r p ws im → Falls ws im → 0 < length (whole ws im) → AreWhole es ds seats
+turned_whole es cs ds places seats r p ws im old h falls some = filled p es ds seats (turned es cs ds places seats r p ws im old h falls) (subst (λ vs. 0 < length vs) (sym (turned_at es cs ds places seats r p ws im h)) some)
 
-    rows : (q : Rid) (n : ℕ) → place_of es q ≡ Some n → (b : Bool) → same_rid r q ≡ b → IsRow (image_at seats n)
-    rows q n k true same = subst IsRow (sym (ap (image_at seats) (sym (here q n same k)) ∙ h.image)) row
-    rows q n k false apart = subst IsRow (sym (image_stays q n apart k)) (old.rows q n k)
-
-    long : (ws us : List Version) → some_chain ws ≡ Some us → 0 < length us
-    long [] us e = absurd (none-some us e)
-    long (w ∷ ws) us e = subst (λ vs. 0 < length vs) (same_Some (w ∷ ws) us e) (omega arith)
-
-    chained : (q : Rid) (us : List Version) → lookup (same_rid q) ds ≡ Some us → (b : Bool) → same_rid r q ≡ b → IsSome (place_of es q) × (0 < length us)
-    chained q us e true same = (ap is_some (alike es r q same ∙ h.has), long ws us (sym (ap (λ b. cond b (some_chain ws) (lookup (same_rid q) cs)) same) ∙ sym (h.chain q) ∙ e))
-    chained q us e false apart = old.chained q us (sym (chain_apart cs ds r q ws h.chain apart) ∙ e)
-
--- it has one
-pub filled : (r : Rid) (es : List (Rid × ℕ)) (cs : List (Rid × List Version)) (places : List Seat) → MayBeBare r es cs places → ((n : ℕ) → place_of es r ≡ Some n → 0 < length (whole (chain_of cs r) (image_at places n))) → AreWhole es cs places
-filled r es cs places h some = record { taken = h.taken; named = h.named; held = λ q n k. held q n k (same_rid r q) refl; chained = h.chained; falls = h.falls; rows = h.rows }
+-- the chain is now ws, and the place has what it had
+pub kept_turns : (es : List (Rid × ℕ)) (cs ds : Places) (places : List Seat) (r : Rid) (p : ℕ) (ws : List Version) → IsIndex es → AreWhole es cs places → place_of es r ≡ Some p → list_at ds p ≡ ws → ListsStay p cs ds → Turns es cs ds places places r p ws (image_at places p)
+kept_turns es cs ds places r p ws index old has is lists = record { index = index; has = has; chain = is; lists = lists; seat = same (seat_at places p) (old.taken r p has); stay = λ q apart. refl }
   where
-    held : (q : Rid) (n : ℕ) → place_of es q ≡ Some n → (b : Bool) → same_rid r q ≡ b → 0 < length (whole (chain_of cs q) (image_at places n))
-    held q n k true same = let e = same_rid_equal r q same in subst (λ x. 0 < length (whole (chain_of cs x) (image_at places n))) e (some n (ap (place_of es) e ∙ k))
-    held q n k false apart = h.held q n apart k
+    same : (seat : Seat) → IsSome seat → seat ≡ taken (image_at (seat ∷ []) 0)
+    same None t = absurd (let k = t in cc)
+    same (Some im) t = refl

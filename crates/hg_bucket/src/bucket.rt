@@ -178,7 +178,7 @@ impl Bucket {
     }
 
     /// Cuts each record of a table at a bound. The answer says how many versions went. A record that has only its oldest
-    /// image costs nothing.
+    /// image is passed over.
     pub fn cut_table(&mut self, table: TableId, bound: u64) -> u64
         ensures each { (k : ℕ) → versions_of self.new.records (record_at table k) ≡ cut_at bound (versions_of self.old.records (record_at table k)) }
         ensures others { (q : Rid) → (q.table ≡ table → ⊥) → versions_of self.new.records q ≡ versions_of self.old.records q }
@@ -192,7 +192,7 @@ impl Bucket {
 
     /// Removes of each record of a table every version that no snapshot sees: its successor is numbered at or below the
     /// horizon, and none of the ascending snapshots lies in its lifetime. The answer says how many versions went. A record
-    /// that has only its oldest image costs nothing.
+    /// that has only its oldest image is passed over, and costs no step.
     pub fn sweep<L: Ledger>(
         &mut self,
         table: TableId,

@@ -1,19 +1,23 @@
 //! One bucket: records with their versions, and what became of all others.
 //!
-//!     record    chain, newest first                      oldest image
-//!     t/5       [ written by 3/7 ] -> [ 9 ] -> [ 6 ]     [ 4, row 10 ]
-//!     t/9                                                [ 2, row 20 ]
-//!     u/5       [ written by 1/2 ]
+//!     index         place   chain, newest first                      oldest image
+//!     t/5 -> 0      0       [ written by 3/7 ] -> [ 9 ] -> [ 6 ]     [ 4, row 10 ]
+//!     t/9 -> 2      1       ( free )
+//!     u/5 -> 3      2                                                [ 2, row 20 ]
+//!                   3       [ written by 1/2 ]
 //!
-//! Each record has a place in the table space from its first write on, so that a cut can put an image there and takes no
-//! memory. Only records with a chain can be shortened: a sweep or a cut of a table goes through the chains alone, and an
-//! oldest image is always a row. A record that loses its last version is dropped, and its place is free again.
+//! Each record has a place from its first write on. Chain and oldest image stand there, each in an array of its own (`Chains`
+//! of `hg_chain`, `TableSpace` of `hg_space`). So a read or a write walks through the index once, and finds the rest by number;
+//! and a cut puts an image at the place, and takes no memory. A free place has neither chain nor image, and each other place
+//! has one of them. A record that loses its last version is dropped, and its place is free again.
+//!
+//! Only records with a chain can be shortened: an oldest image is always a row. A sweep or a cut of a table goes through the
+//! table's keys, and passes over each record without a chain.
 //!
 //! What was made is what was undone, removed by a cut or a sweep, and is held.
 #![tactic(auto)]
 
 mod bucket;
-mod chains;
 mod places;
 mod records;
 mod refusal;

@@ -1,18 +1,31 @@
-//! The places of records.
+//! What stands at a record's place: its chain, and its oldest image.
 
-ghost use Rattle.std.specs.Prelude.{◌≡◌, ◌+◌, ℕ, is_some, slice_set, OnOk, OnErr, None, Some, nat_lt, if◌then◌else◌, option_map, option_and_then};
-ghost use Rattle.std.specs.Option.{option_copied};
+ghost use Rattle.std.specs.Prelude.{◌≡◌, ◌+◌, ◌<◌, ◌^◌, [], is_some, slice_set, not, IsOk, IsTrue, IfOk, OnOk, OnErr, None, Some, nat_lt, if◌then◌else◌, option_map, option_and_then};
+ghost use Rattle.std.specs.Option.{option_copied, option_or};
+ghost use Rattle.hg_chain.specs.Places.{list_at, OthersStay as ListsStay};
+ghost use Rattle.hg_chain.specs.Versions.{image_by, image_at, installed, is_open_by, NoOther};
 ghost use Rattle.hg_space.specs.Places as seat;
 ghost use Rattle.hg_space.specs.Places.{IsTaken};
-ghost use Rattle.hg_space.specs.Index.{AreTaken, place_of, IsIndex};
+ghost use Rattle.hg_space.specs.Index.{place_of, IsIndex};
+ghost use Rattle.hg_bucket.specs.Conflicts.{conflict};
 ghost use Rattle.hg_bucket.specs.declared.refusal.WriteRefusal.TheVariants.{Newer};
 ghost use Rattle.hg_bucket.specs.Held.{versions_of, OthersStay, left};
-ghost use Rattle.hg_bucket.specs.Parts.{oldest_by, settled, records_of, AreWhole, SeatsStay, NoneTaken, Names, MayBeBare};
+ghost use Rattle.hg_bucket.specs.Parts.{oldest_by, settled, whole, records_of, AreWhole, AreAlike, IsGiven, MayBeBare};
 
-use crate::chains::Chains;
-use crate::refusal::WriteRefusal;
-use hg_base::{Image, NoMemory, Rid};
+use crate::refusal::{WriteRefusal, refusal};
+use hg_base::{Image, NoMemory, Rid, Writer};
+use hg_chain::Chains;
 use hg_space::{RidIndex, TableSpace};
+
+/// What a transaction reads of a record's chain.
+pub(crate) fn read_chain(chains: &Chains, place: u64, snapshot: u64, own: Writer) -> Option<&Image>
+    ensures { let vs = list_at chains.now place in option_copied result ≡ option_or (image_by own vs) (image_at snapshot vs) }
+{
+    match chains.own(place, own) {
+        Some(image) => Some(image),
+        None => chains.visible(place, snapshot),
+    }
+}
 
 /// What a reader sees of a record's oldest image.
 pub(crate) fn read(space: &TableSpace, place: u64, snapshot: u64) -> Option<&Image>
@@ -35,8 +48,8 @@ pub(crate) fn number(space: &TableSpace, place: u64) -> Option<u64>
     Some(number)
 }
 
-/// Whether a record's oldest image is over the snapshot.
-pub(crate) fn newer(space: &TableSpace, place: u64, snapshot: u64) -> Option<WriteRefusal>
+// Whether a record's oldest image is over the snapshot.
+fn newer(space: &TableSpace, place: u64, snapshot: u64) -> Option<WriteRefusal>
     requires { IsTaken space.now.places place }
     ensures { result ≡ option_and_then (λ oldest. if nat_lt snapshot oldest.0 then Some (Newer oldest.0) else None) (seat.image_at space.now.places place) }
 {
@@ -47,22 +60,61 @@ pub(crate) fn newer(space: &TableSpace, place: u64, snapshot: u64) -> Option<Wri
     None
 }
 
-/// Gives a record that has none a place.
-pub(crate) fn name(index: &mut RidIndex, space: &mut TableSpace, rid: Rid) -> Result<(), NoMemory>
-    requires new { place_of index.old rid ≡ None }
-    requires taken { AreTaken index.old space.old.places }
-    ensures named { OnOk result ((p : ℕ) × Names index.old index.new space.old.places space.new.places rid p) }
-    ensures refused { OnErr result (index.new ≡ index.old) }
-    ensures seats { OnErr result (SeatsStay index.old space.old.places space.new.places) }
-    ensures none_kept { OnErr result (NoneTaken space.old.places space.new.places) }
+/// Why a write is refused, memory aside. The newest version tells it: the oldest image does where there is no chain.
+pub(crate) fn conflict(
+    chains: &Chains,
+    space: &TableSpace,
+    place: u64,
+    by: Writer,
+    snapshot: u64,
+    mark: u64,
+) -> Option<WriteRefusal>
+    requires { IsTaken space.now.places place }
+    ensures refusal { result ≡ conflict by snapshot mark (whole (list_at chains.now place) (seat.image_at space.now.places place)) }
+    ensures free { result ≡ None → NoOther by (list_at chains.now place) }
+{
+    match chains.newest(place) {
+        Some(stamp) => refusal(stamp, by, snapshot, mark),
+        None => newer(space, place, snapshot),
+    }
+}
+
+/// Writes an image into a record's chain. The answer says whether a version was added.
+pub(crate) fn add(
+    chains: &mut Chains,
+    place: u64,
+    image: Image,
+    by: Writer,
+) -> Result<bool, NoMemory>
+    requires place { place < 2 ^ 40 }
+    requires own { NoOther by (list_at chains.old place) }
+    ensures here { OnOk result (list_at chains.new place ≡ installed by image (list_at chains.old place)) }
+    ensures others { ListsStay place chains.old chains.new }
+    ensures added { IfOk result (λ added. added ≡ not (is_open_by by (list_at chains.old place))) }
+    ensures refused { OnErr result (chains.new ≡ chains.old) }
+    ensures replaced { IsTrue (is_open_by by (list_at chains.old place)) → IsOk result }
+{
+    match chains.install(place, by, image) {
+        Ok(added) => Ok(added),
+        Err((_, refused)) => Err(refused),
+    }
+}
+
+/// Takes a place for a record.
+pub(crate) fn take(space: &mut TableSpace) -> Result<u64, NoMemory>
+    ensures given { IfOk result (λ place. IsGiven space.old.places space.new.places place) }
+    ensures fits { IfOk result (λ place. place < 2 ^ 40) }
+    ensures refused { OnErr result (AreAlike space.old.places space.new.places) }
 {
     space.reserve()?;
     let place = space.take_place();
-    if let Err(refused) = index.insert(rid, place) {
+
+    // A chain's place is under this. No memory holds so many places.
+    if place >= 1 << 40 {
         space.give_place(place);
-        return Err(refused);
+        return Err(NoMemory);
     }
-    Ok(())
+    Ok(place)
 }
 
 /// Puts a record's newest version at a bound in the place of its oldest image, or none where that is a deletion. The answer
@@ -92,18 +144,22 @@ fn is_there(image: &Option<(u64, Image)>) -> u64
 }
 
 /// Drops a record that has no version left.
-pub(crate) fn drop_bare(index: &mut RidIndex, space: &mut TableSpace, chains: &Chains, rid: Rid)
-    requires { MayBeBare rid index.old chains.now.entries space.old.places }
-    ensures whole { AreWhole index.new chains.now.entries space.new.places }
-    ensures here { versions_of (records_of index.new chains.now.entries space.new.places) rid ≡ versions_of (records_of index.old chains.now.entries space.old.places) rid }
-    ensures others { OthersStay (records_of index.old chains.now.entries space.old.places) (records_of index.new chains.now.entries space.new.places) rid }
-    ensures left { left (records_of index.new chains.now.entries space.new.places) ≡ left (records_of index.old chains.now.entries space.old.places) }
-    ensures distinct { IsIndex index.old }
+pub(crate) fn drop_bare(
+    index: &mut RidIndex,
+    space: &mut TableSpace,
+    chains: &Chains,
+    rid: Rid,
+    place: u64,
+)
+    requires index { IsIndex index.old }
+    requires has { place_of index.old rid ≡ Some place }
+    requires bare { MayBeBare place index.old chains.now space.old.places }
+    ensures whole { AreWhole index.new chains.now space.new.places }
+    ensures here { versions_of (records_of index.new chains.now space.new.places) rid ≡ versions_of (records_of index.old chains.now space.old.places) rid }
+    ensures others { OthersStay (records_of index.old chains.now space.old.places) (records_of index.new chains.now space.new.places) rid }
+    ensures left { left (records_of index.new chains.now space.new.places) ≡ left (records_of index.old chains.now space.old.places) }
 {
-    let Some(place) = index.place(rid) else {
-        return;
-    };
-    if chains.contains_key(&rid) {
+    if !chains.is_empty(place) {
         return;
     }
     if space.image(place).is_some() {

@@ -6,23 +6,21 @@ ghost use Rattle.std.specs.Map.{keys_of};
 ghost use Rattle.hg_base.specs.History.{same_rid};
 ghost use Rattle.hg_base.specs.Lists.{Each};
 ghost use Rattle.hg_base.specs.declared.rid.Rid.{Rid};
+ghost use Rattle.std.specs.Bool.{OnTrue, OnFalse};
 ghost use Rattle.std.specs.Option.{option_copied};
-ghost use Rattle.hg_bucket.specs.Parts.{records_of, AreWhole, IsSettled};
+ghost use Rattle.hg_bucket.specs.Parts.{records_of, AreWhole};
 ghost use Rattle.hg_bucket.specs.Writes.{Writes};
-ghost use Rattle.hg_bucket.specs.Conflicts.{conflict, IsCause};
 ghost use Rattle.hg_chain.specs.Sweeps.{Rises};
-ghost use Rattle.hg_bucket.specs.Sweeping.{swept, IsClean, record_steps, sweep_steps};
-ghost use Rattle.hg_bucket.specs.Long.{IsNextLong};
+ghost use Rattle.hg_bucket.specs.Sweeping.{swept, IsClean, is_long, record_steps, sweep_steps};
+ghost use Rattle.hg_bucket.specs.Long.{IsShort, IsNextLong};
 ghost use Rattle.hg_bucket.specs.Held.{versions_of, begins_open, open_write, installed, stamped, OthersStay, IsBelow, read_at, record_at, cut_at, IsNextKey, left};
 
-use crate::chains::{self, Chains};
 use crate::places::{self, drop_bare};
 use crate::refusal::WriteRefusal;
 use hg_base::{Image, NoMemory, Rid, Steps, TableId, Writer};
-use hg_chain::Cut;
+use hg_chain::{Chains, Cut};
 use hg_space::{RidIndex, TableSpace};
 use std::alloc::Global;
-use std::collections::BTreeMap;
 use std::marker::Model;
 use std::sync::ledger::Ledger;
 
@@ -32,7 +30,6 @@ pub(crate) struct Records {
     index: RidIndex,
     space: TableSpace,
     chains: Chains,
-    alloc: Global,
 }
 
 impl Model for Records {
@@ -44,9 +41,9 @@ impl Model for Records {
 
     ghost use Rattle.hg_bucket.specs.Parts.{records_of, AreWhole};
 
-    ghost view = { λ s. records_of s.index s.chains.entries s.space.places };
+    ghost view = { λ s. records_of s.index s.chains s.space.places };
 
-    ghost invariant = { λ s. AreWhole s.index s.chains.entries s.space.places };
+    ghost invariant = { λ s. AreWhole s.index s.chains s.space.places };
 }
 
 impl Records {
@@ -56,18 +53,18 @@ impl Records {
         Records {
             index: RidIndex::new(alloc),
             space: TableSpace::new(alloc),
-            chains: BTreeMap::new(alloc),
-            alloc,
+            chains: Chains::new(alloc),
         }
     }
 
-    /// What a transaction reads of a record. A record that is read in its chain isn't looked up in the index.
+    /// What a transaction reads of a record.
     pub fn read(&self, rid: Rid, snapshot: u64, own: Writer) -> Option<&Image>
         ensures { option_copied result ≡ read_at own snapshot (versions_of self.now rid) }
     {
-        match chains::read(&self.chains, rid, snapshot, own) {
+        let place = self.index.place(rid)?;
+        match places::read_chain(&self.chains, place, snapshot, own) {
             Some(image) => Some(image),
-            None => places::read(&self.space, self.index.place(rid)?, snapshot),
+            None => places::read(&self.space, place, snapshot),
         }
     }
 
@@ -95,45 +92,21 @@ impl Records {
         mark: u64,
         by: Writer,
     ) -> Result<bool, WriteRefusal>
-        ensures refusal { IfSome (conflict by snapshot mark (versions_of self.old rid)) (λ e. result ≡ Err e) }
-        ensures cause { IfErr result (IsCause by snapshot mark (versions_of self.old rid)) }
-        ensures stored { OnOk result (versions_of self.new rid ≡ installed by image (versions_of self.old rid)) }
-        ensures others { OthersStay self.old self.new rid }
-        ensures added { IfOk result (λ added. added ≡ not (begins_open by (versions_of self.old rid))) }
-        ensures left { IfOk result (λ added. left self.new ≡ left self.old + (if added then 1 else 0)) }
-        ensures refused { OnErr result (self.new ≡ self.old) }
-    {
-        self.index.stands_once();
-        match chains::write(&mut self.chains, rid, image, snapshot, mark, by) {
-            Ok(written) => written,
-            Err(image) => self.begin(rid, image, snapshot, by),
-        }
-    }
-
-    // Writes an image of a record that has no chain: it has its oldest image alone, or nothing.
-    fn begin(
-        &mut self,
-        rid: Rid,
-        image: Image,
-        snapshot: u64,
-        by: Writer,
-    ) -> Result<bool, WriteRefusal>
-        requires { IsSettled (versions_of self.old rid) }
-        ensures { (mark : ℕ) → Writes by image snapshot mark self.old self.new rid result }
+        ensures { Writes by image snapshot mark self.old self.new rid result }
     {
         let Some(place) = self.index.place(rid) else {
-            self.begin_record(rid, image, by)?;
+            self.begin(rid, image, by)?;
             return Ok(true);
         };
-        if let Some(refusal) = places::newer(&self.space, place, snapshot) {
+        let refusal = places::conflict(&self.chains, &self.space, place, by, snapshot, mark);
+        if let Some(refusal) = refusal {
             return Err(refusal);
         }
-        chains::begin(&mut self.chains, self.alloc, rid, image, by)?;
-        Ok(true)
+        Ok(places::add(&mut self.chains, place, image, by)?)
     }
 
     // Begins a record.
-    fn begin_record(&mut self, rid: Rid, image: Image, by: Writer) -> Result<(), NoMemory>
+    fn begin(&mut self, rid: Rid, image: Image, by: Writer) -> Result<(), NoMemory>
         requires { versions_of self.old rid ≡ [] }
         ensures stored { OnOk result (versions_of self.new rid ≡ open_write by image ∷ []) }
         ensures others { OthersStay self.old self.new rid }
@@ -141,9 +114,14 @@ impl Records {
         ensures refused { OnErr result (self.new ≡ self.old) }
     {
         self.index.stands_once();
-        chains::begin(&mut self.chains, self.alloc, rid, image, by)?;
-        if let Err(refused) = places::name(&mut self.index, &mut self.space, rid) {
-            chains::end(&mut self.chains, rid);
+        let place = places::take(&mut self.space)?;
+        if let Err(refused) = places::add(&mut self.chains, place, image, by) {
+            self.space.give_place(place);
+            return Err(refused);
+        }
+        if let Err(refused) = self.index.insert(rid, place) {
+            self.chains.undo(place, by);
+            self.space.give_place(place);
             return Err(refused);
         }
         Ok(())
@@ -156,8 +134,11 @@ impl Records {
         ensures others { OthersStay self.old self.new rid }
         ensures left { left self.new + 1 ≡ left self.old }
     {
-        chains::undo(&mut self.chains, rid, by);
-        drop_bare(&mut self.index, &mut self.space, &self.chains, rid);
+        let Some(place) = self.index.place(rid) else {
+            return;
+        };
+        self.chains.undo(place, by);
+        drop_bare(&mut self.index, &mut self.space, &self.chains, rid, place);
     }
 
     /// Gives the transaction's open write of a record its number.
@@ -168,7 +149,9 @@ impl Records {
         ensures others { OthersStay self.old self.new rid }
         ensures left { left self.new ≡ left self.old }
     {
-        chains::stamp(&mut self.chains, rid, by, number);
+        if let Some(place) = self.index.place(rid) {
+            self.chains.stamp(place, by, number);
+        }
     }
 
     /// Cuts a record's versions at a bound. The answer says how many went.
@@ -182,12 +165,12 @@ impl Records {
         let Some(place) = self.index.place(rid) else {
             return 0;
         };
-        let Cut { image, gone } = chains::cut(&mut self.chains, rid, bound);
+        let Cut { image, gone } = self.chains.cut(place, bound);
         let Some(newest) = image else {
             return 0;
         };
         let gone = gone + places::settle(&mut self.space, place, newest);
-        drop_bare(&mut self.index, &mut self.space, &self.chains, rid);
+        drop_bare(&mut self.index, &mut self.space, &self.chains, rid, place);
         gone
     }
 
@@ -196,7 +179,7 @@ impl Records {
         ensures next { IsNextLong self.now table 0 result }
         ensures fits { IfSome result (λ key. key < 2 ^ 64) }
     {
-        chains::first(&self.chains, table)
+        self.long_from(table, self.index.next_key(table, 0))
     }
 
     /// The least key of a table over another whose record can be shortened.
@@ -204,7 +187,34 @@ impl Records {
         ensures next { IsNextLong self.now table (key + 1) result }
         ensures fits { IfSome result (λ key. key < 2 ^ 64) }
     {
-        chains::after(&self.chains, table, key)
+        self.long_from(table, self.index.key_after(table, key))
+    }
+
+    // The first key from a key of the index on whose record can be shortened.
+    fn long_from(&self, table: TableId, first: Option<u64>) -> Option<u64>
+        ensures next { (from : ℕ) → IsNextKey self.now table from first → IsNextLong self.now table from result }
+        ensures fits { IfSome result (λ key. key < 2 ^ 64) }
+    {
+        let mut next = first;
+        while let Some(key) = next {
+            fits(key);
+            if self.is_long(Rid { table, key }) {
+                return Some(key);
+            }
+            next = self.index.key_after(table, key);
+        }
+        None
+    }
+
+    // Whether a record can be shortened.
+    fn is_long(&self, rid: Rid) -> bool
+        ensures long { OnTrue result (IsTrue (is_long (versions_of self.now rid))) }
+        ensures short { OnFalse result (IsShort (versions_of self.now rid)) }
+    {
+        match self.index.place(rid) {
+            Some(place) => !self.chains.is_empty(place),
+            None => false,
+        }
     }
 
     /// Cuts each record of a table at a bound. The answer says how many versions went.
@@ -243,8 +253,11 @@ impl Records {
         let Some(place) = self.index.place(rid) else {
             return 0;
         };
+        if self.chains.is_empty(place) {
+            return 0;
+        }
         let base = places::number(&self.space, place);
-        let swept = chains::sweep(&mut self.chains, rid, base, horizon, snapshots, steps);
+        let swept = self.chains.sweep(place, base, horizon, snapshots, steps);
         if !swept.base_gone {
             return swept.gone;
         }
@@ -276,4 +289,11 @@ impl Records {
         }
         gone
     }
+}
+
+// A fact of every key, for clauses.
+fn fits(key: u64)
+    ensures { key < 2 ^ 64 }
+{
+    let _ = key;
 }

@@ -1,91 +1,184 @@
-use Rattle.std.proofs.Common.{true, Ok, sym, ap, ◌∙◌, subst, not, refl}
-use Rattle.std.specs.Prelude.{is_some}
-use Rattle.std.proofs.lemmas.Result.{err_from_is_err_and}
+use Rattle.std.proofs.Common.{◌≡◌, ◌+◌, None, sym, ap, ◌∙◌, subst}
+use Rattle.hg_chain.specs.Places.{list_at}
 use Rattle.hg_chain.specs.Versions as chain
-use Rattle.hg_space.specs.Places.{image_at}
-use Rattle.hg_bucket.specs.Held.{versions_of, begins_open, installed}
-use Rattle.hg_bucket.specs.Conflicts.{conflict}
-use Rattle.hg_bucket.specs.Parts.{records_of, chain_of, ChainIs, IsSettled}
-use Rattle.hg_bucket.specs.Writes.{Writes}
-use Rattle.hg_bucket.proofs.Changing.{versions_there}
-use Rattle.hg_bucket.proofs.Installing.{extends, no_versions, conflict_of_oldest}
-use Rattle.hg_bucket.proofs.Putting.{told_nothing, turned_down, starved, stores, settled_closed, settled_chain}
+use Rattle.hg_space.specs.Index.{place_of}
+use Rattle.hg_bucket.specs.Held.{versions_of, OthersStay, left}
+use Rattle.hg_bucket.specs.Parts.{records_of, AreWhole}
+use Rattle.hg_bucket.proofs.Seating.{given_taken, given_back}
+use Rattle.hg_bucket.proofs.Naming.{Comes, ListsAlike, bare_free, taken_back, come_whole, come_here, come_others, come_left, records_stay, stays_whole}
+use Rattle.hg_bucket.proofs.Putting.{unplaced_of}
 use Rattle.hg_bucket.proofs.records.Records.begin.Goals as goal
 
-pub begin_record-requires : goal.begin_record-requires
-begin_record-requires c =
+pub add-requires-clause-own : goal.add-requires-clause-own
+add-requires-clause-own c =
     let b = c.self.inside in
-    sym (ap (λ h. versions_of h c.args.rid) c.self.view_is) ∙ no_versions b.index b.chains.entries b.space.places c.args.rid (sym c.place.ensures.place ∙ c.in_default.is)
+    let p = c.in_ok-place.place in
+    let given = c.in_ok-place.ensures.given in
+    subst (chain.NoOther c.args.by) (sym (bare_free b.index b.chains b.space.places p c.self.invariant given.was)) tt
 
-pub returns-in_err-begin_record : goal.returns-in_err-begin_record
-returns-in_err-begin_record c mark =
+pub give_place-requires : goal.give_place-requires
+give_place-requires c =
     let b = c.self.inside in
-    let p = err_from_is_err_and c.from_residual.result c.from_residual.ensures.1 in
-    let bare = sym (ap (λ h. versions_of h c.args.rid) c.self.view_is) ∙ no_versions b.index b.chains.entries b.space.places c.args.rid (sym c.place.ensures.place ∙ c.in_default.is) in
-    rw (p.1, p.2) (starved c.args.by c.args.image c.args.snapshot mark c.args.self.now c.begin_record.new.self c.args.rid (ap (conflict c.args.by c.args.snapshot mark) bare) (ap (begins_open c.args.by) bare) c.in_err-begin_record.ensures.refused)
+    let p = c.in_ok-place.place in
+    let given = c.in_ok-place.ensures.given in
+    given_taken b.space.places c.take.new.space.places p given
 
-pub returns-in_default : goal.returns-in_default
-returns-in_default c mark =
+pub invariant_of-self-in-Err : goal.invariant_of-self-in-Err
+invariant_of-self-in-Err c =
     let b = c.self.inside in
-    let bare = sym (ap (λ h. versions_of h c.args.rid) c.self.view_is) ∙ no_versions b.index b.chains.entries b.space.places c.args.rid (sym c.place.ensures.place ∙ c.in_default.is) in record {
-      refusal = told_nothing (conflict c.args.by c.args.snapshot mark (versions_of c.args.self.now c.args.rid)) (Ok true) (ap (conflict c.args.by c.args.snapshot mark) bare);
-      cause = tt;
-      stored = c.in_ok-begin_record.ensures.stored ∙ sym (ap (installed c.args.by c.args.image) bare);
-      others = c.begin_record.ensures.others;
-      added = sym (ap (λ vs. not (begins_open c.args.by vs)) bare);
-      left = c.in_ok-begin_record.ensures.left;
-      refused = tt;
-    }
+    let p = c.in_ok-place.place in
+    let given = c.in_ok-place.ensures.given in
+    let lists : ListsAlike b.chains c.add.new.chains = λ q. ap (λ cs. list_at cs q) c.in-Err.ensures.refused in
+    let seats = given_back b.space.places c.take.new.space.places c.give_place.new.self.places p given c.give_place.ensures.freed in
+    stays_whole b.index b.chains c.add.new.chains b.space.places c.give_place.new.self.places c.self.invariant lists seats
 
-pub returns-in-Some-newer : goal.returns-in-Some-newer
-returns-in-Some-newer c mark =
+pub returns-in-Err-clause-others : goal.returns-in-Err-clause-others
+returns-in-Err-clause-others c =
     let b = c.self.inside in
-    let r = c.args.rid in
-    let vs = chain_of b.chains.entries r in
-    let view = ap (λ h. versions_of h r) c.self.view_is in
-    let bare = settled_chain b.index b.chains.entries b.space.places r c.self.invariant (subst IsSettled (sym view) c.requires) in
-    let there = versions_there b.index b.chains.entries b.space.places r c.in-Some.place (sym c.place.ensures.place ∙ c.in-Some.is) in
-    let is = c.newer.ensures ∙ conflict_of_oldest c.args.by c.args.snapshot mark vs (image_at b.space.places c.in-Some.place) (ap chain.newest (sym bare)) in
-    turned_down c.args.by c.args.image c.args.snapshot mark c.args.self.now c.args.self.now r c.in-Some-newer.refusal (sym (is ∙ ap (conflict c.args.by c.args.snapshot mark) (sym there ∙ view)) ∙ c.in-Some-newer.is) refl
+    let p = c.in_ok-place.place in
+    let given = c.in_ok-place.ensures.given in
+    let lists : ListsAlike b.chains c.add.new.chains = λ q. ap (λ cs. list_at cs q) c.in-Err.ensures.refused in
+    let seats = given_back b.space.places c.take.new.space.places c.give_place.new.self.places p given c.give_place.ensures.freed in
+    let same = records_stay b.index b.chains c.add.new.chains b.space.places c.give_place.new.self.places lists seats ∙ c.self.view_is in
+    λ q apart. ap (λ h. versions_of h q) same
 
-pub begin-requires : goal.begin-requires
-begin-requires c =
+pub returns-in-Err-clause-refused : goal.returns-in-Err-clause-refused
+returns-in-Err-clause-refused c =
     let b = c.self.inside in
-    settled_chain b.index b.chains.entries b.space.places c.args.rid c.self.invariant (subst IsSettled (sym (ap (λ h. versions_of h c.args.rid) c.self.view_is)) c.requires)
+    let p = c.in_ok-place.place in
+    let given = c.in_ok-place.ensures.given in
+    let lists : ListsAlike b.chains c.add.new.chains = λ q. ap (λ cs. list_at cs q) c.in-Err.ensures.refused in
+    let seats = given_back b.space.places c.take.new.space.places c.give_place.new.self.places p given c.give_place.ensures.freed in
+    let same = records_stay b.index b.chains c.add.new.chains b.space.places c.give_place.new.self.places lists seats ∙ c.self.view_is in
+    same
 
-pub returns-in_err-begin : goal.returns-in_err-begin
-returns-in_err-begin c mark =
+pub insert-requires-clause-new_record : goal.insert-requires-clause-new_record
+insert-requires-clause-new_record c =
     let b = c.self.inside in
-    let r = c.args.rid in
-    let vs = chain_of b.chains.entries r in
-    let p = err_from_is_err_and c.from_residual-in_err-begin.result c.from_residual-in_err-begin.ensures.1 in
-    let view = ap (λ h. versions_of h r) c.self.view_is in
-    let bare = settled_chain b.index b.chains.entries b.space.places r c.self.invariant (subst IsSettled (sym view) c.requires) in
-    let there = versions_there b.index b.chains.entries b.space.places r c.in-Some.place (sym c.place.ensures.place ∙ c.in-Some.is) in
-    let is = c.newer.ensures ∙ conflict_of_oldest c.args.by c.args.snapshot mark vs (image_at b.space.places c.in-Some.place) (ap chain.newest (sym bare)) in
-    let free = sym (is ∙ ap (conflict c.args.by c.args.snapshot mark) (sym there ∙ view)) ∙ c.in_default-newer.is in
-    rw (p.1, p.2) (starved c.args.by c.args.image c.args.snapshot mark c.args.self.now (records_of b.index c.begin.new.chains.entries b.space.places) r free (settled_closed c.args.by (versions_of c.args.self.now r) c.requires) (ap (λ cs. records_of b.index cs b.space.places) c.in_err-begin.ensures.refused ∙ c.self.view_is))
+    let p = c.in_ok-place.place in
+    let given = c.in_ok-place.ensures.given in
+    let none : place_of b.index c.args.rid ≡ None = unplaced_of b.index b.chains b.space.places c.args.rid c.self.invariant (ap (λ h. versions_of h c.args.rid) c.self.view_is ∙ c.requires) in
+    none
 
-pub invariant_of-self-2 : goal.invariant_of-self-2
-invariant_of-self-2 c =
+pub invariant_of-self-in-Err-insert : goal.invariant_of-self-in-Err-insert
+invariant_of-self-in-Err-insert c =
     let b = c.self.inside in
-    let r = c.args.rid in
-    let bare = settled_chain b.index b.chains.entries b.space.places r c.self.invariant (subst IsSettled (sym (ap (λ h. versions_of h r) c.self.view_is)) c.requires) in
-    let here = subst (λ vs. ChainIs b.chains.entries c.begin.new.chains.entries r (chain.installed c.args.by c.args.image vs)) (sym bare) c.in_ok-begin.ensures.here in
-    (extends b.index b.chains.entries c.begin.new.chains.entries b.space.places r c.args.by c.args.image c.place.ensures.index c.self.invariant here (ap is_some (sym c.place.ensures.place ∙ c.in-Some.is))).whole
+    let p = c.in_ok-place.place in
+    let given = c.in_ok-place.ensures.given in
+    let bare = bare_free b.index b.chains b.space.places p c.self.invariant given.was in
+    let here = c.in_default.ensures.here ∙ ap (chain.installed c.args.by c.args.image) bare in
+    let lists = taken_back b.chains c.add.new.chains c.undo.new.self p (chain.open_write c.args.by c.args.image) bare here c.add.ensures.others c.undo.ensures.here c.undo.ensures.others in
+    let seats = given_back b.space.places c.take.new.space.places c.give_place-in-Err-insert.new.self.places p given c.give_place-in-Err-insert.ensures.freed in
+    subst (λ es. AreWhole es c.undo.new.self c.give_place-in-Err-insert.new.self.places) (sym c.in-Err-insert.ensures.refused) (stays_whole b.index b.chains c.undo.new.self b.space.places c.give_place-in-Err-insert.new.self.places c.self.invariant lists seats)
 
-pub returns : goal.returns
-returns c mark =
+pub returns-in-Err-insert-clause-others : goal.returns-in-Err-insert-clause-others
+returns-in-Err-insert-clause-others c =
     let b = c.self.inside in
-    let r = c.args.rid in
-    let vs = chain_of b.chains.entries r in
-    let bare = settled_chain b.index b.chains.entries b.space.places r c.self.invariant (subst IsSettled (sym (ap (λ h. versions_of h r) c.self.view_is)) c.requires) in
-    let here = subst (λ vs. ChainIs b.chains.entries c.begin.new.chains.entries r (chain.installed c.args.by c.args.image vs)) (sym bare) c.in_ok-begin.ensures.here in
-    let there = versions_there b.index b.chains.entries b.space.places r c.in-Some.place (sym c.place.ensures.place ∙ c.in-Some.is) in
-    let is = c.newer.ensures ∙ conflict_of_oldest c.args.by c.args.snapshot mark vs (image_at b.space.places c.in-Some.place) (ap chain.newest (sym bare)) in
-    let free = sym (is ∙ ap (conflict c.args.by c.args.snapshot mark) (sym there)) ∙ c.in_default-newer.is in
-    let done = extends b.index b.chains.entries c.begin.new.chains.entries b.space.places r c.args.by c.args.image c.place.ensures.index c.self.invariant here (ap is_some (sym c.place.ensures.place ∙ c.in-Some.is)) in
-    subst (λ h. Writes c.args.by c.args.image c.args.snapshot mark h (records_of b.index c.begin.new.chains.entries b.space.places) r (Ok true)) c.self.view_is
-    (stores c.args.by c.args.image c.args.snapshot mark b.index b.index b.chains.entries c.begin.new.chains.entries b.space.places b.space.places r true done
-    (told_nothing (conflict c.args.by c.args.snapshot mark (versions_of (records_of b.index b.chains.entries b.space.places) r)) (Ok true) free)
-    (sym (ap (λ vs. not (chain.is_open_by c.args.by vs)) bare)))
+    let p = c.in_ok-place.place in
+    let given = c.in_ok-place.ensures.given in
+    let bare = bare_free b.index b.chains b.space.places p c.self.invariant given.was in
+    let here = c.in_default.ensures.here ∙ ap (chain.installed c.args.by c.args.image) bare in
+    let lists = taken_back b.chains c.add.new.chains c.undo.new.self p (chain.open_write c.args.by c.args.image) bare here c.add.ensures.others c.undo.ensures.here c.undo.ensures.others in
+    let seats = given_back b.space.places c.take.new.space.places c.give_place-in-Err-insert.new.self.places p given c.give_place-in-Err-insert.ensures.freed in
+    let same = ap (λ es. records_of es c.undo.new.self c.give_place-in-Err-insert.new.self.places) c.in-Err-insert.ensures.refused ∙ records_stay b.index b.chains c.undo.new.self b.space.places c.give_place-in-Err-insert.new.self.places lists seats ∙ c.self.view_is in
+    λ q apart. ap (λ h. versions_of h q) same
+
+pub returns-in-Err-insert-clause-refused : goal.returns-in-Err-insert-clause-refused
+returns-in-Err-insert-clause-refused c =
+    let b = c.self.inside in
+    let p = c.in_ok-place.place in
+    let given = c.in_ok-place.ensures.given in
+    let bare = bare_free b.index b.chains b.space.places p c.self.invariant given.was in
+    let here = c.in_default.ensures.here ∙ ap (chain.installed c.args.by c.args.image) bare in
+    let lists = taken_back b.chains c.add.new.chains c.undo.new.self p (chain.open_write c.args.by c.args.image) bare here c.add.ensures.others c.undo.ensures.here c.undo.ensures.others in
+    let seats = given_back b.space.places c.take.new.space.places c.give_place-in-Err-insert.new.self.places p given c.give_place-in-Err-insert.ensures.freed in
+    let same = ap (λ es. records_of es c.undo.new.self c.give_place-in-Err-insert.new.self.places) c.in-Err-insert.ensures.refused ∙ records_stay b.index b.chains c.undo.new.self b.space.places c.give_place-in-Err-insert.new.self.places lists seats ∙ c.self.view_is in
+    same
+
+pub invariant_of-self-in_default-insert : goal.invariant_of-self-in_default-insert
+invariant_of-self-in_default-insert c =
+    let b = c.self.inside in
+    let p = c.in_ok-place.place in
+    let given = c.in_ok-place.ensures.given in
+    let none : place_of b.index c.args.rid ≡ None = unplaced_of b.index b.chains b.space.places c.args.rid c.self.invariant (ap (λ h. versions_of h c.args.rid) c.self.view_is ∙ c.requires) in
+    let bare = bare_free b.index b.chains b.space.places p c.self.invariant given.was in
+    let w = chain.open_write c.args.by c.args.image in
+    let comes : Comes b.index c.insert.new.self b.chains c.add.new.chains b.space.places c.take.new.space.places c.args.rid p w = record {
+      index = c.stands_once.ensures;
+      old = c.self.invariant;
+      new = none;
+      list = c.in_default-insert.ensures.list;
+      here = c.in_default-insert.ensures.here;
+      others = c.insert.ensures.others;
+      given = given;
+      fits = c.in_ok-place.ensures.fits;
+      chain = c.in_default.ensures.here ∙ ap (chain.installed c.args.by c.args.image) bare;
+      lists = c.add.ensures.others;
+    } in
+    come_whole b.index c.insert.new.self b.chains c.add.new.chains b.space.places c.take.new.space.places c.args.rid p w comes
+
+pub returns-clause-stored : goal.returns-clause-stored
+returns-clause-stored c =
+    let b = c.self.inside in
+    let p = c.in_ok-place.place in
+    let given = c.in_ok-place.ensures.given in
+    let none : place_of b.index c.args.rid ≡ None = unplaced_of b.index b.chains b.space.places c.args.rid c.self.invariant (ap (λ h. versions_of h c.args.rid) c.self.view_is ∙ c.requires) in
+    let bare = bare_free b.index b.chains b.space.places p c.self.invariant given.was in
+    let w = chain.open_write c.args.by c.args.image in
+    let comes : Comes b.index c.insert.new.self b.chains c.add.new.chains b.space.places c.take.new.space.places c.args.rid p w = record {
+      index = c.stands_once.ensures;
+      old = c.self.invariant;
+      new = none;
+      list = c.in_default-insert.ensures.list;
+      here = c.in_default-insert.ensures.here;
+      others = c.insert.ensures.others;
+      given = given;
+      fits = c.in_ok-place.ensures.fits;
+      chain = c.in_default.ensures.here ∙ ap (chain.installed c.args.by c.args.image) bare;
+      lists = c.add.ensures.others;
+    } in
+    come_here b.index c.insert.new.self b.chains c.add.new.chains b.space.places c.take.new.space.places c.args.rid p w comes
+
+pub returns-clause-others : goal.returns-clause-others
+returns-clause-others c =
+    let b = c.self.inside in
+    let p = c.in_ok-place.place in
+    let given = c.in_ok-place.ensures.given in
+    let none : place_of b.index c.args.rid ≡ None = unplaced_of b.index b.chains b.space.places c.args.rid c.self.invariant (ap (λ h. versions_of h c.args.rid) c.self.view_is ∙ c.requires) in
+    let bare = bare_free b.index b.chains b.space.places p c.self.invariant given.was in
+    let w = chain.open_write c.args.by c.args.image in
+    let comes : Comes b.index c.insert.new.self b.chains c.add.new.chains b.space.places c.take.new.space.places c.args.rid p w = record {
+      index = c.stands_once.ensures;
+      old = c.self.invariant;
+      new = none;
+      list = c.in_default-insert.ensures.list;
+      here = c.in_default-insert.ensures.here;
+      others = c.insert.ensures.others;
+      given = given;
+      fits = c.in_ok-place.ensures.fits;
+      chain = c.in_default.ensures.here ∙ ap (chain.installed c.args.by c.args.image) bare;
+      lists = c.add.ensures.others;
+    } in
+    subst (λ h. OthersStay h (records_of c.insert.new.self c.add.new.chains c.take.new.space.places) c.args.rid) c.self.view_is (come_others b.index c.insert.new.self b.chains c.add.new.chains b.space.places c.take.new.space.places c.args.rid p w comes)
+
+pub returns-clause-left : goal.returns-clause-left
+returns-clause-left c =
+    let b = c.self.inside in
+    let p = c.in_ok-place.place in
+    let given = c.in_ok-place.ensures.given in
+    let none : place_of b.index c.args.rid ≡ None = unplaced_of b.index b.chains b.space.places c.args.rid c.self.invariant (ap (λ h. versions_of h c.args.rid) c.self.view_is ∙ c.requires) in
+    let bare = bare_free b.index b.chains b.space.places p c.self.invariant given.was in
+    let w = chain.open_write c.args.by c.args.image in
+    let comes : Comes b.index c.insert.new.self b.chains c.add.new.chains b.space.places c.take.new.space.places c.args.rid p w = record {
+      index = c.stands_once.ensures;
+      old = c.self.invariant;
+      new = none;
+      list = c.in_default-insert.ensures.list;
+      here = c.in_default-insert.ensures.here;
+      others = c.insert.ensures.others;
+      given = given;
+      fits = c.in_ok-place.ensures.fits;
+      chain = c.in_default.ensures.here ∙ ap (chain.installed c.args.by c.args.image) bare;
+      lists = c.add.ensures.others;
+    } in
+    come_left b.index c.insert.new.self b.chains c.add.new.chains b.space.places c.take.new.space.places c.args.rid p w comes ∙ ap (λ h. left h + 1) c.self.view_is

@@ -1,9 +1,7 @@
-use Rattle.std.proofs.Common.{subst}
-use Rattle.hg_bucket.specs.Long.{IsNextLong}
-use Rattle.hg_bucket.proofs.Settling.{next_long}
+use Rattle.hg_bucket.proofs.Reading.{next_here}
 use Rattle.hg_bucket.proofs.records.Records.first_long.Goals as goal
 
 pub returns-clause-next : goal.returns-clause-next
 returns-clause-next c =
     let b = c.self.inside in
-    subst (λ h. IsNextLong h c.args.table 0 c.first.result) c.self.view_is (next_long b.index b.chains.entries b.space.places c.args.table 0 c.first.result c.self.invariant c.first.ensures.next)
+    c.long_from.ensures.next 0 (next_here b.index b.chains b.space.places c.args.table 0 c.next_key.result c.args.self.now c.self.view_is c.next_key.ensures)

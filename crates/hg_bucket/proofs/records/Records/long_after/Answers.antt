@@ -1,9 +1,8 @@
-use Rattle.std.proofs.Common.{◌+◌, subst}
-use Rattle.hg_bucket.specs.Long.{IsNextLong}
-use Rattle.hg_bucket.proofs.Settling.{next_long}
+use Rattle.std.proofs.Common.{◌+◌}
+use Rattle.hg_bucket.proofs.Reading.{next_here}
 use Rattle.hg_bucket.proofs.records.Records.long_after.Goals as goal
 
 pub returns-clause-next : goal.returns-clause-next
 returns-clause-next c =
     let b = c.self.inside in
-    subst (λ h. IsNextLong h c.args.table (c.args.key + 1) c.after.result) c.self.view_is (next_long b.index b.chains.entries b.space.places c.args.table (c.args.key + 1) c.after.result c.self.invariant c.after.ensures.next)
+    c.long_from.ensures.next (c.args.key + 1) (next_here b.index b.chains b.space.places c.args.table (c.args.key + 1) c.key_after.result c.args.self.now c.self.view_is c.key_after.ensures)

@@ -1,45 +1,63 @@
-use Rattle.std.proofs.Common.{ℕ, ◌+◌, ◌≤◌, length, sym, ap, ◌∙◌, subst, Option, arith}
+use Rattle.std.proofs.Common.{◌≡◌, ℕ, ◌+◌, ◌≤◌, length, sym, ap, ◌∙◌, subst, Option, arith}
 use Rattle.std.specs.Prelude.{◌^◌, option_to_list}
+use Rattle.std.specs.Bool.{OnFalse}
+use Rattle.hg_chain.specs.Places.{list_at}
+use Rattle.hg_chain.specs.Sweeps as chain
+use Rattle.hg_chain.specs.Sweeps.{last_number}
+use Rattle.hg_base.specs.Lifetimes.{MayStay}
 use Rattle.hg_space.specs.Places.{image_at}
 use Rattle.hg_bucket.specs.Held.{versions_of, OthersStay, left}
 use Rattle.hg_bucket.specs.Sweeping.{swept, IsClean}
-use Rattle.hg_bucket.specs.Parts.{records_of, chain_of}
-use Rattle.hg_bucket.proofs.Changing.{versions_there}
-use Rattle.hg_bucket.proofs.Installing.{no_versions}
-use Rattle.hg_bucket.proofs.Sweeping.{says, keeps, drops, long_chains}
+use Rattle.hg_bucket.specs.Parts.{records_of}
+use Rattle.hg_bucket.proofs.Reading.{versions_there, no_versions}
+use Rattle.hg_bucket.proofs.Settling.{bare_short}
+use Rattle.hg_bucket.proofs.Bare.{no_chain, some_chain}
+use Rattle.hg_bucket.proofs.Sweeping.{says, keeps, drops}
 use Rattle.hg_bucket.proofs.Costing.{cost_of, record_paid}
 use Rattle.hg_bucket.proofs.records.Records.sweep.Goals as goal
 
 pub returns-in_default-clause-here : goal.returns-in_default-clause-here
 returns-in_default-clause-here g c =
     let b = c.self.inside in
-    let empty = ap (λ h. versions_of h c.args.rid) (sym c.self.view_is) ∙ no_versions b.index b.chains.entries b.space.places c.args.rid (sym c.place.ensures.place ∙ c.in_default.is) in
+    let empty = ap (λ h. versions_of h c.args.rid) (sym c.self.view_is) ∙ no_versions b.index b.chains b.space.places c.args.rid (sym c.place.ensures.place ∙ c.in_default.is) in
     empty ∙ ap (swept c.args.horizon c.args.snapshots.now) (sym empty)
 
 pub returns-in_default-clause-clean : goal.returns-in_default-clause-clean
 returns-in_default-clause-clean g c =
     let b = c.self.inside in
-    let empty = ap (λ h. versions_of h c.args.rid) (sym c.self.view_is) ∙ no_versions b.index b.chains.entries b.space.places c.args.rid (sym c.place.ensures.place ∙ c.in_default.is) in
+    let empty = ap (λ h. versions_of h c.args.rid) (sym c.self.view_is) ∙ no_versions b.index b.chains b.space.places c.args.rid (sym c.place.ensures.place ∙ c.in_default.is) in
     subst (IsClean c.args.horizon c.args.snapshots.now) (sym empty) tt
 
-pub sweep-swept-requires-clause-some : goal.sweep-swept-requires-clause-some
-sweep-swept-requires-clause-some g c =
-    long_chains c.self.inside.index c.self.inside.chains.entries c.self.inside.space.places c.args.rid c.self.invariant
+pub returns-then-is_empty-clause-here : goal.returns-then-is_empty-clause-here
+returns-then-is_empty-clause-here g c =
+    let b = c.self.inside in
+    let p = c.in-Some.place in
+    let has = sym c.place.ensures.place ∙ c.in-Some.is in
+    let short = bare_short b.index b.chains b.space.places c.args.rid p c.self.invariant has (no_chain (list_at b.chains p) (sym c.is_empty.ensures ∙ c.if-is_empty.true)) in
+    subst (λ h. versions_of h c.args.rid ≡ swept c.args.horizon c.args.snapshots.now (versions_of h c.args.rid)) c.self.view_is (sym (short.swept c.args.horizon c.args.snapshots.now))
+
+pub returns-then-is_empty-clause-clean : goal.returns-then-is_empty-clause-clean
+returns-then-is_empty-clause-clean g c =
+    let b = c.self.inside in
+    let p = c.in-Some.place in
+    let has = sym c.place.ensures.place ∙ c.in-Some.is in
+    let short = bare_short b.index b.chains b.space.places c.args.rid p c.self.invariant has (no_chain (list_at b.chains p) (sym c.is_empty.ensures ∙ c.if-is_empty.true)) in
+    subst (λ h. IsClean c.args.horizon c.args.snapshots.now (versions_of h c.args.rid)) c.self.view_is (short.clean c.args.horizon c.args.snapshots.now)
 
 pub invariant_of-self : goal.invariant_of-self
 invariant_of-self g c =
     let b = c.self.inside in
     let r = c.args.rid in
     let xs = c.args.snapshots.now in
-    let cs = b.chains.entries in
-    let ds = c.sweep-swept.new.chains.entries in
+    let cs = b.chains in
+    let ds = c.sweep-swept.new.self in
     let places = b.space.places in
     let p = c.in-Some.place in
     let index = c.place.ensures.index in
     let has = sym c.place.ensures.place ∙ c.in-Some.is in
     let base_gone = c.sweep-swept.result.base_gone in
-    let told = says c.args.horizon xs (chain_of cs r) (image_at places p) c.number-base.result base_gone c.sweep-swept.result.gone c.number-base.ensures c.sweep-swept.ensures.base_gone c.sweep-swept.ensures.gone c.sweep-swept.ensures.clean c.sweep-swept.ensures.base_clean in
-    let done = keeps c.args.horizon xs b.index cs ds places r p base_gone c.sweep-swept.result.gone index c.self.invariant has c.sweep-swept.ensures.here told c.if-not-swept.true in
+    let told = says c.args.horizon xs (list_at cs p) (image_at places p) c.number-base.result base_gone c.sweep-swept.result.gone c.number-base.ensures c.sweep-swept.ensures.base_gone c.sweep-swept.ensures.gone (subst (chain.IsClean c.args.horizon xs) c.sweep-swept.ensures.left c.sweep-swept.ensures.clean) (subst (λ us. OnFalse base_gone (MayStay c.args.horizon xs (last_number us) c.number-base.result)) c.sweep-swept.ensures.left c.sweep-swept.ensures.base_clean) in
+    let done = keeps c.args.horizon xs b.index cs ds places r p base_gone c.sweep-swept.result.gone index c.self.invariant has c.sweep-swept.ensures.left c.sweep-swept.ensures.others told c.if-not-swept.true in
     done.whole
 
 pub returns-then-not-swept-clause-here : goal.returns-then-not-swept-clause-here
@@ -47,15 +65,15 @@ returns-then-not-swept-clause-here g c =
     let b = c.self.inside in
     let r = c.args.rid in
     let xs = c.args.snapshots.now in
-    let cs = b.chains.entries in
-    let ds = c.sweep-swept.new.chains.entries in
+    let cs = b.chains in
+    let ds = c.sweep-swept.new.self in
     let places = b.space.places in
     let p = c.in-Some.place in
     let index = c.place.ensures.index in
     let has = sym c.place.ensures.place ∙ c.in-Some.is in
     let base_gone = c.sweep-swept.result.base_gone in
-    let told = says c.args.horizon xs (chain_of cs r) (image_at places p) c.number-base.result base_gone c.sweep-swept.result.gone c.number-base.ensures c.sweep-swept.ensures.base_gone c.sweep-swept.ensures.gone c.sweep-swept.ensures.clean c.sweep-swept.ensures.base_clean in
-    let done = keeps c.args.horizon xs b.index cs ds places r p base_gone c.sweep-swept.result.gone index c.self.invariant has c.sweep-swept.ensures.here told c.if-not-swept.true in
+    let told = says c.args.horizon xs (list_at cs p) (image_at places p) c.number-base.result base_gone c.sweep-swept.result.gone c.number-base.ensures c.sweep-swept.ensures.base_gone c.sweep-swept.ensures.gone (subst (chain.IsClean c.args.horizon xs) c.sweep-swept.ensures.left c.sweep-swept.ensures.clean) (subst (λ us. OnFalse base_gone (MayStay c.args.horizon xs (last_number us) c.number-base.result)) c.sweep-swept.ensures.left c.sweep-swept.ensures.base_clean) in
+    let done = keeps c.args.horizon xs b.index cs ds places r p base_gone c.sweep-swept.result.gone index c.self.invariant has c.sweep-swept.ensures.left c.sweep-swept.ensures.others told c.if-not-swept.true in
     done.here ∙ ap (λ h. swept c.args.horizon xs (versions_of h r)) c.self.view_is
 
 pub returns-then-not-swept-clause-clean : goal.returns-then-not-swept-clause-clean
@@ -63,15 +81,15 @@ returns-then-not-swept-clause-clean g c =
     let b = c.self.inside in
     let r = c.args.rid in
     let xs = c.args.snapshots.now in
-    let cs = b.chains.entries in
-    let ds = c.sweep-swept.new.chains.entries in
+    let cs = b.chains in
+    let ds = c.sweep-swept.new.self in
     let places = b.space.places in
     let p = c.in-Some.place in
     let index = c.place.ensures.index in
     let has = sym c.place.ensures.place ∙ c.in-Some.is in
     let base_gone = c.sweep-swept.result.base_gone in
-    let told = says c.args.horizon xs (chain_of cs r) (image_at places p) c.number-base.result base_gone c.sweep-swept.result.gone c.number-base.ensures c.sweep-swept.ensures.base_gone c.sweep-swept.ensures.gone c.sweep-swept.ensures.clean c.sweep-swept.ensures.base_clean in
-    let done = keeps c.args.horizon xs b.index cs ds places r p base_gone c.sweep-swept.result.gone index c.self.invariant has c.sweep-swept.ensures.here told c.if-not-swept.true in
+    let told = says c.args.horizon xs (list_at cs p) (image_at places p) c.number-base.result base_gone c.sweep-swept.result.gone c.number-base.ensures c.sweep-swept.ensures.base_gone c.sweep-swept.ensures.gone (subst (chain.IsClean c.args.horizon xs) c.sweep-swept.ensures.left c.sweep-swept.ensures.clean) (subst (λ us. OnFalse base_gone (MayStay c.args.horizon xs (last_number us) c.number-base.result)) c.sweep-swept.ensures.left c.sweep-swept.ensures.base_clean) in
+    let done = keeps c.args.horizon xs b.index cs ds places r p base_gone c.sweep-swept.result.gone index c.self.invariant has c.sweep-swept.ensures.left c.sweep-swept.ensures.others told c.if-not-swept.true in
     done.clean
 
 pub returns-then-not-swept-clause-others : goal.returns-then-not-swept-clause-others
@@ -79,15 +97,15 @@ returns-then-not-swept-clause-others g c =
     let b = c.self.inside in
     let r = c.args.rid in
     let xs = c.args.snapshots.now in
-    let cs = b.chains.entries in
-    let ds = c.sweep-swept.new.chains.entries in
+    let cs = b.chains in
+    let ds = c.sweep-swept.new.self in
     let places = b.space.places in
     let p = c.in-Some.place in
     let index = c.place.ensures.index in
     let has = sym c.place.ensures.place ∙ c.in-Some.is in
     let base_gone = c.sweep-swept.result.base_gone in
-    let told = says c.args.horizon xs (chain_of cs r) (image_at places p) c.number-base.result base_gone c.sweep-swept.result.gone c.number-base.ensures c.sweep-swept.ensures.base_gone c.sweep-swept.ensures.gone c.sweep-swept.ensures.clean c.sweep-swept.ensures.base_clean in
-    let done = keeps c.args.horizon xs b.index cs ds places r p base_gone c.sweep-swept.result.gone index c.self.invariant has c.sweep-swept.ensures.here told c.if-not-swept.true in
+    let told = says c.args.horizon xs (list_at cs p) (image_at places p) c.number-base.result base_gone c.sweep-swept.result.gone c.number-base.ensures c.sweep-swept.ensures.base_gone c.sweep-swept.ensures.gone (subst (chain.IsClean c.args.horizon xs) c.sweep-swept.ensures.left c.sweep-swept.ensures.clean) (subst (λ us. OnFalse base_gone (MayStay c.args.horizon xs (last_number us) c.number-base.result)) c.sweep-swept.ensures.left c.sweep-swept.ensures.base_clean) in
+    let done = keeps c.args.horizon xs b.index cs ds places r p base_gone c.sweep-swept.result.gone index c.self.invariant has c.sweep-swept.ensures.left c.sweep-swept.ensures.others told c.if-not-swept.true in
     subst (λ h. OthersStay h (records_of b.index ds places) r) c.self.view_is done.others
 
 pub returns-then-not-swept-clause-gone : goal.returns-then-not-swept-clause-gone
@@ -95,15 +113,15 @@ returns-then-not-swept-clause-gone g c =
     let b = c.self.inside in
     let r = c.args.rid in
     let xs = c.args.snapshots.now in
-    let cs = b.chains.entries in
-    let ds = c.sweep-swept.new.chains.entries in
+    let cs = b.chains in
+    let ds = c.sweep-swept.new.self in
     let places = b.space.places in
     let p = c.in-Some.place in
     let index = c.place.ensures.index in
     let has = sym c.place.ensures.place ∙ c.in-Some.is in
     let base_gone = c.sweep-swept.result.base_gone in
-    let told = says c.args.horizon xs (chain_of cs r) (image_at places p) c.number-base.result base_gone c.sweep-swept.result.gone c.number-base.ensures c.sweep-swept.ensures.base_gone c.sweep-swept.ensures.gone c.sweep-swept.ensures.clean c.sweep-swept.ensures.base_clean in
-    let done = keeps c.args.horizon xs b.index cs ds places r p base_gone c.sweep-swept.result.gone index c.self.invariant has c.sweep-swept.ensures.here told c.if-not-swept.true in
+    let told = says c.args.horizon xs (list_at cs p) (image_at places p) c.number-base.result base_gone c.sweep-swept.result.gone c.number-base.ensures c.sweep-swept.ensures.base_gone c.sweep-swept.ensures.gone (subst (chain.IsClean c.args.horizon xs) c.sweep-swept.ensures.left c.sweep-swept.ensures.clean) (subst (λ us. OnFalse base_gone (MayStay c.args.horizon xs (last_number us) c.number-base.result)) c.sweep-swept.ensures.left c.sweep-swept.ensures.base_clean) in
+    let done = keeps c.args.horizon xs b.index cs ds places r p base_gone c.sweep-swept.result.gone index c.self.invariant has c.sweep-swept.ensures.left c.sweep-swept.ensures.others told c.if-not-swept.true in
     done.lost ∙ ap (λ h. length (versions_of h r)) c.self.view_is
 
 pub returns-then-not-swept-clause-left : goal.returns-then-not-swept-clause-left
@@ -111,15 +129,15 @@ returns-then-not-swept-clause-left g c =
     let b = c.self.inside in
     let r = c.args.rid in
     let xs = c.args.snapshots.now in
-    let cs = b.chains.entries in
-    let ds = c.sweep-swept.new.chains.entries in
+    let cs = b.chains in
+    let ds = c.sweep-swept.new.self in
     let places = b.space.places in
     let p = c.in-Some.place in
     let index = c.place.ensures.index in
     let has = sym c.place.ensures.place ∙ c.in-Some.is in
     let base_gone = c.sweep-swept.result.base_gone in
-    let told = says c.args.horizon xs (chain_of cs r) (image_at places p) c.number-base.result base_gone c.sweep-swept.result.gone c.number-base.ensures c.sweep-swept.ensures.base_gone c.sweep-swept.ensures.gone c.sweep-swept.ensures.clean c.sweep-swept.ensures.base_clean in
-    let done = keeps c.args.horizon xs b.index cs ds places r p base_gone c.sweep-swept.result.gone index c.self.invariant has c.sweep-swept.ensures.here told c.if-not-swept.true in
+    let told = says c.args.horizon xs (list_at cs p) (image_at places p) c.number-base.result base_gone c.sweep-swept.result.gone c.number-base.ensures c.sweep-swept.ensures.base_gone c.sweep-swept.ensures.gone (subst (chain.IsClean c.args.horizon xs) c.sweep-swept.ensures.left c.sweep-swept.ensures.clean) (subst (λ us. OnFalse base_gone (MayStay c.args.horizon xs (last_number us) c.number-base.result)) c.sweep-swept.ensures.left c.sweep-swept.ensures.base_clean) in
+    let done = keeps c.args.horizon xs b.index cs ds places r p base_gone c.sweep-swept.result.gone index c.self.invariant has c.sweep-swept.ensures.left c.sweep-swept.ensures.others told c.if-not-swept.true in
     done.left ∙ ap left c.self.view_is
 
 pub overflow_add-result : goal.overflow_add-result
@@ -127,15 +145,15 @@ overflow_add-result g c =
     let b = c.self.inside in
     let r = c.args.rid in
     let xs = c.args.snapshots.now in
-    let cs = b.chains.entries in
-    let ds = c.sweep-swept.new.chains.entries in
+    let cs = b.chains in
+    let ds = c.sweep-swept.new.self in
     let places = b.space.places in
     let p = c.in-Some.place in
     let index = c.place.ensures.index in
     let has = sym c.place.ensures.place ∙ c.in-Some.is in
     let base_gone = c.sweep-swept.result.base_gone in
-    let told = says c.args.horizon xs (chain_of cs r) (image_at places p) c.number-base.result base_gone c.sweep-swept.result.gone c.number-base.ensures c.sweep-swept.ensures.base_gone c.sweep-swept.ensures.gone c.sweep-swept.ensures.clean c.sweep-swept.ensures.base_clean in
-    let done = drops c.args.horizon xs b.index cs ds places c.set_image.new.self.places r p base_gone c.sweep-swept.result.gone index c.self.invariant has c.sweep-swept.ensures.here told c.if-not-swept.false c.set_image.ensures.set in
+    let told = says c.args.horizon xs (list_at cs p) (image_at places p) c.number-base.result base_gone c.sweep-swept.result.gone c.number-base.ensures c.sweep-swept.ensures.base_gone c.sweep-swept.ensures.gone (subst (chain.IsClean c.args.horizon xs) c.sweep-swept.ensures.left c.sweep-swept.ensures.clean) (subst (λ us. OnFalse base_gone (MayStay c.args.horizon xs (last_number us) c.number-base.result)) c.sweep-swept.ensures.left c.sweep-swept.ensures.base_clean) in
+    let done = drops c.args.horizon xs b.index cs ds places c.set_image.new.self.places r p base_gone c.sweep-swept.result.gone index c.self.invariant has c.sweep-swept.ensures.left c.sweep-swept.ensures.others told c.if-not-swept.false c.set_image.ensures.set in
     let few = subst (λ h. left h ≤ 2 ^ 40) (sym c.self.view_is) c.requires.few in
     omega (arith, few, done.few)
 
@@ -144,15 +162,15 @@ invariant_of-self-2 g c =
     let b = c.self.inside in
     let r = c.args.rid in
     let xs = c.args.snapshots.now in
-    let cs = b.chains.entries in
-    let ds = c.sweep-swept.new.chains.entries in
+    let cs = b.chains in
+    let ds = c.sweep-swept.new.self in
     let places = b.space.places in
     let p = c.in-Some.place in
     let index = c.place.ensures.index in
     let has = sym c.place.ensures.place ∙ c.in-Some.is in
     let base_gone = c.sweep-swept.result.base_gone in
-    let told = says c.args.horizon xs (chain_of cs r) (image_at places p) c.number-base.result base_gone c.sweep-swept.result.gone c.number-base.ensures c.sweep-swept.ensures.base_gone c.sweep-swept.ensures.gone c.sweep-swept.ensures.clean c.sweep-swept.ensures.base_clean in
-    let done = drops c.args.horizon xs b.index cs ds places c.set_image.new.self.places r p base_gone c.sweep-swept.result.gone index c.self.invariant has c.sweep-swept.ensures.here told c.if-not-swept.false c.set_image.ensures.set in
+    let told = says c.args.horizon xs (list_at cs p) (image_at places p) c.number-base.result base_gone c.sweep-swept.result.gone c.number-base.ensures c.sweep-swept.ensures.base_gone c.sweep-swept.ensures.gone (subst (chain.IsClean c.args.horizon xs) c.sweep-swept.ensures.left c.sweep-swept.ensures.clean) (subst (λ us. OnFalse base_gone (MayStay c.args.horizon xs (last_number us) c.number-base.result)) c.sweep-swept.ensures.left c.sweep-swept.ensures.base_clean) in
+    let done = drops c.args.horizon xs b.index cs ds places c.set_image.new.self.places r p base_gone c.sweep-swept.result.gone index c.self.invariant has c.sweep-swept.ensures.left c.sweep-swept.ensures.others told c.if-not-swept.false c.set_image.ensures.set in
     done.whole
 
 pub returns-clause-here : goal.returns-clause-here
@@ -160,15 +178,15 @@ returns-clause-here g c =
     let b = c.self.inside in
     let r = c.args.rid in
     let xs = c.args.snapshots.now in
-    let cs = b.chains.entries in
-    let ds = c.sweep-swept.new.chains.entries in
+    let cs = b.chains in
+    let ds = c.sweep-swept.new.self in
     let places = b.space.places in
     let p = c.in-Some.place in
     let index = c.place.ensures.index in
     let has = sym c.place.ensures.place ∙ c.in-Some.is in
     let base_gone = c.sweep-swept.result.base_gone in
-    let told = says c.args.horizon xs (chain_of cs r) (image_at places p) c.number-base.result base_gone c.sweep-swept.result.gone c.number-base.ensures c.sweep-swept.ensures.base_gone c.sweep-swept.ensures.gone c.sweep-swept.ensures.clean c.sweep-swept.ensures.base_clean in
-    let done = drops c.args.horizon xs b.index cs ds places c.set_image.new.self.places r p base_gone c.sweep-swept.result.gone index c.self.invariant has c.sweep-swept.ensures.here told c.if-not-swept.false c.set_image.ensures.set in
+    let told = says c.args.horizon xs (list_at cs p) (image_at places p) c.number-base.result base_gone c.sweep-swept.result.gone c.number-base.ensures c.sweep-swept.ensures.base_gone c.sweep-swept.ensures.gone (subst (chain.IsClean c.args.horizon xs) c.sweep-swept.ensures.left c.sweep-swept.ensures.clean) (subst (λ us. OnFalse base_gone (MayStay c.args.horizon xs (last_number us) c.number-base.result)) c.sweep-swept.ensures.left c.sweep-swept.ensures.base_clean) in
+    let done = drops c.args.horizon xs b.index cs ds places c.set_image.new.self.places r p base_gone c.sweep-swept.result.gone index c.self.invariant has c.sweep-swept.ensures.left c.sweep-swept.ensures.others told c.if-not-swept.false c.set_image.ensures.set in
     done.here ∙ ap (λ h. swept c.args.horizon xs (versions_of h r)) c.self.view_is
 
 pub returns-clause-clean : goal.returns-clause-clean
@@ -176,15 +194,15 @@ returns-clause-clean g c =
     let b = c.self.inside in
     let r = c.args.rid in
     let xs = c.args.snapshots.now in
-    let cs = b.chains.entries in
-    let ds = c.sweep-swept.new.chains.entries in
+    let cs = b.chains in
+    let ds = c.sweep-swept.new.self in
     let places = b.space.places in
     let p = c.in-Some.place in
     let index = c.place.ensures.index in
     let has = sym c.place.ensures.place ∙ c.in-Some.is in
     let base_gone = c.sweep-swept.result.base_gone in
-    let told = says c.args.horizon xs (chain_of cs r) (image_at places p) c.number-base.result base_gone c.sweep-swept.result.gone c.number-base.ensures c.sweep-swept.ensures.base_gone c.sweep-swept.ensures.gone c.sweep-swept.ensures.clean c.sweep-swept.ensures.base_clean in
-    let done = drops c.args.horizon xs b.index cs ds places c.set_image.new.self.places r p base_gone c.sweep-swept.result.gone index c.self.invariant has c.sweep-swept.ensures.here told c.if-not-swept.false c.set_image.ensures.set in
+    let told = says c.args.horizon xs (list_at cs p) (image_at places p) c.number-base.result base_gone c.sweep-swept.result.gone c.number-base.ensures c.sweep-swept.ensures.base_gone c.sweep-swept.ensures.gone (subst (chain.IsClean c.args.horizon xs) c.sweep-swept.ensures.left c.sweep-swept.ensures.clean) (subst (λ us. OnFalse base_gone (MayStay c.args.horizon xs (last_number us) c.number-base.result)) c.sweep-swept.ensures.left c.sweep-swept.ensures.base_clean) in
+    let done = drops c.args.horizon xs b.index cs ds places c.set_image.new.self.places r p base_gone c.sweep-swept.result.gone index c.self.invariant has c.sweep-swept.ensures.left c.sweep-swept.ensures.others told c.if-not-swept.false c.set_image.ensures.set in
     done.clean
 
 pub returns-clause-others : goal.returns-clause-others
@@ -192,15 +210,15 @@ returns-clause-others g c =
     let b = c.self.inside in
     let r = c.args.rid in
     let xs = c.args.snapshots.now in
-    let cs = b.chains.entries in
-    let ds = c.sweep-swept.new.chains.entries in
+    let cs = b.chains in
+    let ds = c.sweep-swept.new.self in
     let places = b.space.places in
     let p = c.in-Some.place in
     let index = c.place.ensures.index in
     let has = sym c.place.ensures.place ∙ c.in-Some.is in
     let base_gone = c.sweep-swept.result.base_gone in
-    let told = says c.args.horizon xs (chain_of cs r) (image_at places p) c.number-base.result base_gone c.sweep-swept.result.gone c.number-base.ensures c.sweep-swept.ensures.base_gone c.sweep-swept.ensures.gone c.sweep-swept.ensures.clean c.sweep-swept.ensures.base_clean in
-    let done = drops c.args.horizon xs b.index cs ds places c.set_image.new.self.places r p base_gone c.sweep-swept.result.gone index c.self.invariant has c.sweep-swept.ensures.here told c.if-not-swept.false c.set_image.ensures.set in
+    let told = says c.args.horizon xs (list_at cs p) (image_at places p) c.number-base.result base_gone c.sweep-swept.result.gone c.number-base.ensures c.sweep-swept.ensures.base_gone c.sweep-swept.ensures.gone (subst (chain.IsClean c.args.horizon xs) c.sweep-swept.ensures.left c.sweep-swept.ensures.clean) (subst (λ us. OnFalse base_gone (MayStay c.args.horizon xs (last_number us) c.number-base.result)) c.sweep-swept.ensures.left c.sweep-swept.ensures.base_clean) in
+    let done = drops c.args.horizon xs b.index cs ds places c.set_image.new.self.places r p base_gone c.sweep-swept.result.gone index c.self.invariant has c.sweep-swept.ensures.left c.sweep-swept.ensures.others told c.if-not-swept.false c.set_image.ensures.set in
     subst (λ h. OthersStay h (records_of b.index ds c.set_image.new.self.places) r) c.self.view_is done.others
 
 pub returns-clause-gone : goal.returns-clause-gone
@@ -208,15 +226,15 @@ returns-clause-gone g c =
     let b = c.self.inside in
     let r = c.args.rid in
     let xs = c.args.snapshots.now in
-    let cs = b.chains.entries in
-    let ds = c.sweep-swept.new.chains.entries in
+    let cs = b.chains in
+    let ds = c.sweep-swept.new.self in
     let places = b.space.places in
     let p = c.in-Some.place in
     let index = c.place.ensures.index in
     let has = sym c.place.ensures.place ∙ c.in-Some.is in
     let base_gone = c.sweep-swept.result.base_gone in
-    let told = says c.args.horizon xs (chain_of cs r) (image_at places p) c.number-base.result base_gone c.sweep-swept.result.gone c.number-base.ensures c.sweep-swept.ensures.base_gone c.sweep-swept.ensures.gone c.sweep-swept.ensures.clean c.sweep-swept.ensures.base_clean in
-    let done = drops c.args.horizon xs b.index cs ds places c.set_image.new.self.places r p base_gone c.sweep-swept.result.gone index c.self.invariant has c.sweep-swept.ensures.here told c.if-not-swept.false c.set_image.ensures.set in
+    let told = says c.args.horizon xs (list_at cs p) (image_at places p) c.number-base.result base_gone c.sweep-swept.result.gone c.number-base.ensures c.sweep-swept.ensures.base_gone c.sweep-swept.ensures.gone (subst (chain.IsClean c.args.horizon xs) c.sweep-swept.ensures.left c.sweep-swept.ensures.clean) (subst (λ us. OnFalse base_gone (MayStay c.args.horizon xs (last_number us) c.number-base.result)) c.sweep-swept.ensures.left c.sweep-swept.ensures.base_clean) in
+    let done = drops c.args.horizon xs b.index cs ds places c.set_image.new.self.places r p base_gone c.sweep-swept.result.gone index c.self.invariant has c.sweep-swept.ensures.left c.sweep-swept.ensures.others told c.if-not-swept.false c.set_image.ensures.set in
     done.lost ∙ ap (λ h. length (versions_of h r)) c.self.view_is
 
 pub returns-clause-left : goal.returns-clause-left
@@ -224,15 +242,15 @@ returns-clause-left g c =
     let b = c.self.inside in
     let r = c.args.rid in
     let xs = c.args.snapshots.now in
-    let cs = b.chains.entries in
-    let ds = c.sweep-swept.new.chains.entries in
+    let cs = b.chains in
+    let ds = c.sweep-swept.new.self in
     let places = b.space.places in
     let p = c.in-Some.place in
     let index = c.place.ensures.index in
     let has = sym c.place.ensures.place ∙ c.in-Some.is in
     let base_gone = c.sweep-swept.result.base_gone in
-    let told = says c.args.horizon xs (chain_of cs r) (image_at places p) c.number-base.result base_gone c.sweep-swept.result.gone c.number-base.ensures c.sweep-swept.ensures.base_gone c.sweep-swept.ensures.gone c.sweep-swept.ensures.clean c.sweep-swept.ensures.base_clean in
-    let done = drops c.args.horizon xs b.index cs ds places c.set_image.new.self.places r p base_gone c.sweep-swept.result.gone index c.self.invariant has c.sweep-swept.ensures.here told c.if-not-swept.false c.set_image.ensures.set in
+    let told = says c.args.horizon xs (list_at cs p) (image_at places p) c.number-base.result base_gone c.sweep-swept.result.gone c.number-base.ensures c.sweep-swept.ensures.base_gone c.sweep-swept.ensures.gone (subst (chain.IsClean c.args.horizon xs) c.sweep-swept.ensures.left c.sweep-swept.ensures.clean) (subst (λ us. OnFalse base_gone (MayStay c.args.horizon xs (last_number us) c.number-base.result)) c.sweep-swept.ensures.left c.sweep-swept.ensures.base_clean) in
+    let done = drops c.args.horizon xs b.index cs ds places c.set_image.new.self.places r p base_gone c.sweep-swept.result.gone index c.self.invariant has c.sweep-swept.ensures.left c.sweep-swept.ensures.others told c.if-not-swept.false c.set_image.ensures.set in
     done.left ∙ ap left c.self.view_is
 
 pub returns-then-not-swept-clause-cost : goal.returns-then-not-swept-clause-cost
@@ -240,23 +258,23 @@ returns-then-not-swept-clause-cost g c =
     let b = c.self.inside in
     let r = c.args.rid in
     let n = length c.args.snapshots.now in
-    let cs = b.chains.entries in
+    let cs = b.chains in
     let places = b.space.places in
     let p = c.in-Some.place in
     let has = sym c.place.ensures.place ∙ c.in-Some.is in
     let there = sym (versions_there b.index cs places r p has) ∙ ap (λ h. versions_of h r) c.self.view_is in
-    let some = subst (λ (base : Option ℕ). c.sweep-swept.new.steps ≤ c.args.steps.now + length (chain_of cs r) + length (option_to_list base) + n) c.number-base.ensures c.sweep-swept.ensures.cost in
-    subst (λ vs. c.sweep-swept.new.steps ≤ c.args.steps.now + cost_of n vs) there (record_paid n c.args.steps.now c.sweep-swept.new.steps (chain_of cs r) (image_at places p) c.sweep-swept.ensures.unchained some)
+    let some = subst (λ (base : Option ℕ). c.sweep-swept.new.steps ≤ c.args.steps.now + length (list_at cs p) + length (option_to_list base) + n) c.number-base.ensures c.sweep-swept.ensures.cost in
+    subst (λ vs. c.sweep-swept.new.steps ≤ c.args.steps.now + cost_of n vs) there (record_paid n c.args.steps.now c.sweep-swept.new.steps (list_at cs p) (image_at places p) (some_chain (list_at cs p) (sym c.is_empty.ensures ∙ c.if-is_empty.false)) some)
 
 pub returns-clause-cost : goal.returns-clause-cost
 returns-clause-cost g c =
     let b = c.self.inside in
     let r = c.args.rid in
     let n = length c.args.snapshots.now in
-    let cs = b.chains.entries in
+    let cs = b.chains in
     let places = b.space.places in
     let p = c.in-Some.place in
     let has = sym c.place.ensures.place ∙ c.in-Some.is in
     let there = sym (versions_there b.index cs places r p has) ∙ ap (λ h. versions_of h r) c.self.view_is in
-    let some = subst (λ (base : Option ℕ). c.sweep-swept.new.steps ≤ c.args.steps.now + length (chain_of cs r) + length (option_to_list base) + n) c.number-base.ensures c.sweep-swept.ensures.cost in
-    subst (λ vs. c.sweep-swept.new.steps ≤ c.args.steps.now + cost_of n vs) there (record_paid n c.args.steps.now c.sweep-swept.new.steps (chain_of cs r) (image_at places p) c.sweep-swept.ensures.unchained some)
+    let some = subst (λ (base : Option ℕ). c.sweep-swept.new.steps ≤ c.args.steps.now + length (list_at cs p) + length (option_to_list base) + n) c.number-base.ensures c.sweep-swept.ensures.cost in
+    subst (λ vs. c.sweep-swept.new.steps ≤ c.args.steps.now + cost_of n vs) there (record_paid n c.args.steps.now c.sweep-swept.new.steps (list_at cs p) (image_at places p) (some_chain (list_at cs p) (sym c.is_empty.ensures ∙ c.if-is_empty.false)) some)

@@ -1,119 +1,80 @@
-use Rattle.std.proofs.Common.{sym, ap, ◌∙◌, subst}
-use Rattle.hg_bucket.specs.Held.{versions_of}
-use Rattle.hg_bucket.specs.Parts.{records_of, IsSettled}
+use Rattle.std.proofs.Common.{Ok, sym, ap, ◌∙◌, subst, not, refl}
+use Rattle.std.proofs.lemmas.Result.{err_from_is_err_and}
+use Rattle.hg_chain.specs.Places.{list_at}
+use Rattle.hg_space.specs.Places.{image_at}
+use Rattle.hg_bucket.specs.Held.{versions_of, begins_open}
+use Rattle.hg_bucket.specs.Conflicts.{conflict}
+use Rattle.hg_bucket.specs.Parts.{records_of}
 use Rattle.hg_bucket.specs.Writes.{Writes}
-use Rattle.hg_bucket.proofs.Putting.{extended}
-use Rattle.hg_bucket.proofs.Settling.{unchained}
-use Rattle.hg_bucket.proofs.Sweeping.{long_chains}
+use Rattle.hg_bucket.proofs.Reading.{versions_there, no_versions}
+use Rattle.hg_bucket.proofs.Changing.{open_chain}
+use Rattle.hg_bucket.proofs.Installing.{extends}
+use Rattle.hg_bucket.proofs.Refusing.{not_own}
+use Rattle.hg_bucket.proofs.Putting.{turned_down, starved, stores, begins}
 use Rattle.hg_bucket.proofs.records.Records.write.Goals as goal
-
-pub write-requires : goal.write-requires
-write-requires c = record { some = long_chains c.self.inside.index c.self.inside.chains.entries c.self.inside.space.places c.args.rid c.self.invariant }
-
-pub invariant_of-self : goal.invariant_of-self
-invariant_of-self c =
-    let b = c.self.inside in
-    (extended c.args.by c.args.image c.args.snapshot c.args.mark b.index b.chains.entries c.write.new.chains.entries b.space.places c.args.rid c.in-Ok.written c.stands_once.ensures c.self.invariant c.in-Ok.ensures.written).whole
 
 pub begin-requires : goal.begin-requires
 begin-requires c =
     let b = c.self.inside in
-    subst (λ cs. IsSettled (versions_of (records_of b.index cs b.space.places) c.args.rid)) (sym c.in-Err.ensures.same) (unchained b.index b.chains.entries b.space.places c.args.rid c.self.invariant c.in-Err.ensures.none)
+    let bare = ap (λ h. versions_of h c.args.rid) (sym c.self.view_is) ∙ no_versions b.index b.chains b.space.places c.args.rid (sym c.place.ensures.place ∙ c.in_default.is) in
+    bare
 
-pub returns-in-Ok-clause-refusal : goal.returns-in-Ok-clause-refusal
-returns-in-Ok-clause-refusal c =
+pub returns-in_err-begin : goal.returns-in_err-begin
+returns-in_err-begin c =
     let b = c.self.inside in
-    let x = extended c.args.by c.args.image c.args.snapshot c.args.mark b.index b.chains.entries c.write.new.chains.entries b.space.places c.args.rid c.in-Ok.written c.stands_once.ensures c.self.invariant c.in-Ok.ensures.written in
-    let w = subst (λ h. Writes c.args.by c.args.image c.args.snapshot c.args.mark h (records_of b.index c.write.new.chains.entries b.space.places) c.args.rid c.in-Ok.written) c.self.view_is x.writes in
-    w.refusal
+    let bare = ap (λ h. versions_of h c.args.rid) (sym c.self.view_is) ∙ no_versions b.index b.chains b.space.places c.args.rid (sym c.place.ensures.place ∙ c.in_default.is) in
+    let e = err_from_is_err_and c.from_residual.result c.from_residual.ensures.1 in
+    rw (e.1, e.2) (starved c.args.by c.args.image c.args.snapshot c.args.mark c.args.self.now c.begin.new.self c.args.rid (ap (conflict c.args.by c.args.snapshot c.args.mark) bare) (ap (begins_open c.args.by) bare) c.in_err-begin.ensures.refused)
 
-pub returns-in-Ok-clause-cause : goal.returns-in-Ok-clause-cause
-returns-in-Ok-clause-cause c =
+pub returns-in_default : goal.returns-in_default
+returns-in_default c =
     let b = c.self.inside in
-    let x = extended c.args.by c.args.image c.args.snapshot c.args.mark b.index b.chains.entries c.write.new.chains.entries b.space.places c.args.rid c.in-Ok.written c.stands_once.ensures c.self.invariant c.in-Ok.ensures.written in
-    let w = subst (λ h. Writes c.args.by c.args.image c.args.snapshot c.args.mark h (records_of b.index c.write.new.chains.entries b.space.places) c.args.rid c.in-Ok.written) c.self.view_is x.writes in
-    w.cause
+    let bare = ap (λ h. versions_of h c.args.rid) (sym c.self.view_is) ∙ no_versions b.index b.chains b.space.places c.args.rid (sym c.place.ensures.place ∙ c.in_default.is) in
+    begins c.args.by c.args.image c.args.snapshot c.args.mark c.args.self.now c.begin.new.self c.args.rid bare c.in_ok-begin.ensures.stored c.begin.ensures.others c.in_ok-begin.ensures.left
 
-pub returns-in-Ok-clause-stored : goal.returns-in-Ok-clause-stored
-returns-in-Ok-clause-stored c =
+pub returns-in-Some-refusal : goal.returns-in-Some-refusal
+returns-in-Some-refusal c =
     let b = c.self.inside in
-    let x = extended c.args.by c.args.image c.args.snapshot c.args.mark b.index b.chains.entries c.write.new.chains.entries b.space.places c.args.rid c.in-Ok.written c.stands_once.ensures c.self.invariant c.in-Ok.ensures.written in
-    let w = subst (λ h. Writes c.args.by c.args.image c.args.snapshot c.args.mark h (records_of b.index c.write.new.chains.entries b.space.places) c.args.rid c.in-Ok.written) c.self.view_is x.writes in
-    w.stored
+    let r = c.args.rid in
+    let p = c.in-Some.place in
+    let has = sym c.place.ensures.place ∙ c.in-Some.is in
+    let there = versions_there b.index b.chains b.space.places r p has in
+    let now = ap (λ h. versions_of h r) (sym c.self.view_is) ∙ there in
+    turned_down c.args.by c.args.image c.args.snapshot c.args.mark c.args.self.now c.args.self.now r c.in-Some-refusal.refusal (ap (conflict c.args.by c.args.snapshot c.args.mark) now ∙ sym c.conflict-refusal.ensures.refusal ∙ c.in-Some-refusal.is) refl
 
-pub returns-in-Ok-clause-others : goal.returns-in-Ok-clause-others
-returns-in-Ok-clause-others c =
+pub returns-in_err-add : goal.returns-in_err-add
+returns-in_err-add c =
     let b = c.self.inside in
-    let x = extended c.args.by c.args.image c.args.snapshot c.args.mark b.index b.chains.entries c.write.new.chains.entries b.space.places c.args.rid c.in-Ok.written c.stands_once.ensures c.self.invariant c.in-Ok.ensures.written in
-    let w = subst (λ h. Writes c.args.by c.args.image c.args.snapshot c.args.mark h (records_of b.index c.write.new.chains.entries b.space.places) c.args.rid c.in-Ok.written) c.self.view_is x.writes in
-    w.others
+    let r = c.args.rid in
+    let p = c.in-Some.place in
+    let has = sym c.place.ensures.place ∙ c.in-Some.is in
+    let there = versions_there b.index b.chains b.space.places r p has in
+    let now = ap (λ h. versions_of h r) (sym c.self.view_is) ∙ there in
+    let e = err_from_is_err_and c.from_residual-in_err-add.result c.from_residual-in_err-add.ensures.1 in
+    let free = ap (conflict c.args.by c.args.snapshot c.args.mark) now ∙ sym c.conflict-refusal.ensures.refusal ∙ c.in_default-refusal.is in
+    let closed = not_own c.args.by (versions_of c.args.self.now r) c.add.result c.in_err-add.was (λ own. c.add.ensures.replaced (sym (ap (begins_open c.args.by) now ∙ open_chain c.args.by (list_at b.chains p) (image_at b.space.places p)) ∙ own)) in
+    rw (e.1, e.2) (starved c.args.by c.args.image c.args.snapshot c.args.mark c.args.self.now (records_of b.index c.add.new.chains b.space.places) r free closed (ap (λ cs. records_of b.index cs b.space.places) c.in_err-add.ensures.refused ∙ c.self.view_is))
 
-pub returns-in-Ok-clause-added : goal.returns-in-Ok-clause-added
-returns-in-Ok-clause-added c =
+pub invariant_of-self-2 : goal.invariant_of-self-2
+invariant_of-self-2 c =
     let b = c.self.inside in
-    let x = extended c.args.by c.args.image c.args.snapshot c.args.mark b.index b.chains.entries c.write.new.chains.entries b.space.places c.args.rid c.in-Ok.written c.stands_once.ensures c.self.invariant c.in-Ok.ensures.written in
-    let w = subst (λ h. Writes c.args.by c.args.image c.args.snapshot c.args.mark h (records_of b.index c.write.new.chains.entries b.space.places) c.args.rid c.in-Ok.written) c.self.view_is x.writes in
-    w.added
+    let r = c.args.rid in
+    let p = c.in-Some.place in
+    let has = sym c.place.ensures.place ∙ c.in-Some.is in
+    let there = versions_there b.index b.chains b.space.places r p has in
+    let now = ap (λ h. versions_of h r) (sym c.self.view_is) ∙ there in
+    let done = extends b.index b.chains c.add.new.chains b.space.places r p c.args.by c.args.image c.place.ensures.index c.self.invariant has c.in_ok-add.ensures.here c.add.ensures.others in
+    done.whole
 
-pub returns-in-Ok-clause-left : goal.returns-in-Ok-clause-left
-returns-in-Ok-clause-left c =
+pub returns : goal.returns
+returns c =
     let b = c.self.inside in
-    let x = extended c.args.by c.args.image c.args.snapshot c.args.mark b.index b.chains.entries c.write.new.chains.entries b.space.places c.args.rid c.in-Ok.written c.stands_once.ensures c.self.invariant c.in-Ok.ensures.written in
-    let w = subst (λ h. Writes c.args.by c.args.image c.args.snapshot c.args.mark h (records_of b.index c.write.new.chains.entries b.space.places) c.args.rid c.in-Ok.written) c.self.view_is x.writes in
-    w.left
-
-pub returns-in-Ok-clause-refused : goal.returns-in-Ok-clause-refused
-returns-in-Ok-clause-refused c =
-    let b = c.self.inside in
-    let x = extended c.args.by c.args.image c.args.snapshot c.args.mark b.index b.chains.entries c.write.new.chains.entries b.space.places c.args.rid c.in-Ok.written c.stands_once.ensures c.self.invariant c.in-Ok.ensures.written in
-    let w = subst (λ h. Writes c.args.by c.args.image c.args.snapshot c.args.mark h (records_of b.index c.write.new.chains.entries b.space.places) c.args.rid c.in-Ok.written) c.self.view_is x.writes in
-    w.refused
-
-pub returns-in-Err-clause-refusal : goal.returns-in-Err-clause-refusal
-returns-in-Err-clause-refusal c =
-    let b = c.self.inside in
-    let same = ap (λ cs. records_of b.index cs b.space.places) c.in-Err.ensures.same ∙ c.self.view_is in
-    let w = subst (λ h. Writes c.args.by c.args.image c.args.snapshot c.args.mark h c.begin.new.self c.args.rid c.begin.result) same (subst (λ image. Writes c.args.by image c.args.snapshot c.args.mark (records_of b.index c.write.new.chains.entries b.space.places) c.begin.new.self c.args.rid c.begin.result) c.in-Err.ensures.back (c.begin.ensures c.args.mark)) in
-    w.refusal
-
-pub returns-in-Err-clause-cause : goal.returns-in-Err-clause-cause
-returns-in-Err-clause-cause c =
-    let b = c.self.inside in
-    let same = ap (λ cs. records_of b.index cs b.space.places) c.in-Err.ensures.same ∙ c.self.view_is in
-    let w = subst (λ h. Writes c.args.by c.args.image c.args.snapshot c.args.mark h c.begin.new.self c.args.rid c.begin.result) same (subst (λ image. Writes c.args.by image c.args.snapshot c.args.mark (records_of b.index c.write.new.chains.entries b.space.places) c.begin.new.self c.args.rid c.begin.result) c.in-Err.ensures.back (c.begin.ensures c.args.mark)) in
-    w.cause
-
-pub returns-in-Err-clause-stored : goal.returns-in-Err-clause-stored
-returns-in-Err-clause-stored c =
-    let b = c.self.inside in
-    let same = ap (λ cs. records_of b.index cs b.space.places) c.in-Err.ensures.same ∙ c.self.view_is in
-    let w = subst (λ h. Writes c.args.by c.args.image c.args.snapshot c.args.mark h c.begin.new.self c.args.rid c.begin.result) same (subst (λ image. Writes c.args.by image c.args.snapshot c.args.mark (records_of b.index c.write.new.chains.entries b.space.places) c.begin.new.self c.args.rid c.begin.result) c.in-Err.ensures.back (c.begin.ensures c.args.mark)) in
-    w.stored
-
-pub returns-in-Err-clause-others : goal.returns-in-Err-clause-others
-returns-in-Err-clause-others c =
-    let b = c.self.inside in
-    let same = ap (λ cs. records_of b.index cs b.space.places) c.in-Err.ensures.same ∙ c.self.view_is in
-    let w = subst (λ h. Writes c.args.by c.args.image c.args.snapshot c.args.mark h c.begin.new.self c.args.rid c.begin.result) same (subst (λ image. Writes c.args.by image c.args.snapshot c.args.mark (records_of b.index c.write.new.chains.entries b.space.places) c.begin.new.self c.args.rid c.begin.result) c.in-Err.ensures.back (c.begin.ensures c.args.mark)) in
-    w.others
-
-pub returns-in-Err-clause-added : goal.returns-in-Err-clause-added
-returns-in-Err-clause-added c =
-    let b = c.self.inside in
-    let same = ap (λ cs. records_of b.index cs b.space.places) c.in-Err.ensures.same ∙ c.self.view_is in
-    let w = subst (λ h. Writes c.args.by c.args.image c.args.snapshot c.args.mark h c.begin.new.self c.args.rid c.begin.result) same (subst (λ image. Writes c.args.by image c.args.snapshot c.args.mark (records_of b.index c.write.new.chains.entries b.space.places) c.begin.new.self c.args.rid c.begin.result) c.in-Err.ensures.back (c.begin.ensures c.args.mark)) in
-    w.added
-
-pub returns-in-Err-clause-left : goal.returns-in-Err-clause-left
-returns-in-Err-clause-left c =
-    let b = c.self.inside in
-    let same = ap (λ cs. records_of b.index cs b.space.places) c.in-Err.ensures.same ∙ c.self.view_is in
-    let w = subst (λ h. Writes c.args.by c.args.image c.args.snapshot c.args.mark h c.begin.new.self c.args.rid c.begin.result) same (subst (λ image. Writes c.args.by image c.args.snapshot c.args.mark (records_of b.index c.write.new.chains.entries b.space.places) c.begin.new.self c.args.rid c.begin.result) c.in-Err.ensures.back (c.begin.ensures c.args.mark)) in
-    w.left
-
-pub returns-in-Err-clause-refused : goal.returns-in-Err-clause-refused
-returns-in-Err-clause-refused c =
-    let b = c.self.inside in
-    let same = ap (λ cs. records_of b.index cs b.space.places) c.in-Err.ensures.same ∙ c.self.view_is in
-    let w = subst (λ h. Writes c.args.by c.args.image c.args.snapshot c.args.mark h c.begin.new.self c.args.rid c.begin.result) same (subst (λ image. Writes c.args.by image c.args.snapshot c.args.mark (records_of b.index c.write.new.chains.entries b.space.places) c.begin.new.self c.args.rid c.begin.result) c.in-Err.ensures.back (c.begin.ensures c.args.mark)) in
-    w.refused
+    let r = c.args.rid in
+    let p = c.in-Some.place in
+    let has = sym c.place.ensures.place ∙ c.in-Some.is in
+    let there = versions_there b.index b.chains b.space.places r p has in
+    let now = ap (λ h. versions_of h r) (sym c.self.view_is) ∙ there in
+    let done = extends b.index b.chains c.add.new.chains b.space.places r p c.args.by c.args.image c.place.ensures.index c.self.invariant has c.in_ok-add.ensures.here c.add.ensures.others in
+    let free = ap (conflict c.args.by c.args.snapshot c.args.mark) there ∙ sym c.conflict-refusal.ensures.refusal ∙ c.in_default-refusal.is in
+    let added = c.in_ok-add.ensures.added ∙ sym (ap (λ vs. not (begins_open c.args.by vs)) there ∙ ap not (open_chain c.args.by (list_at b.chains p) (image_at b.space.places p))) in
+    subst (λ h. Writes c.args.by c.args.image c.args.snapshot c.args.mark h (records_of b.index c.add.new.chains b.space.places) r (Ok c.in_ok-add.field-0)) c.self.view_is (stores c.args.by c.args.image c.args.snapshot c.args.mark b.index b.index b.chains c.add.new.chains b.space.places b.space.places r c.in_ok-add.field-0 done free added)
