@@ -23,7 +23,8 @@ use Rattle.hg_script.specs.declared.number.Natural.{Natural}
 use Rattle.hg_script.specs.declared.number.Natural.TheVariants as n
 use Rattle.hg_script.specs.declared.number.Integer.{Integer}
 use Rattle.hg_script.specs.declared.number.Integer.TheVariants as signed
-use Rattle.hg_script.specs.Number.{natural_of, value_of, plus, minus, is_natural}
+use Rattle.hg_script.specs.Number.{integer_of}
+use Rattle.hg_script.proofs.Widths.{IsNarrow, natural-fits, integer-narrow}
 use Rattle.hg_script.specs.Asked.{asked_by, table_asked}
 use Rattle.hg_report.specs.declared.piece.Piece.{Piece}
 use Rattle.hg_report.specs.declared.piece.Piece.TheVariants as piece
@@ -36,13 +37,8 @@ use Rattle.hg_report.proofs.Asking.{same_table}
 
 -- ---- the numbers of fields have their widths
 
-natural_fits : (text : List ℕ) → value_of (natural_of text) < 2 ^ 64
-natural_fits text = cond_both (is_natural text) _ n.No (λ (x : Natural). value_of x < 2 ^ 64)
-    (λ e. cond_both (nat_lt (digits_value 10 text) (2 ^ 64)) (n.Is (digits_value 10 text)) n.Over (λ (x : Natural). value_of x < 2 ^ 64) (λ f. ltb-true _ _ f) (λ f. omega arith))
-    (λ e. omega arith)
-
 pub number_fits : (fields : List Field) (i : ℕ) → Fits64 (number_in fields i)
-number_fits fields i = natural_fits (nth fields i)
+number_fits fields i = natural-fits (nth fields i)
 
 narrow_fits : (k : ℕ) → narrow k < 2 ^ 32
 narrow_fits k = cond_both (nat_lt k (2 ^ 32)) k 0 (λ x. x < 2 ^ 32) (λ e. ltb-true _ _ e) (λ e. omega arith)
@@ -50,28 +46,13 @@ narrow_fits k = cond_both (nat_lt k (2 ^ 32)) k 0 (λ x. x < 2 ^ 32) (λ e. ltb-
 pub session_fits : (fields : List Field) (i : ℕ) → Fits32 (session_in fields i)
 session_fits fields i = narrow_fits (number_in fields i)
 
-abbrev IsNarrow : Integer → Type 0
-IsNarrow x = mag (integer_value x) < 2 ^ 63
-
-plus_fits : (x : Natural) → IsNarrow (plus x)
-plus_fits n.No = omega arith
-plus_fits n.Over = omega arith
-plus_fits (n.Is k) = cond_both (nat_lt k (2 ^ 63)) (signed.Is (pos k)) signed.Over IsNarrow (λ e. ltb-true _ _ e) (λ e. omega arith)
-
-negative_fits : (k : ℕ) → k ≤ 2 ^ 63 → mag (neg_ℤ (pos k)) < 2 ^ 63
-negative_fits zero h = omega arith
-negative_fits (suc k) h = omega arith
-
-minus_fits : (x : Natural) → IsNarrow (minus x)
-minus_fits n.No = omega arith
-minus_fits n.Over = omega arith
-minus_fits (n.Is k) = cond_both (k == 0) signed.No _ IsNarrow (λ e. omega arith)
-    (λ e. cond_both (nat_le k (2 ^ 63)) (signed.Is (neg_ℤ (pos k))) signed.Over IsNarrow (λ f. negative_fits k (leb-true _ _ f)) (λ f. omega arith))
+value_fits : (x : Integer) → IsNarrow x → mag (integer_value x) < 2 ^ 63
+value_fits signed.No h = omega arith
+value_fits signed.Over h = omega arith
+value_fits (signed.Is v) h = h
 
 integer_fits : (fields : List Field) (i : ℕ) → mag (integer_in fields i) < 2 ^ 63
-integer_fits fields i =
-    let text = nth fields i in
-    cond_both (get_or text 0 0 == 45) (minus (natural_of (drop 1 text))) (plus (natural_of text)) IsNarrow (λ e. minus_fits (natural_of (drop 1 text))) (λ e. plus_fits (natural_of text))
+integer_fits fields i = value_fits (integer_of (nth fields i)) (integer-narrow (nth fields i))
 
 abbrev pub AreWide : List ℤ → Type 0
 AreWide row = Each (λ v. mag v < 2 ^ 63) row

@@ -7,7 +7,7 @@ use Rattle.hg_base.specs.declared.line.Line.{Line}
 use Rattle.hg_base.specs.declared.line.Totals.{Totals}
 use Rattle.hg_base.specs.declared.line.Printed.{Printed}
 use Rattle.hg_base.specs.Script.{Declaration, Script}
-use Rattle.hg_base.specs.Text.{Field, text_records}
+use Rattle.hg_base.specs.Text.{Field, IsFit, text_of, text_records}
 use Rattle.hg_base.specs.Lists.{Each}
 use Rattle.hg_script.specs.Lawful.{IsLawful, IsTable}
 use Rattle.hg_report.specs.declared.piece.Piece.{Piece}
@@ -153,3 +153,8 @@ module _ (script : Script) where
             let text = sym e ∙ b.text ∙ ap (λ n. bytes_of (take n (text_records script b.printed)) ++ b.rest) (sym count) in
             not_more lawful at_start state (finished b.printed.lines b.printed.totals) records (text_records script b.printed) rest b.rest h (text_runs script b.printed lawful b.fits) none many text;
       }
+
+-- two texts of the same bytes tell the same
+pub one_value : (script : Script) (a b : Printed) → IsLawful script → IsFit script a → IsFit script b → text_of record_bytes script a ≡ text_of record_bytes script b → a ≡ b
+one_value script a b lawful fits more same =
+    is_only_text script lawful (text_of record_bytes script b) (text_records script b) b.lines b.totals (text_runs script b lawful more) refl a (record { fits = fits; text = sym same })

@@ -36,7 +36,7 @@ mod told;
 mod transcript;
 mod writing;
 
-pub use law::one_record_is_refused;
+pub use law::{bytes_determine_values, one_record_is_refused};
 pub use reading::read_text;
 pub use refusal::TextRefusal;
 pub use transcript::Transcript;

@@ -3,7 +3,7 @@ use Rattle.std.proofs.Common.{◌≡◌, ◌<◌, ◌≤◌, ◌+◌, ℕ, Bool,
 use Rattle.std.proofs.lemmas.Bool.{and_parts as and-parts}
 use Rattle.std.proofs.lemmas.Bool.Decides.{nat_tests}
 use Rattle.std.specs.Option.{option_map_or}
-use Rattle.hg_base.specs.declared.limits.TheConstants.{MOST_SESSIONS}
+use Rattle.hg_base.specs.declared.limits.TheConstants.{MOST_SESSIONS, MOST_RECORDS}
 use Rattle.hg_base.specs.declared.statement.Record.{Record}
 use Rattle.hg_base.specs.declared.statement.Statement.{Statement}
 use Rattle.hg_base.specs.Lists.{Each, Ascends}
@@ -11,6 +11,7 @@ use Rattle.hg_base.specs.Script.{Declaration, Script}
 use Rattle.hg_base.proofs.ListFacts.{append_nil, each_snoc as each-one}
 use Rattle.hg_script.proofs.Names.{distinct-more, none-twice}
 use Rattle.hg_script.proofs.Scopes.{among, scope-fits}
+use Rattle.hg_script.proofs.Widths.{natural-fits, values-narrow}
 use Rattle.hg_script.specs.declared.code.Code.{Code}
 use Rattle.hg_script.specs.declared.number.Natural.{Natural}
 use Rattle.hg_script.specs.declared.number.Natural.TheVariants as n
@@ -27,7 +28,7 @@ use Rattle.hg_script.specs.Fields.{Field, Fields, nth, word_of}
 use Rattle.hg_script.specs.Draft.{draft_of, is_fresh, scope_named, table_named, values_of}
 use Rattle.hg_script.specs.Rules.{count_of, count_breaks, number_breaks, range_breaks, name_breaks, columns_breaks, ask_order_breaks, is_open, order_breaks}
 use Rattle.hg_script.specs.Meaning.{draft_code, first_code, nothing, or_next, refusal_from, refusal_of, row_of, script_from, script_of, statement_of, with_draft, with_row, code_table, first_broken}
-use Rattle.hg_script.specs.Lawful.{AreInOrder, FitsTables, IsLawful, IsStatement, IsTable, MayStand}
+use Rattle.hg_script.specs.Lawful.{AreInOrder, FitsTables, HasWidths, IsLawful, IsStatement, IsTable, MayStand}
 
 -- ---- lists
 
@@ -115,23 +116,27 @@ row-fits n (Are row) h = grind (arith, nat_tests, h)
 -- the script so far, where the next record stands at this place
 pub record Grown (place : ℕ) (s : Script) : Type 0 where
   pub lawful : IsLawful s
+  pub many : length s.tables + length s.records < place
   pub before : Before place s.records
 
 abbrev with-statement : ℕ → Script → ℕ → Statement → Script
 with-statement place s session st = record s { records = s.records ++ (record { place = place; session = session; statement = st }) ∷ [] }
 
-statement-more : (place : ℕ) (s : Script) (session : ℕ) (st : Statement) → Grown place s → Lies 1 MOST_SESSIONS session → FitsTables s.tables st
-    → MayStand (is_open session s.records) st → Grown (place + 1) (with-statement place s session st)
-statement-more place s session st g in_range fits may =
-    let added : Record = record { place = place; session = session; statement = st } in record {
+statement-more : (place : ℕ) (s : Script) (session : ℕ) (st : Statement) → Grown place s → place ≤ MOST_RECORDS → Lies 1 MOST_SESSIONS session → FitsTables s.tables st
+    → HasWidths st → MayStand (is_open session s.records) st → Grown (place + 1) (with-statement place s session st)
+statement-more place s session st g room in_range fits widths may =
+    let added : Record = record { place = place; session = session; statement = st } in
+    let many : length (s.records ++ added ∷ []) ≡ length s.records + 1 = length-append s.records (added ∷ []) in record {
       lawful = record {
         most = g.lawful.most;
+        records = omega (arith, g.many, room, many);
         tables = g.lawful.tables;
         names = g.lawful.names;
-        statements = each-one (IsStatement s.tables) s.records added g.lawful.statements (record { some = in_range.some; most = in_range.most; fits = fits });
+        statements = each-one (IsStatement s.tables) s.records added g.lawful.statements (record { place = room; some = in_range.some; most = in_range.most; fits = fits; widths = widths });
         order = in-order-one [] s.records added g.lawful.order may;
         places = ascends-one s.records added g.lawful.places g.before;
       };
+      many = omega (arith, g.many, many);
       before = each-one (λ r. r.place < place + 1) s.records added (later place s.records g.before) (omega arith);
     }
 
@@ -139,17 +144,19 @@ none-left : (rs : List Record) → nat_lt 0 (length rs) ≡ false → rs ≡ []
 none-left [] h = refl
 none-left (r ∷ rs) h = absurd (let bad : 0 < 0 = grind (arith, nat_tests, h) in omega (arith, bad))
 
-table-more : (place : ℕ) (s : Script) (d : Declaration) → Grown place s → length s.tables < 16 → IsTable d → is_fresh s.tables d.name ≡ true → s.records ≡ []
+table-more : (place : ℕ) (s : Script) (d : Declaration) → Grown place s → place ≤ MOST_RECORDS → length s.tables < 16 → IsTable d → is_fresh s.tables d.name ≡ true → s.records ≡ []
     → Grown (place + 1) (record s { tables = s.tables ++ d ∷ [] })
-table-more place s d g room is fresh none = record {
+table-more place s d g free room is fresh none = record {
   lawful = record {
     most = omega (arith, length-append s.tables (d ∷ []), room);
+    records = omega (arith, length-append s.tables (d ∷ []), g.many, free);
     tables = each-one IsTable s.tables d g.lawful.tables is;
     names = distinct-more s.tables d g.lawful.names fresh;
     statements = subst (λ rs. Each (IsStatement (s.tables ++ d ∷ [])) rs) (sym none) tt;
     order = g.lawful.order;
     places = g.lawful.places;
   };
+  many = omega (arith, length-append s.tables (d ∷ []), g.many);
   before = later place s.records g.before;
 }
 
@@ -160,36 +167,46 @@ not-not false h = absurd (let bad : ⊥ = cc h in bad)
 has-room : (n : ℕ) → nat_le 16 n ≡ false → n < 16
 has-room n h = grind (arith, nat_tests, h)
 
-asked-more : (place : ℕ) (s : Script) (session : Natural) (ask : Ask) → Grown place s → range_breaks (Session session ask) ≡ false → ask_order_breaks (is_open (value_of session) s.records) ask ≡ false
-    → FitsTables s.tables (statement_of ask) → Grown (place + 1) (with-statement place s (value_of session) (statement_of ask))
-asked-more place s session ask g range order fits =
-    statement-more place s (value_of session) (statement_of ask) g (lies 1 MOST_SESSIONS session (left _ _ range)) fits (may-stand (is_open (value_of session) s.records) ask order)
+within-most : (place : ℕ) → nat_lt MOST_RECORDS place ≡ false → place ≤ MOST_RECORDS
+within-most place h = grind (arith, nat_tests, h)
 
-declared-more : (place : ℕ) (s : Script) (name : Field) (columns : Natural) → Grown place s → nat_le 16 (length s.tables) ≡ false
+asked-more : (place : ℕ) (s : Script) (session : Natural) (ask : Ask) → Grown place s → place ≤ MOST_RECORDS → range_breaks (Session session ask) ≡ false → ask_order_breaks (is_open (value_of session) s.records) ask ≡ false
+    → FitsTables s.tables (statement_of ask) → HasWidths (statement_of ask) → Grown (place + 1) (with-statement place s (value_of session) (statement_of ask))
+asked-more place s session ask g room range order fits widths =
+    statement-more place s (value_of session) (statement_of ask) g room (lies 1 MOST_SESSIONS session (left _ _ range)) fits widths (may-stand (is_open (value_of session) s.records) ask order)
+
+declared-more : (place : ℕ) (s : Script) (name : Field) (columns : Natural) → Grown place s → place ≤ MOST_RECORDS → nat_le 16 (length s.tables) ≡ false
     → Keeps s (Table (is_fresh s.tables name) columns)
     → Grown (place + 1) (record s { tables = s.tables ++ (record { name = name; columns = value_of columns }) ∷ [] })
-declared-more place s name columns g count k =
+declared-more place s name columns g free count k =
     let lie = lies 1 8 columns k.range in
     let fresh = not-not (is_fresh s.tables name) k.name in
-    table-more place s (record { name = name; columns = value_of columns }) g (has-room _ count)
+    table-more place s (record { name = name; columns = value_of columns }) g free (has-room _ count)
     (record { name = (and-parts _ _ fresh).0; some = lie.some; most = lie.most }) fresh (none-left s.records k.order)
+
+-- a record that is not one too many
+room : (place : ℕ) (b : Bool) → (nat_lt MOST_RECORDS place || b) ≡ false → place ≤ MOST_RECORDS
+room place b h = within-most place (left _ b h)
 
 by-word : (place : ℕ) (s : Script) (r : Fields) (w : Word) → Grown place s → count_breaks place s.tables (Some w) ≡ false
     → Keeps s (draft_of s.tables w r) → Grown (place + 1) (with_draft place s r (draft_of s.tables w r))
-by-word place s r word.Table g count k = declared-more place s (nth r 1) (natural_of (nth r 2)) g (right _ _ count) k
+by-word place s r word.Table g count k = declared-more place s (nth r 1) (natural_of (nth r 2)) g (room place _ count) (right _ _ count) k
 by-word place s r word.Begin g count k =
-    asked-more place s (natural_of (nth r 0)) (Begin (scope_named s.tables (drop 2 r))) g k.range k.order (scope-fits s.tables (drop 2 r) k.name)
+    asked-more place s (natural_of (nth r 0)) (Begin (scope_named s.tables (drop 2 r))) g (room place _ count) k.range k.order (scope-fits s.tables (drop 2 r) k.name) tt
 by-word place s r word.Get g count k =
-    asked-more place s (natural_of (nth r 0)) (Get (table_named s.tables (nth r 2)) (natural_of (nth r 3))) g k.range k.order (among s.tables (nth r 2) k.name)
+    asked-more place s (natural_of (nth r 0)) (Get (table_named s.tables (nth r 2)) (natural_of (nth r 3))) g (room place _ count) k.range k.order (among s.tables (nth r 2) k.name)
+    (natural-fits (nth r 3))
 by-word place s r word.Put g count k =
-    asked-more place s (natural_of (nth r 0)) (Put (table_named s.tables (nth r 2)) (natural_of (nth r 3)) (values_of (drop 4 r))) g k.range k.order
-    (among s.tables (nth r 2) k.name, row-fits _ _ k.columns)
+    asked-more place s (natural_of (nth r 0)) (Put (table_named s.tables (nth r 2)) (natural_of (nth r 3)) (values_of (drop 4 r))) g (room place _ count) k.range k.order
+    (among s.tables (nth r 2) k.name, row-fits _ _ k.columns) (natural-fits (nth r 3), values-narrow (drop 4 r))
 by-word place s r word.Del g count k =
-    asked-more place s (natural_of (nth r 0)) (Del (table_named s.tables (nth r 2)) (natural_of (nth r 3))) g k.range k.order (among s.tables (nth r 2) k.name)
+    asked-more place s (natural_of (nth r 0)) (Del (table_named s.tables (nth r 2)) (natural_of (nth r 3))) g (room place _ count) k.range k.order (among s.tables (nth r 2) k.name)
+    (natural-fits (nth r 3))
 by-word place s r word.Scan g count k =
-    asked-more place s (natural_of (nth r 0)) (Scan (table_named s.tables (nth r 2)) (natural_of (nth r 3)) (natural_of (nth r 4))) g k.range k.order (among s.tables (nth r 2) k.name)
-by-word place s r word.Commit g count k = asked-more place s (natural_of (nth r 0)) Commit g k.range k.order tt
-by-word place s r word.Rollback g count k = asked-more place s (natural_of (nth r 0)) Rollback g k.range k.order tt
+    asked-more place s (natural_of (nth r 0)) (Scan (table_named s.tables (nth r 2)) (natural_of (nth r 3)) (natural_of (nth r 4))) g (room place _ count) k.range k.order
+    (among s.tables (nth r 2) k.name) (natural-fits (nth r 3), natural-fits (nth r 4))
+by-word place s r word.Commit g count k = asked-more place s (natural_of (nth r 0)) Commit g (room place _ count) k.range k.order tt tt
+by-word place s r word.Rollback g count k = asked-more place s (natural_of (nth r 0)) Rollback g (room place _ count) k.range k.order tt tt
 
 by-words : (place : ℕ) (s : Script) (r : Fields) (w : Option Word) → Grown place s → count_breaks place s.tables w ≡ false
     → first_broken (drop 1 (code_table place s r w (option_map (λ word. draft_of s.tables word r) w))) ≡ None
@@ -214,4 +231,4 @@ lawful-from place s (r ∷ rs) g e =
 
 -- the script of records that break no rule
 pub lawful : (rows : List Fields) → refusal_of rows ≡ None → IsLawful (script_of rows)
-lawful rows e = lawful-from 1 nothing rows (record { lawful = record { most = omega arith; tables = tt; names = none-twice; statements = tt; order = tt; places = tt }; before = tt }) e
+lawful rows e = lawful-from 1 nothing rows (record { lawful = record { most = omega arith; records = omega arith; tables = tt; names = none-twice; statements = tt; order = tt; places = tt }; many = omega arith; before = tt }) e

@@ -7,6 +7,7 @@ pub mod Names
 pub mod Scopes
 pub mod Sets
 pub mod Taken
+pub mod Widths
 pub mod Lawful
 pub mod Packed
 pub mod Numbered

@@ -1,7 +1,8 @@
 -- What a script is that breaks no rule, in words of its own.
-use Rattle.std.specs.Prelude.{◌≡◌, ◌<◌, ◌≤◌, ◌^◌, List, [], ◌∷◌, ◌++◌, length, map, Bool, IsTrue, IsFalse, bytes_eq, ⊤}
+use Rattle.std.specs.Prelude.{◌≡◌, ◌+◌, ◌<◌, ◌≤◌, ◌^◌, List, [], ◌∷◌, ◌++◌, length, map, Bool, IsTrue, IsFalse, bytes_eq, ⊤}
 use Rattle.std.specs.List.{IsDistinct}
-use Rattle.hg_base.specs.declared.limits.TheConstants.{MOST_SESSIONS, MOST_TABLES, MOST_COLUMNS}
+use lib.Signed.{mag}
+use Rattle.hg_base.specs.declared.limits.TheConstants.{MOST_SESSIONS, MOST_TABLES, MOST_COLUMNS, MOST_RECORDS}
 use Rattle.hg_base.specs.declared.rid.TableId.{TableId}
 use Rattle.hg_base.specs.declared.scope.Scope.{Scope}
 use Rattle.hg_base.specs.declared.scope.Scope.TheVariants.{All, Declared}
@@ -10,7 +11,7 @@ use Rattle.hg_base.specs.declared.statement.Statement.{Statement}
 use Rattle.hg_base.specs.declared.statement.Statement.TheVariants as say
 use Rattle.hg_base.specs.Lists.{Each, Ascends}
 use Rattle.hg_base.specs.Script.{Declaration, Script}
-use Rattle.hg_base.specs.Text.{columns_of}
+use Rattle.hg_base.specs.Text.{Fits64, columns_of}
 use Rattle.hg_script.specs.Draft.{is_name}
 use Rattle.hg_script.specs.Rules.{is_open}
 
@@ -40,11 +41,24 @@ FitsTables tables say.Commit = ⊤
 FitsTables tables say.Rollback = ⊤
 FitsTables tables (say.Gc kind) = ⊤
 
--- a statement of a session that there is
+-- Keys and the ends of a scan are numbers of 64 bits, and so are values, with their sign.
+abbrev pub HasWidths : Statement → Type 0
+HasWidths (say.Begin scope) = ⊤
+HasWidths (say.Get r) = Fits64 r.key
+HasWidths (say.Put r row) = Fits64 r.key × Each (λ v. mag v < 2 ^ 63) row
+HasWidths (say.Del r) = Fits64 r.key
+HasWidths (say.Scan table low high) = Fits64 low × Fits64 high
+HasWidths say.Commit = ⊤
+HasWidths say.Rollback = ⊤
+HasWidths (say.Gc kind) = ⊤
+
+-- a statement of a session that there is, at a place that there is
 pub record IsStatement (tables : List Declaration) (r : Record) : Type 0 where
+  pub place : r.place ≤ MOST_RECORDS
   pub some : 1 ≤ r.session
   pub most : r.session ≤ MOST_SESSIONS
   pub fits : FitsTables tables r.statement
+  pub widths : HasWidths r.statement
 
 -- A statement may stand where its session's transaction is open, or where it is not: a `begin` where it is not, a `commit` or
 -- `rollback` where it is, and the others anywhere. A `gc` is not in this version.
@@ -63,9 +77,11 @@ abbrev pub AreInOrder : List Record → List Record → Type 0
 AreInOrder before [] = ⊤
 AreInOrder before (r ∷ rs) = MayStand (is_open r.session before) r.statement × AreInOrder (before ++ r ∷ []) rs
 
--- No more tables than there may be, by distinct names, and statements that fit them, in order, by ascending place.
+-- No more tables and no more records than there may be, tables by distinct names, and statements that fit them, in order, by
+-- ascending place.
 pub record IsLawful (s : Script) : Type 0 where
   pub most : length s.tables ≤ MOST_TABLES
+  pub records : length s.tables + length s.records ≤ MOST_RECORDS
   pub tables : Each IsTable s.tables
   pub names : IsDistinct bytes_eq (map (λ d. d.name) s.tables)
   pub statements : Each (IsStatement s.tables) s.records

@@ -108,7 +108,7 @@ pub fn read_script(alloc: Global, bytes: &[u8]) -> Result<Script, ScriptRefusal>
     ensures script { IfOk result (λ s. s ≡ script_of (rows_of bytes.now)) }
     ensures at { IfErr result (TellsRefusal (refusal_of (rows_of bytes.now))) }
 
-    // So a table is declared, a row has its table's columns, and places ascend.
+    // So a table is declared, a row has its table's columns, numbers have their widths, and places ascend.
     ensures lawful { IfOk result IsLawful }
 {
     let mut reader = ReaderBuilder::new()
