@@ -129,7 +129,7 @@ on_tables tables (Gc kind) fits = tt
 
 -- ---- no record is a `gc`
 
-no_gc : (o : Bool) (s : Statement) → MayStand o s → is_gc s ≡ false
+pub no_gc : (o : Bool) (s : Statement) → MayStand o s → is_gc s ≡ false
 no_gc o (Gc kind) h = absurd h
 no_gc o (Begin scope) h = refl
 no_gc o (Get r) h = refl

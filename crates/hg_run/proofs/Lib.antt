@@ -12,5 +12,8 @@ mod Turns
 mod OpenAfter
 mod Going
 mod Closes
--- Rows that are printed.
+-- What is printed fits the script: its rows, how many there are of all, and each line.
 mod Rows
+mod Counts
+mod Opens
+mod Fits

@@ -58,50 +58,50 @@ some_kept P Q f (Some x) h s = h x s
 
 -- ---- images and writes
 
-abbrev Holds : (ℕ → List ℤ → Type 0) → ℕ → Image → Type 0
-Holds P table image = IfSome image.row (P table)
+abbrev Holds : (Rid → List ℤ → Type 0) → Rid → Image → Type 0
+Holds P r image = IfSome image.row (P r)
 
-abbrev IsOne : (ℕ → List ℤ → Type 0) → Write → Type 0
-IsOne P w = IfSome w.image.row (P w.rid.table.0)
+abbrev IsOne : (Rid → List ℤ → Type 0) → Write → Type 0
+IsOne P w = IfSome w.image.row (P w.rid)
 
-one_in : (P : ℕ → List ℤ → Type 0) (r : Rid) (ws : List Write) → Each (IsOne P) ws → IfSome (image_in r ws) (Holds P r.table.0)
+one_in : (P : Rid → List ℤ → Type 0) (r : Rid) (ws : List Write) → Each (IsOne P) ws → IfSome (image_in r ws) (Holds P r)
 one_in P r [] e = tt
 one_in P r (w ∷ ws) e = go (same_rid w.rid r) refl (one_in P r ws e.1)
   where
-    go : (b : Bool) → same_rid w.rid r ≡ b → IfSome (image_in r ws) (Holds P r.table.0) → IfSome (cond b (Some w.image) (image_in r ws)) (Holds P r.table.0)
-    go true is later = subst (λ q. IfSome w.image.row (P q.table.0)) (same_rid_equal w.rid r is) e.0
+    go : (b : Bool) → same_rid w.rid r ≡ b → IfSome (image_in r ws) (Holds P r) → IfSome (cond b (Some w.image) (image_in r ws)) (Holds P r)
+    go true is later = subst (λ q. IfSome w.image.row (P q)) (same_rid_equal w.rid r is) e.0
     go false is later = later
 
-one_of_group : (P : ℕ → List ℤ → Type 0) (r : Rid) (group : Group) → Each (λ c. Each (IsOne P) c.images) group → IfSome (group_image r group) (Holds P r.table.0)
+one_of_group : (P : Rid → List ℤ → Type 0) (r : Rid) (group : Group) → Each (λ c. Each (IsOne P) c.images) group → IfSome (group_image r group) (Holds P r)
 one_of_group P r [] e = tt
 one_of_group P r (c ∷ cs) e = go (image_in r c.images) (one_in P r c.images e.0) (one_of_group P r cs e.1)
   where
-    go : (o : Option Image) → IfSome o (Holds P r.table.0) → IfSome (group_image r cs) (Holds P r.table.0) → IfSome (option_or o (group_image r cs)) (Holds P r.table.0)
+    go : (o : Option Image) → IfSome o (Holds P r) → IfSome (group_image r cs) (Holds P r) → IfSome (option_or o (group_image r cs)) (Holds P r)
     go None h later = later
     go (Some image) h later = h
 
-one_written : (P : ℕ → List ℤ → Type 0) (r : Rid) (n : ℕ) (h : History) → Each (Each (λ c. Each (IsOne P) c.images)) h → Each (λ w. Holds P r.table.0 w.1) (writes_from n h r)
+one_written : (P : Rid → List ℤ → Type 0) (r : Rid) (n : ℕ) (h : History) → Each (Each (λ c. Each (IsOne P) c.images)) h → Each (λ w. Holds P r w.1) (writes_from n h r)
 one_written P r n [] e = tt
 one_written P r n (g ∷ gs) e =
-    each_cons (λ (w : ℕ × Image). Holds P r.table.0 w.1) (option_map (λ image. (n, image)) (group_image r g)) (writes_from (suc n) gs r)
-    (some_kept (Holds P r.table.0) (λ (w : ℕ × Image). Holds P r.table.0 w.1) (λ image. (n, image)) (group_image r g) (λ image h. h) (one_of_group P r g e.0))
+    each_cons (λ (w : ℕ × Image). Holds P r w.1) (option_map (λ image. (n, image)) (group_image r g)) (writes_from (suc n) gs r)
+    (some_kept (Holds P r) (λ (w : ℕ × Image). Holds P r w.1) (λ image. (n, image)) (group_image r g) (λ image h. h) (one_of_group P r g e.0))
     (one_written P r (suc n) gs e.1)
 
-one_last : (P : ℕ → List ℤ → Type 0) (table : ℕ) (ws : List (ℕ × Image)) → Each (λ w. Holds P table w.1) ws → Holds P table (last_image ws)
-one_last P table [] e = tt
-one_last P table (w ∷ []) e = e.0
-one_last P table (w ∷ v ∷ more) e = one_last P table (v ∷ more) e.1
+one_last : (P : Rid → List ℤ → Type 0) (r : Rid) (ws : List (ℕ × Image)) → Each (λ w. Holds P r w.1) ws → Holds P r (last_image ws)
+one_last P r [] e = tt
+one_last P r (w ∷ []) e = e.0
+one_last P r (w ∷ v ∷ more) e = one_last P r (v ∷ more) e.1
 
-one_seen : (P : ℕ → List ℤ → Type 0) (h : History) (own : List Write) (at : ℕ) (r : Rid) → Each (Each (λ c. Each (IsOne P) c.images)) h → Each (IsOne P) own → Holds P r.table.0 (seen h own at r)
+one_seen : (P : Rid → List ℤ → Type 0) (h : History) (own : List Write) (at : ℕ) (r : Rid) → Each (Each (λ c. Each (IsOne P) c.images)) h → Each (IsOne P) own → Holds P r (seen h own at r)
 one_seen P h own at r history mine = go (image_in r own) (one_in P r own mine)
   where
-    go : (o : Option Image) → IfSome o (Holds P r.table.0) → Holds P r.table.0 (unwrap_or o (visible h r at))
+    go : (o : Option Image) → IfSome o (Holds P r) → Holds P r (unwrap_or o (visible h r at))
     go (Some image) h = h
-    go None k = one_last P r.table.0 (filter (λ w. nat_le w.0 at) (writes h r)) (each_filter (λ (w : ℕ × Image). Holds P r.table.0 w.1) (λ w. nat_le w.0 at) (writes h r) (one_written P r 1 h history))
+    go None k = one_last P r (filter (λ w. nat_le w.0 at) (writes h r)) (each_filter (λ (w : ℕ × Image). Holds P r w.1) (λ w. nat_le w.0 at) (writes h r) (one_written P r 1 h history))
 
 -- ---- what is stored
 
-one_stored : (P : ℕ → List ℤ → Type 0) (s : Statement) (a : Answer) → AsksRow P s → IfSome (stored_by s a) (IsOne P)
+one_stored : (P : Rid → List ℤ → Type 0) (s : Statement) (a : Answer) → AsksRow P s → IfSome (stored_by s a) (IsOne P)
 one_stored P (Put r row) Stored p = p
 one_stored P (Put r row) (Begun s) p = tt
 one_stored P (Put r row) (Found x) p = tt
@@ -137,7 +137,7 @@ one_stored P CommitIt a p = tt
 one_stored P Rollback a p = tt
 one_stored P (Gc kind) a p = tt
 
-one_own : (P : ℕ → List ℤ → Type 0) (j x : ℕ) (list : List Said) → Each (λ now. AsksRow P now.statement) list → Each (IsOne P) (stored_in j x list)
+one_own : (P : Rid → List ℤ → Type 0) (j x : ℕ) (list : List Said) → Each (λ now. AsksRow P now.statement) list → Each (IsOne P) (stored_in j x list)
 one_own P j x list e =
     each_picked (IsOne P) stored (filter (is_of j x) list) (each_keeps (λ now. AsksRow P now.statement) (λ now. IfSome (stored now) (IsOne P)) (λ now p. one_stored P now.statement now.reply.answer p) (filter (is_of j x) list) (each_filter (λ now. AsksRow P now.statement) (is_of j x) list e))
 
@@ -145,7 +145,7 @@ one_last_images : (Q : Write → Type 0) (ws : List Write) → Each Q ws → Eac
 one_last_images Q [] e = tt
 one_last_images Q (w ∷ ws) e = (e.0, each_filter Q _ (last_images ws) (one_last_images Q ws e.1))
 
-one_commits : (P : ℕ → List ℤ → Type 0) (earlier all : List Said) → Each (λ now. AsksRow P now.statement) earlier → Each (λ now. AsksRow P now.statement) all → Each (λ p. Each (IsOne P) p.1.images) (commits_from earlier all)
+one_commits : (P : Rid → List ℤ → Type 0) (earlier all : List Said) → Each (λ now. AsksRow P now.statement) earlier → Each (λ now. AsksRow P now.statement) all → Each (λ p. Each (IsOne P) p.1.images) (commits_from earlier all)
 one_commits P earlier [] before e = tt
 one_commits P earlier (now ∷ later) before e =
     each_cons (λ (p : ℕ × Commit). Each (IsOne P) p.1.images) (option_map (λ c. (c, commit_by earlier now)) (committed now)) (commits_from (now ∷ earlier) later)
@@ -168,7 +168,7 @@ one_group Q (p ∷ ps) n e = go (p.0 == n) (one_group Q ps n e.1)
     go true later = one_put Q p.1 (group_of ps n) e.0 later
     go false later = later
 
-one_history : (P : ℕ → List ℤ → Type 0) (all : List Said) → Each (λ now. AsksRow P now.statement) all → Each (Each (λ c. Each (IsOne P) c.images)) (history_of all)
+one_history : (P : Rid → List ℤ → Type 0) (all : List Said) → Each (λ now. AsksRow P now.statement) all → Each (Each (λ c. Each (IsOne P) c.images)) (history_of all)
 one_history P all e = each_mapped (Each (λ (c : Commit). Each (IsOne P) c.images)) (group_of (commits all)) _ (λ n. one_group (λ (c : Commit). Each (IsOne P) c.images) (commits all) n (one_commits P [] all tt e))
 
 -- ---- the lines beside their records
@@ -187,7 +187,7 @@ says last r reply (Scan t low high) = stands (open_after last) (next_after last)
 says last r reply CommitIt = stands (open_after last) (next_after last) r reply
 says last r reply Rollback = stands (open_after last) (next_after last) r reply
 
-all_ask : (P : ℕ → List ℤ → Type 0) (earlier : List Said) (rs : List Record) (lines : List Line) → Each (λ r. AsksRow P r.statement) rs → Each (λ now. AsksRow P now.statement) (said_from earlier rs lines)
+pub all_ask : (P : Rid → List ℤ → Type 0) (earlier : List Said) (rs : List Record) (lines : List Line) → Each (λ r. AsksRow P r.statement) rs → Each (λ now. AsksRow P now.statement) (said_from earlier rs lines)
 all_ask P earlier [] lines e = tt
 all_ask P earlier (r ∷ rs) [] e = tt
 all_ask P earlier (r ∷ rs) (line ∷ lines) e = (
@@ -197,24 +197,24 @@ all_ask P earlier (r ∷ rs) (line ∷ lines) e = (
 
 -- ---- the answers
 
-got : (P : ℕ → List ℤ → Type 0) (table : ℕ) (image : Image) (a : Answer) → Holds P table image → IsGot image a → FoundRow P table a
-got P table image (Found row) h g = subst (λ o. IfSome o (P table)) g h
-got P table image Nothing h g = tt
-got P table image (Begun s) h g = absurd g
-got P table image Stored h g = absurd g
-got P table image Gone h g = absurd g
-got P table image (Rows x) h g = absurd g
-got P table image (Committed c) h g = absurd g
-got P table image Ended h g = absurd g
-got P table image Undone h g = absurd g
-got P table image (Newer c) h g = absurd g
-got P table image (OpenBy w) h g = absurd g
-got P table image (Undeclared t) h g = absurd g
-got P table image (Swept s) h g = absurd g
-got P table image Beside h g = absurd g
+got : (P : Rid → List ℤ → Type 0) (r : Rid) (image : Image) (a : Answer) → Holds P r image → IsGot image a → FoundRow P r a
+got P r image (Found row) h g = subst (λ o. IfSome o (P r)) g h
+got P r image Nothing h g = tt
+got P r image (Begun s) h g = absurd g
+got P r image Stored h g = absurd g
+got P r image Gone h g = absurd g
+got P r image (Rows x) h g = absurd g
+got P r image (Committed c) h g = absurd g
+got P r image Ended h g = absurd g
+got P r image Undone h g = absurd g
+got P r image (Newer c) h g = absurd g
+got P r image (OpenBy w) h g = absurd g
+got P r image (Undeclared t) h g = absurd g
+got P r image (Swept s) h g = absurd g
+got P r image Beside h g = absurd g
 
-scanned : (P : ℕ → List ℤ → Type 0) (table : ℕ) (look : ℕ → Image) (low high : ℕ) (a : Answer) → ((key : ℕ) → Holds P table (look key)) → IsScanned look low high a → FoundRows P table a
-scanned P table look low high (Rows rows) h s = each_keeps _ (λ (p : ℕ × List ℤ). P table p.1) (λ p k. subst (λ o. IfSome o (P table)) k.2 (h p.0)) rows s.each
+scanned : (P : Rid → List ℤ → Type 0) (table : TableId) (look : ℕ → Image) (low high : ℕ) (a : Answer) → ((key : ℕ) → Holds P (record { table = table; key = key }) (look key)) → IsScanned look low high a → FoundRows P table a
+scanned P table look low high (Rows rows) h s = each_keeps _ (λ (p : ℕ × List ℤ). P (record { table = table; key = p.0 }) p.1) (λ p k. subst (λ o. IfSome o (P (record { table = table; key = p.0 }))) k.2 (h p.0)) rows s.each
 scanned P table look low high Nothing h g = absurd g
 scanned P table look low high (Found row) h g = absurd g
 scanned P table look low high (Begun s) h g = absurd g
@@ -229,49 +229,49 @@ scanned P table look low high (Undeclared t) h g = absurd g
 scanned P table look low high (Swept s) h g = absurd g
 scanned P table look low high Beside h g = absurd g
 
-found_out : (P : ℕ → List ℤ → Type 0) (n : ℕ) (table : TableId) (a : Answer) → IsUndeclared table a → FoundRow P n a
-found_out P n table (Begun s) u = tt
-found_out P n table Stored u = tt
-found_out P n table (Found x) u = absurd u
-found_out P n table Nothing u = tt
-found_out P n table Gone u = tt
-found_out P n table (Rows x) u = tt
-found_out P n table (Committed c) u = tt
-found_out P n table Ended u = tt
-found_out P n table Undone u = tt
-found_out P n table (Newer c) u = tt
-found_out P n table (OpenBy w) u = tt
-found_out P n table (Undeclared t) u = tt
-found_out P n table (Swept s) u = tt
-found_out P n table Beside u = tt
+found_out : (P : Rid → List ℤ → Type 0) (r : Rid) (table : TableId) (a : Answer) → IsUndeclared table a → FoundRow P r a
+found_out P r table (Begun s) u = tt
+found_out P r table Stored u = tt
+found_out P r table (Found x) u = absurd u
+found_out P r table Nothing u = tt
+found_out P r table Gone u = tt
+found_out P r table (Rows x) u = tt
+found_out P r table (Committed c) u = tt
+found_out P r table Ended u = tt
+found_out P r table Undone u = tt
+found_out P r table (Newer c) u = tt
+found_out P r table (OpenBy w) u = tt
+found_out P r table (Undeclared t) u = tt
+found_out P r table (Swept s) u = tt
+found_out P r table Beside u = tt
 
-rows_out : (P : ℕ → List ℤ → Type 0) (n : ℕ) (table : TableId) (a : Answer) → IsUndeclared table a → FoundRows P n a
-rows_out P n table (Begun s) u = tt
-rows_out P n table Stored u = tt
-rows_out P n table (Found x) u = tt
-rows_out P n table Nothing u = tt
-rows_out P n table Gone u = tt
-rows_out P n table (Rows x) u = absurd u
-rows_out P n table (Committed c) u = tt
-rows_out P n table Ended u = tt
-rows_out P n table Undone u = tt
-rows_out P n table (Newer c) u = tt
-rows_out P n table (OpenBy w) u = tt
-rows_out P n table (Undeclared t) u = tt
-rows_out P n table (Swept s) u = tt
-rows_out P n table Beside u = tt
+rows_out : (P : Rid → List ℤ → Type 0) (t : TableId) (table : TableId) (a : Answer) → IsUndeclared table a → FoundRows P t a
+rows_out P t table (Begun s) u = tt
+rows_out P t table Stored u = tt
+rows_out P t table (Found x) u = tt
+rows_out P t table Nothing u = tt
+rows_out P t table Gone u = tt
+rows_out P t table (Rows x) u = absurd u
+rows_out P t table (Committed c) u = tt
+rows_out P t table Ended u = tt
+rows_out P t table Undone u = tt
+rows_out P t table (Newer c) u = tt
+rows_out P t table (OpenBy w) u = tt
+rows_out P t table (Undeclared other) u = tt
+rows_out P t table (Swept s) u = tt
+rows_out P t table Beside u = tt
 
-answered : (P : ℕ → List ℤ → Type 0) (mode : Mode) (look : Rid → Image) (wrote : Bool) (now : Said) (s : Statement) → ((r : Rid) → Holds P r.table.0 (look r)) → IsAnswer mode look wrote now s → PrintsRow P s now.reply.answer
+answered : (P : Rid → List ℤ → Type 0) (mode : Mode) (look : Rid → Image) (wrote : Bool) (now : Said) (s : Statement) → ((r : Rid) → Holds P r (look r)) → IsAnswer mode look wrote now s → PrintsRow P s now.reply.answer
 answered P mode look wrote now (Get r) h a = go (has now.scope r.table) a
   where
-    go : (b : Bool) → MatchBool b (IsGot (look r) now.reply.answer) (IsUndeclared r.table now.reply.answer) → FoundRow P r.table.0 now.reply.answer
-    go true a = got P r.table.0 (look r) now.reply.answer (h r) a
-    go false a = found_out P r.table.0 r.table now.reply.answer a
+    go : (b : Bool) → MatchBool b (IsGot (look r) now.reply.answer) (IsUndeclared r.table now.reply.answer) → FoundRow P r now.reply.answer
+    go true a = got P r (look r) now.reply.answer (h r) a
+    go false a = found_out P r r.table now.reply.answer a
 answered P mode look wrote now (Scan table low high) h a = go (has now.scope table) a
   where
-    go : (b : Bool) → MatchBool b (IsScanned (λ key. look (record { table = table; key = key })) low high now.reply.answer) (IsUndeclared table now.reply.answer) → FoundRows P table.0 now.reply.answer
-    go true a = scanned P table.0 (λ key. look (record { table = table; key = key })) low high now.reply.answer (λ key. h (record { table = table; key = key })) a
-    go false a = rows_out P table.0 table now.reply.answer a
+    go : (b : Bool) → MatchBool b (IsScanned (λ key. look (record { table = table; key = key })) low high now.reply.answer) (IsUndeclared table now.reply.answer) → FoundRows P table now.reply.answer
+    go true a = scanned P table (λ key. look (record { table = table; key = key })) low high now.reply.answer (λ key. h (record { table = table; key = key })) a
+    go false a = rows_out P table table now.reply.answer a
 answered P mode look wrote now (Begin scope) h a = tt
 answered P mode look wrote now (Put r row) h a = tt
 answered P mode look wrote now (Del r) h a = tt
@@ -279,14 +279,14 @@ answered P mode look wrote now CommitIt h a = tt
 answered P mode look wrote now Rollback h a = tt
 answered P mode look wrote now (Gc kind) h a = tt
 
-all_print : (P : ℕ → List ℤ → Type 0) (mode : Mode) (h : History) (all earlier xs : List Said) → Each (Each (λ c. Each (IsOne P) c.images)) h → Each (λ now. AsksRow P now.statement) earlier → Each (λ now. AsksRow P now.statement) xs → EachAfter (IsRight mode h all) earlier xs → Each (λ now. PrintsRow P now.statement now.reply.answer) xs
+all_print : (P : Rid → List ℤ → Type 0) (mode : Mode) (h : History) (all earlier xs : List Said) → Each (Each (λ c. Each (IsOne P) c.images)) h → Each (λ now. AsksRow P now.statement) earlier → Each (λ now. AsksRow P now.statement) xs → EachAfter (IsRight mode h all) earlier xs → Each (λ now. PrintsRow P now.statement now.reply.answer) xs
 all_print P mode h all earlier [] history before asks right = tt
 all_print P mode h all earlier (now ∷ later) history before asks right = (
   answered P mode (seen h (own_writes earlier now) now.at) _ now now.statement (λ r. one_seen P h (own_writes earlier now) now.at r history (one_own P now.session now.transaction earlier before)) right.0.reply.answer,
   all_print P mode h all (now ∷ earlier) later history (asks.0, before) asks.1 right.1,
 )
 
-pub rows_put : (P : ℕ → List ℤ → Type 0) (mode : Mode) (all : List Said) → Each (λ now. AsksRow P now.statement) all → AreRight mode all → Each (λ now. PrintsRow P now.statement now.reply.answer) all
+pub rows_put : (P : Rid → List ℤ → Type 0) (mode : Mode) (all : List Said) → Each (λ now. AsksRow P now.statement) all → AreRight mode all → Each (λ now. PrintsRow P now.statement now.reply.answer) all
 rows_put P mode all asks right = all_print P mode (history_of all) all [] all (one_history P all asks) tt asks right.lines
 
 -- ---- the columns

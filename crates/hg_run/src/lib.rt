@@ -13,7 +13,8 @@
 //! a script that is refused has run nothing, and what a sink took is a front of the text of a whole run.
 //!
 //! `Comes` says when each status comes. Its line for `Done` is the headline: the sink took the text of a printed value
-//! that is sound for the script which all the bytes of the source mean.
+//! that is sound for the script which all the bytes of the source mean, and fits it. No other value that fits has this
+//! text (`text_determines_what_was_printed`).
 #![tactic(auto)]
 
 mod asking;
@@ -29,7 +30,7 @@ mod turning;
 mod words;
 mod writing;
 
-pub use laws::rows_have_their_columns;
+pub use laws::{rows_have_their_columns, text_determines_what_was_printed, what_is_sound_fits};
 pub use serving::serve;
 pub use status::Status;
 

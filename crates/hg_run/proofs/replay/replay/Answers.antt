@@ -1,6 +1,8 @@
 use Rattle.std.proofs.Common.{◌≡◌, ℕ, ◌<◌, ◌≤◌, List, [], length, sym, subst, arith, rules}
 use Rattle.std.proofs.lemmas.Nat.{mul-le}
 use Rattle.hg_base.specs.declared.line.Printed.{Printed}
+use Rattle.hg_base.specs.Script.{replay}
+use Rattle.hg_base.specs.Sound.{IsSound}
 use Rattle.hg_rule.specs.New.{Row}
 use Rattle.hg_headline.proofs.Closing.{following_last}
 use Rattle.hg_session.specs.declared.session.Session.{Session}
@@ -9,6 +11,7 @@ use Rattle.hg_session.specs.Opened.{IsNewOf}
 use Rattle.hg_session.specs.Finished.{logs_of}
 use Rattle.hg_run.proofs.Going.{sessions_within, ready_less, order_quiet}
 use Rattle.hg_run.proofs.Closes.{new_logs, new_ready}
+use Rattle.hg_run.proofs.Fits.{sound_fits}
 use Rattle.hg_run.proofs.replay.replay.Goals as goal
 
 pub open-requires-clause-room : goal.open-requires-clause-room
@@ -46,7 +49,6 @@ returns g c =
     let f = c.in_ok-transcript.ensures.following in
     let t = c.close-totals.ensures in
     let printed : Printed = record { lines = shown.lines; totals = c.close-totals.result } in
-    let sound =
-    following_last z.buckets z.sessions 0 f.0 t.history (logs_of c.play.new.list.items) t.closed c.args.script.now printed f.1 t.closes t.logged (omega arith) (order_quiet [] c.args.script.now.records c.requires.order) t.counted in
+    let sound : IsSound replay c.args.script.now printed = following_last z.buckets z.sessions 0 f.0 t.history (logs_of c.play.new.list.items) t.closed c.args.script.now printed f.1 t.closes t.logged (omega arith) (order_quiet [] c.args.script.now.records c.requires.order) t.counted in
     let same = c.in_ok-text.ensures c.args.script.now (sym c.in_ok-transcript.ensures.tables) in
-    record { printed = printed; sound = sound; same = same }
+    record { printed = printed; sound = sound; fit = sound_fits c.args.script.now printed c.requires sound; same = same }

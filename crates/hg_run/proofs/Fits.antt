@@ -1,0 +1,322 @@
+-- What is sound for a lawful script fits it.
+use Rattle.std.proofs.Common.{◌≡◌, ℕ, ℤ, ◌+◌, ◌<◌, ◌≤◌, ◌^◌, List, [], ◌∷◌, ◌++◌, length, Bool, true, false, Option, Some, None, refl, sym, ap, ◌∙◌, subst, arith, append_assoc}
+use Rattle.std.specs.Prelude.{cond, filter, find, map, is_some, unwrap_or, IfSome, IsSome, IsTrue, MatchOption, ⊤, ◌==◌, ◌&&◌, ◌||◌}
+use Rattle.std.specs.List.{filter_map, list_any}
+use Rattle.std.specs.Bool.{MatchBool}
+use Rattle.std.specs.Option.{option_map_or}
+use Rattle.std.proofs.lemmas.Bool.{and_parts}
+use Rattle.std.proofs.lemmas.Bool.Decides.{Decides-eqb, nat_tests}
+use Rattle.std.proofs.lemmas.List.{length-map}
+use Rattle.hg_base.specs.declared.rid.Rid.{Rid}
+use Rattle.hg_base.specs.declared.rid.TableId.{TableId}
+use Rattle.hg_base.specs.declared.image.Image.{Image}
+use Rattle.hg_base.specs.declared.statement.Statement.{Statement}
+use Rattle.hg_base.specs.declared.statement.Statement.TheVariants.{Begin, Get, Put, Del, Scan, Commit as CommitIt, Rollback, Gc}
+use Rattle.hg_base.specs.declared.statement.Record.{Record}
+use Rattle.hg_base.specs.declared.line.Answer.{Answer}
+use Rattle.hg_base.specs.declared.line.Answer.TheVariants.{Begun, Stored, Found, Nothing, Gone, Rows, Committed, Ended, Undone, Newer, OpenBy, Undeclared}
+use Rattle.hg_base.specs.declared.line.Line.{Line}
+use Rattle.hg_base.specs.declared.line.Printed.{Printed}
+use Rattle.hg_base.specs.Lists.{Each, EachAfter, Ascends}
+use Rattle.hg_base.specs.Script.{Declaration, Script, replay}
+use Rattle.hg_base.specs.History.{History, image_in}
+use Rattle.hg_base.specs.Transcript.{Said, said, said_from, has, is_of, last_of, stored, stored_by, stored_in, committed, committed_by, table_of, history_of}
+use Rattle.hg_base.specs.Shape.{HasShape, IsLineOf}
+use Rattle.hg_base.specs.Replies.{IsBegun, IsGot, IsPut, IsDeleted, IsScanned, IsCommitted, IsUndone, IsUndeclared, IsAnswer}
+use Rattle.hg_base.specs.Conflicts.{ShowsCause, target}
+use Rattle.hg_base.specs.Sound.{IsRight, IsSound, all_said}
+use Rattle.hg_base.specs.Text.{Fits64, Fits32, FitsRow, FitsBegin, FitsGet, FitsPut, FitsDel, FitsScan, FitsCommit, FitsRollback, FitsAnswer, FitsReply, Fits, IsFit, IsReport, asked, is_write}
+use Rattle.hg_base.proofs.ListFacts.{false_true, not_equal, each_keeps}
+use Rattle.hg_core.specs.Answered.{is_gc}
+use Rattle.hg_headline.proofs.Orderly.{orderly_nothing}
+use Rattle.hg_headline.proofs.Parts.{ascends_over, ascends_rest}
+use Rattle.hg_headline.proofs.Whole.{said_says}
+use Rattle.hg_headline.proofs.Words.{same_number}
+use Rattle.hg_script.specs.Lawful.{IsLawful, IsStatement, FitsTables, HasWidths}
+use Rattle.hg_run.specs.Rows.{AsksRow, FoundRow, FoundRows, PrintsRow}
+use Rattle.hg_run.proofs.Rows.{all_ask, rows_put}
+use Rattle.hg_run.proofs.Counts.{IsIn, no_more, lines_few, groups_few, numbers_within, transactions_few, totals_fit}
+use Rattle.hg_run.proofs.Opens.{IsStanding, all_stand}
+
+-- ---- lists
+
+pub both_each : {X : Type 0} (P Q R : X → Type 0) → ((x : X) → P x → Q x → R x) → (xs : List X) → Each P xs → Each Q xs → Each R xs
+both_each P Q R f [] p q = tt
+both_each P Q R f (x ∷ xs) p q = (f x p.0 q.0, both_each P Q R f xs p.1 q.1)
+
+each_map : {X Y : Type 0} (P : Y → Type 0) (f : X → Y) (xs : List X) → Each (λ x. P (f x)) xs → Each P (map f xs)
+each_map P f [] h = tt
+each_map P f (x ∷ xs) h = (h.0, each_map P f xs h.1)
+
+each_among : {X : Type 0} (f : X → ℕ) (xs : List X) → Each (λ x. IsIn (map f xs) (f x)) xs
+each_among f [] = tt
+each_among f (x ∷ xs) = (
+  ap (λ b. b || list_any (λ k. k == f x) (map f xs)) (same_number (f x)),
+  each_keeps (λ y. IsIn (map f xs) (f y)) (λ y. IsIn (f x ∷ map f xs) (f y)) (λ y h. later (f x == f y) _ h) xs (each_among f xs),
+)
+  where
+    later : (a b : Bool) → b ≡ true → (a || b) ≡ true
+    later true b h = refl
+    later false b h = h
+
+-- ---- rows: of their widths, and put by a record
+
+abbrev key_put : Record → ℕ
+key_put r = elim r.statement [ Put rid row ↦ rid.key | _ ↦ 0 ]
+
+-- a row fits its table, and some record puts one of its key
+abbrev IsPutRow : Script → Rid → List ℤ → Type 0
+IsPutRow script r row = FitsRow script.tables r.table row × IsIn (map key_put script.records) r.key
+
+asks_row : (script : Script) (place j : ℕ) (s : Statement) → FitsTables script.tables s → HasWidths s → IsIn (map key_put script.records) (key_put (record { place = place; session = j; statement = s })) → AsksRow (IsPutRow script) s
+asks_row script place j (Put r row) fits widths among = ((fits.1, widths.1), among)
+asks_row script place j _ fits widths among = tt
+
+all_rows : (script : Script) (lines : List Line) → IsLawful script → Each (λ now. AsksRow (IsPutRow script) now.statement) (all_said replay script lines)
+all_rows script lines lawful = all_ask (IsPutRow script) [] script.records lines
+    (both_each (IsStatement script.tables) (λ r. IsIn (map key_put script.records) (key_put r)) (λ r. AsksRow (IsPutRow script) r.statement)
+    (λ r is among. asks_row script r.place r.session r.statement is.fits is.widths among) script.records lawful.statements (each_among key_put script.records))
+
+-- ---- answers
+
+out_fits : (tables : List Declaration) (table : TableId) (a : Answer) → IsUndeclared table a → FitsGet tables table a × FitsPut table a × FitsDel table a × FitsScan tables table a
+out_fits tables table (Undeclared other) u = (u, u, u, u)
+out_fits tables table _ u = absurd u
+
+-- the numbers of a refusal for a conflict have their widths
+abbrev FitsCause : Answer → Type 0
+FitsCause (Newer c) = Fits64 c
+FitsCause (OpenBy writer) = Fits32 writer.session × Fits64 writer.transaction
+FitsCause _ = ⊤
+
+begin_fits : (a : Answer) → IsBegun a → Fits64 (elim a [ Begun s ↦ s | _ ↦ 0 ]) → FitsBegin a
+begin_fits (Begun s) b fits = fits
+begin_fits _ b fits = absurd b
+
+put_fits : (table : TableId) (a : Answer) → IsPut a → FitsCause a → FitsPut table a
+put_fits table Stored p c = tt
+put_fits table (Newer n) p c = c
+put_fits table (OpenBy writer) p c = c
+put_fits table _ p c = absurd p
+
+del_fits : (table : TableId) (image : Image) (a : Answer) → IsDeleted image a → FitsCause a → FitsDel table a
+del_fits table image Nothing d c = tt
+del_fits table image Gone d c = tt
+del_fits table image (Newer n) d c = c
+del_fits table image (OpenBy writer) d c = c
+del_fits table image _ d c = absurd d
+
+get_fits : (script : Script) (r : Rid) (image : Image) (a : Answer) → IsGot image a → FoundRow (IsPutRow script) r a → FitsGet script.tables r.table a
+get_fits script r image (Found row) g found = found.0
+get_fits script r image Nothing g found = tt
+get_fits script r image _ g found = absurd g
+
+scan_fits : (script : Script) (table : TableId) (look : ℕ → Image) (low high : ℕ) (a : Answer) → length script.records < 2 ^ 64 → Fits64 high → IsScanned look low high a → FoundRows (IsPutRow script) table a → FitsScan script.tables table a
+scan_fits script table look low high (Rows rows) few wide s found =
+    let key = λ (p : ℕ × List ℤ). p.0 in
+    let many : length (map key rows) ≤ length (map key_put script.records) = no_more (map key rows) (map key_put script.records) s.ascend
+    (each_map (IsIn (map key_put script.records)) key rows (each_keeps _ (λ (p : ℕ × List ℤ). IsIn (map key_put script.records) p.0) (λ p k. k.1) rows found)) in (
+      omega (arith, many, few, length-map rows key, length-map script.records key_put),
+      both_each _ _ (λ (p : ℕ × List ℤ). Fits64 p.0 × FitsRow script.tables table p.1) (λ p k q. (omega (arith, k.1, wide), q.0)) rows s.each found,
+    )
+scan_fits script table look low high _ few wide s found = absurd s
+
+commit_fits : (wrote : Bool) (a : Answer) → IsCommitted wrote a → IfSome (committed_by CommitIt a) (λ c. Fits64 c) → FitsCommit a
+commit_fits wrote (Committed c) w fits = fits
+commit_fits wrote Ended w fits = tt
+commit_fits wrote _ w fits = absurd w
+
+rollback_fits : (a : Answer) → IsUndone a → FitsRollback a
+rollback_fits Undone u = tt
+rollback_fits _ u = absurd u
+
+written : (s : Statement) (a : Answer) → is_some (stored_by s a) ≡ true → is_write a ≡ true
+written (Put r row) Stored e = refl
+written (Del r) Gone e = refl
+written _ _ e = absurd (false_true e)
+
+-- a statement on a table is no commit
+no_commit : (s : Statement) (a : Answer) → is_some (table_of s) ≡ true → committed_by s a ≡ None
+no_commit CommitIt a e = absurd (false_true e)
+no_commit _ a e = refl
+
+either : {P Q R : Type 0} (b : Bool) → (P → R) → (Q → R) → MatchBool b P Q → R
+either true f g p = f p
+either false f g q = g q
+
+-- ---- one line, where there are so few groups, and each line is of a session and a transaction that are few
+
+abbrev IsFew : Said → Type 0
+IsFew s = Fits32 s.session × Fits64 s.transaction
+
+module _ (script : Script) (h : History) (all : List Said) (few : length h < 2 ^ 64) (short : length script.records < 2 ^ 64) (writers : Each IsFew all) where
+  writer_fits : (r : Rid) (j x : ℕ) (xs : List Said) → IsSome (image_in r (stored_in j x xs)) → Each IsFew xs → Fits32 j × Fits64 x
+  writer_fits r j x [] some e = absurd (false_true some)
+  writer_fits r j x (s ∷ ss) some e = go (is_of j x s) refl some (λ some. writer_fits r j x ss some e.1)
+    where
+      go : (b : Bool) → is_of j x s ≡ b → IsSome (image_in r (filter_map stored (cond b (s ∷ filter (is_of j x) ss) (filter (is_of j x) ss)))) → (IsSome (image_in r (stored_in j x ss)) → Fits32 j × Fits64 x) → Fits32 j × Fits64 x
+      go true is some later =
+          let k = and_parts (s.session == j) (s.transaction == x) is in
+          let session : s.session ≡ j = (Decides-eqb s.session j).0 k.0 in
+          let transaction : s.transaction ≡ x = (Decides-eqb s.transaction x).0 k.1 in
+          (subst Fits32 session e.0.0, subst Fits64 transaction e.0.1)
+      go false is some later = later some
+
+  cause_fits : (earlier : List Said) (now : Said) (r : Rid) (a : Answer) → ShowsCause replay h all earlier now r a → FitsCause a
+  cause_fits earlier now r (Newer c) k = omega (arith, k.1.within, few)
+  cause_fits earlier now r (OpenBy writer) k = writer_fits r writer.session writer.transaction all k.1.does writers
+  cause_fits earlier now r _ k = tt
+
+  at_fits : (now : Said) → is_some now.reply.at ≡ now.alone → now.at ≤ length h → IsStanding now → IfSome now.reply.at (λ s. Fits64 s × IsTrue (is_some (table_of now.statement)))
+  at_fits now e most k = go now.reply.at refl
+    where
+      go : (o : Option ℕ) → now.reply.at ≡ o → IfSome o (λ s. Fits64 s × IsTrue (is_some (table_of now.statement)))
+      go None is = tt
+      go (Some s) is =
+          let a = k.alone (sym e ∙ ap is_some is) in
+          let same : now.at ≡ s = a.0 ∙ ap (λ o. unwrap_or o 0) is in
+          (omega (arith, same, most, few), a.1)
+
+  number_fits : (now : Said) → is_some now.reply.number ≡ (now.alone && is_some (stored now)) → IfSome (committed now) (λ c. c ≤ length h) → IfSome now.reply.number (λ c. Fits64 c × IsTrue (is_write now.reply.answer))
+  number_fits now e within = go now.reply.number refl
+    where
+      go : (o : Option ℕ) → now.reply.number ≡ o → IfSome o (λ c. Fits64 c × IsTrue (is_write now.reply.answer))
+      go None is = tt
+      go (Some c) is =
+          let both = and_parts now.alone (is_some (stored now)) (sym e ∙ ap is_some is) in
+          let by : committed now ≡ Some c = ap (λ b. cond b now.reply.number (committed_by now.statement now.reply.answer)) both.0 ∙ is in
+          let most : c ≤ length h = subst (λ o. IfSome o (λ c. c ≤ length h)) by within in
+          (omega (arith, most, few), written now.statement now.reply.answer both.1)
+
+  number_in : (now : Said) → IsStanding now → IfSome (committed now) (λ c. c ≤ length h) → IfSome (committed_by now.statement now.reply.answer) Fits64
+  number_in now k within = go now.alone refl
+    where
+      wide : (o : Option ℕ) → IfSome o (λ c. c ≤ length h) → IfSome o Fits64
+      wide None m = tt
+      wide (Some c) m = omega (arith, m, few)
+
+      go : (b : Bool) → now.alone ≡ b → IfSome (committed_by now.statement now.reply.answer) Fits64
+      go true is = subst (λ o. IfSome o Fits64) (sym (no_commit now.statement now.reply.answer (k.alone is).1)) tt
+      go false is = wide (committed_by now.statement now.reply.answer) (subst (λ o. IfSome o (λ c. c ≤ length h)) (ap (λ b. cond b now.reply.number (committed_by now.statement now.reply.answer)) is) within)
+
+  answer_fits : (look : Rid → Image) (wrote : Bool) (now : Said) (s : Statement) → now.statement ≡ s → IsStanding now → now.at ≤ length h → IsAnswer replay look wrote now s → IfSome (target s) (λ r. FitsCause now.reply.answer) →
+      PrintsRow (IsPutRow script) s now.reply.answer → HasWidths s → is_gc s ≡ false → IfSome (committed_by s now.reply.answer) Fits64 → FitsAnswer script.tables s now.reply.answer
+  answer_fits look wrote now (Begin scope) is k most a cause rows wide quiet number =
+      let same = k.begun scope is in
+      let fits : Fits64 now.at = omega (arith, most, few) in
+      begin_fits now.reply.answer a (subst Fits64 same fits)
+  answer_fits look wrote now (Get r) is k most a cause rows wide quiet number =
+      either (has now.scope r.table) (λ g. get_fits script r (look r) now.reply.answer g rows) (λ u. (out_fits script.tables r.table now.reply.answer u).0) a
+  answer_fits look wrote now (Put r row) is k most a cause rows wide quiet number =
+      either (has now.scope r.table) (λ p. put_fits r.table now.reply.answer p cause) (λ u. (out_fits script.tables r.table now.reply.answer u).1) a
+  answer_fits look wrote now (Del r) is k most a cause rows wide quiet number =
+      either (has now.scope r.table) (λ d. del_fits r.table (look r) now.reply.answer d cause) (λ u. (out_fits script.tables r.table now.reply.answer u).2) a
+  answer_fits look wrote now (Scan table low high) is k most a cause rows wide quiet number =
+      either (has now.scope table) (λ s. scan_fits script table (λ key. look (record { table = table; key = key })) low high now.reply.answer short wide.1 s rows)
+      (λ u. (out_fits script.tables table now.reply.answer u).3) a
+  answer_fits look wrote now CommitIt is k most a cause rows wide quiet number = commit_fits wrote now.reply.answer a number
+  answer_fits look wrote now Rollback is k most a cause rows wide quiet number = rollback_fits now.reply.answer a
+  answer_fits look wrote now (Gc kind) is k most a cause rows wide quiet number = absurd (false_true (sym quiet))
+
+  causes_fit : (earlier : List Said) (now : Said) (s : Statement) → IfSome (target s) (λ r. ShowsCause replay h all earlier now r now.reply.answer) → IfSome (target s) (λ r. FitsCause now.reply.answer)
+  causes_fit earlier now (Put r row) k = cause_fits earlier now r now.reply.answer k
+  causes_fit earlier now (Del r) k = cause_fits earlier now r now.reply.answer k
+  causes_fit earlier now _ k = tt
+
+  -- what was found out of a line
+  record IsKnown (now : Said) : Type 0 where
+    standing : IsStanding now
+    rows : PrintsRow (IsPutRow script) now.statement now.reply.answer
+    number : IfSome (committed now) (λ c. c ≤ length h)
+
+  reply_fits : (earlier : List Said) (now : Said) → IsRight replay h all earlier now → IsKnown now → FitsReply script.tables now.statement now.reply
+  reply_fits earlier now right known = record {
+    at = at_fits now right.reply.at right.reply.snapshot known.standing;
+    answer = answer_fits _ _ now now.statement refl known.standing right.reply.snapshot right.reply.answer (causes_fit earlier now now.statement right.conflict) known.rows known.standing.widths known.standing.quiet
+        (number_in now known.standing known.number);
+    number = number_fits now right.reply.number known.number;
+  }
+
+  replies_fit : (earlier xs : List Said) → EachAfter (IsRight replay h all) earlier xs → Each IsKnown xs → Each (λ now. FitsReply script.tables now.statement now.reply) xs
+  replies_fit earlier [] right known = tt
+  replies_fit earlier (now ∷ later) right known = (reply_fits earlier now right.0 known.0, replies_fit (now ∷ earlier) later right.1 known.1)
+
+-- ---- the record of a line
+
+lower : (before rs : List Record) (r : Record) → Ascends (map (λ r. r.place) (before ++ r ∷ rs)) → Each (λ q. q.place < r.place) before
+lower [] rs r a = tt
+lower (q ∷ qs) rs r a = (
+  middle qs (ascends_over q.place (map (λ (r : Record). r.place) (qs ++ r ∷ rs)) a),
+  lower qs rs r (ascends_rest q.place (map (λ (r : Record). r.place) (qs ++ r ∷ rs)) a),
+)
+  where
+    middle : (ps : List Record) → Each (λ m. q.place < m) (map (λ (r : Record). r.place) (ps ++ r ∷ rs)) → q.place < r.place
+    middle [] e = e.0
+    middle (p ∷ ps) e = middle ps e.1
+
+is_asked : (before rs : List Record) (r : Record) (place session : ℕ) → place ≡ r.place → session ≡ r.session → Each (λ q. q.place < r.place) before → find (λ q. (q.place == place) && (q.session == session)) (before ++ r ∷ rs) ≡ Some r
+is_asked [] rs r place session p s e =
+    let same : (r.place == place) ≡ true = (Decides-eqb r.place place).1 (sym p) in
+    let own : (r.session == session) ≡ true = (Decides-eqb r.session session).1 (sym s) in
+    ap (λ b. cond (b && (r.session == session)) (Some r) (find (λ (q : Record). (q.place == place) && (q.session == session)) rs)) same
+    ∙ ap (λ b. cond b (Some r) (find (λ (q : Record). (q.place == place) && (q.session == session)) rs)) own
+is_asked (q ∷ qs) rs r place session p s e =
+    let apart : (q.place == place) ≡ false = not_equal q.place place (omega (arith, p, e.0)) in
+    ap (λ b. cond (b && (q.session == session)) (Some q) (find (λ (q : Record). (q.place == place) && (q.session == session)) (qs ++ r ∷ rs))) apart
+    ∙ is_asked qs rs r place session p s e.1
+
+-- ---- all lines
+
+module _ (script : Script) (lawful : IsLawful script) where
+  line_fits : (before rs : List Record) (r : Record) (line : Line) → script.records ≡ before ++ r ∷ rs → IsLineOf r line → IsStatement script.tables r → FitsReply script.tables r.statement line.reply → Fits script line
+  line_fits before rs r line e shape is fits =
+      let places : Ascends (map (λ (r : Record). r.place) (before ++ r ∷ rs)) = subst (λ (rs : List Record). Ascends (map (λ (r : Record). r.place) rs)) e lawful.places in
+      let found = ap (find (λ (q : Record). (q.place == line.place) && (q.session == line.session))) e ∙ is_asked before rs r line.place line.session shape.place shape.session (lower before rs r places) in
+      let asks : asked script.records line ≡ Some r.statement = ap (λ o. option_map_or (λ r. Some r.statement) o None) found in
+      let session : line.session ≡ r.session = shape.session in
+      let some : (line.session == 0) ≡ false = grind (arith, nat_tests, session, is.some) in
+      record {
+        session = omega (arith, session, is.most);
+        place = omega (arith, shape.place, is.place);
+        reply = subst (λ b. MatchBool b (IsReport line.reply) (MatchOption (asked script.records line) ⊥ (λ s. FitsReply script.tables s line.reply))) (sym some)
+            (subst (λ o. MatchOption o ⊥ (λ s. FitsReply script.tables s line.reply)) (sym asks) fits);
+      }
+
+  lines_fit : (before rs : List Record) (lines : List Line) (earlier : List Said) → script.records ≡ before ++ rs → HasShape rs lines → Each (IsStatement script.tables) rs → Each (λ now. FitsReply script.tables now.statement now.reply) (said_from earlier rs lines) → Each (Fits script) lines
+  lines_fit before [] [] earlier e shape are fits = tt
+  lines_fit before [] (line ∷ lines) earlier e shape are fits = absurd shape
+  lines_fit before (r ∷ rs) [] earlier e shape are fits = absurd shape
+  lines_fit before (r ∷ rs) (line ∷ lines) earlier e shape are fits =
+      let says = said_says (last_of r.session earlier) r line.reply r.statement in
+      let here : FitsReply script.tables r.statement line.reply = subst (λ s. FitsReply script.tables s line.reply) says.1 (subst (FitsReply script.tables (said earlier r line.reply).statement) says.2 fits.0) in (
+        line_fits before rs r line e shape.0 are.0 here,
+        lines_fit (before ++ r ∷ []) rs lines (said earlier r line.reply ∷ earlier) (e ∙ sym (append_assoc before (r ∷ []) rs)) shape.1 are.1 fits.1,
+      )
+
+all_of_sessions : (tables : List Declaration) (rs : List Record) (lines : List Line) (earlier : List Said) → Each (IsStatement tables) rs → Each (λ s. Fits32 s.session) (said_from earlier rs lines)
+all_of_sessions tables [] lines earlier are = tt
+all_of_sessions tables (r ∷ rs) [] earlier are = tt
+all_of_sessions tables (r ∷ rs) (line ∷ lines) earlier are =
+    let by = (said_says (last_of r.session earlier) r line.reply r.statement).0 in
+    (omega (arith, by, are.0.most), all_of_sessions tables rs lines (said earlier r line.reply ∷ earlier) are.1)
+
+pub sound_fits : (script : Script) (printed : Printed) → IsLawful script → IsSound replay script printed → IsFit script printed
+sound_fits script printed lawful sound =
+    let all : List Said = all_said replay script printed.lines in
+    let h : History = history_of all in
+    let right = sound.lines.right in
+    let many : length all ≤ length script.records = lines_few [] script.records printed.lines in
+    let short : length script.records < 2 ^ 64 = omega (arith, lawful.records) in
+    let few : length h < 2 ^ 64 = omega (arith, groups_few all right.whole.history, many, short) in
+    let transactions : Each (λ (s : Said). s.transaction ≤ 0 + length script.records) all = transactions_few script.records printed.lines [] 0 tt in
+    let writers : Each IsFew all = both_each (λ (s : Said). Fits32 s.session) (λ (s : Said). s.transaction ≤ 0 + length script.records) IsFew (λ s session n. (session, omega (arith, n, short))) all
+    (all_of_sessions script.tables script.records printed.lines [] lawful.statements) transactions in
+    let standing : Each IsStanding all = all_stand script.tables [] script.records printed.lines [] lawful.order lawful.statements orderly_nothing (λ j. refl) in
+    let rows = rows_put (IsPutRow script) replay all (all_rows script printed.lines lawful) right in
+    let known : Each (IsKnown script h all few short writers) all = both_each _ (λ (now : Said). IfSome (committed now) (λ c. c ≤ length h)) (IsKnown script h all few short writers) (λ now k n. record { standing = k.0; rows = k.1; number = n }) all
+    (both_each IsStanding (λ (now : Said). PrintsRow (IsPutRow script) now.statement now.reply.answer) (λ (now : Said). IsStanding now × PrintsRow (IsPutRow script) now.statement now.reply.answer) (λ now k rows. (k, rows)) all standing rows)
+    (numbers_within all) in
+    record {
+      lines = lines_fit script lawful [] script.records printed.lines [] refl sound.lines.shape lawful.statements (replies_fit script h all few short writers [] all right.lines known);
+      totals = totals_fit all h printed.totals sound.totals (omega (arith, many, short));
+    }

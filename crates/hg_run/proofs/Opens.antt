@@ -1,0 +1,173 @@
+-- A session's transaction is open after some records exactly where their lines show one that is open. So `at` is printed only where a
+-- get, put, del or scan stands alone.
+use Rattle.std.proofs.Common.{◌≡◌, ℕ, List, [], ◌∷◌, ◌++◌, Bool, true, false, Option, Some, None, refl, sym, ap, ◌∙◌, subst}
+use Rattle.std.specs.Prelude.{cond, not, is_some, unwrap_or, IsTrue, if◌then◌else◌, nat_lt, ◌==◌, ◌&&◌}
+use Rattle.std.proofs.lemmas.Bool.Decides.{Decides-eqb, Decides-ltb}
+use Rattle.hg_base.specs.declared.scope.Scope.{Scope}
+use Rattle.hg_base.specs.declared.statement.Statement.{Statement}
+use Rattle.hg_base.specs.declared.statement.Statement.TheVariants.{Begin, Get, Put, Del, Scan, Commit as CommitIt, Rollback, Gc}
+use Rattle.hg_base.specs.declared.statement.Record.{Record}
+use Rattle.hg_base.specs.declared.line.Line.{Line}
+use Rattle.hg_base.specs.declared.line.Reply.{Reply}
+use Rattle.hg_base.specs.Lists.{Each}
+use Rattle.hg_base.specs.Script.{Declaration}
+use Rattle.hg_base.specs.Transcript.{Said, said, said_after, said_from, standing, last_of, open_of, open_after, next_after, ends, is_end, begun, table_of}
+use Rattle.hg_base.proofs.ListFacts.{cases, false_true}
+use Rattle.hg_core.specs.Answered.{is_gc}
+use Rattle.hg_headline.proofs.Orderly.{Orderly, orderly_step, last_is_now, next_over}
+use Rattle.hg_headline.proofs.Whole.{said_says}
+use Rattle.hg_headline.proofs.Words.{none_is_not_some, same_number}
+use Rattle.hg_script.specs.Lawful.{AreInOrder, HasWidths, IsStatement, MayStand}
+use Rattle.hg_script.specs.Rules.{is_open, opened}
+use Rattle.hg_run.proofs.OpenAfter.{open_snoc}
+use Rattle.hg_run.proofs.Going.{no_gc}
+
+-- the lines before show which transactions the records before leave open
+abbrev pub ShowsOpen : List Record → List Said → Type 0
+ShowsOpen done earlier = (j : ℕ) → is_open j done ≡ is_some (open_of j earlier)
+
+-- A line that prints its snapshot is that of a get, put, del or scan outside a transaction, and a `begin` prints that of its
+-- transaction. None is a `gc`, and the numbers of the statement have their widths.
+pub record IsStanding (now : Said) : Type 0 where
+  pub alone : now.alone ≡ true → (now.at ≡ unwrap_or now.reply.at 0) × IsTrue (is_some (table_of now.statement))
+  pub begun : (scope : Scope) → now.statement ≡ Begin scope → now.at ≡ begun now.reply
+  pub quiet : is_gc now.statement ≡ false
+  pub widths : HasWidths now.statement
+
+-- ---- one line of a session, by its statement
+
+abbrev is_begin : Statement → Bool
+is_begin (Begin scope) = true
+is_begin _ = false
+
+the_last : (last : Option Said) (s : Said) → open_after last ≡ Some s → last ≡ Some s
+the_last None s k = absurd (none_is_not_some s k)
+the_last (Some l) s k = go (ends l) k
+  where
+    go : (b : Bool) → (if b then None else Some l) ≡ Some s → Some l ≡ Some s
+    go true q = absurd (none_is_not_some s q)
+    go false q = q
+
+module _ (earlier : List Said) (r : Record) (reply : Reply) (orderly : Orderly r.session earlier) where
+  abbrev last : Option Said
+  last = last_of r.session earlier
+
+  abbrev stands : Option Said → Said
+  stands o = standing o (next_after last) r reply
+
+  next_some : nat_lt 0 (next_after last) ≡ true
+  next_some = (Decides-ltb 0 (next_after last)).1 (next_over last)
+
+  has_number : (o : Option Said) → open_after last ≡ o → nat_lt 0 (stands o).transaction ≡ true
+  has_number None e = next_some
+  has_number (Some s) e = orderly.numbered s (the_last last s e)
+
+  goes_on : (o : Option Said) → is_end r.statement ≡ false → is_some o ≡ not (ends (stands o))
+  goes_on None e = refl
+  goes_on (Some s) e = sym (ap not e)
+
+  is_over : (o : Option Said) → is_end r.statement ≡ true → false ≡ not (ends (stands o))
+  is_over None e = refl
+  is_over (Some s) e = sym (ap not e)
+
+  -- the line has a transaction, and leaves it open where the statement does
+  abbrev Leaves : Statement → Type 0
+  Leaves s = (nat_lt 0 (said_after last r reply s).transaction ≡ true) × (opened (is_some (open_after last)) s ≡ not (ends (said_after last r reply s)))
+
+  leaves : (s : Statement) → r.statement ≡ s → MayStand (is_some (open_after last)) s → Leaves s
+  leaves (Begin scope) e may = (next_some, sym (ap (λ s. not (is_end s)) e))
+  leaves (Get x) e may = (has_number (open_after last) refl, goes_on (open_after last) (ap is_end e))
+  leaves (Put x row) e may = (has_number (open_after last) refl, goes_on (open_after last) (ap is_end e))
+  leaves (Del x) e may = (has_number (open_after last) refl, goes_on (open_after last) (ap is_end e))
+  leaves (Scan t low high) e may = (has_number (open_after last) refl, goes_on (open_after last) (ap is_end e))
+  leaves CommitIt e may = (has_number (open_after last) refl, is_over (open_after last) (ap is_end e))
+  leaves Rollback e may = (has_number (open_after last) refl, is_over (open_after last) (ap is_end e))
+  leaves (Gc kind) e may = absurd may
+
+  abbrev IsAlone : Said → Type 0
+  IsAlone now = now.alone ≡ true → (now.at ≡ unwrap_or now.reply.at 0) × IsTrue (is_some (table_of now.statement))
+
+  on_table : (o : Option Said) → IsTrue (is_some (table_of r.statement)) → IsAlone (stands o)
+  on_table None t a = (refl, t)
+  on_table (Some s) t a = absurd (false_true a)
+
+  within : (o : Option Said) → IsTrue (is_some o) → IsAlone (stands o)
+  within None may a = absurd (false_true may)
+  within (Some s) may a = absurd (false_true a)
+
+  is_alone : (s : Statement) → r.statement ≡ s → MayStand (is_some (open_after last)) s → IsAlone (said_after last r reply s)
+  is_alone (Begin scope) e may a = absurd (false_true a)
+  is_alone (Get x) e may a = on_table (open_after last) (ap (λ s. is_some (table_of s)) e) a
+  is_alone (Put x row) e may a = on_table (open_after last) (ap (λ s. is_some (table_of s)) e) a
+  is_alone (Del x) e may a = on_table (open_after last) (ap (λ s. is_some (table_of s)) e) a
+  is_alone (Scan t low high) e may a = on_table (open_after last) (ap (λ s. is_some (table_of s)) e) a
+  is_alone CommitIt e may a = within (open_after last) may a
+  is_alone Rollback e may a = within (open_after last) may a
+  is_alone (Gc kind) e may a = absurd may
+
+  is_other : (s : Statement) (scope : Scope) → r.statement ≡ s → is_begin s ≡ false → (said_after last r reply s).statement ≡ Begin scope → ⊥
+  is_other s scope e none k = false_true (sym none ∙ ap is_begin (sym e ∙ sym (said_says last r reply s).1 ∙ k))
+
+  at_begun : (s : Statement) → r.statement ≡ s → (scope : Scope) → (said_after last r reply s).statement ≡ Begin scope → (said_after last r reply s).at ≡ begun (said_after last r reply s).reply
+  at_begun (Begin other) e scope k = refl
+  at_begun (Get x) e scope k = absurd (is_other (Get x) scope e refl k)
+  at_begun (Put x row) e scope k = absurd (is_other (Put x row) scope e refl k)
+  at_begun (Del x) e scope k = absurd (is_other (Del x) scope e refl k)
+  at_begun (Scan t low high) e scope k = absurd (is_other (Scan t low high) scope e refl k)
+  at_begun CommitIt e scope k = absurd (is_other CommitIt scope e refl k)
+  at_begun Rollback e scope k = absurd (is_other Rollback scope e refl k)
+  at_begun (Gc kind) e scope k = absurd (is_other (Gc kind) scope e refl k)
+
+  quiet : (s : Statement) → MayStand (is_some (open_after last)) s → is_gc s ≡ false
+  quiet s may = no_gc (is_some (open_after last)) s may
+
+  line_stands : MayStand (is_some (open_after last)) r.statement → HasWidths r.statement → IsStanding (said earlier r reply)
+  line_stands may widths =
+      let same = (said_says last r reply r.statement).1 in record {
+        alone = is_alone r.statement refl may;
+        begun = at_begun r.statement refl;
+        quiet = ap is_gc same ∙ quiet r.statement may;
+        widths = subst HasWidths (sym same) widths;
+      }
+
+-- ---- one record more
+
+opens_now : (earlier : List Said) (now : Said) → nat_lt 0 now.transaction ≡ true → is_some (open_of now.session (now ∷ earlier)) ≡ not (ends now)
+opens_now earlier now k = ap (λ l. is_some (open_after l)) (last_is_now now.session earlier now (same_number now.session) k) ∙ go (ends now)
+  where
+    go : (b : Bool) → is_some (if b then None else Some now) ≡ not b
+    go true = refl
+    go false = refl
+
+shows_more : (done : List Record) (earlier : List Said) (r : Record) (reply : Reply) → Orderly r.session earlier → MayStand (is_some (open_of r.session earlier)) r.statement → ShowsOpen done earlier → ShowsOpen (done ++ r ∷ []) (said earlier r reply ∷ earlier)
+shows_more done earlier r reply orderly may shows j = cases (r.session == j) (λ e. subst Shows ((Decides-eqb r.session j).0 e) own) other
+  where
+    Shows : ℕ → Type 0
+    Shows i = is_open i (done ++ r ∷ []) ≡ is_some (open_of i (said earlier r reply ∷ earlier))
+
+    own : Shows r.session
+    own =
+        let by : (said earlier r reply).session ≡ r.session = (said_says (last_of r.session earlier) r reply r.statement).0 in
+        let left = leaves earlier r reply orderly r.statement refl may in
+        open_snoc r.session done r ∙ ap (λ b. cond b (opened (is_open r.session done) r.statement) (is_open r.session done)) (same_number r.session)
+        ∙ ap (λ b. opened b r.statement) (shows r.session) ∙ left.1
+        ∙ subst (λ i. not (ends (said earlier r reply)) ≡ is_some (open_of i (said earlier r reply ∷ earlier))) by (sym (opens_now earlier (said earlier r reply) left.0))
+
+    other : (r.session == j) ≡ false → Shows j
+    other e =
+        let line : Said = said earlier r reply in
+        let apart : (line.session == j) ≡ false = ap (λ i. i == j) (said_says (last_of r.session earlier) r reply r.statement).0 ∙ e in
+        let kept : last_of j (line ∷ earlier) ≡ last_of j earlier = ap (λ b. cond (b && nat_lt 0 line.transaction) (Some line) (last_of j earlier)) apart in
+        open_snoc j done r ∙ ap (λ b. cond b (opened (is_open j done) r.statement) (is_open j done)) e ∙ shows j ∙ ap (λ l. is_some (open_after l)) (sym kept)
+
+-- ---- all lines
+
+pub all_stand : (tables : List Declaration) (before rs : List Record) (lines : List Line) (earlier : List Said) → AreInOrder before rs → Each (IsStatement tables) rs → ((j : ℕ) → Orderly j earlier) → ShowsOpen before earlier → Each IsStanding (said_from earlier rs lines)
+all_stand tables before [] lines earlier order are orderly shows = tt
+all_stand tables before (r ∷ rs) [] earlier order are orderly shows = tt
+all_stand tables before (r ∷ rs) (line ∷ lines) earlier order are orderly shows =
+    let may : MayStand (is_some (open_of r.session earlier)) r.statement = subst (λ b. MayStand b r.statement) (shows r.session) order.0 in (
+      line_stands earlier r line.reply (orderly r.session) may are.0.widths,
+      all_stand tables (before ++ r ∷ []) rs lines (said earlier r line.reply ∷ earlier) order.1 are.1 (orderly_step earlier r line.reply orderly)
+          (shows_more before earlier r line.reply (orderly r.session) may shows),
+    )
