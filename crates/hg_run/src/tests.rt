@@ -69,6 +69,38 @@ fn nothing_is_written(rt: HostRuntime) -> Result<(), Fail> {
     Ok(())
 }
 
+// Scripts that break a rule: what is told is the record and its first code, and nothing is written.
+#[test]
+fn scripts_are_refused(rt: HostRuntime) -> Result<(), Fail> {
+    for (script, record, code) in [
+        ("table,t,1\n1,get,v,1\n", 2, "Name"),
+        ("table,t,1\n1,begin\n1,begin\n", 3, "Order"),
+        ("table,t,1\n1,begin\ntable,u,1\n", 3, "Order"),
+        ("1,commit\n", 1, "Order"),
+        ("table,t,9\n", 1, "Range"),
+        ("65,begin\n", 1, "Range"),
+        ("table,t,1\n1,put,t,1,9223372036854775808\n", 2, "Range"),
+        ("table,t,1\n1,put,t,07,1\n", 2, "Number"),
+        ("table,t,2\n1,put,t,1,5\n", 2, "Columns"),
+        ("1,fly\n", 1, "Word"),
+        ("table,t\n", 1, "Fields"),
+    ] {
+        let mut sink = MemorySink::new(rt.alloc(), 4, Vec::new(rt.alloc()));
+        sink.reserve(256)?;
+        let bytes = Vec::from_slice(rt.alloc(), script.as_bytes())?;
+        let status = call(&rt, rt.alloc(), "replay", bytes, 8, &[], &mut sink)?;
+        let said = format!(in rt.alloc(); "script record {record}: {code}")?;
+        assert_eq!(rt;
+            format!(in rt.alloc(); "{status}")?.as_bytes(),
+            said.as_bytes(),
+            "at {script}"
+        );
+        assert_eq!(rt; status.exit_code(), 3);
+        assert!(rt; sink.bytes().is_empty());
+    }
+    Ok(())
+}
+
 // A script of as many bytes as it may have, and of one more.
 #[test]
 fn length_is_limited(rt: HostRuntime) -> Result<(), Fail> {
