@@ -14,6 +14,7 @@ pub mod Text
 -- What a collector may take.
 pub mod Lifetimes
 -- The outside: reports as they are printed, faults, and what lies in memory.
+pub mod Entries
 pub mod Reports
 pub mod Faults
 pub mod Memory

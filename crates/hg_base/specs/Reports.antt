@@ -9,4 +9,4 @@ abbrev pub told_of : Entry → Told
 told_of entry = record { session = entry.session; number = entry.number; moved = entry.moved }
 
 abbrev pub sweep_of : Report → Sweep
-sweep_of report = record { kind = report.kind; mark = report.mark; horizon = report.horizon; removed = report.removed; held = map told_of report.entries }
+sweep_of report = record { kind = report.kind; mark = report.mark; horizon = report.horizon; removed = report.removed; held = map told_of report.entries.list }

@@ -1,6 +1,6 @@
 //! What a collector's pass found and removed.
 
-ghost use Rattle.std.specs.Prelude.{◌≡◌, ◌++◌, ◌∷◌, [], map, IfOk, OnOk, OnErr};
+ghost use Rattle.std.specs.Prelude.{◌≡◌, ◌≤◌, ◌++◌, ◌∷◌, [], length, map, IfOk, OnOk, OnErr};
 ghost use Rattle.hg_base.specs.Reports.{told_of, sweep_of};
 
 use crate::fault::NoMemory;
@@ -34,23 +34,23 @@ pub struct Told {
     pub moved: bool,
 }
 
-/// Entries by ascending session.
+/// Entries by ascending session. A list has its room from when it is made, and can be filled again.
 #[derive(Debug, Drop)]
 pub struct EntryList {
     entries: Vec<Entry>,
 }
 
 impl Model for EntryList {
-    ghost use Rattle.std.specs.Prelude.{List};
-    ghost use Rattle.hg_base.specs.declared.report.Entry.{Entry};
+    ghost use Rattle.std.specs.Prelude.{vec_capacity};
+    ghost use Rattle.hg_base.specs.Entries.{Entries};
 
-    ghost Value = { List Entry };
+    ghost Value = { Entries };
 
-    ghost view = { λ a. a.entries.items };
+    ghost view = { λ a. record { list = a.entries.items; room = vec_capacity a.entries } };
 }
 
 impl From<Vec<Entry>> for EntryList {
-    ghost from_gives = { λ entries list. list ≡ entries.items };
+    ghost from_gives = { λ entries list. list.list ≡ entries.items };
 
     fn from(entries: Vec<Entry>) -> EntryList {
         EntryList { entries }
@@ -58,14 +58,34 @@ impl From<Vec<Entry>> for EntryList {
 }
 
 impl EntryList {
+    /// None yet, with room for so many.
+    pub fn with_capacity(alloc: Global, room: usize) -> Result<EntryList, NoMemory>
+        ensures { IfOk result (λ list. (list.list ≡ []) × (room ≤ list.room)) }
+    {
+        let entries = Vec::with_capacity(alloc, room)?;
+        Ok(EntryList { entries })
+    }
+
+    /// Has these entries in place of its own. No memory is taken.
+    pub fn refill(&mut self, entries: &[Entry])
+        requires room { length entries.now ≤ self.old.room }
+        ensures list { self.new.list ≡ entries.now }
+        ensures room { self.old.room ≤ self.new.room }
+    {
+        self.entries.clear();
+        if self.entries.extend_from_slice(entries).is_err() {
+            unreachable!();
+        }
+    }
+
     pub fn as_slice(&self) -> &[Entry]
-        ensures { result.now ≡ self.now }
+        ensures { result.now ≡ self.now.list }
     {
         &self.entries
     }
 
     pub fn into_vec(self) -> Vec<Entry>
-        ensures { result.items ≡ self }
+        ensures { result.items ≡ self.list }
     {
         self.entries
     }

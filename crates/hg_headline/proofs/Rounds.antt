@@ -184,8 +184,8 @@ told_gathered h logs kind report earlier p rising = record {
   rising = subst (λ k. Each (λ m. m ≤ report.mark) (filter_map (mark_of k) earlier)) (sym p.kind) rising;
   horizon = p.horizon;
   mark = p.mark;
-  sessions = subst Ascends (sym (entry_sessions report.entries)) p.order;
-  held = entries_were logs report.entries p.met;
+  sessions = subst Ascends (sym (entry_sessions report.entries.list)) p.order;
+  held = entries_were logs report.entries.list p.met;
 }
 
 -- each mark so far is at or below each of these

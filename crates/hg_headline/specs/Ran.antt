@@ -40,8 +40,8 @@ pub record IsPassReport (h : History) (logs : ℕ → List LogEntry) (collector 
   pub kind : report.kind ≡ collector
   pub horizon : report.horizon ≤ report.mark
   pub mark : report.mark ≤ length h
-  pub order : Ascends (map (λ e. e.session) report.entries)
-  pub met : Each (WasMet logs) report.entries
+  pub order : Ascends (map (λ e. e.session) report.entries.list)
+  pub met : Each (WasMet logs) report.entries.list
 
 -- no later one is lower
 abbrev pub NotFalling : List ℕ → Type 0

@@ -52,4 +52,4 @@ abbrev pub session_lines : ℕ → List Line
 session_lines j = if 1 == j then line 1 1 (Some 0) Stored (Some 1) ∷ [] else []
 
 abbrev pub report : Kind → Report
-report kind = record { kind = kind; mark = 1; horizon = 1; removed = 0; entries = [] }
+report kind = record { kind = kind; mark = 1; horizon = 1; removed = 0; entries = record { list = []; room = 0 } }

@@ -19,3 +19,4 @@ pub mod Agreements
 pub mod Found
 pub mod Opening
 pub mod Resting
+pub mod Rounds

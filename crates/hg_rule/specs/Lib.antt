@@ -12,6 +12,8 @@ pub mod Writes
 pub mod Removes
 pub mod Places
 pub mod Handing
+-- What a round of a collector's pass is, and what it reports.
+pub mod Rounds
 -- Seats.
 pub mod Lending
 pub mod Seats

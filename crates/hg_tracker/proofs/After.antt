@@ -24,7 +24,8 @@ use Rattle.hg_rule.specs.Views.{session}
 use Rattle.hg_rule.proofs.Lists.{each_left, each_map}
 use Rattle.hg_rule.proofs.Growing.{among_later}
 use Rattle.hg_tracker.specs.declared.gathered.Gathered.{Gathered}
-use Rattle.hg_tracker.specs.Entries.{down_from, live_entry, entries_of}
+use Rattle.hg_rule.specs.Rounds.{live_entry, entries_of}
+use Rattle.hg_tracker.specs.Entries.{down_from}
 use Rattle.hg_tracker.specs.Gathers.{IsNotedOf}
 use Rattle.hg_tracker.specs.Begun.{AtMost, HasBegun, samples_of, HasLoaded, HasGathered}
 

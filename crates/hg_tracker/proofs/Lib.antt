@@ -1,3 +1,4 @@
+pub mod Rounds
 pub mod Noting
 pub mod After
 pub mod Trying

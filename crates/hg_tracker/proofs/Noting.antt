@@ -20,7 +20,8 @@ use Rattle.hg_core.specs.Passes.{live_numbers, if_live, least, recorded, all_rec
 use Rattle.hg_rule.specs.declared.view.PassPart.{PassPart}
 use Rattle.hg_rule.specs.Facts.{record_of}
 use Rattle.hg_tracker.specs.declared.gathered.Gathered.{Gathered}
-use Rattle.hg_tracker.specs.Entries.{has_number, counts_for, live_entry, entries_of, times, numbers_for, lowest}
+use Rattle.hg_rule.specs.Rounds.{live_entry, entries_of}
+use Rattle.hg_tracker.specs.Entries.{has_number, counts_for, times, numbers_for, lowest}
 use Rattle.hg_tracker.specs.Gathers.{AreListsOf, IsGatherOf}
 
 -- ---- lengths

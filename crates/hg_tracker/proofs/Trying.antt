@@ -27,7 +27,8 @@ use Rattle.hg_rule.specs.Views.{number, pass, others, seeing}
 use Rattle.hg_rule.specs.Steps.{IsMovable, after_try, Moves}
 use Rattle.hg_tracker.specs.declared.gathered.Gathered.{Gathered}
 use Rattle.hg_tracker.specs.Tries.{is_long, tries_of, moved_by, successes, HasTried}
-use Rattle.hg_tracker.specs.Entries.{down_from, live_entry, entries_of}
+use Rattle.hg_rule.specs.Rounds.{live_entry, entries_of}
+use Rattle.hg_tracker.specs.Entries.{down_from}
 use Rattle.hg_tracker.specs.Gathers.{IsNotedOf, IsLoaded, StandsAt}
 use Rattle.hg_tracker.proofs.After.{first_key, none_past}
 

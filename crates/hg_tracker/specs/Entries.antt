@@ -3,8 +3,6 @@ use Rattle.std.specs.Prelude.{ℕ, zero, suc, if◌then◌else◌, ◌^◌, ◌/
 use Rattle.hg_base.specs.declared.scope.Scope.{Scope}
 use Rattle.hg_base.specs.declared.scope.Scope.TheVariants.{All, Declared}
 use Rattle.hg_base.specs.declared.report.Entry.{Entry}
-use Rattle.hg_core.specs.declared.register.Register.{Register}
-use Rattle.hg_core.specs.declared.register.Register.TheVariants.{Idle, Entering, Live}
 
 -- whether a scope has the table of a number
 abbrev pub has_number : Scope → ℕ → Bool
@@ -14,17 +12,6 @@ has_number (Declared mask) table = (mask / 2 ^ table) % 2 == 1
 -- a live register counts for a table where it was not moved, or has it declared
 abbrev pub counts_for : ℕ → Entry → Bool
 counts_for table e = not e.moved || has_number e.scope table
-
--- the entry of a session's register, where it is live
-abbrev pub live_entry : ℕ → Register → List Entry
-live_entry j Idle = []
-live_entry j (Entering f) = []
-live_entry j (Live number scope moved) = record { session = j; number = number; scope = scope; moved = moved } ∷ []
-
--- the entries of registers that were loaded in the order of their sessions, the last one first
-abbrev pub entries_of : List (ℕ × Register) → List Entry
-entries_of [] = []
-entries_of (e ∷ loaded) = entries_of loaded ++ live_entry e.0 e.1
 
 -- n, .., 2, 1
 abbrev pub down_from : ℕ → List ℕ

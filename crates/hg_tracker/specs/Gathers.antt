@@ -9,7 +9,8 @@ use Rattle.hg_core.specs.Words.{IsRegister}
 use Rattle.hg_core.specs.Passes.{least_entering}
 use Rattle.hg_rule.specs.declared.view.PassPart.{PassPart}
 use Rattle.hg_tracker.specs.declared.gathered.Gathered.{Gathered}
-use Rattle.hg_tracker.specs.Entries.{numbers_for, entries_of, down_from}
+use Rattle.hg_rule.specs.Rounds.{entries_of}
+use Rattle.hg_tracker.specs.Entries.{numbers_for, down_from}
 
 -- how many tables it is made for
 abbrev pub tables_in : Gathered → ℕ

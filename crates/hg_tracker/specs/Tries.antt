@@ -9,7 +9,7 @@ use Rattle.hg_rule.specs.declared.view.Event.{Event}
 use Rattle.hg_rule.specs.declared.view.Event.TheVariants.{Move}
 use Rattle.hg_rule.specs.declared.view.View.{View}
 use Rattle.hg_rule.specs.Views.{number, pass, others}
-use Rattle.hg_tracker.specs.Entries.{entries_of}
+use Rattle.hg_rule.specs.Rounds.{entries_of}
 
 -- an entry is long in use at a mark: its tables are declared, it isn't moved, and it is so many commits old
 abbrev pub is_long : ℕ → ℕ → Entry → Bool

@@ -7,7 +7,8 @@ ghost use Rattle.hg_rule.specs.declared.view.PassPart.{PassPart};
 ghost use Rattle.hg_rule.specs.Facts.{record_of};
 ghost use Rattle.hg_base.specs.declared.report.Entry.{Entry};
 ghost use Rattle.hg_tracker.specs.Gathers.{AreListsOf};
-ghost use Rattle.hg_tracker.specs.Entries.{has_number, counts_for, numbers_for, live_entry, entries_of, lowest, times};
+ghost use Rattle.hg_rule.specs.Rounds.{live_entry, entries_of};
+ghost use Rattle.hg_tracker.specs.Entries.{has_number, counts_for, numbers_for, lowest, times};
 
 use hg_base::{Entry, NoMemory, Scope, TableId};
 use hg_core::Register;

@@ -1,7 +1,7 @@
 use Rattle.std.proofs.Common.{◌≡◌, ◌+◌, ◌≤◌, length, arith, sym, ap, subst}
 use Rattle.hg_rule.specs.Views.{pass}
 use Rattle.hg_rule.specs.Seats.{pass_view}
-use Rattle.hg_tracker.specs.Entries.{entries_of}
+use Rattle.hg_rule.specs.Rounds.{entries_of}
 use Rattle.hg_tracker.specs.Gathers.{IsNotedOf}
 use Rattle.hg_tracker.specs.Begun.{HasLoaded}
 use Rattle.hg_tracker.specs.Boards.{board_sizes}

@@ -2,7 +2,7 @@ use Rattle.std.proofs.Common.{rules, ◌≡◌, ℕ, ◌<◌, length, get_or, tr
 use Rattle.hg_rule.specs.Views.{pass}
 use Rattle.hg_rule.specs.Seats.{pass_view}
 use Rattle.hg_rule.specs.Steps.{Moves}
-use Rattle.hg_tracker.specs.Entries.{entries_of}
+use Rattle.hg_rule.specs.Rounds.{entries_of}
 use Rattle.hg_tracker.specs.Tries.{is_long}
 use Rattle.hg_tracker.specs.Boards.{board_sizes}
 use Rattle.hg_tracker.proofs.Noting.{entries_most}

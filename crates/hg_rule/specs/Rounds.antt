@@ -1,0 +1,113 @@
+-- A round of a collector's pass: the steps that it made from one load of the mark up to the next, or to the end. What it
+-- loaded, moved, took and removed is read from these steps alone, and so is what it reports.
+use Rattle.std.specs.Prelude.{◌≡◌, ℕ, suc, ◌+◌, max, true, Bool, List, [], ◌∷◌, ◌++◌, map, ⊤}
+use Rattle.hg_base.specs.declared.report.Kind.{Kind}
+use Rattle.hg_base.specs.declared.report.Entry.{Entry}
+use Rattle.hg_base.specs.declared.report.Report.{Report}
+use Rattle.hg_base.specs.declared.report.Sweep.{Sweep}
+use Rattle.hg_base.specs.Lists.{Each}
+use Rattle.hg_base.specs.Reports.{told_of}
+use Rattle.hg_core.specs.declared.register.Register.{Register}
+use Rattle.hg_core.specs.declared.register.Register.TheVariants.{Idle, Entering, Live}
+use Rattle.hg_core.specs.Passes.{PassRecord, horizon}
+use Rattle.hg_core.specs.Events.{moved_in}
+use Rattle.hg_rule.specs.declared.view.PassPart.{PassPart}
+use Rattle.hg_rule.specs.declared.view.Event.{Event}
+use Rattle.hg_rule.specs.declared.view.Event.TheVariants.{Mark, Sample, Move, Reclaim, Take}
+use Rattle.hg_rule.specs.declared.view.Sight.{Sight}
+use Rattle.hg_rule.specs.declared.view.Sight.TheVariants.{Saw, Heard, Took, Did}
+
+-- ---- which steps are one
+
+abbrev pub IsNoMark : Event → Type 0
+IsNoMark (Mark p mark) = ⊥
+IsNoMark _ = ⊤
+
+-- they begin with a load of the mark by pass p, and no other follows
+abbrev pub IsRound : ℕ → List Event → Type 0
+IsRound p [] = ⊥
+IsRound p (Mark q mark ∷ events) = (q ≡ p) × Each IsNoMark events
+IsRound p (_ ∷ events) = ⊥
+
+-- ---- its record
+
+-- the mark that it loaded
+abbrev pub mark_in : List Event → ℕ
+mark_in [] = 0
+mark_in (Mark p mark ∷ events) = mark
+mark_in (_ ∷ events) = mark_in events
+
+-- the registers, once a step was made: a sample comes first, and a move that succeeded shows
+abbrev pub then_loaded : Event → List (ℕ × Register) → List (ℕ × Register)
+then_loaded (Sample p j register) loaded = (j, register) ∷ loaded
+then_loaded (Move p j number true) loaded = moved_in j loaded
+then_loaded _ loaded = loaded
+
+abbrev pub loaded_after : List (ℕ × Register) → List Event → List (ℕ × Register)
+loaded_after loaded [] = loaded
+loaded_after loaded (e ∷ events) = loaded_after (then_loaded e loaded) events
+
+-- the record that it makes; of the logs it says nothing
+abbrev pub round_record : List Event → PassRecord
+round_record events = record { mark = mark_in events; known = λ j. 0; loaded = loaded_after [] events }
+
+-- pass p made the record that it has in this round
+pub record IsRoundOf (p : ℕ) (part : PassPart) (events : List Event) : Type 0 where
+  pub round : IsRound p events
+  pub mark_is : part.mark ≡ mark_in events
+  pub loaded_is : part.loaded ≡ (round_record events).loaded
+
+-- ---- what it did
+
+-- its tries to move a snapshot: whose, at which number, and whether it was moved
+abbrev pub moves_in : List Event → List (ℕ × (ℕ × Bool))
+moves_in [] = []
+moves_in (Move p j number moved ∷ events) = (j, (number, moved)) ∷ moves_in events
+moves_in (_ ∷ events) = moves_in events
+
+-- how many groups it took
+abbrev pub takes_in : List Event → ℕ
+takes_in [] = 0
+takes_in (Take p mark ∷ events) = suc (takes_in events)
+takes_in (_ ∷ events) = takes_in events
+
+-- how many versions it removed
+abbrev pub removed_in : List Event → ℕ
+removed_in [] = 0
+removed_in (Reclaim p kind rid n ∷ events) = n + removed_in events
+removed_in (_ ∷ events) = removed_in events
+
+-- ---- its report
+
+-- the entry of a session's register, where it is live
+abbrev pub live_entry : ℕ → Register → List Entry
+live_entry j Idle = []
+live_entry j (Entering f) = []
+live_entry j (Live number scope moved) = record { session = j; number = number; scope = scope; moved = moved } ∷ []
+
+-- the entries of registers that were loaded in the order of their sessions, the last one first
+abbrev pub entries_of : List (ℕ × Register) → List Entry
+entries_of [] = []
+entries_of (e ∷ loaded) = entries_of loaded ++ live_entry e.0 e.1
+
+-- the report of a round of that kind of collector, whatever room its list has
+pub record IsReportOf (kind : Kind) (events : List Event) (report : Report) : Type 0 where
+  pub kind_is : report.kind ≡ kind
+  pub mark_is : report.mark ≡ mark_in events
+  pub horizon_is : report.horizon ≡ horizon (round_record events)
+  pub removed_is : report.removed ≡ removed_in events
+  pub entries_are : report.entries.list ≡ entries_of (round_record events).loaded
+
+-- and as it is printed
+abbrev pub round_told : Kind → List Event → Sweep
+round_told kind events = record { kind = kind; mark = mark_in events; horizon = horizon (round_record events); removed = removed_in events; held = map told_of (entries_of (round_record events).loaded) }
+
+-- ---- groups
+
+-- how many groups a pass has seen taken
+abbrev pub seen_taken : List Sight → ℕ
+seen_taken [] = 0
+seen_taken (Saw h ∷ sights) = seen_taken sights
+seen_taken (Heard j log ∷ sights) = seen_taken sights
+seen_taken (Took n ∷ sights) = max n (seen_taken sights)
+seen_taken (Did e ∷ sights) = seen_taken sights
