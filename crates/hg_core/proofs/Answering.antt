@@ -1,6 +1,8 @@
 -- Each statement of a log is answered as a table would that never reclaims.
 use Rattle.std.proofs.Common.{◌≡◌, ℕ, ℤ, ◌<◌, ◌≤◌, List, [], ◌∷◌, ◌++◌, length, Bool, true, false, Option, Some, None, refl, sym, ap, ◌∙◌, subst, arith}
-use Rattle.std.specs.Prelude.{◌==◌, if◌then◌else◌, Contains, IsFalse, IfSome, unwrap_or}
+use Rattle.std.specs.Prelude.{◌==◌, ◌%◌, if◌then◌else◌, Contains, IsFalse, IfSome, unwrap_or}
+use Rattle.std.proofs.lemmas.Nat.{pow_pos}
+use Rattle.std.proofs.Math.Nat.{div_self}
 use Rattle.std.proofs.lemmas.List.Elements.{Contains-append_left, Contains-append_right}
 use Rattle.std.proofs.lemmas.Bool.Decides.{nat_tests}
 use Rattle.hg_base.specs.declared.rid.Rid.{Rid}
@@ -8,7 +10,7 @@ use Rattle.hg_base.specs.declared.scope.Snapshot.{Snapshot}
 use Rattle.hg_base.specs.declared.statement.Statement.{Statement}
 use Rattle.hg_base.specs.declared.statement.Statement.TheVariants.{Begin, Get, Put, Del, Scan, Commit as CommitIt, Rollback, Gc}
 use Rattle.hg_base.specs.declared.line.Answer.{Answer}
-use Rattle.hg_base.specs.declared.line.Answer.TheVariants.{Committed, Newer, OpenBy}
+use Rattle.hg_base.specs.declared.line.Answer.TheVariants.{Rows, Committed, Newer, OpenBy}
 use Rattle.hg_base.specs.declared.line.Reply.{Reply}
 use Rattle.hg_base.specs.Script.{replay}
 use Rattle.hg_base.specs.History.{History, seen, group_at}
@@ -21,7 +23,7 @@ use Rattle.hg_core.specs.declared.log.LogEntry.TheVariants.{Began, Saw, Refused,
 use Rattle.hg_core.specs.Logs.{current, own_writes, commit_in, published, UpTo}
 use Rattle.hg_core.specs.Judged.{of_session}
 use Rattle.hg_core.specs.Replies.{AreReplied}
-use Rattle.hg_core.specs.Reading.{Unprinted, close, commit_entries, put_entries, del_entries, own_entries, is_access, is_alone, log_with, log_after, FitsAnswer, Fits}
+use Rattle.hg_core.specs.Reading.{Unprinted, close, commit_entries, put_entries, del_entries, own_entries, is_access, is_alone, log_with, log_after, FitsAnswer, FitsScope, Fits}
 use Rattle.hg_core.specs.Answered.{begun_log, done_log, is_gc, StandsAt, IsCaused, IsAnswered}
 use Rattle.hg_core.specs.State.{CoreState}
 use Rattle.hg_core.specs.Invariant.{IsSteady}
@@ -95,6 +97,19 @@ current_at statement reply before access = go (current before) refl
     go None e = (record { at = unwrap_or reply.at 0; scope = only (table_of statement) }, ap (λ b. current (access_log b statement reply before)) access)
     go (Some c) e = (c, e)
 
+-- its own transaction has the table of a statement
+pub scope_alone : (statement : Statement) (a : Answer) → FitsScope (only (table_of statement)) statement a
+scope_alone (Scan table low high) (Rows rows) = ap (λ n. (n % 2) == 1) (div_self (pow_pos table.0))
+scope_alone (Scan table low high) _ = tt
+scope_alone _ a = tt
+
+scope_at : (statement : Statement) (reply : Reply) (before : List LogEntry) → is_access statement ≡ true → IfSome (current before) (λ snapshot. FitsScope snapshot.scope statement reply.answer) → (c : Snapshot) → current (access_log (is_alone (current before) statement) statement reply before) ≡ Some c → FitsScope c.scope statement reply.answer
+scope_at statement reply before access declared c e = go (current before) refl declared e
+  where
+    go : (x : Option Snapshot) → current before ≡ x → IfSome x (λ snapshot. FitsScope snapshot.scope statement reply.answer) → current (access_log (is_alone x statement) statement reply before) ≡ Some c → FitsScope c.scope statement reply.answer
+    go None q s e = of_some (current (access_log true statement reply before)) (λ snapshot. FitsScope snapshot.scope statement reply.answer) c (ap (λ b. current (access_log b statement reply before)) (sym access) ∙ e) (scope_alone statement reply.answer)
+    go (Some d) q s e = of_some (Some d) (λ snapshot. FitsScope snapshot.scope statement reply.answer) c (sym q ∙ e) s
+
 -- ---- its snapshot
 
 snapshot_up : (n buckets : ℕ) (u : Unprinted) (statement : Statement) (reply : Reply) (before : List LogEntry) → UpTo n (log_after buckets u statement reply before) → UpTo n (begun_log statement reply before)
@@ -110,30 +125,32 @@ snapshot_up n buckets u (Gc kind) reply before up = up_at n buckets u (Gc kind) 
 -- ---- its answer
 
 access_answered : (buckets : ℕ) (h : History) (logs : ℕ → List LogEntry) (j : ℕ) (u : Unprinted) (before : List LogEntry) (now : Said) (statement : Statement) → 0 < buckets → is_access statement ≡ true → AreReplied buckets h logs j (log_after buckets u statement now.reply before) → FitsAnswer buckets u (own_writes before) statement now.reply.answer
+    → IfSome (current before) (λ snapshot. FitsScope snapshot.scope statement now.reply.answer)
     → IfSome (current (access_log (is_alone (current before) statement) statement now.reply before)) (λ snapshot. (now.at ≡ snapshot.at) × (now.scope ≡ snapshot.scope))
     → (let own = own_writes (access_log (is_alone (current before) statement) statement now.reply before) in IsAnswer replay (seen h own now.at) (is_written own) now statement)
-access_answered buckets h logs j u before now statement some access g fits at =
+access_answered buckets h logs j u before now statement some access g fits declared at =
     let l : List LogEntry = access_log (is_alone (current before) statement) statement now.reply before in
     let c = current_at statement now.reply before access in
     let same = of_some (current l) (λ snapshot. (now.at ≡ snapshot.at) × (now.scope ≡ snapshot.scope)) c.0 c.1 at in
     subst (λ n. IsAnswer replay (seen h (own_writes l) n) (is_written (own_writes l)) now statement) (sym same.0)
-    (answer_right replay buckets h logs (is_written (own_writes l)) u j (own_writes before) statement now l c.0 (places_of buckets some) c.1 same.1 access fits (replied_at buckets h logs j u statement now.reply before (is_alone (current before) statement) g))
+    (answer_right replay buckets h logs (is_written (own_writes l)) u j (own_writes before) statement now l c.0 (places_of buckets some) c.1 same.1 access fits (scope_at statement now.reply before access declared c.0 c.1) (replied_at buckets h logs j u statement now.reply before (is_alone (current before) statement) g))
 
 -- a commit or a rollback reads the log before it
 own_before : (statement : Statement) (reply : Reply) (before : List LogEntry) → is_access statement ≡ false → own_writes (access_log (is_alone (current before) statement) statement reply before) ≡ own_writes before
 own_before statement reply before e = ap (λ b. own_writes (access_log b statement reply before)) (not_alone (current before) statement e)
 
 answer_due : (buckets : ℕ) (h : History) (logs : ℕ → List LogEntry) (j : ℕ) (u : Unprinted) (before : List LogEntry) (now : Said) (statement : Statement) → 0 < buckets → IsFalse (is_gc statement) → AreReplied buckets h logs j (log_after buckets u statement now.reply before) → FitsAnswer buckets u (own_writes before) statement now.reply.answer
+    → IfSome (current before) (λ snapshot. FitsScope snapshot.scope statement now.reply.answer)
     → IfSome (current (begun_log statement now.reply before)) (λ snapshot. (now.at ≡ snapshot.at) × (now.scope ≡ snapshot.scope))
     → (let own = own_writes (begun_log statement now.reply before) in IsAnswer replay (seen h own now.at) (is_written own) now statement)
-answer_due buckets h logs j u before now (Begin scope) some logged g fits at = fits
-answer_due buckets h logs j u before now (Get r) some logged g fits at = access_answered buckets h logs j u before now (Get r) some refl g fits at
-answer_due buckets h logs j u before now (Put r row) some logged g fits at = access_answered buckets h logs j u before now (Put r row) some refl g fits at
-answer_due buckets h logs j u before now (Del r) some logged g fits at = access_answered buckets h logs j u before now (Del r) some refl g fits at
-answer_due buckets h logs j u before now (Scan table low high) some logged g fits at = access_answered buckets h logs j u before now (Scan table low high) some refl g fits at
-answer_due buckets h logs j u before now CommitIt some logged g fits at = subst (λ own. IsCommitted (is_written own) now.reply.answer) (sym (own_before CommitIt now.reply before refl)) fits
-answer_due buckets h logs j u before now Rollback some logged g fits at = fits.0
-answer_due buckets h logs j u before now (Gc kind) some logged g fits at = absurd (let z : true ≡ false = logged in cc)
+answer_due buckets h logs j u before now (Begin scope) some logged g fits declared at = fits
+answer_due buckets h logs j u before now (Get r) some logged g fits declared at = access_answered buckets h logs j u before now (Get r) some refl g fits declared at
+answer_due buckets h logs j u before now (Put r row) some logged g fits declared at = access_answered buckets h logs j u before now (Put r row) some refl g fits declared at
+answer_due buckets h logs j u before now (Del r) some logged g fits declared at = access_answered buckets h logs j u before now (Del r) some refl g fits declared at
+answer_due buckets h logs j u before now (Scan table low high) some logged g fits declared at = access_answered buckets h logs j u before now (Scan table low high) some refl g fits declared at
+answer_due buckets h logs j u before now CommitIt some logged g fits declared at = subst (λ own. IsCommitted (is_written own) now.reply.answer) (sym (own_before CommitIt now.reply before refl)) fits
+answer_due buckets h logs j u before now Rollback some logged g fits declared at = fits.0
+answer_due buckets h logs j u before now (Gc kind) some logged g fits declared at = absurd (let z : true ≡ false = logged in cc)
 
 -- ---- the cause of a refusal
 
@@ -202,7 +219,7 @@ answered s h some j later before u now log fits stands =
     let up : UpTo (length s.history) (log_after s.buckets u now.statement now.reply before) = older_up (length s.history) later _ (subst (UpTo (length s.history)) log (h.logs_answer.within j)) in
     record {
       snapshot = current_up (length s.history) (begun_log now.statement now.reply before) (snapshot_up (length s.history) s.buckets u now.statement now.reply before up);
-      answer = answer_due s.buckets s.history s.log j u before now now.statement some stands.logged replied fits.answer stands.snapshot;
+      answer = answer_due s.buckets s.history s.log j u before now now.statement some stands.logged replied fits.answer fits.scope stands.snapshot;
       cause = cause_due s.buckets s.history s.log j u before now now.statement replied stands.snapshot;
       number = subst (λ b. IfSome (number_by b now.statement now.reply) (λ n. Contains (of_session j (group_at s.history n)) (commit_in j (done_log s.buckets u now.statement now.reply before)))) (sym stands.alone)
           (if_some_keeps (number_by (is_alone (current before) now.statement) now.statement now.reply)

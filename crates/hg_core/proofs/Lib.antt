@@ -32,6 +32,7 @@ pub mod Commits
 pub mod Earlier
 pub mod Settling
 pub mod Remaining
+pub mod OwnKeys
 pub mod Right
 pub mod Answering
 pub mod Runs

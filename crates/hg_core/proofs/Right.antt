@@ -20,10 +20,12 @@ use Rattle.hg_base.specs.Transcript.{Said, has}
 use Rattle.hg_base.specs.Replies.{IsGot, IsPut, IsDeleted, IsScanned, WithinScope, IsAnswer, AreRows}
 use Rattle.hg_base.proofs.ListFacts.{cases, each_at, each_keeps}
 use Rattle.hg_core.specs.declared.log.LogEntry.{LogEntry}
+use Rattle.hg_core.specs.declared.log.LogEntry.TheVariants.{Saw}
 use Rattle.hg_core.specs.Logs.{current, own_writes}
-use Rattle.hg_core.specs.Contents.{bucket_of}
+use Rattle.hg_core.specs.Contents.{bucket_of, has_own}
 use Rattle.hg_core.specs.Replies.{in_bucket, AreReplied}
-use Rattle.hg_core.specs.Reading.{Unprinted, saws, get_entries, put_entries, del_entries, scan_entries, own_entries, is_access, Joins, IsGetAnswer, IsDelAnswer, IsScanAnswer, FitsTable, FitsAnswer}
+use Rattle.hg_core.specs.Reading.{Unprinted, saws, get_entries, put_entries, del_entries, scan_entries, own_entries, is_access, IsReached, Joins, IsGetAnswer, IsDelAnswer, IsScanAnswer, FitsTable, FitsAnswer, FitsScope}
+use Rattle.hg_core.proofs.OwnKeys.{reached, saws_keep}
 
 true_false : true ≡ false → ⊥
 true_false e = cc
@@ -117,23 +119,33 @@ del_right buckets h logs j found r _ l c e f g = absurd f
 -- ---- scan
 
 -- reads leave the open transaction and its writes as they are
-saws_same : (t : TableId) (low high : ℕ) (part : ℕ → List (ℕ × List ℤ)) (n : ℕ) (l : List LogEntry) → (current (saws t low high part n ++ l) ≡ current l) × (own_writes (saws t low high part n ++ l) ≡ own_writes l)
-saws_same t low high part zero l = (refl, refl)
-saws_same t low high part (suc n) l = saws_same t low high part n l
+saws_same : (buckets : ℕ) (t : TableId) (low high : ℕ) (part : ℕ → List (ℕ × List ℤ)) (n : ℕ) (l : List LogEntry) → (current (saws buckets t low high part n ++ l) ≡ current l) × (own_writes (saws buckets t low high part n ++ l) ≡ own_writes l)
+saws_same buckets t low high part n l = saws_keep (λ m. (current m ≡ current l) × (own_writes m ≡ own_writes l)) buckets t low high part n l (λ b rows m same. same) (refl, refl)
 
 -- bucket b of a scan
 abbrev pub SawPart : ℕ → History → List Write → Snapshot → TableId → ℕ → ℕ → (ℕ → List (ℕ × List ℤ)) → ℕ → Type 0
 SawPart buckets h own c t low high part b = IsTrue (has c.scope t) × AreRows (in_bucket buckets b t (seen h own c.at)) low high (part b)
 
-pub saws_replied : (buckets : ℕ) (h : History) (logs : ℕ → List LogEntry) (j : ℕ) (t : TableId) (low high : ℕ) (part : ℕ → List (ℕ × List ℤ)) (n : ℕ) (l : List LogEntry) (c : Snapshot) → current l ≡ Some c → AreReplied buckets h logs j (saws t low high part n ++ l) → (b : ℕ) → b < n → SawPart buckets h (own_writes l) c t low high part b
-saws_replied buckets h logs j t low high part zero l c e g b k = absurd (omega (arith, k))
-saws_replied buckets h logs j t low high part (suc n) l c e g b k =
-    let same_log = saws_same t low high part n l in
+pub saws_replied : (buckets : ℕ) (h : History) (logs : ℕ → List LogEntry) (j : ℕ) (t : TableId) (low high : ℕ) (part : ℕ → List (ℕ × List ℤ)) (n : ℕ) (l : List LogEntry) (c : Snapshot) → current l ≡ Some c → AreReplied buckets h logs j (saws buckets t low high part n ++ l) → (b : ℕ) → b < n → has_own buckets t low high b ≡ true → SawPart buckets h (own_writes l) c t low high part b
+saws_replied buckets h logs j t low high part zero l c e g b k has = absurd (omega (arith, k))
+saws_replied buckets h logs j t low high part (suc n) l c e g b k has =
     cases (b == n)
-    (λ same. subst (SawPart buckets h (own_writes l) c t low high part) (sym ((Decides-eqb b n).0 same))
-    (subst (λ ws. SawPart buckets h ws c t low high part n) same_log.1 (of_some (current (saws t low high part n ++ l)) _ c (same_log.0 ∙ e) g.0)))
-    (λ other. saws_replied buckets h logs j t low high part n l c e g.1 b (below_else b n k other))
+    (λ same. let is : b ≡ n = (Decides-eqb b n).0 same in subst (SawPart buckets h (own_writes l) c t low high part) (sym is) (newest (has_own buckets t low high n) (ap (has_own buckets t low high) (sym is) ∙ has) g))
+    (λ other. saws_replied buckets h logs j t low high part n l c e (older (has_own buckets t low high n) g) b (below_else b n k other) has)
   where
+    AreSeen : Bool → Type 0
+    AreSeen x = AreReplied buckets h logs j ((if x then Saw t low high n (part n) ∷ saws buckets t low high part n else saws buckets t low high part n) ++ l)
+
+    newest : (x : Bool) → x ≡ true → AreSeen x → SawPart buckets h (own_writes l) c t low high part n
+    newest true is g =
+        let same_log = saws_same buckets t low high part n l in
+        subst (λ ws. SawPart buckets h ws c t low high part n) same_log.1 (of_some (current (saws buckets t low high part n ++ l)) _ c (same_log.0 ∙ e) g.0)
+    newest false is g = absurd (true_false (sym is))
+
+    older : (x : Bool) → AreSeen x → AreReplied buckets h logs j (saws buckets t low high part n ++ l)
+    older true g = g.1
+    older false g = g
+
     below_else : (m i : ℕ) → m < suc i → (m == i) ≡ false → m < i
     below_else m i q e = grind (arith, nat_tests)
 
@@ -148,17 +160,18 @@ any_contained p [] ys h e = absurd (let k : false ≡ true = e in cc)
 any_contained p (x ∷ xs) ys h e = cases (p x) (λ q. contains_any p x ys h.0 q) (λ q. any_contained p xs ys h.1 (sym (ap (λ b. b || list_any p xs) q) ∙ e))
 
 -- the rows of all parts are those of the range
-pub joined_rows : (buckets : ℕ) (t : TableId) (f : Rid → Image) (low high : ℕ) (part : ℕ → List (ℕ × List ℤ)) (rows : List (ℕ × List ℤ)) → ((r : Rid) → bucket_of buckets r < buckets) → Joins buckets part rows → ((b : ℕ) → b < buckets → AreRows (in_bucket buckets b t f) low high (part b)) →
+pub joined_rows : (buckets : ℕ) (t : TableId) (f : Rid → Image) (low high : ℕ) (part : ℕ → List (ℕ × List ℤ)) (rows : List (ℕ × List ℤ)) → ((r : Rid) → bucket_of buckets r < buckets) → Joins (IsReached buckets t low high) part rows → ((b : ℕ) → IsReached buckets t low high b → AreRows (in_bucket buckets b t f) low high (part b)) →
     AreRows (λ key. f (record { table = t; key = key })) low high rows
 joined_rows buckets t f low high part rows places joins parts = record {
   ascend = joins.ascend;
-  each = each_keeps (λ (p : ℕ × List ℤ). (b : ℕ) × (b < buckets) × Contains (part b) p) (λ (p : ℕ × List ℤ). (low ≤ p.0) × (p.0 ≤ high) × ((f (record { table = t; key = p.0 })).row ≡ Some p.1)) (λ p m. one p m.0 m.1 m.2) rows joins.each;
+  each = each_keeps (λ (p : ℕ × List ℤ). (b : ℕ) × IsReached buckets t low high b × Contains (part b) p) (λ (p : ℕ × List ℤ). (low ≤ p.0) × (p.0 ≤ high) × ((f (record { table = t; key = p.0 })).row ≡ Some p.1)) (λ p m. one p m.0 m.1 m.2) rows joins.each;
   every = λ key lo hi.
       let b = bucket_of buckets (record { table = t; key = key }) in
-      here key (any_contained (λ p. p.0 == key) (part b) rows (joins.every b (places (record { table = t; key = key })))) ((parts b (places (record { table = t; key = key }))).every key lo hi);
+      let is : IsReached buckets t low high b = (places (record { table = t; key = key }), reached buckets t low high key lo hi) in
+      here key (any_contained (λ p. p.0 == key) (part b) rows (joins.every b is)) ((parts b is).every key lo hi);
 }
   where
-    one : (p : ℕ × List ℤ) (b : ℕ) → b < buckets → Contains (part b) p → (low ≤ p.0) × (p.0 ≤ high) × ((f (record { table = t; key = p.0 })).row ≡ Some p.1)
+    one : (p : ℕ × List ℤ) (b : ℕ) → IsReached buckets t low high b → Contains (part b) p → (low ≤ p.0) × (p.0 ≤ high) × ((f (record { table = t; key = p.0 })).row ≡ Some p.1)
     one p b k c = let q = each_at (λ (p : ℕ × List ℤ). (low ≤ p.0) × (p.0 ≤ high) × ((in_bucket buckets b t f p.0).row ≡ Some p.1)) (part b) p (parts b k).each c in (q.0, q.1, row_here buckets b t f p.0 p.1 q.2)
 
     here : (key : ℕ) → (list_any (λ p. p.0 == key) (part (bucket_of buckets (record { table = t; key = key }))) ≡ true → list_any (λ p. p.0 == key) rows ≡ true) →
@@ -166,24 +179,23 @@ joined_rows buckets t f low high part rows places joins parts = record {
     here key k (inl q) = inl (k q)
     here key k (inr q) = inr (ap (λ (i : Image). i.row) (sym (shown_here buckets (record { table = t; key = key }) f)) ∙ q)
 
-pub scan_right : (buckets : ℕ) (h : History) (logs : ℕ → List LogEntry) (j : ℕ) (part : ℕ → List (ℕ × List ℤ)) (t : TableId) (low high : ℕ) (a : Answer) (l : List LogEntry) (c : Snapshot) → ((r : Rid) → bucket_of buckets r < buckets) → current l ≡ Some c → FitsTable t a (IsScanAnswer buckets part a) → AreReplied buckets h logs j (scan_entries buckets part t low high a ++ l) →
+pub scan_right : (buckets : ℕ) (h : History) (logs : ℕ → List LogEntry) (j : ℕ) (part : ℕ → List (ℕ × List ℤ)) (t : TableId) (low high : ℕ) (a : Answer) (l : List LogEntry) (c : Snapshot) → ((r : Rid) → bucket_of buckets r < buckets) → current l ≡ Some c → FitsTable t a (IsScanAnswer (IsReached buckets t low high) part a) → FitsScope c.scope (Scan t low high) a → AreReplied buckets h logs j (scan_entries buckets part t low high a ++ l) →
     WithinScope c.scope t a (IsScanned (λ key. seen h (own_writes l) c.at (record { table = t; key = key })) low high a)
-scan_right buckets h logs j part t low high (Rows rows) l c places e f g =
-    let saw : (b : ℕ) → b < buckets → SawPart buckets h (own_writes l) c t low high part b = saws_replied buckets h logs j t low high part buckets l c e g in
-    within (has c.scope t) _ _ (saw (bucket_of buckets (record { table = t; key = low })) (places (record { table = t; key = low }))).0
-    (joined_rows buckets t (seen h (own_writes l) c.at) low high part rows places f (λ b k. (saw b k).1))
-scan_right buckets h logs j part t low high (Undeclared other) l c places e f g = undeclared c.scope other t (IsScanned (λ key. seen h (own_writes l) c.at (record { table = t; key = key })) low high (Undeclared other)) (of_some (current l) _ c e g.0) f
-scan_right buckets h logs j part t low high _ l c places e f g = absurd f
+scan_right buckets h logs j part t low high (Rows rows) l c places e f s g =
+    let saw : (b : ℕ) → b < buckets → has_own buckets t low high b ≡ true → SawPart buckets h (own_writes l) c t low high part b = saws_replied buckets h logs j t low high part buckets l c e g in
+    within (has c.scope t) _ _ s (joined_rows buckets t (seen h (own_writes l) c.at) low high part rows places f (λ b k. (saw b k.0 k.1).1))
+scan_right buckets h logs j part t low high (Undeclared other) l c places e f s g = undeclared c.scope other t (IsScanned (λ key. seen h (own_writes l) c.at (record { table = t; key = key })) low high (Undeclared other)) (of_some (current l) _ c e g.0) f
+scan_right buckets h logs j part t low high _ l c places e f s g = absurd f
 
 -- ---- any of them
 
-pub answer_right : (mode : Mode) (buckets : ℕ) (h : History) (logs : ℕ → List LogEntry) (wrote : Bool) (u : Unprinted) (j : ℕ) (own : List Write) (s : Statement) (now : Said) (l : List LogEntry) (c : Snapshot) → ((r : Rid) → bucket_of buckets r < buckets) → current l ≡ Some c → now.scope ≡ c.scope → IsTrue (is_access s) → FitsAnswer buckets u own s now.reply.answer → AreReplied buckets h logs j (own_entries buckets u s now.reply.answer ++ l) →
+pub answer_right : (mode : Mode) (buckets : ℕ) (h : History) (logs : ℕ → List LogEntry) (wrote : Bool) (u : Unprinted) (j : ℕ) (own : List Write) (s : Statement) (now : Said) (l : List LogEntry) (c : Snapshot) → ((r : Rid) → bucket_of buckets r < buckets) → current l ≡ Some c → now.scope ≡ c.scope → IsTrue (is_access s) → FitsAnswer buckets u own s now.reply.answer → FitsScope c.scope s now.reply.answer → AreReplied buckets h logs j (own_entries buckets u s now.reply.answer ++ l) →
     IsAnswer mode (seen h (own_writes l) c.at) wrote now s
-answer_right mode buckets h logs wrote u j own (Get r) now l c places e sc i f g = subst (λ scope. WithinScope scope r.table now.reply.answer (IsGot (seen h (own_writes l) c.at r) now.reply.answer)) (sym sc) (get_right buckets h logs j r now.reply.answer l c e f g)
-answer_right mode buckets h logs wrote u j own (Put r row) now l c places e sc i f g = subst (λ scope. WithinScope scope r.table now.reply.answer (IsPut now.reply.answer)) (sym sc) (put_right buckets h logs j r row now.reply.answer l c e f g)
-answer_right mode buckets h logs wrote u j own (Del r) now l c places e sc i f g = subst (λ scope. WithinScope scope r.table now.reply.answer (IsDeleted (seen h (own_writes l) c.at r) now.reply.answer)) (sym sc) (del_right buckets h logs j u.found r now.reply.answer l c e f g)
-answer_right mode buckets h logs wrote u j own (Scan t low high) now l c places e sc i f g = subst (λ scope. WithinScope scope t now.reply.answer (IsScanned (λ key. seen h (own_writes l) c.at (record { table = t; key = key })) low high now.reply.answer)) (sym sc) (scan_right buckets h logs j u.part t low high now.reply.answer l c places e f g)
-answer_right mode buckets h logs wrote u j own (Begin scope) now l c places e sc i f g = absurd (let k : false ≡ true = i in cc)
-answer_right mode buckets h logs wrote u j own CommitIt now l c places e sc i f g = absurd (let k : false ≡ true = i in cc)
-answer_right mode buckets h logs wrote u j own Rollback now l c places e sc i f g = absurd (let k : false ≡ true = i in cc)
-answer_right mode buckets h logs wrote u j own (Gc kind) now l c places e sc i f g = absurd (let k : false ≡ true = i in cc)
+answer_right mode buckets h logs wrote u j own (Get r) now l c places e sc i f k g = subst (λ scope. WithinScope scope r.table now.reply.answer (IsGot (seen h (own_writes l) c.at r) now.reply.answer)) (sym sc) (get_right buckets h logs j r now.reply.answer l c e f g)
+answer_right mode buckets h logs wrote u j own (Put r row) now l c places e sc i f k g = subst (λ scope. WithinScope scope r.table now.reply.answer (IsPut now.reply.answer)) (sym sc) (put_right buckets h logs j r row now.reply.answer l c e f g)
+answer_right mode buckets h logs wrote u j own (Del r) now l c places e sc i f k g = subst (λ scope. WithinScope scope r.table now.reply.answer (IsDeleted (seen h (own_writes l) c.at r) now.reply.answer)) (sym sc) (del_right buckets h logs j u.found r now.reply.answer l c e f g)
+answer_right mode buckets h logs wrote u j own (Scan t low high) now l c places e sc i f k g = subst (λ scope. WithinScope scope t now.reply.answer (IsScanned (λ key. seen h (own_writes l) c.at (record { table = t; key = key })) low high now.reply.answer)) (sym sc) (scan_right buckets h logs j u.part t low high now.reply.answer l c places e f k g)
+answer_right mode buckets h logs wrote u j own (Begin scope) now l c places e sc i f k g = absurd (let z : false ≡ true = i in cc)
+answer_right mode buckets h logs wrote u j own CommitIt now l c places e sc i f k g = absurd (let z : false ≡ true = i in cc)
+answer_right mode buckets h logs wrote u j own Rollback now l c places e sc i f k g = absurd (let z : false ≡ true = i in cc)
+answer_right mode buckets h logs wrote u j own (Gc kind) now l c places e sc i f k g = absurd (let z : false ≡ true = i in cc)

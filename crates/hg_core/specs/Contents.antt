@@ -1,6 +1,9 @@
 -- What the buckets hold: records with their versions.
-use Rattle.std.specs.Prelude.{ℕ, ◌+◌, ◌*◌, ◌%◌, List, [], ◌∷◌, Bool, false, ◌==◌, ◌&&◌, ◌||◌, if◌then◌else◌}
+use Rattle.std.specs.Prelude.{ℕ, ◌+◌, ◌-◌, ◌*◌, ◌%◌, List, [], ◌∷◌, Bool, false, ◌==◌, ◌&&◌, ◌||◌, if◌then◌else◌}
+use Rattle.std.specs.List.{list_any}
 use Rattle.hg_base.specs.declared.rid.Rid.{Rid}
+use Rattle.hg_base.specs.declared.rid.TableId.{TableId}
+use Rattle.hg_base.specs.Lists.{numbers_from}
 use Rattle.hg_base.specs.History.{same_rid}
 use Rattle.hg_core.specs.declared.version.Version.{Version}
 
@@ -11,6 +14,10 @@ Content = List (Rid × List Version)
 -- the bucket of a record
 unfoldable pub bucket_of : ℕ → Rid → ℕ
 bucket_of buckets r = (r.key % buckets + 31 * r.table.0) % buckets
+
+-- whether some key from low to high is the bucket's own
+unfoldable pub has_own : ℕ → TableId → ℕ → ℕ → ℕ → Bool
+has_own buckets table low high b = list_any (λ k. bucket_of buckets (record { table = table; key = k }) == b) (numbers_from low (high + 1 - low))
 
 -- the versions of a record in a content
 abbrev pub look : Rid → Content → List Version

@@ -1,5 +1,5 @@
 -- A log read as replies: which entries a session's statement leaves there, and which replies they fit.
-use Rattle.std.specs.Prelude.{◌≡◌, ℕ, zero, suc, ◌<◌, ℤ, List, [], ◌∷◌, ◌++◌, map, Bool, true, false, ◌&&◌, Option, Some, None, is_some, unwrap_or, Contains, ⊤}
+use Rattle.std.specs.Prelude.{◌≡◌, ℕ, zero, suc, ◌<◌, ℤ, List, [], ◌∷◌, ◌++◌, map, Bool, true, false, ◌&&◌, if◌then◌else◌, Option, Some, None, is_some, unwrap_or, Contains, IsTrue, IfSome, ⊤}
 use Rattle.hg_base.specs.declared.rid.Rid.{Rid}
 use Rattle.hg_base.specs.declared.rid.TableId.{TableId}
 use Rattle.hg_base.specs.declared.scope.Scope.{Scope}
@@ -13,12 +13,12 @@ use Rattle.hg_base.specs.declared.line.Reply.{Reply}
 use Rattle.hg_base.specs.declared.line.Line.{Line}
 use Rattle.hg_base.specs.Lists.{Each, Ascends}
 use Rattle.hg_base.specs.History.{Write, nothing, image_in, is_among, NoneTwice}
-use Rattle.hg_base.specs.Transcript.{only, table_of, stored_by}
+use Rattle.hg_base.specs.Transcript.{only, has, table_of, stored_by}
 use Rattle.hg_base.specs.Replies.{IsBegun, IsPut, IsCommitted, IsUndone, is_written}
 use Rattle.hg_core.specs.declared.log.LogEntry.{LogEntry}
 use Rattle.hg_core.specs.declared.log.LogEntry.TheVariants.{Began, Saw, Refused, Outside, Wrote, Undid, Published, Over}
 use Rattle.hg_core.specs.Logs.{current, own_writes}
-use Rattle.hg_core.specs.Contents.{bucket_of}
+use Rattle.hg_core.specs.Contents.{bucket_of, has_own}
 use Rattle.hg_core.specs.Events.{put}
 
 -- What the entries of a statement hold and its reply doesn't print: the row that a `del` found, the rows that a `scan`
@@ -34,10 +34,10 @@ pub record Unprinted : Type 0 where
 abbrev pub saw : ℕ → Rid → List (ℕ × List ℤ) → LogEntry
 saw buckets r rows = Saw r.table r.key r.key (bucket_of buckets r) rows
 
--- a read of a range in each of the first buckets, in ascending order
-abbrev pub saws : TableId → ℕ → ℕ → (ℕ → List (ℕ × List ℤ)) → ℕ → List LogEntry
-saws table low high part zero = []
-saws table low high part (suc b) = Saw table low high b (part b) ∷ saws table low high part b
+-- a read of a range in those of the first buckets that can have a key of it, in ascending order
+abbrev pub saws : ℕ → TableId → ℕ → ℕ → (ℕ → List (ℕ × List ℤ)) → ℕ → List LogEntry
+saws buckets table low high part zero = []
+saws buckets table low high part (suc b) = if has_own buckets table low high b then Saw table low high b (part b) ∷ saws buckets table low high part b else saws buckets table low high part b
 
 -- a transaction ends, with or without a commit number
 abbrev pub close : Option ℕ → List LogEntry
@@ -70,7 +70,7 @@ del_entries buckets found r (Undeclared table) = Outside table ∷ []
 del_entries buckets found r _ = []
 
 abbrev pub scan_entries : ℕ → (ℕ → List (ℕ × List ℤ)) → TableId → ℕ → ℕ → Answer → List LogEntry
-scan_entries buckets part table low high (Rows rows) = saws table low high part buckets
+scan_entries buckets part table low high (Rows rows) = saws buckets table low high part buckets
 scan_entries buckets part table low high (Undeclared other) = Outside other ∷ []
 scan_entries buckets part table low high _ = []
 
@@ -113,11 +113,15 @@ log_after buckets u statement reply log = log_with (is_alone (current log) state
 
 -- ---- which replies fit
 
--- the rows of all parts, by ascending key
-pub record Joins (buckets : ℕ) (part : ℕ → List (ℕ × List ℤ)) (rows : List (ℕ × List ℤ)) : Type 0 where
+-- a bucket that can have a key of the range
+abbrev pub IsReached : ℕ → TableId → ℕ → ℕ → ℕ → Type 0
+IsReached buckets table low high b = (b < buckets) × IsTrue (has_own buckets table low high b)
+
+-- the rows of the parts of these buckets, by ascending key
+pub record Joins (Reached : ℕ → Type 0) (part : ℕ → List (ℕ × List ℤ)) (rows : List (ℕ × List ℤ)) : Type 0 where
   pub ascend : Ascends (map (λ p. p.0) rows)
-  pub each : Each (λ p. (b : ℕ) × (b < buckets) × Contains (part b) p) rows
-  pub every : (b : ℕ) → b < buckets → Each (λ p. Contains rows p) (part b)
+  pub each : Each (λ p. (b : ℕ) × Reached b × Contains (part b) p) rows
+  pub every : (b : ℕ) → Reached b → Each (λ p. Contains rows p) (part b)
 
 abbrev pub IsGetAnswer : Answer → Type 0
 IsGetAnswer (Found row) = ⊤
@@ -131,9 +135,9 @@ IsDelAnswer (Newer number) = ⊤
 IsDelAnswer (OpenBy writer) = ⊤
 IsDelAnswer _ = ⊥
 
-abbrev pub IsScanAnswer : ℕ → (ℕ → List (ℕ × List ℤ)) → Answer → Type 0
-IsScanAnswer buckets part (Rows rows) = Joins buckets part rows
-IsScanAnswer buckets part _ = ⊥
+abbrev pub IsScanAnswer : (ℕ → Type 0) → (ℕ → List (ℕ × List ℤ)) → Answer → Type 0
+IsScanAnswer Reached part (Rows rows) = Joins Reached part rows
+IsScanAnswer Reached part _ = ⊥
 
 -- a statement on a table is refused as undeclared with that table, or else answered so
 abbrev pub FitsTable : TableId → Answer → Type 0 → Type 0
@@ -156,16 +160,22 @@ FitsAnswer buckets u own (Begin scope) answer = IsBegun answer
 FitsAnswer buckets u own (Get r) answer = FitsTable r.table answer (IsGetAnswer answer)
 FitsAnswer buckets u own (Put r row) answer = FitsTable r.table answer (IsPut answer)
 FitsAnswer buckets u own (Del r) answer = FitsTable r.table answer (IsDelAnswer answer)
-FitsAnswer buckets u own (Scan table low high) answer = FitsTable table answer (IsScanAnswer buckets u.part answer)
+FitsAnswer buckets u own (Scan table low high) answer = FitsTable table answer (IsScanAnswer (IsReached buckets table low high) u.part answer)
 FitsAnswer buckets u own CommitIt answer = IsCommitted (is_written own) answer
 FitsAnswer buckets u own Rollback answer = IsUndone answer × UndoesAll own u.undone
 FitsAnswer buckets u own (Gc kind) answer = IsGcAnswer answer
+
+-- rows are of a table in the scope, which a log doesn't say of an empty range: it has no look there
+abbrev pub FitsScope : Scope → Statement → Answer → Type 0
+FitsScope scope (Scan table low high) (Rows rows) = IsTrue (has scope table)
+FitsScope scope statement answer = ⊤
 
 -- The reply to a statement after a log. Whether the answer is right is no matter here: the log's entries say that.
 pub record Fits (buckets : ℕ) (u : Unprinted) (log : List LogEntry) (statement : Statement) (reply : Reply) : Type 0 where
   pub at : is_some reply.at ≡ is_alone (current log) statement
   pub number : is_some reply.number ≡ (is_alone (current log) statement && is_some (stored_by statement reply.answer))
   pub answer : FitsAnswer buckets u (own_writes log) statement reply.answer
+  pub scope : IfSome (current log) (λ snapshot. FitsScope snapshot.scope statement reply.answer)
 
 -- ---- the lines that logs give
 
