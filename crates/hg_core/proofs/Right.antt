@@ -44,6 +44,13 @@ same_number n = (Decides-eqb n n).1 refl
 pub of_some : {X : Type 0} (o : Option X) (P : X → Type 0) (x : X) → o ≡ Some x → IfSome o P → P x
 of_some o P x e h = subst (λ p. IfSome p P) e h
 
+pub if_any : {X : Type 0} (o : Option X) (P : X → Type 0) → ((x : X) → P x) → IfSome o P
+if_any None P f = tt
+if_any (Some x) P f = f x
+
+pub if_none : {X : Type 0} (o : Option X) (P : X → Type 0) → o ≡ None → IfSome o P
+if_none o P e = subst (λ p. IfSome p P) (sym e) tt
+
 -- each record has a bucket
 pub places_of : (buckets : ℕ) → 0 < buckets → (r : Rid) → bucket_of buckets r < buckets
 unfolding bucket_of

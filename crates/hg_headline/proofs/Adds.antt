@@ -17,7 +17,8 @@ use Rattle.hg_core.specs.declared.log.LogEntry.{LogEntry}
 use Rattle.hg_core.specs.declared.log.LogEntry.TheVariants.{Saw, Refused, Outside, Wrote}
 use Rattle.hg_core.specs.Logs.{current, begans, own_writes, published, UpTo, AnswerUpTo}
 use Rattle.hg_core.specs.Replies.{writes_in, numbers_in}
-use Rattle.hg_core.specs.Reading.{Unprinted, saw, saws, get_entries, put_entries, del_entries, scan_entries, own_entries, is_access, IsGetAnswer, IsDelAnswer, IsScanAnswer, FitsTable, FitsAnswer}
+use Rattle.hg_core.specs.Reading.{Unprinted, saw, saws, get_entries, put_entries, del_entries, scan_entries, own_entries, is_access, IsReached, IsGetAnswer, IsDelAnswer, IsScanAnswer, FitsTable, FitsAnswer}
+use Rattle.hg_core.proofs.OwnKeys.{saws_keep}
 use Rattle.hg_headline.specs.Gathered.{began_at}
 use Rattle.hg_headline.proofs.Words.{cond_same}
 
@@ -59,9 +60,8 @@ adds_wrote r image a l h = record { count = refl; same = refl; own = refl; write
 pub adds_past_saw : (t : TableId) (low high b : ℕ) (rows : List (ℕ × List ℤ)) (l after : List LogEntry) (w : Option Write) (a : Answer) → Adds (Saw t low high b rows ∷ l) after w a → Adds l after w a
 adds_past_saw t low high b rows l after w a h = record { count = h.count; same = h.same; own = h.own; writes = h.writes; numbers = h.numbers; known = h.known; begun = h.begun; made = h.made }
 
-pub adds_saws : (t : TableId) (low high : ℕ) (part : ℕ → List (ℕ × List ℤ)) (n : ℕ) (l : List LogEntry) (a : Answer) → NotNewer a → Adds l (saws t low high part n ++ l) None a
-adds_saws t low high part zero l a h = adds_nothing l a h
-adds_saws t low high part (suc n) l a h = adds_saw t low high n (part n) l (saws t low high part n ++ l) None a (adds_saws t low high part n l a h)
+pub adds_saws : (buckets : ℕ) (t : TableId) (low high : ℕ) (part : ℕ → List (ℕ × List ℤ)) (n : ℕ) (l : List LogEntry) (a : Answer) → NotNewer a → Adds l (saws buckets t low high part n ++ l) None a
+adds_saws buckets t low high part n l a h = saws_keep (λ m. Adds l m None a) buckets t low high part n l (λ b rows m k. adds_saw t low high b rows l m None a k) (adds_nothing l a h)
 
 pub adds_get : (buckets : ℕ) (r : Rid) (a : Answer) (l : List LogEntry) → FitsTable r.table a (IsGetAnswer a) → Adds l (get_entries buckets r a ++ l) None a
 adds_get buckets r (Found row) l f = adds_saw _ _ _ _ _ l l None (Found row) (adds_nothing l (Found row) tt)
@@ -84,8 +84,8 @@ adds_del buckets found r (OpenBy w) l f = adds_refused r (OpenBy w) l (saw bucke
 adds_del buckets found r (Undeclared t) l f = adds_outside t l (Undeclared t) tt
 adds_del buckets found r _ l f = absurd f
 
-pub adds_scan : (buckets : ℕ) (part : ℕ → List (ℕ × List ℤ)) (t : TableId) (low high : ℕ) (a : Answer) (l : List LogEntry) → FitsTable t a (IsScanAnswer buckets part a) → Adds l (scan_entries buckets part t low high a ++ l) None a
-adds_scan buckets part t low high (Rows rows) l f = adds_saws t low high part buckets l (Rows rows) tt
+pub adds_scan : (buckets : ℕ) (part : ℕ → List (ℕ × List ℤ)) (t : TableId) (low high : ℕ) (a : Answer) (l : List LogEntry) → FitsTable t a (IsScanAnswer (IsReached buckets t low high) part a) → Adds l (scan_entries buckets part t low high a ++ l) None a
+adds_scan buckets part t low high (Rows rows) l f = adds_saws buckets t low high part buckets l (Rows rows) tt
 adds_scan buckets part t low high (Undeclared other) l f = adds_outside other l (Undeclared other) tt
 adds_scan buckets part t low high _ l f = absurd f
 
@@ -131,16 +131,16 @@ del_answer r (OpenBy w) f = tt
 del_answer r (Undeclared t) f = tt
 del_answer r _ f = absurd f
 
-pub scan_answer : (buckets : ℕ) (part : ℕ → List (ℕ × List ℤ)) (t : TableId) (a : Answer) → FitsTable t a (IsScanAnswer buckets part a) → IsAccessAnswer a
-scan_answer buckets part t (Rows rows) f = tt
-scan_answer buckets part t (Undeclared other) f = tt
-scan_answer buckets part t _ f = absurd f
+pub scan_answer : (Reached : ℕ → Type 0) (part : ℕ → List (ℕ × List ℤ)) (t : TableId) (a : Answer) → FitsTable t a (IsScanAnswer Reached part a) → IsAccessAnswer a
+scan_answer Reached part t (Rows rows) f = tt
+scan_answer Reached part t (Undeclared other) f = tt
+scan_answer Reached part t _ f = absurd f
 
 pub access_answer : (buckets : ℕ) (u : Unprinted) (own : List Write) (s : Statement) (a : Answer) → IsTrue (is_access s) → FitsAnswer buckets u own s a → IsAccessAnswer a
 access_answer buckets u own (Get r) a e f = get_answer r a f
 access_answer buckets u own (Put r row) a e f = put_answer r a f
 access_answer buckets u own (Del r) a e f = del_answer r a f
-access_answer buckets u own (Scan t low high) a e f = scan_answer buckets u.part t a f
+access_answer buckets u own (Scan t low high) a e f = scan_answer (IsReached buckets t low high) u.part t a f
 access_answer buckets u own (Begin scope) a e f = absurd (let k : false ≡ true = e in cc)
 access_answer buckets u own CommitIt a e f = absurd (let k : false ≡ true = e in cc)
 access_answer buckets u own Rollback a e f = absurd (let k : false ≡ true = e in cc)

@@ -18,12 +18,13 @@ use Rattle.hg_base.specs.Replies.{IsGot, IsPut, IsDeleted, IsScanned, IsUndeclar
 use Rattle.hg_core.specs.declared.log.LogEntry.{LogEntry}
 use Rattle.hg_core.specs.declared.log.LogEntry.TheVariants.{Began, Saw, Refused, Outside, Wrote, Undid, Published, Over}
 use Rattle.hg_core.specs.Logs.{current, begans, own_writes, is_plain, AnswerUpTo}
-use Rattle.hg_core.specs.Contents.{bucket_of}
+use Rattle.hg_core.specs.Contents.{bucket_of, has_own}
 use Rattle.hg_core.specs.Events.{put}
 use Rattle.hg_core.specs.Replies.{in_bucket, writes_in, numbers_in, Refuses}
-use Rattle.hg_core.specs.Reading.{Unprinted, saw, saws, own_entries, FitsAnswer}
+use Rattle.hg_core.specs.Reading.{Unprinted, saw, saws, own_entries, FitsAnswer, FitsScope}
 use Rattle.hg_core.proofs.Indices.{put_else}
 use Rattle.hg_core.proofs.Updates.{some_is as some_of_yes}
+use Rattle.hg_core.proofs.OwnKeys.{saws_keep}
 use Rattle.hg_core.proofs.Right.{same_table, shown_here}
 use Rattle.hg_headline.specs.Logged.{Logged}
 use Rattle.hg_headline.specs.Answered.{IsCaused, IsAnswered}
@@ -141,14 +142,21 @@ on_refused buckets h logs j c l r a g s p q cause = record {
     small (OpenBy w) q cause = tt
     small _ q cause = absurd (let k : false ≡ true = q in cc)
 
--- a read of a range in each of the first buckets
+-- a read of a range in those of the first buckets that can have a key of it
 pub on_saws : (buckets : ℕ) (h : History) (logs : ℕ → List LogEntry) (j : ℕ) (c : Snapshot) (l : List LogEntry) (t : TableId) (low high : ℕ) (rows : List (ℕ × List ℤ)) (n : ℕ) → GoesOn buckets h logs j c l → has c.scope t ≡ true → AreRows (λ key. seen h (own_writes l) c.at (record { table = t; key = key })) low high rows →
-    GoesOn buckets h logs j c (saws t low high (part_of buckets t rows) n ++ l)
+    GoesOn buckets h logs j c (saws buckets t low high (part_of buckets t rows) n ++ l)
 on_saws buckets h logs j c l t low high rows zero g s a = g
 on_saws buckets h logs j c l t low high rows (suc n) g s a =
-    let same : own_writes (saws t low high (part_of buckets t rows) n ++ l) ≡ own_writes l = (adds_saws t low high (part_of buckets t rows) n l Stored tt).own in
-    on_saw buckets h logs j c (saws t low high (part_of buckets t rows) n ++ l) t low high n (part_of buckets t rows n) (on_saws buckets h logs j c l t low high rows n g s a) s
-    (part_rows buckets n t (seen h (own_writes (saws t low high (part_of buckets t rows) n ++ l)) c.at) low high rows (subst (λ ws. AreRows (λ key. seen h ws c.at (record { table = t; key = key })) low high rows) (sym same) a))
+    let same : own_writes (saws buckets t low high (part_of buckets t rows) n ++ l) ≡ own_writes l = (adds_saws buckets t low high (part_of buckets t rows) n l Stored tt).own in
+    go (has_own buckets t low high n) (on_saws buckets h logs j c l t low high rows n g s a)
+    (part_rows buckets n t (seen h (own_writes (saws buckets t low high (part_of buckets t rows) n ++ l)) c.at) low high rows (subst (λ ws. AreRows (λ key. seen h ws c.at (record { table = t; key = key })) low high rows) (sym same) a))
+  where
+    earlier : List LogEntry
+    earlier = saws buckets t low high (part_of buckets t rows) n
+
+    go : (x : Bool) → GoesOn buckets h logs j c (earlier ++ l) → AreRows (in_bucket buckets n t (seen h (own_writes (earlier ++ l)) c.at)) low high (part_of buckets t rows n) → GoesOn buckets h logs j c ((if x then Saw t low high n (part_of buckets t rows n) ∷ earlier else earlier) ++ l)
+    go true k are = on_saw buckets h logs j c (earlier ++ l) t low high n (part_of buckets t rows n) k s are
+    go false k are = k
 
 -- ---- the entries of a statement
 
@@ -156,33 +164,33 @@ on_saws buckets h logs j c l t low high rows (suc n) g s a =
 pub record Leaves (buckets : ℕ) (h : History) (logs : ℕ → List LogEntry) (j : ℕ) (c : Snapshot) (l : List LogEntry) (own : List Write) (s : Statement) (a : Answer) : Type 0 where
   pub unprinted : Unprinted
   pub fits : FitsAnswer buckets unprinted own s a
+  pub scope : FitsScope c.scope s a
   pub goes : GoesOn buckets h logs j c (own_entries buckets unprinted s a ++ l)
   pub plain : is_plain (own_entries buckets unprinted s a ++ l) ≡ true
 
 abbrev pub nothing_more : Unprinted
 nothing_more = record { found = []; part = λ b. []; undone = [] }
 
-pub plain_saws : (t : TableId) (low high : ℕ) (part : ℕ → List (ℕ × List ℤ)) (n : ℕ) (l : List LogEntry) → is_plain (saws t low high part n ++ l) ≡ is_plain l
-plain_saws t low high part zero l = refl
-plain_saws t low high part (suc n) l = plain_saws t low high part n l
+pub plain_saws : (buckets : ℕ) (t : TableId) (low high : ℕ) (part : ℕ → List (ℕ × List ℤ)) (n : ℕ) (l : List LogEntry) → is_plain (saws buckets t low high part n ++ l) ≡ is_plain l
+plain_saws buckets t low high part n l = saws_keep (λ m. is_plain m ≡ is_plain l) buckets t low high part n l (λ b rows m e. e) refl
 
 -- a table that isn't in the scope
 pub outside_table : (buckets : ℕ) (h : History) (logs : ℕ → List LogEntry) (j : ℕ) (c : Snapshot) (l : List LogEntry) (t table : TableId) → GoesOn buckets h logs j c l → has c.scope table ≡ false → t.0 ≡ table.0 → GoesOn buckets h logs j c (Outside t ∷ l)
 outside_table buckets h logs j c l t table g s e = on_outside buckets h logs j c l t g (ap (has c.scope) (same_table t table e) ∙ s)
 
 pub leaves_get : (buckets : ℕ) (h : History) (logs : ℕ → List LogEntry) (j : ℕ) (c : Snapshot) (l : List LogEntry) (own : List Write) (r : Rid) (a : Answer) (b : Bool) → GoesOn buckets h logs j c l → is_plain l ≡ true → has c.scope r.table ≡ b → MatchBool b (IsGot (seen h (own_writes l) c.at r) a) (IsUndeclared r.table a) → Leaves buckets h logs j c l own (Get r) a
-leaves_get buckets h logs j c l own r (Found row) true g p s m = record { unprinted = nothing_more; fits = tt; goes = on_saw buckets h logs j c l r.table r.key r.key (bucket_of buckets r) ((r.key, row) ∷ []) g s (key_row buckets (seen h (own_writes l) c.at) r row m); plain = p }
-leaves_get buckets h logs j c l own r Nothing true g p s m = record { unprinted = nothing_more; fits = tt; goes = on_saw buckets h logs j c l r.table r.key r.key (bucket_of buckets r) [] g s (key_nothing buckets (seen h (own_writes l) c.at) r m); plain = p }
+leaves_get buckets h logs j c l own r (Found row) true g p s m = record { unprinted = nothing_more; fits = tt; scope = tt; goes = on_saw buckets h logs j c l r.table r.key r.key (bucket_of buckets r) ((r.key, row) ∷ []) g s (key_row buckets (seen h (own_writes l) c.at) r row m); plain = p }
+leaves_get buckets h logs j c l own r Nothing true g p s m = record { unprinted = nothing_more; fits = tt; scope = tt; goes = on_saw buckets h logs j c l r.table r.key r.key (bucket_of buckets r) [] g s (key_nothing buckets (seen h (own_writes l) c.at) r m); plain = p }
 leaves_get buckets h logs j c l own r _ true g p s m = absurd m
-leaves_get buckets h logs j c l own r (Undeclared t) false g p s m = record { unprinted = nothing_more; fits = m; goes = outside_table buckets h logs j c l t r.table g s m; plain = p }
+leaves_get buckets h logs j c l own r (Undeclared t) false g p s m = record { unprinted = nothing_more; fits = m; scope = tt; goes = outside_table buckets h logs j c l t r.table g s m; plain = p }
 leaves_get buckets h logs j c l own r _ false g p s m = absurd m
 
 pub leaves_put : (buckets : ℕ) (h : History) (logs : ℕ → List LogEntry) (j : ℕ) (c : Snapshot) (l : List LogEntry) (own : List Write) (r : Rid) (row : List ℤ) (a : Answer) (b : Bool) → GoesOn buckets h logs j c l → is_plain l ≡ true → has c.scope r.table ≡ b → MatchBool b (IsPut a) (IsUndeclared r.table a) → IsCaused h logs j (own_writes l) c.at r a → Leaves buckets h logs j c l own (Put r row) a
-leaves_put buckets h logs j c l own r row Stored true g p s m cause = record { unprinted = nothing_more; fits = tt; goes = on_wrote buckets h logs j c l r (record { row = Some row }) g s p; plain = p }
-leaves_put buckets h logs j c l own r row (Newer n) true g p s m cause = record { unprinted = nothing_more; fits = tt; goes = on_refused buckets h logs j c l r (Newer n) g s tt refl cause; plain = p }
-leaves_put buckets h logs j c l own r row (OpenBy w) true g p s m cause = record { unprinted = nothing_more; fits = tt; goes = on_refused buckets h logs j c l r (OpenBy w) g s tt refl cause; plain = p }
+leaves_put buckets h logs j c l own r row Stored true g p s m cause = record { unprinted = nothing_more; fits = tt; scope = tt; goes = on_wrote buckets h logs j c l r (record { row = Some row }) g s p; plain = p }
+leaves_put buckets h logs j c l own r row (Newer n) true g p s m cause = record { unprinted = nothing_more; fits = tt; scope = tt; goes = on_refused buckets h logs j c l r (Newer n) g s tt refl cause; plain = p }
+leaves_put buckets h logs j c l own r row (OpenBy w) true g p s m cause = record { unprinted = nothing_more; fits = tt; scope = tt; goes = on_refused buckets h logs j c l r (OpenBy w) g s tt refl cause; plain = p }
 leaves_put buckets h logs j c l own r row _ true g p s m cause = absurd m
-leaves_put buckets h logs j c l own r row (Undeclared t) false g p s m cause = record { unprinted = nothing_more; fits = m; goes = outside_table buckets h logs j c l t r.table g s m; plain = p }
+leaves_put buckets h logs j c l own r row (Undeclared t) false g p s m cause = record { unprinted = nothing_more; fits = m; scope = tt; goes = outside_table buckets h logs j c l t r.table g s m; plain = p }
 leaves_put buckets h logs j c l own r row _ false g p s m cause = absurd m
 
 -- the row that a `del` finds
@@ -195,23 +203,24 @@ abbrev pub finding : List ℤ → Unprinted
 finding row = record { found = row; part = λ b. []; undone = [] }
 
 pub leaves_del : (buckets : ℕ) (h : History) (logs : ℕ → List LogEntry) (j : ℕ) (c : Snapshot) (l : List LogEntry) (own : List Write) (r : Rid) (a : Answer) (b : Bool) → GoesOn buckets h logs j c l → is_plain l ≡ true → has c.scope r.table ≡ b → MatchBool b (IsDeleted (seen h (own_writes l) c.at r) a) (IsUndeclared r.table a) → IsCaused h logs j (own_writes l) c.at r a → Leaves buckets h logs j c l own (Del r) a
-leaves_del buckets h logs j c l own r Nothing true g p s m cause = record { unprinted = nothing_more; fits = tt; goes = on_saw buckets h logs j c l r.table r.key r.key (bucket_of buckets r) [] g s (key_nothing buckets (seen h (own_writes l) c.at) r m); plain = p }
-leaves_del buckets h logs j c l own r Gone true g p s m cause = let f = on_found buckets h logs j c l r g s m in record { unprinted = finding f.0; fits = tt; goes = on_wrote buckets h logs j c (saw buckets r ((r.key, f.0) ∷ []) ∷ l) r nothing f.1 s p; plain = p }
-leaves_del buckets h logs j c l own r (Newer n) true g p s m cause = let f = on_found buckets h logs j c l r g s m in record { unprinted = finding f.0; fits = tt; goes = on_refused buckets h logs j c (saw buckets r ((r.key, f.0) ∷ []) ∷ l) r (Newer n) f.1 s tt refl cause; plain = p }
-leaves_del buckets h logs j c l own r (OpenBy w) true g p s m cause = let f = on_found buckets h logs j c l r g s m in record { unprinted = finding f.0; fits = tt; goes = on_refused buckets h logs j c (saw buckets r ((r.key, f.0) ∷ []) ∷ l) r (OpenBy w) f.1 s tt refl cause; plain = p }
+leaves_del buckets h logs j c l own r Nothing true g p s m cause = record { unprinted = nothing_more; fits = tt; scope = tt; goes = on_saw buckets h logs j c l r.table r.key r.key (bucket_of buckets r) [] g s (key_nothing buckets (seen h (own_writes l) c.at) r m); plain = p }
+leaves_del buckets h logs j c l own r Gone true g p s m cause = let f = on_found buckets h logs j c l r g s m in record { unprinted = finding f.0; fits = tt; scope = tt; goes = on_wrote buckets h logs j c (saw buckets r ((r.key, f.0) ∷ []) ∷ l) r nothing f.1 s p; plain = p }
+leaves_del buckets h logs j c l own r (Newer n) true g p s m cause = let f = on_found buckets h logs j c l r g s m in record { unprinted = finding f.0; fits = tt; scope = tt; goes = on_refused buckets h logs j c (saw buckets r ((r.key, f.0) ∷ []) ∷ l) r (Newer n) f.1 s tt refl cause; plain = p }
+leaves_del buckets h logs j c l own r (OpenBy w) true g p s m cause = let f = on_found buckets h logs j c l r g s m in record { unprinted = finding f.0; fits = tt; scope = tt; goes = on_refused buckets h logs j c (saw buckets r ((r.key, f.0) ∷ []) ∷ l) r (OpenBy w) f.1 s tt refl cause; plain = p }
 leaves_del buckets h logs j c l own r _ true g p s m cause = absurd m
-leaves_del buckets h logs j c l own r (Undeclared t) false g p s m cause = record { unprinted = nothing_more; fits = m; goes = outside_table buckets h logs j c l t r.table g s m; plain = p }
+leaves_del buckets h logs j c l own r (Undeclared t) false g p s m cause = record { unprinted = nothing_more; fits = m; scope = tt; goes = outside_table buckets h logs j c l t r.table g s m; plain = p }
 leaves_del buckets h logs j c l own r _ false g p s m cause = absurd m
 
 pub leaves_scan : (buckets : ℕ) (h : History) (logs : ℕ → List LogEntry) (j : ℕ) (c : Snapshot) (l : List LogEntry) (own : List Write) (t : TableId) (low high : ℕ) (a : Answer) (b : Bool) → ((r : Rid) → bucket_of buckets r < buckets) → GoesOn buckets h logs j c l → is_plain l ≡ true → has c.scope t ≡ b → MatchBool b (IsScanned (λ key. seen h (own_writes l) c.at (record { table = t; key = key })) low high a) (IsUndeclared t a) → Leaves buckets h logs j c l own (Scan t low high) a
 leaves_scan buckets h logs j c l own t low high (Rows rows) true places g p s m = record {
   unprinted = record { found = []; part = part_of buckets t rows; undone = [] };
-  fits = parts_join buckets t rows places m.ascend;
+  fits = parts_join buckets t (λ key. seen h (own_writes l) c.at (record { table = t; key = key })) low high rows places m;
+  scope = s;
   goes = on_saws buckets h logs j c l t low high rows buckets g s m;
-  plain = plain_saws t low high (part_of buckets t rows) buckets l ∙ p;
+  plain = plain_saws buckets t low high (part_of buckets t rows) buckets l ∙ p;
 }
 leaves_scan buckets h logs j c l own t low high _ true places g p s m = absurd m
-leaves_scan buckets h logs j c l own t low high (Undeclared other) false places g p s m = record { unprinted = nothing_more; fits = m; goes = outside_table buckets h logs j c l other t g s m; plain = p }
+leaves_scan buckets h logs j c l own t low high (Undeclared other) false places g p s m = record { unprinted = nothing_more; fits = m; scope = tt; goes = outside_table buckets h logs j c l other t g s m; plain = p }
 leaves_scan buckets h logs j c l own t low high _ false places g p s m = absurd m
 
 -- what a right answer leaves, whatever the transaction wrote before

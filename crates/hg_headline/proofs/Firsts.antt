@@ -30,6 +30,7 @@ use Rattle.hg_core.specs.Events.{put}
 use Rattle.hg_core.specs.Sums.{sum_to}
 use Rattle.hg_core.specs.Counters.{first_writes}
 use Rattle.hg_core.specs.Reading.{Unprinted, saws, own_entries, is_access, is_alone, close, log_with, log_after, FitsAnswer, Fits, Follows}
+use Rattle.hg_core.proofs.OwnKeys.{saws_keep}
 use Rattle.hg_core.proofs.Indices.{by_number, at_index, put_here, put_else}
 use Rattle.hg_core.proofs.Sums.{sum_same, sum_grown}
 use Rattle.hg_headline.specs.Counted.{every}
@@ -72,9 +73,8 @@ first_writes_is (Over ∷ l) = first_writes_is l
 
 -- ---- the entries of a statement
 
-pub first_saws : (test : ℕ → Bool) (t : TableId) (low high : ℕ) (part : ℕ → List (ℕ × List ℤ)) (n : ℕ) (l : List LogEntry) → first_by test (saws t low high part n ++ l) ≡ first_by test l
-first_saws test t low high part zero l = refl
-first_saws test t low high part (suc n) l = first_saws test t low high part n l
+pub first_saws : (test : ℕ → Bool) (buckets : ℕ) (t : TableId) (low high : ℕ) (part : ℕ → List (ℕ × List ℤ)) (n : ℕ) (l : List LogEntry) → first_by test (saws buckets t low high part n ++ l) ≡ first_by test l
+first_saws test buckets t low high part n l = saws_keep (λ m. first_by test m ≡ first_by test l) buckets t low high part n l (λ b rows m e. e) refl
 
 pub first_access : (test : ℕ → Bool) (buckets : ℕ) (u : Unprinted) (own : List Write) (s : Statement) (a : Answer) (l : List LogEntry) → IsTrue (is_access s) → FitsAnswer buckets u own s a → first_by test (own_entries buckets u s a ++ l) ≡ first_with test (begans l) (own_writes l) (stored_by s a) (first_by test l)
 first_access test buckets u own (Get r) (Found row) l e f = refl
@@ -92,7 +92,7 @@ first_access test buckets u own (Del r) (Newer n) l e f = refl
 first_access test buckets u own (Del r) (OpenBy w) l e f = refl
 first_access test buckets u own (Del r) (Undeclared t) l e f = refl
 first_access test buckets u own (Del r) _ l e f = absurd f
-first_access test buckets u own (Scan t low high) (Rows rows) l e f = first_saws test t low high u.part buckets l
+first_access test buckets u own (Scan t low high) (Rows rows) l e f = first_saws test buckets t low high u.part buckets l
 first_access test buckets u own (Scan t low high) (Undeclared other) l e f = refl
 first_access test buckets u own (Scan t low high) _ l e f = absurd f
 first_access test buckets u own (Begin scope) a l e f = absurd (true_false (sym e))

@@ -25,7 +25,8 @@ use Rattle.hg_core.specs.Logs.{current, begans, own_writes, UpTo}
 use Rattle.hg_core.specs.Judged.{Judged}
 use Rattle.hg_core.specs.Contents.{bucket_of}
 use Rattle.hg_core.specs.Replies.{AreReplied}
-use Rattle.hg_core.specs.Reading.{Unprinted, own_entries, begin_entries, commit_entries, is_access, is_alone, close, log_with, log_after, FitsAnswer, IsGcAnswer, Fits}
+use Rattle.hg_core.specs.Reading.{Unprinted, own_entries, begin_entries, commit_entries, is_access, is_alone, close, log_with, log_after, FitsAnswer, FitsScope, IsGcAnswer, Fits}
+use Rattle.hg_core.proofs.Answering.{scope_alone}
 use Rattle.hg_core.proofs.Right.{answer_right}
 use Rattle.hg_headline.specs.Timely.{commit_in}
 use Rattle.hg_headline.proofs.Words.{none_of_no, none_is_not_some, some_is_some}
@@ -104,12 +105,12 @@ pub above : (m i : ℕ) → m ≡ suc i → i < m
 above m i z = omega (arith, z)
 
 pub access_line : (mode : Mode) (buckets : ℕ) (h k : History) (logs : ℕ → List LogEntry) (all earlier : List Said) (u : Unprinted) (l : List LogEntry) (place j : ℕ) (s : Statement) (at : Option ℕ) (a : Answer) (number : Option ℕ) → ((r : Rid) → bucket_of buckets r < buckets) → Ties j earlier l → is_access s ≡ true → FitsAnswer buckets u (own_writes l) s a →
-    (o : Option Said) (c : Option Snapshot) → open_of j earlier ≡ o → current l ≡ c → StandsIn o c (begans l) → is_some at ≡ is_alone c s → is_some number ≡ (is_alone c s && is_some (stored_by s a)) →
+    (o : Option Said) (c : Option Snapshot) → open_of j earlier ≡ o → current l ≡ c → StandsIn o c (begans l) → is_some at ≡ is_alone c s → is_some number ≡ (is_alone c s && is_some (stored_by s a)) → IfSome c (λ snapshot. FitsScope snapshot.scope s a) →
     Judged h (log_with (is_alone c s) buckets u s (reply_of at a number) l) → AreReplied buckets h logs j (log_with (is_alone c s) buckets u s (reply_of at a number) l) →
     Right h logs mode k all earlier (standing o (next_after (last_of j earlier)) (record_of place j s) (reply_of at a number)) j (log_with (is_alone c s) buckets u s (reply_of at a number) l)
-access_line mode buckets h k logs all earlier u l place j s at a number places ties e f None (Some c) p q st fat fnumber d g = absurd st
-access_line mode buckets h k logs all earlier u l place j s at a number places ties e f (Some opened) None p q st fat fnumber d g = absurd st
-access_line mode buckets h k logs all earlier u l place j s at a number places ties e f (Some opened) (Some c) p q st fat fnumber d g =
+access_line mode buckets h k logs all earlier u l place j s at a number places ties e f None (Some c) p q st fat fnumber declared d g = absurd st
+access_line mode buckets h k logs all earlier u l place j s at a number places ties e f (Some opened) None p q st fat fnumber declared d g = absurd st
+access_line mode buckets h k logs all earlier u l place j s at a number places ties e f (Some opened) (Some c) p q st fat fnumber declared d g =
     let now : Said = standing (Some opened) (next_after (last_of j earlier)) (record_of place j s) (reply_of at a number) in
     let own : own_before earlier now ≡ own_writes l = inside_own j earlier l c now ties refl st.0 q in
     let small : c.at ≤ length h = judged_snapshot h l c (append_judged h (own_entries buckets u s a) l d) q in
@@ -122,13 +123,13 @@ access_line mode buckets h k logs all earlier u l place j s at a number places t
         number = fnumber;
         snapshot = subst (λ n. n ≤ length k) (sym st.1.0) (subst (λ n. c.at ≤ n) t.count small);
         answer = subst (λ sees. IsAnswer mode sees (is_written (own_before earlier now)) now s) (seen_is h k logs all earlier now (own_writes l) c.at t st.1.0 own)
-            (answer_right mode buckets h logs (is_written (own_before earlier now)) u j (own_writes l) s now l c places q st.1.1 e f g);
+            (answer_right mode buckets h logs (is_written (own_before earlier now)) u j (own_writes l) s now l c places q st.1.1 e f declared g);
       };
       conflict = λ t still. conflict_right mode buckets h k logs all earlier now u j s l c t refl st.1.0 own still q g;
       rising = rising_none earlier now (access_snapshot a at (access_answer buckets u (own_writes l) s a e f) ∙ none_of_no at fat);
       commit = none_or number (committed_by s a) (none_of_no number fnumber);
     }
-access_line mode buckets h k logs all earlier u l place j s at a number places ties e f None None p q st fat fnumber d g =
+access_line mode buckets h k logs all earlier u l place j s at a number places ties e f None None p q st fat fnumber declared d g =
     subst (λ b. Judged h (log_with b buckets u s (reply_of at a number) l) → AreReplied buckets h logs j (log_with b buckets u s (reply_of at a number) l) → Right h logs mode k all earlier (standing None (next_after (last_of j earlier)) (record_of place j s) (reply_of at a number)) j (log_with b buckets u s (reply_of at a number) l)) (sym e)
     (go at (fat ∙ e)) d g
   where
@@ -151,7 +152,7 @@ access_line mode buckets h k logs all earlier u l place j s at a number places t
             number = fnumber ∙ ap (λ b. b && is_some (stored_by s a)) e;
             snapshot = subst (λ m. n ≤ m) t.count began.0.within;
             answer = subst (λ sees. IsAnswer mode sees (is_written (own_before earlier now)) now s) (seen_is h k logs all earlier now [] n t refl fresh)
-                (answer_right mode buckets h logs (is_written (own_before earlier now)) u j (own_writes l) s now l0 c places refl refl e f replied);
+                (answer_right mode buckets h logs (is_written (own_before earlier now)) u j (own_writes l) s now l0 c places refl refl e f (scope_alone s a) replied);
           };
           conflict = λ t still. conflict_right mode buckets h k logs all earlier now u j s l0 c t refl refl fresh still refl replied;
           rising = rising_some j earlier l now n ties refl (access_snapshot a (Some n) (access_answer buckets u (own_writes l) s a e f)) began.0.over;
@@ -267,10 +268,10 @@ plain_after buckets u s reply l e = sym (ap (λ b. log_with b buckets u s reply 
 
 pub line_right : (mode : Mode) (buckets : ℕ) (h k : History) (logs : ℕ → List LogEntry) (all earlier : List Said) (u : Unprinted) (l : List LogEntry) (place j : ℕ) (s : Statement) (reply : Reply) → ((r : Rid) → bucket_of buckets r < buckets) → Ties j earlier l → Fits buckets u l s reply → AsCollected mode j s reply.answer →
     Judged h (log_after buckets u s reply l) → AreReplied buckets h logs j (log_after buckets u s reply l) → Right h logs mode k all earlier (said earlier (record_of place j s) reply) j (log_after buckets u s reply l)
-line_right mode buckets h k logs all earlier u l place j (Get r) reply places ties f gc d g = access_line mode buckets h k logs all earlier u l place j (Get r) reply.at reply.answer reply.number places ties refl f.answer (open_of j earlier) (current l) refl refl ties.standing f.at f.number d g
-line_right mode buckets h k logs all earlier u l place j (Put r row) reply places ties f gc d g = access_line mode buckets h k logs all earlier u l place j (Put r row) reply.at reply.answer reply.number places ties refl f.answer (open_of j earlier) (current l) refl refl ties.standing f.at f.number d g
-line_right mode buckets h k logs all earlier u l place j (Del r) reply places ties f gc d g = access_line mode buckets h k logs all earlier u l place j (Del r) reply.at reply.answer reply.number places ties refl f.answer (open_of j earlier) (current l) refl refl ties.standing f.at f.number d g
-line_right mode buckets h k logs all earlier u l place j (Scan table low high) reply places ties f gc d g = access_line mode buckets h k logs all earlier u l place j (Scan table low high) reply.at reply.answer reply.number places ties refl f.answer (open_of j earlier) (current l) refl refl ties.standing f.at f.number d g
+line_right mode buckets h k logs all earlier u l place j (Get r) reply places ties f gc d g = access_line mode buckets h k logs all earlier u l place j (Get r) reply.at reply.answer reply.number places ties refl f.answer (open_of j earlier) (current l) refl refl ties.standing f.at f.number f.scope d g
+line_right mode buckets h k logs all earlier u l place j (Put r row) reply places ties f gc d g = access_line mode buckets h k logs all earlier u l place j (Put r row) reply.at reply.answer reply.number places ties refl f.answer (open_of j earlier) (current l) refl refl ties.standing f.at f.number f.scope d g
+line_right mode buckets h k logs all earlier u l place j (Del r) reply places ties f gc d g = access_line mode buckets h k logs all earlier u l place j (Del r) reply.at reply.answer reply.number places ties refl f.answer (open_of j earlier) (current l) refl refl ties.standing f.at f.number f.scope d g
+line_right mode buckets h k logs all earlier u l place j (Scan table low high) reply places ties f gc d g = access_line mode buckets h k logs all earlier u l place j (Scan table low high) reply.at reply.answer reply.number places ties refl f.answer (open_of j earlier) (current l) refl refl ties.standing f.at f.number f.scope d g
 line_right mode buckets h k logs all earlier u l place j (Begin scope) reply places ties f gc d g =
     let no = bare buckets u l (Begin scope) reply refl f in
     let e = plain_after buckets u (Begin scope) reply l refl in

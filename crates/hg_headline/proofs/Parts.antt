@@ -12,7 +12,8 @@ use Rattle.hg_base.specs.Replies.{AreRows}
 use Rattle.hg_base.proofs.ListFacts.{each_keeps}
 use Rattle.hg_core.specs.Contents.{bucket_of}
 use Rattle.hg_core.specs.Replies.{in_bucket}
-use Rattle.hg_core.specs.Reading.{Joins}
+use Rattle.hg_core.specs.Reading.{IsReached, Joins}
+use Rattle.hg_core.proofs.OwnKeys.{reached}
 use Rattle.hg_core.proofs.Right.{or_first, or_with}
 use Rattle.hg_headline.proofs.Words.{same_number, ascends_cons}
 
@@ -82,17 +83,17 @@ bucket_in buckets table p = bucket_of buckets (record { table = table; key = p.0
 abbrev pub part_of : ℕ → TableId → List (ℕ × List ℤ) → ℕ → List (ℕ × List ℤ)
 part_of buckets table rows b = filter (λ p. bucket_in buckets table p == b) rows
 
-pub parts_join : (buckets : ℕ) (table : TableId) (rows : List (ℕ × List ℤ)) → ((r : Rid) → bucket_of buckets r < buckets) → Ascends (map (λ (p : ℕ × List ℤ). p.0) rows) → Joins buckets (part_of buckets table rows) rows
-parts_join buckets table rows places ascend = record {
-  ascend = ascend;
-  each = own rows rows (λ b. passing_contained (bucket_in buckets table) b rows) (all_contained rows);
+pub parts_join : (buckets : ℕ) (table : TableId) (look : ℕ → Image) (low high : ℕ) (rows : List (ℕ × List ℤ)) → ((r : Rid) → bucket_of buckets r < buckets) → AreRows look low high rows → Joins (IsReached buckets table low high) (part_of buckets table rows) rows
+parts_join buckets table look low high rows places are = record {
+  ascend = are.ascend;
+  each = own rows rows (λ b. passing_contained (bucket_in buckets table) b rows) are.each;
   every = λ b k. filter_contained (λ (p : ℕ × List ℤ). bucket_in buckets table p == b) rows;
 }
   where
-    own : (all xs : List (ℕ × List ℤ)) → ((b : ℕ) → Each (λ p. (bucket_in buckets table p == b) ≡ true → Contains (part_of buckets table all b) p) xs) → Each (λ p. Contains all p) xs → Each (λ (p : ℕ × List ℤ). (b : ℕ) × (b < buckets) × Contains (part_of buckets table all b) p) xs
+    own : (all xs : List (ℕ × List ℤ)) → ((b : ℕ) → Each (λ p. (bucket_in buckets table p == b) ≡ true → Contains (part_of buckets table all b) p) xs) → Each (λ p. (low ≤ p.0) × (p.0 ≤ high) × ((look p.0).row ≡ Some p.1)) xs → Each (λ (p : ℕ × List ℤ). (b : ℕ) × IsReached buckets table low high b × Contains (part_of buckets table all b) p) xs
     own all [] f h = tt
     own all (x ∷ xs) f h = (
-      (bucket_in buckets table x, places (record { table = table; key = x.0 }), (f (bucket_in buckets table x)).0 (same_number (bucket_in buckets table x))),
+      (bucket_in buckets table x, (places (record { table = table; key = x.0 }), reached buckets table low high x.0 h.0.0 h.0.1), (f (bucket_in buckets table x)).0 (same_number (bucket_in buckets table x))),
       own all xs (λ b. (f b).1) h.1,
     )
 

@@ -29,7 +29,7 @@ use Rattle.hg_base.proofs.ListFacts.{each_keeps, append_nil, match_keeps}
 use Rattle.hg_core.specs.declared.log.LogEntry.{LogEntry}
 use Rattle.hg_core.specs.declared.log.LogEntry.TheVariants.{Began, Saw, Refused, Outside, Wrote, Undid, Published, Over}
 use Rattle.hg_core.specs.Logs.{own_writes}
-use Rattle.hg_core.specs.Reading.{Unprinted, log_after, FitsAnswer, Tells}
+use Rattle.hg_core.specs.Reading.{Unprinted, log_after, IsReached, FitsAnswer, Tells}
 use Rattle.hg_core.proofs.Right.{or_first, or_with, places_of}
 use Rattle.hg_headline.specs.Gathered.{began_at, WasLive, IsGathered}
 use Rattle.hg_headline.specs.Ran.{LeavesGc, WasMet, IsPassReport, NotFalling, AreReports, report_lines, run_lines, HasRun}
@@ -85,7 +85,7 @@ no_report buckets u own (Begin scope) a e f = begin a f
 no_report buckets u own (Get r) a e f = not_report a (get_answer r a f)
 no_report buckets u own (Put r row) a e f = not_report a (put_answer r a f)
 no_report buckets u own (Del r) a e f = not_report a (del_answer r a f)
-no_report buckets u own (Scan t low high) a e f = not_report a (scan_answer buckets u.part t a f)
+no_report buckets u own (Scan t low high) a e f = not_report a (scan_answer (IsReached buckets t low high) u.part t a f)
 no_report buckets u own CommitIt a e f = commit a f
   where
     commit : (b : Answer) → IsCommitted (is_written own) b → report_in b ≡ None

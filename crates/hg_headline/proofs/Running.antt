@@ -1,6 +1,6 @@
 -- The lines of a run are sound.
 use Rattle.std.proofs.Common.{◌≡◌, ℕ, zero, suc, ◌+◌, ◌<◌, ◌≤◌, List, [], ◌∷◌, ◌++◌, length, map, Bool, true, false, None, refl, sym, ap, ◌∙◌, subst, arith}
-use Rattle.std.specs.Prelude.{◌==◌, ◌&&◌, cond, if◌then◌else◌, nat_lt}
+use Rattle.std.specs.Prelude.{◌==◌, ◌&&◌, cond, if◌then◌else◌, nat_lt, ⊤}
 use Rattle.std.specs.List.{flat_map}
 use Rattle.std.proofs.lemmas.Bool.Decides.{Decides-eqb, nat_tests}
 use Rattle.std.specs.Bool.{MatchBool}
@@ -25,6 +25,7 @@ use Rattle.hg_base.proofs.Growth.{left_below, right_below}
 use Rattle.hg_core.specs.declared.log.LogEntry.{LogEntry}
 use Rattle.hg_core.specs.Logs.{current}
 use Rattle.hg_core.specs.Events.{put}
+use Rattle.hg_core.proofs.Right.{if_any}
 use Rattle.hg_core.specs.Reading.{Unprinted, Fits, is_alone, log_with, log_after, Tells, Follows}
 use Rattle.hg_core.proofs.Indices.{by_number, put_here}
 use Rattle.hg_headline.specs.Ran.{LeavesGc, report_lines, run_lines, HasRun}
@@ -136,7 +137,7 @@ reports_follow rounds buckets kind (report ∷ reports) n logs final more later 
       tt,
       (
         nothing_more,
-        record { at = sym out; number = sym (ap (λ b. b && false) out); answer = tt },
+        record { at = sym out; number = sym (ap (λ b. b && false) out); answer = tt; scope = if_any (current (logs 0)) (λ snapshot. ⊤) (λ snapshot. tt) },
         subst (λ ls. Follows buckets (RunsGc rounds) ls (map (round_of kind) (numbers_from (suc n) (length reports)) ++ more) (report_lines (suc n) reports ++ later) final) (sym (ap (put logs 0) after ∙ put_same logs 0)) rest,
       ),
     )

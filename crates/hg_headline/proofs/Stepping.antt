@@ -23,14 +23,14 @@ use Rattle.hg_core.specs.declared.log.LogEntry.{LogEntry}
 use Rattle.hg_core.specs.declared.log.LogEntry.TheVariants.{Began, Undid, Published, Over}
 use Rattle.hg_core.specs.Logs.{current, begans, own_writes, is_plain, open_in, number_in, commit_in}
 use Rattle.hg_core.specs.Events.{put}
-use Rattle.hg_core.specs.Reading.{Unprinted, own_entries, is_access, is_alone, close, log_with, log_after, UndoesAll, FitsAnswer}
+use Rattle.hg_core.specs.Reading.{Unprinted, own_entries, is_access, is_alone, close, log_with, log_after, UndoesAll, FitsAnswer, FitsScope}
 use Rattle.hg_core.proofs.Groups.{length_more}
 use Rattle.hg_core.proofs.Indices.{put_here, put_else}
 use Rattle.hg_core.proofs.NewGroup.{image_open}
 use Rattle.hg_core.proofs.Past.{writes_within}
 use Rattle.hg_core.specs.Counters.{first_writes, undos}
 use Rattle.hg_core.specs.Judged.{IsPublish}
-use Rattle.hg_core.proofs.Right.{places_of}
+use Rattle.hg_core.proofs.Right.{if_any, if_none, places_of}
 use Rattle.hg_headline.specs.Logged.{Logged}
 use Rattle.hg_headline.specs.Timely.{reads_in, snapshot_in, mark_in, newer_in, IsTimely}
 use Rattle.hg_headline.specs.Met.{IsMetAnswer}
@@ -43,7 +43,7 @@ use Rattle.hg_headline.proofs.Adds.{Adds, adds_access, access_commits}
 use Rattle.hg_headline.proofs.Entries.{adds_undone}
 use Rattle.hg_headline.proofs.Growing.{logged_on, logged_commit, put_twice, put_same}
 use Rattle.hg_headline.proofs.Loops.{replayed_more}
-use Rattle.hg_headline.proofs.Answering.{is_open, GoesOn, Leaves, leaves, nothing_more}
+use Rattle.hg_headline.proofs.Answering.{for_open, is_open, GoesOn, Leaves, leaves, nothing_more}
 use Rattle.hg_headline.proofs.Replaying.{equal_within}
 
 -- the line of a record
@@ -150,7 +150,7 @@ replayed_inside buckets sessions h logs rs lines r a c g asked opened plain m =
     record {
       more = put logs r.session log;
       replayed = replayed_more buckets sessions h h logs (length h) (length h) rs lines r (line_for r (inside a)) left.unprinted g asked.some asked.most refl refl (answered_met sessions h logs r.session c (own_writes l) r.statement a m)
-          (record { at = sym in_it; number = sym (ap (λ b. b && is_some (stored_by r.statement a)) in_it); answer = left.fits })
+          (record { at = sym in_it; number = sym (ap (λ b. b && is_some (stored_by r.statement a)) in_it); answer = left.fits; scope = for_open (current l) c (λ snapshot. FitsScope snapshot.scope r.statement a) opened left.scope })
           (timely_inside (length h) r.statement a (access_commits r.statement a access) (fits_small buckets left.unprinted (own_writes l) h logs r.session c (own_writes l) r.statement a left.fits m))
           (omega arith) (subst (λ x. Logged buckets h (put logs r.session x)) after left.goes.logged);
       gone = gone_put logs r.session log (Some c) (begans l) (cons_option (stored_by r.statement a) (own_writes l)) (ap current (sym after) ∙ left.goes.opened) (ap begans (sym after) ∙ adds.count) (ap own_writes (sym after) ∙ adds.own) (ap is_plain (sym after) ∙ left.plain);
@@ -243,7 +243,7 @@ replayed_alone buckets sessions h logs rs lines r a g asked none stored m =
     record {
       more = put logs j (log_after buckets u s (alone (length h) a None) l);
       replayed = replayed_more buckets sessions h h logs (length h) (length h) rs lines r (line_for r (alone (length h) a None)) u g asked.some asked.most refl refl (answered_met sessions h logs j (own_snapshot h s) [] s a m)
-          (record { at = sym is; number = sym (ap (λ b. b && is_some (stored_by s a)) is ∙ ap is_some stored); answer = it.left.fits })
+          (record { at = sym is; number = sym (ap (λ b. b && is_some (stored_by s a)) is ∙ ap is_some stored); answer = it.left.fits; scope = if_none (current l) (λ snapshot. FitsScope snapshot.scope s a) none })
           (timely_alone (length h) (length h) s a None (access_commits s a it.access) (fits_small buckets u (own_writes l) h logs j (own_snapshot h s) [] s a it.left.fits m) (omega arith) tt)
           (omega arith) (subst (λ x. Logged buckets h (put logs j x)) after ended);
       gone = gone_put logs j (log_after buckets u s (alone (length h) a None) l) None (suc (begans l)) [] (ap current (sym after)) (ap begans (sym after) ∙ it.adds.count) (ap own_writes (sym after)) (ap is_plain (sym after));
@@ -294,7 +294,7 @@ replayed_commits buckets sessions h logs rs lines r a w g asked none stored m =
     record {
       more = put logs j (log_after buckets u s (alone (length h) a (Some n)) l);
       replayed = replayed_more buckets sessions h more logs (length h) (length more) rs lines r (line_for r (alone (length h) a (Some n))) u g asked.some asked.most refl refl (answered_met sessions h logs j (own_snapshot h s) [] s a m)
-          (record { at = sym is; number = sym (ap (λ b. b && is_some (stored_by s a)) is ∙ ap is_some stored); answer = it.left.fits })
+          (record { at = sym is; number = sym (ap (λ b. b && is_some (stored_by s a)) is ∙ ap is_some stored); answer = it.left.fits; scope = if_none (current l) (λ snapshot. FitsScope snapshot.scope s a) none })
           (timely_alone (length h) (length more) s a (Some n) (access_commits s a it.access) (fits_small buckets u (own_writes l) h logs j (own_snapshot h s) [] s a it.left.fits m) (omega (arith, grown)) (omega arith, omega (arith, grown)))
           (omega arith) (subst (λ x. Logged buckets more (put logs j x)) after ended);
       gone = gone_put logs j (log_after buckets u s (alone (length h) a (Some n)) l) None (suc (begans l)) [] (ap current (sym after)) (ap begans (sym after) ∙ it.adds.count) (ap own_writes (sym after)) (ap is_plain (sym after));
@@ -317,7 +317,7 @@ replayed_begin buckets sessions h logs rs lines place j scope g some most none =
     record {
       more = put logs j (log_after buckets nothing_more (Begin scope) reply l);
       replayed = replayed_more buckets sessions h h logs (length h) (length h) rs lines r (line_for r reply) nothing_more g some most refl refl tt
-          (record { at = sym is; number = sym (ap (λ b. b && false) is); answer = tt })
+          (record { at = sym is; number = sym (ap (λ b. b && false) is); answer = tt; scope = if_any (current l) (λ snapshot. ⊤) (λ snapshot. tt) })
           (record { grows = omega arith; reads = (omega arith, tt); snapshot = omega arith; mark = tt; newer = tt; commit = tt })
           (omega arith) (subst (λ x. Logged buckets h (put logs j x)) after began);
       gone = gone_put logs j (log_after buckets nothing_more (Begin scope) reply l) (Some (record { at = length h; scope = scope })) (suc (begans l)) [] (ap current (sym after)) (ap begans (sym after)) (ap own_writes (sym after)) (ap is_plain (sym after));
@@ -372,7 +372,7 @@ replayed_undone buckets sessions h logs rs lines place j c undone g some most op
     record {
       more = put logs j (log_after buckets u Rollback (inside Undone) l);
       replayed = replayed_more buckets sessions h h logs (length h) (length h) rs lines r (line_for r (inside Undone)) u g some most refl refl tt
-          (record { at = sym is; number = sym (ap (λ b. b && false) is); answer = (tt, all) })
+          (record { at = sym is; number = sym (ap (λ b. b && false) is); answer = (tt, all); scope = if_any (current l) (λ snapshot. ⊤) (λ snapshot. tt) })
           (record { grows = omega arith; reads = tt; snapshot = tt; mark = tt; newer = tt; commit = tt })
           (omega arith) (subst (λ x. Logged buckets h (put logs j x)) after ended);
       gone = gone_put logs j (log_after buckets u Rollback (inside Undone) l) None (begans l) [] (ap current (sym after)) (ap begans (sym after) ∙ (adds_undone undone l).count) (ap own_writes (sym after)) (ap is_plain (sym after));

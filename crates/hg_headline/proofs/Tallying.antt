@@ -16,6 +16,7 @@ use Rattle.hg_core.specs.Logs.{begans, own_writes}
 use Rattle.hg_core.specs.Events.{put}
 use Rattle.hg_core.specs.Counters.{first_writes, undos}
 use Rattle.hg_core.specs.Reading.{Unprinted, saws, own_entries, is_access, FitsAnswer}
+use Rattle.hg_core.proofs.OwnKeys.{saws_keep}
 use Rattle.hg_core.proofs.Indices.{put_here, put_else}
 use Rattle.hg_core.proofs.Sums.{sum_grown}
 use Rattle.hg_headline.specs.Counted.{every, made_in, undone_in, adding}
@@ -52,9 +53,8 @@ pub made_undone : (rids : List Rid) (l : List LogEntry) → first_writes every (
 made_undone [] l = refl
 made_undone (r ∷ rids) l = made_undone rids l
 
-undos_saws : (t : TableId) (low high : ℕ) (part : ℕ → List (ℕ × List ℤ)) (n : ℕ) (l : List LogEntry) → undos every (saws t low high part n ++ l) ≡ undos every l
-undos_saws t low high part zero l = refl
-undos_saws t low high part (suc n) l = undos_saws t low high part n l
+undos_saws : (buckets : ℕ) (t : TableId) (low high : ℕ) (part : ℕ → List (ℕ × List ℤ)) (n : ℕ) (l : List LogEntry) → undos every (saws buckets t low high part n ++ l) ≡ undos every l
+undos_saws buckets t low high part n l = saws_keep (λ m. undos every m ≡ undos every l) buckets t low high part n l (λ b rows m e. e) refl
 
 pub undos_access : (buckets : ℕ) (u : Unprinted) (own : List Write) (s : Statement) (a : Answer) (l : List LogEntry) → IsTrue (is_access s) → FitsAnswer buckets u own s a → undos every (own_entries buckets u s a ++ l) ≡ undos every l
 undos_access buckets u own (Get r) (Found row) l e f = refl
@@ -72,7 +72,7 @@ undos_access buckets u own (Del r) (Newer n) l e f = refl
 undos_access buckets u own (Del r) (OpenBy w) l e f = refl
 undos_access buckets u own (Del r) (Undeclared t) l e f = refl
 undos_access buckets u own (Del r) _ l e f = absurd f
-undos_access buckets u own (Scan t low high) (Rows rows) l e f = undos_saws t low high u.part buckets l
+undos_access buckets u own (Scan t low high) (Rows rows) l e f = undos_saws buckets t low high u.part buckets l
 undos_access buckets u own (Scan t low high) (Undeclared other) l e f = refl
 undos_access buckets u own (Scan t low high) _ l e f = absurd f
 undos_access buckets u own (Begin scope) a l e f = absurd (true_false (sym e))

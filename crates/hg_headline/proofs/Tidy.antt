@@ -20,6 +20,7 @@ use Rattle.hg_base.proofs.ListFacts.{each_keeps}
 use Rattle.hg_core.specs.declared.log.LogEntry.{LogEntry}
 use Rattle.hg_core.specs.declared.log.LogEntry.TheVariants.{Began, Saw, Refused, Outside, Wrote, Undid, Over}
 use Rattle.hg_core.specs.Logs.{current, own_writes, is_plain, open_in}
+use Rattle.hg_core.specs.Contents.{has_own}
 use Rattle.hg_core.specs.Judged.{Judged}
 use Rattle.hg_core.specs.Replies.{AreReplied}
 use Rattle.hg_core.specs.Events.{put}
@@ -72,9 +73,13 @@ IsQuiet (Outside t ∷ es) = IsQuiet es
 IsQuiet (Wrote r image ∷ es) = IsQuiet es
 IsQuiet (_ ∷ es) = ⊥
 
-quiet_saws : (t : TableId) (low high : ℕ) (part : ℕ → List (ℕ × List ℤ)) (n : ℕ) → IsQuiet (saws t low high part n)
-quiet_saws t low high part zero = tt
-quiet_saws t low high part (suc n) = quiet_saws t low high part n
+quiet_saws : (buckets : ℕ) (t : TableId) (low high : ℕ) (part : ℕ → List (ℕ × List ℤ)) (n : ℕ) → IsQuiet (saws buckets t low high part n)
+quiet_saws buckets t low high part zero = tt
+quiet_saws buckets t low high part (suc n) = go (has_own buckets t low high n) (quiet_saws buckets t low high part n)
+  where
+    go : (x : Bool) → IsQuiet (saws buckets t low high part n) → IsQuiet (if x then Saw t low high n (part n) ∷ saws buckets t low high part n else saws buckets t low high part n)
+    go true rest = rest
+    go false rest = rest
 
 quiet_access : (buckets : ℕ) (u : Unprinted) (own : List Write) (s : Statement) (a : Answer) → FitsAnswer buckets u own s a → is_access s ≡ true → IsQuiet (own_entries buckets u s a)
 quiet_access buckets u own (Get r) (Found row) f e = tt
@@ -92,7 +97,7 @@ quiet_access buckets u own (Del r) (Newer n) f e = tt
 quiet_access buckets u own (Del r) (OpenBy w) f e = tt
 quiet_access buckets u own (Del r) (Undeclared t) f e = tt
 quiet_access buckets u own (Del r) _ f e = absurd f
-quiet_access buckets u own (Scan t low high) (Rows rows) f e = quiet_saws t low high u.part buckets
+quiet_access buckets u own (Scan t low high) (Rows rows) f e = quiet_saws buckets t low high u.part buckets
 quiet_access buckets u own (Scan t low high) (Undeclared other) f e = tt
 quiet_access buckets u own (Scan t low high) _ f e = absurd f
 quiet_access buckets u own (Begin scope) a f e = absurd (true_false (sym e))

@@ -1,6 +1,6 @@
 -- The premises can be met: by a replay, statement by statement, and by a run.
 use Rattle.std.proofs.Common.{◌≡◌, inl, ℕ, suc, ◌+◌, List, [], ◌∷◌, Bool, true, false, Some, None, refl, sym, ap, ◌∙◌, subst, arith}
-use Rattle.std.specs.Prelude.{cond, ◌==◌, ◌||◌, ◌&&◌, if◌then◌else◌, option_map, is_some, pos}
+use Rattle.std.specs.Prelude.{cond, ◌==◌, ◌||◌, ◌&&◌, if◌then◌else◌, option_map, is_some, pos, ⊤}
 use Rattle.std.specs.List.{cons_option}
 use Rattle.std.proofs.lemmas.Bool.Decides.{nat_tests}
 use Rattle.hg_base.specs.declared.rid.Rid.{Rid}
@@ -17,6 +17,7 @@ use Rattle.hg_base.specs.Shape.{HasShape}
 use Rattle.hg_core.specs.declared.log.LogEntry.{LogEntry}
 use Rattle.hg_core.specs.Logs.{current, begans, own_writes, is_plain}
 use Rattle.hg_core.specs.Events.{put}
+use Rattle.hg_core.proofs.Right.{if_any}
 use Rattle.hg_core.specs.Reading.{Unprinted, Fits, Tells, log_with, log_after, is_alone, UndoesAll}
 use Rattle.hg_core.proofs.Remaining.{same_rid_sym}
 use Rattle.hg_headline.specs.Logged.{Logged}
@@ -106,7 +107,7 @@ met =
     let live : live_in 2 l.logs ≡ [] = λ i. cons_option (option_map (λ snapshot. (1, snapshot.at)) (l.one i)) (cons_option (option_map (λ snapshot. (2, snapshot.at)) (l.two i)) []) in
     let more = replayed_more 1 2 history history l.logs 1 1 _ _ (asked 6 1 (Gc kinds.Interval)) (record { session = 1; place = 6; reply = reply }) nothing_more l.replayed (omega arith) (omega arith) refl refl
     (record { same = refl; horizon = refl; held = sym live; moved = tt })
-    (record { at = sym is; number = sym (ap (λ b. b && false) is); answer = tt })
+    (record { at = sym is; number = sym (ap (λ b. b && false) is); answer = tt; scope = if_any (current (l.logs 1)) (λ snapshot. ⊤) (λ snapshot. tt) })
     (record { grows = omega arith; reads = (omega arith, tt); snapshot = tt; mark = omega arith; newer = tt; commit = tt })
     (omega arith) (subst (Logged 1 history) (sym same) l.replayed.logged) in
     record {
