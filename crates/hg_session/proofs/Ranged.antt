@@ -1,6 +1,6 @@
 -- What a scan and a deletion reply.
-use Rattle.std.proofs.Common.{◌≡◌, ℕ, ℤ, List, [], ◌∷◌, ◌++◌, true, false, Option, Some, None, refl, sym, ap, subst, append_assoc, append-nil}
-use Rattle.std.specs.Prelude.{is_some}
+use Rattle.std.proofs.Common.{◌≡◌, ℕ, ℤ, List, [], ◌∷◌, ◌++◌, true, false, Option, Some, None, refl, sym, ap, ◌∙◌, subst, append_assoc, append-nil}
+use Rattle.std.specs.Prelude.{is_some, IsTrue, IfSome}
 use Rattle.hg_base.specs.declared.rid.Rid.{Rid}
 use Rattle.hg_base.specs.declared.rid.TableId.{TableId}
 use Rattle.hg_base.specs.declared.scope.Snapshot.{Snapshot}
@@ -8,12 +8,13 @@ use Rattle.hg_base.specs.declared.statement.Statement.TheVariants as say
 use Rattle.hg_base.specs.declared.line.Answer.TheVariants as answers
 use Rattle.hg_base.specs.Lists.{Each}
 use Rattle.hg_base.specs.History.{Write, nothing}
-use Rattle.hg_base.specs.Transcript.{only}
+use Rattle.hg_base.specs.Transcript.{only, has}
 use Rattle.hg_core.specs.declared.log.LogEntry.{LogEntry}
 use Rattle.hg_core.specs.declared.log.LogEntry.TheVariants.{Began, Over}
 use Rattle.hg_core.specs.Logs.{current}
 use Rattle.hg_core.specs.Reading.{Unprinted, close, saw, saws}
 use Rattle.hg_core.specs.Reading as reading
+use Rattle.hg_core.proofs.Right.{of_some}
 use Rattle.hg_rule.specs.declared.view.Sizes.{Sizes}
 use Rattle.hg_rule.specs.declared.view.View.{View}
 use Rattle.hg_rule.specs.Views.{session}
@@ -30,14 +31,14 @@ use Rattle.hg_session.proofs.Settling.{gains_on}
 abbrev pub with_part : (ℕ → Rows) → Unprinted
 with_part part = record { found = []; part = part; undone = [] }
 
-pub scan_inside : (z : Sizes) (v w : View) (c : Snapshot) (table : TableId) (low high : ℕ) (rows : Rows) → current (session v).log ≡ Some c → ScansAll z.buckets v table low high rows w → Answers z v (say.Scan table low high) (inside (answers.Rows rows)) w
-scan_inside z v w c table low high rows e k = answers_inside z v w (say.Scan table low high) (answers.Rows rows) (with_part k.part) (ap (λ o. reading.is_alone o (say.Scan table low high)) e) k.gains k.joins tt tt tt tt
+pub scan_inside : (z : Sizes) (v w : View) (c : Snapshot) (table : TableId) (low high : ℕ) (rows : Rows) → current (session v).log ≡ Some c → IsTrue (has c.scope table) → ScansAll z.buckets v table low high rows w → Answers z v (say.Scan table low high) (inside (answers.Rows rows)) w
+scan_inside z v w c table low high rows e declared k = answers_inside z v w (say.Scan table low high) (answers.Rows rows) (with_part k.part) (ap (λ o. reading.is_alone o (say.Scan table low high)) e) k.gains k.joins (λ d q. of_some (Some d) (λ snapshot. IsTrue (has snapshot.scope table)) d refl (subst (λ o. IfSome o (λ snapshot. IsTrue (has snapshot.scope table))) (sym e ∙ q) declared)) tt tt tt tt
 
 pub scan_alone : (z : Sizes) (v m n w : View) (at : ℕ) (table : TableId) (low high : ℕ) (rows : Rows) → current (session v).log ≡ None → Each (AtMost at) v.sights → Gains v (Began at (only (Some table)) ∷ []) m → ScansAll z.buckets m table low high rows n → Gains n (Over ∷ []) w
     → Answers z v (say.Scan table low high) (record { at = Some at; answer = answers.Rows rows; number = None }) w
 scan_alone z v m n w at table low high rows e most b k o =
-    let two = gains_on v m n (Began at (only (Some table)) ∷ []) (saws table low high k.part z.buckets) b k.gains (λ l. sym (append_assoc (saws table low high k.part z.buckets) (Began at (only (Some table)) ∷ []) l)) in
-    let all = gains_on v n w (saws table low high k.part z.buckets ++ Began at (only (Some table)) ∷ []) (Over ∷ []) two o (λ l. refl) in
+    let two = gains_on v m n (Began at (only (Some table)) ∷ []) (saws z.buckets table low high k.part z.buckets) b k.gains (λ l. sym (append_assoc (saws z.buckets table low high k.part z.buckets) (Began at (only (Some table)) ∷ []) l)) in
+    let all = gains_on v n w (saws z.buckets table low high k.part z.buckets ++ Began at (only (Some table)) ∷ []) (Over ∷ []) two o (λ l. refl) in
     answers_alone z v w (say.Scan table low high) (answers.Rows rows) at None (with_part k.part) e refl all refl k.joins refl refl most tt tt tt
 
 -- ---- a deletion
@@ -57,6 +58,7 @@ dels z own rid found = record {
   fits = tt;
   fits_opened = λ w. tt;
   fits_newer = λ n. tt;
+  unscanned = λ scope b. tt;
   by = refl;
   by_opened = λ w. refl;
   by_newer = λ n. refl;
@@ -80,7 +82,7 @@ no_row None e = refl
 no_row (Some found) e = absurd (let k = e in cc)
 
 pub nothing_inside : (z : Sizes) (v w : View) (c : Snapshot) (rid : Rid) → current (session v).log ≡ Some c → Gains v (saw z.buckets rid [] ∷ []) w → Answers z v (say.Del rid) (inside answers.Nothing) w
-nothing_inside z v w c rid e g = answers_inside z v w (say.Del rid) answers.Nothing nothing_more (ap (λ o. reading.is_alone o (say.Del rid)) e) g tt tt tt tt tt
+nothing_inside z v w c rid e g = answers_inside z v w (say.Del rid) answers.Nothing nothing_more (ap (λ o. reading.is_alone o (say.Del rid)) e) g tt (λ c e. tt) tt tt tt tt
 
 pub nothing_alone : (z : Sizes) (v w : View) (at : ℕ) (rid : Rid) → current (session v).log ≡ None → Each (AtMost at) v.sights → Gains v (close None ++ (saw z.buckets rid [] ∷ Began at (only (Some rid.table)) ∷ [])) w → Answers z v (say.Del rid) (record { at = Some at; answer = answers.Nothing; number = None }) w
 nothing_alone z v w at rid e most g = answers_alone z v w (say.Del rid) answers.Nothing at None nothing_more e refl g refl tt refl refl most tt tt tt
@@ -88,6 +90,6 @@ nothing_alone z v w at rid e most g = answers_alone z v w (say.Del rid) answers.
 -- after a look that logged nothing
 pub all_behind : (z : Sizes) (v m w : View) (table : TableId) (low high : ℕ) (rows : Rows) → Gains v [] m → ScansAll z.buckets m table low high rows w → ScansAll z.buckets v table low high rows w
 all_behind z v m w table low high rows none k =
-    let es = saws table low high k.part z.buckets in
+    let es = saws z.buckets table low high k.part z.buckets in
     let all = gains_on v m w [] es none k.gains (λ l. ap (λ x. x ++ l) (sym (append-nil es))) in
     record { part = k.part; joins = k.joins; gains = subst (λ x. Gains v x w) (append-nil es) all }

@@ -9,7 +9,8 @@ use Rattle.hg_base.specs.History.{Write, same_rid, image_in, is_among}
 use Rattle.hg_base.specs.Transcript.{only}
 use Rattle.hg_base.proofs.HistoryFacts.{same_rid_equal, same_rid_itself}
 use Rattle.hg_core.specs.declared.log.LogEntry.{LogEntry}
-use Rattle.hg_core.specs.declared.log.LogEntry.TheVariants.{Began, Over}
+use Rattle.hg_core.specs.declared.log.LogEntry.TheVariants.{Began, Saw, Over}
+use Rattle.hg_core.specs.Contents.{has_own}
 use Rattle.hg_core.specs.Reading.{saws, UndoesAll}
 use Rattle.hg_bucket.specs.declared.refusal.WriteRefusal.{WriteRefusal}
 use Rattle.hg_bucket.specs.declared.refusal.WriteRefusal.TheVariants.{Open, Newer, NoMemory}
@@ -26,9 +27,16 @@ use Rattle.hg_session.proofs.Settling.{gains_on}
 
 -- ---- looks
 
-pub saws_there : (table : TableId) (low high : ℕ) (part : ℕ → Rows) (n : ℕ) → Each (IsLookAt table low high) (saws table low high part n)
-saws_there table low high part zero = tt
-saws_there table low high part (suc n) = ((refl, (refl, refl)), saws_there table low high part n)
+pub saws_there : (buckets : ℕ) (table : TableId) (low high : ℕ) (part : ℕ → Rows) (n : ℕ) → Each (IsLookAt table low high) (saws buckets table low high part n)
+saws_there buckets table low high part zero = tt
+saws_there buckets table low high part (suc n) = go (has_own buckets table low high n) (saws_there buckets table low high part n)
+  where
+    earlier : List LogEntry
+    earlier = saws buckets table low high part n
+
+    go : (x : Bool) → Each (IsLookAt table low high) earlier → Each (IsLookAt table low high) (if x then Saw table low high n (part n) ∷ earlier else earlier)
+    go true rest = ((refl, (refl, refl)), rest)
+    go false rest = rest
 
 -- a refused write leaves the looks before it
 pub looked_before : (v w : View) (rid : Rid) (image : Image) (at : ℕ) (looks : List LogEntry) → Each (IsLookAt rid.table rid.key rid.key) looks → (e : WriteRefusal) → Gains v (entries_of {T = ⊤} rid image (Err e) ++ looks) w → refused_at at e ≡ put.NoMemory → HasLooked rid.table rid.key rid.key v w

@@ -2,6 +2,7 @@
 use Rattle.std.proofs.Common.{◌≡◌, ℕ, zero, suc, ◌^◌, arith, ◌<◌, ℤ, List, [], ◌∷◌, ◌++◌, true, false, Option, Some, None, refl, sym, ap, ◌∙◌, subst, append_assoc}
 use Rattle.std.specs.Prelude.{◌&&◌, is_some, IsTrue, IfSome}
 use Rattle.hg_base.specs.declared.rid.Rid.{Rid}
+use Rattle.hg_base.specs.declared.scope.Scope.{Scope}
 use Rattle.hg_base.specs.declared.scope.Snapshot.{Snapshot}
 use Rattle.hg_base.specs.declared.statement.Statement.{Statement}
 use Rattle.hg_base.specs.declared.statement.Statement.TheVariants as say
@@ -12,8 +13,9 @@ use Rattle.hg_base.specs.Transcript.{only, table_of, stored_by}
 use Rattle.hg_core.specs.declared.log.LogEntry.{LogEntry}
 use Rattle.hg_core.specs.declared.log.LogEntry.TheVariants.{Began, Outside}
 use Rattle.hg_core.specs.Logs.{current, is_plain, own_writes}
-use Rattle.hg_core.specs.Reading.{Unprinted, own_entries, close, is_access, log_with, log_after, FitsAnswer, saw}
+use Rattle.hg_core.specs.Reading.{Unprinted, own_entries, close, is_access, log_with, log_after, FitsAnswer, FitsScope, saw}
 use Rattle.hg_core.specs.Reading as reading
+use Rattle.hg_core.proofs.Right.{if_none}
 use Rattle.hg_rule.specs.declared.view.Sizes.{Sizes}
 use Rattle.hg_rule.specs.declared.view.View.{View}
 use Rattle.hg_rule.specs.Views.{session}
@@ -33,12 +35,16 @@ use Rattle.hg_session.specs.Replies.{inside, row_answer, IsNext, GoesOn, Answers
 abbrev pub nothing_more : Unprinted
 nothing_more = record { found = []; part = λ b. []; undone = [] }
 
+if_known : {X : Type 0} (o : Option X) (P : X → Type 0) → ((x : X) → o ≡ Some x → P x) → IfSome o P
+if_known None P f = tt
+if_known (Some x) P f = f x refl
+
 -- in a transaction, or a statement that begins or ends one
-pub answers_inside : (z : Sizes) (v w : View) (s : Statement) (a : Answer) (u : Unprinted) → reading.is_alone (current (session v).log) s ≡ false → Gains v (own_entries z.buckets u s a) w → FitsAnswer z.buckets u (own_writes (session v).log) s a
+pub answers_inside : (z : Sizes) (v w : View) (s : Statement) (a : Answer) (u : Unprinted) → reading.is_alone (current (session v).log) s ≡ false → Gains v (own_entries z.buckets u s a) w → FitsAnswer z.buckets u (own_writes (session v).log) s a → ((c : Snapshot) → current (session v).log ≡ Some c → FitsScope c.scope s a)
     → IfSome (snapshot_in (inside a)) (λ at. Each (AtMost at) v.sights) → IfSome (commit_in s (inside a)) (IsNext v.sights (snapshot_in (inside a))) → IfSome (newer_in (inside a)) (λ c. 0 < c) → GoesOn z v a → Answers z v s (inside a) w
-answers_inside z v w s a u alone g fits snapshot commit newer goes = record {
+answers_inside z v w s a u alone g fits scope snapshot commit newer goes = record {
   u = u;
-  fits = record { at = sym alone; number = ap (λ b. b && is_some (stored_by s a)) (sym alone); answer = fits };
+  fits = record { at = sym alone; number = ap (λ b. b && is_some (stored_by s a)) (sym alone); answer = fits; scope = if_known (current (session v).log) (λ c. FitsScope c.scope s a) scope };
   log = g.log ∙ ap (λ b. log_with b z.buckets u s (inside a) (session v).log) (sym alone);
   number_is = g.number_is;
   kept = g.kept;
@@ -58,7 +64,7 @@ pub answers_alone : (z : Sizes) (v w : View) (s : Statement) (a : Answer) (at : 
 answers_alone z v w s a at n u none access g stored fits snapshot commit most next newer goes =
     let alone = is_alone_now (session v).log s none access in record {
       u = u;
-      fits = record { at = sym alone; number = stored ∙ ap (λ b. b && is_some (stored_by s a)) (sym alone); answer = fits };
+      fits = record { at = sym alone; number = stored ∙ ap (λ b. b && is_some (stored_by s a)) (sym alone); answer = fits; scope = if_none (current (session v).log) (λ c. FitsScope c.scope s a) none };
       log = g.log ∙ (append_assoc (close n) (own_entries z.buckets u s a ++ Began at (only (table_of s)) ∷ []) (session v).log ∙ (ap (λ l. close n ++ l) (append_assoc (own_entries z.buckets u s a) (Began at (only (table_of s)) ∷ []) (session v).log) ∙ ap (λ b. log_with b z.buckets u s (record { at = Some at; answer = a; number = n }) (session v).log) (sym alone)));
       number_is = g.number_is;
       kept = g.kept;
@@ -71,8 +77,8 @@ answers_alone z v w s a at n u none access g stored fits snapshot commit most ne
 -- ---- a get
 
 pub get_inside : (z : Sizes) (v w : View) (c : Snapshot) (rid : Rid) (row : Option (List ℤ)) → current (session v).log ≡ Some c → Gains v (saw z.buckets rid (rows_at rid.key row) ∷ []) w → Answers z v (say.Get rid) (inside (row_answer row)) w
-get_inside z v w c rid None e g = answers_inside z v w (say.Get rid) answers.Nothing nothing_more (ap (λ o. reading.is_alone o (say.Get rid)) e) g tt tt tt tt tt
-get_inside z v w c rid (Some row) e g = answers_inside z v w (say.Get rid) (answers.Found row) nothing_more (ap (λ o. reading.is_alone o (say.Get rid)) e) g tt tt tt tt tt
+get_inside z v w c rid None e g = answers_inside z v w (say.Get rid) answers.Nothing nothing_more (ap (λ o. reading.is_alone o (say.Get rid)) e) g tt (λ c e. tt) tt tt tt tt
+get_inside z v w c rid (Some row) e g = answers_inside z v w (say.Get rid) (answers.Found row) nothing_more (ap (λ o. reading.is_alone o (say.Get rid)) e) g tt (λ c e. tt) tt tt tt tt
 
 pub get_alone : (z : Sizes) (v w : View) (at : ℕ) (rid : Rid) (row : Option (List ℤ)) → current (session v).log ≡ None → Each (AtMost at) v.sights → Gains v (close None ++ (saw z.buckets rid (rows_at rid.key row) ∷ Began at (only (Some rid.table)) ∷ [])) w → Answers z v (say.Get rid) (record { at = Some at; answer = row_answer row; number = None }) w
 get_alone z v w at rid None e most g = answers_alone z v w (say.Get rid) answers.Nothing at None nothing_more e refl g refl tt refl refl most tt tt tt
@@ -80,9 +86,14 @@ get_alone z v w at rid (Some row) e most g = answers_alone z v w (say.Get rid) (
 
 -- ---- a refusal
 
+-- it shows no rows
+undeclared_scope : (scope : Scope) (s : Statement) (table : TableId) → FitsScope scope s (answers.Undeclared table)
+undeclared_scope scope (say.Scan other low high) table = tt
+undeclared_scope scope s table = tt
+
 pub undeclared_inside : (z : Sizes) (v w : View) (c : Snapshot) (s : Statement) (table : TableId) → current (session v).log ≡ Some c → (own_entries z.buckets nothing_more s (answers.Undeclared table) ≡ Outside table ∷ []) → FitsAnswer z.buckets nothing_more (own_writes (session v).log) s (answers.Undeclared table) → committed_by s (answers.Undeclared table) ≡ None
     → Gains v (Outside table ∷ []) w → Answers z v s (inside (answers.Undeclared table)) w
-undeclared_inside z v w c s table e entries fits none g = answers_inside z v w s (answers.Undeclared table) nothing_more (ap (λ o. reading.is_alone o s) e) (subst (λ es. Gains v es w) (sym entries) g) fits tt (subst (λ o. IfSome o (IsNext v.sights None)) (sym none) tt) tt tt
+undeclared_inside z v w c s table e entries fits none g = answers_inside z v w s (answers.Undeclared table) nothing_more (ap (λ o. reading.is_alone o s) e) (subst (λ es. Gains v es w) (sym entries) g) fits (λ c e. undeclared_scope c.scope s table) tt (subst (λ o. IfSome o (IsNext v.sights None)) (sym none) tt) tt tt
 
 -- ---- a transaction that lists nothing stored nothing
 pub no_writes : (rids : List Rid) (log : List LogEntry) → IsTrue (is_plain log) → AreWritten rids log → rids ≡ [] → own_writes log ≡ []

@@ -9,7 +9,7 @@ use Rattle.hg_base.specs.Replies.{AreRows}
 use Rattle.hg_core.specs.declared.log.LogEntry.TheVariants.{Saw}
 use Rattle.hg_core.specs.Contents.{Content, bucket_of, look}
 use Rattle.hg_core.specs.Replies.{read_by}
-use Rattle.hg_core.specs.Reading.{Joins, saws}
+use Rattle.hg_core.specs.Reading.{IsReached, Joins, saws}
 use Rattle.hg_bucket.specs.Held.{record_at}
 use Rattle.hg_rule.specs.declared.view.View.{View}
 use Rattle.hg_session.specs.Gains.{Gains}
@@ -66,18 +66,18 @@ pub record Sees {T : Type 0} (count : ℕ) (old : View) (table : TableId) (low h
 
 -- ---- the rows of all
 
--- one look at each bucket, in ascending order, and the rows that all of them showed, by key
+-- one look at each bucket that can have a key of the range, in ascending order, and the rows that all of them showed, by key
 pub record ScansAll (count : ℕ) (old : View) (table : TableId) (low high : ℕ) (rows : Rows) (new : View) : Type 0 where
   pub part : ℕ → Rows
-  pub joins : Joins count part rows
-  pub gains : Gains old (saws table low high part count) new
+  pub joins : Joins (IsReached count table low high) part rows
+  pub gains : Gains old (saws count table low high part count) new
 
--- one look at each of the first buckets
+-- one look at each of those among the first buckets
 pub record ScansSome (count : ℕ) (old : View) (table : TableId) (low high : ℕ) (new : View) : Type 0 where
   pub seen : ℕ
   pub within : seen ≤ count
   pub part : ℕ → Rows
-  pub gains : Gains old (saws table low high part seen) new
+  pub gains : Gains old (saws count table low high part seen) new
 
 -- what a scan leaves, by its answer
 abbrev pub Scans : ℕ → View → TableId → ℕ → ℕ → Result Rows NoMemory → View → Type 0

@@ -7,7 +7,7 @@
 //!     begin      probe, enter, fix, go live                       no lock
 //!     get        take the bucket, see the key, give it back
 //!     put        take the bucket, look and install, give it back
-//!     scan       each bucket once, in order; then the rows by key
+//!     scan       each bucket that can have a key, once, in order; then the rows by key
 //!     commit     hand over, into the queue; the commit lock; lead all that waits there, or be led; end
 //!     rollback   an undo for each record; end
 //!
@@ -30,6 +30,7 @@ mod laws;
 mod meeting;
 mod opening;
 mod parts;
+mod range;
 mod reading;
 mod scanning;
 mod session;

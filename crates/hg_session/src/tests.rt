@@ -144,3 +144,65 @@ fn a_row_is_stored_read_and_deleted(rt: HostRuntime) -> Result<(), Fail> {
     store_one(&rt, row, &engine, &mut session, rid)?;
     delete_one(&rt, &engine, &mut session, rid)
 }
+
+fn put_key<R: Wait>(
+    rt: &R,
+    row: Row,
+    engine: &Engine,
+    session: &mut Session,
+    key: u64,
+) -> Result<(), Fail>
+    requires ready { MayRun engine.now 1 session.old }
+    requires table { 0 < (engine_sizes engine.now).tables }
+    ensures again { OnOk result ((open_of session.new ≡ None) × (left_of session.new + 1 ≡ left_of session.old)) }
+    ensures own { IsOf engine.now session.new }
+{
+    let rid = Rid {
+        table: TableId(0),
+        key,
+    };
+    session.put(rt, engine, rid, row)?;
+    Ok(())
+}
+
+// A scan gives the rows of these keys.
+fn scan_keys<R: Abort + Wait>(
+    rt: &R,
+    engine: &Engine,
+    session: &mut Session,
+    low: u64,
+    high: u64,
+    keys: &[u64],
+) -> Result<(), Fail>
+    requires ready { MayRun engine.now 1 session.old }
+    requires table { 0 < (engine_sizes engine.now).tables }
+    ensures again { OnOk result ((open_of session.new ≡ None) × (left_of session.new + 1 ≡ left_of session.old)) }
+    ensures own { IsOf engine.now session.new }
+{
+    let scanned = session.scan(rt, engine, TableId(0), low, high)?;
+    let rows = scanned.rows.as_slice();
+    assert_eq!(rt; rows.len(), keys.len());
+    for (row, key) in rows.iter().zip(keys) {
+        assert_eq!(rt; row.0, *key);
+    }
+    Ok(())
+}
+
+#[test]
+fn a_scan_has_the_rows_of_its_range(rt: HostRuntime) -> Result<(), Fail> {
+    let tables = [TableDecl { columns: 1 }];
+    let (engine, sessions, _) = Engine::open(rt.alloc(), 1, &tables[..], 4, 10)?;
+    let mut sessions = sessions.into_vec();
+    let Some(mut session) = sessions.pop() else {
+        unreachable!();
+    };
+    let row = Row::from_slice(rt.alloc(), &[7])?;
+    put_key(&rt, row.copy()?, &engine, &mut session, 4)?;
+    put_key(&rt, row.copy()?, &engine, &mut session, 3)?;
+    put_key(&rt, row, &engine, &mut session, 6)?;
+    // one bucket; the last and the first; none; all of them
+    scan_keys(&rt, &engine, &mut session, 4, 4, &[4])?;
+    scan_keys(&rt, &engine, &mut session, 3, 4, &[3, 4])?;
+    scan_keys(&rt, &engine, &mut session, 4, 3, &[])?;
+    scan_keys(&rt, &engine, &mut session, 0, u64::MAX, &[3, 4, 6])
+}

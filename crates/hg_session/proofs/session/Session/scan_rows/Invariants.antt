@@ -7,7 +7,7 @@ use Rattle.hg_session.proofs.session.Session.scan_rows.Given as goal
 -- the buckets so far are seen, and the session is as before but for its log
 abbrev pub invariant-loop-bucket : goal.invariant-loop-bucket
 invariant-loop-bucket g l = record {
-  scanned : IsScanned (engine_sizes l.fn.engine).buckets (view_of l.fn.self) l.table l.low l.high l.bucket l.rows.items (view_of l.self);
+  scanned : IsScanned (engine_sizes l.fn.engine).buckets (view_of l.fn.self) l.range.table l.range.low l.range.high l.bucket l.rows.items (view_of l.self);
   opened : opened_of l.self ≡ opened_of l.fn.self;
   written : written_of l.self ≡ written_of l.fn.self;
   left : left_of l.self ≡ left_of l.fn.self;
