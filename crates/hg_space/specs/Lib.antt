@@ -3,3 +3,4 @@ pub mod Places
 pub mod Index
 -- How free places are linked: for the space itself.
 pub mod Links
+pub mod Rosters

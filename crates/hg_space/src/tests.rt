@@ -1,7 +1,8 @@
-ghost use Rattle.std.specs.Prelude.{◌≤◌, ◌<◌, ℕ, [], IfOk, OnOk};
+ghost use Rattle.std.specs.Prelude.{◌≤◌, ◌<◌, ◌+◌, ◌^◌, ℕ, [], IfOk, OnOk};
 ghost use Rattle.hg_base.specs.declared.rid.Rid.{Rid};
 ghost use Rattle.hg_space.specs.Index.{HasPlace};
 ghost use Rattle.hg_space.specs.Places.{IsTaken};
+ghost use Rattle.hg_space.specs.Rosters.{list_of, StandsIn};
 
 use super::*;
 use hg_base::{Image, NoMemory, Rid, Row, TableId};
@@ -97,5 +98,48 @@ fn next_key_stays_in_its_table(rt: HostRuntime) -> Result<(), Fail> {
     assert_eq!(rt; index.next_key(TableId(0), 0), Some(9));
     assert_eq!(rt; index.key_after(TableId(0), 8), Some(9));
     assert_eq!(rt; index.key_after(TableId(0), 9), None);
+    Ok(())
+}
+
+// Enters a record, where all places so far are below this one.
+fn enter(roster: &mut Roster, table: u8, key: u64, place: u64) -> Result<(), NoMemory>
+    requires below { (t p : ℕ) → StandsIn (list_of roster.old t) p → p < place }
+    requires small { place < 2 ^ 40 }
+    ensures below { OnOk result ((t p : ℕ) → StandsIn (list_of roster.new t) p → p < place + 1) }
+    ensures stands { OnOk result (StandsIn (list_of roster.new table) place) }
+    ensures stay { (t p : ℕ) → StandsIn (list_of roster.old t) p → StandsIn (list_of roster.new t) p }
+{
+    roster.enter(TableId(table), key, place)
+}
+
+// The first three keys of a table's list.
+fn first_keys(roster: &Roster, table: u8) -> [Option<u64>; 3] {
+    let table = TableId(table);
+    let mut keys = [None; 3];
+    for at in 0..3 {
+        if at < roster.count(table) {
+            keys[at] = Some(roster.key(table, at));
+        }
+    }
+    keys
+}
+
+// The keys 5, 9 and 3 of table 0, and 7 of table 1: the last one of a list comes to the index of one that leaves.
+#[test]
+fn the_last_one_comes_where_one_leaves(rt: HostRuntime) -> Result<(), Fail> {
+    let mut roster = Roster::new(rt.alloc());
+    enter(&mut roster, 0, 5, 0)?;
+    enter(&mut roster, 0, 9, 1)?;
+    enter(&mut roster, 1, 7, 2)?;
+    enter(&mut roster, 0, 3, 3)?;
+    assert_eq!(rt; first_keys(&roster, 0), [Some(5), Some(9), Some(3)]);
+    roster.leave(TableId(0), 0);
+    assert_eq!(rt; first_keys(&roster, 0), [Some(3), Some(9), None]);
+    roster.leave(TableId(0), 3);
+    assert_eq!(rt; first_keys(&roster, 0), [Some(9), None, None]);
+    roster.leave(TableId(0), 1);
+    assert_eq!(rt; first_keys(&roster, 0), [None, None, None]);
+    assert_eq!(rt; first_keys(&roster, 1), [Some(7), None, None]);
+    assert_eq!(rt; first_keys(&roster, 2), [None, None, None]);
     Ok(())
 }
