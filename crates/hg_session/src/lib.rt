@@ -19,34 +19,35 @@
 #![tactic(auto)]
 
 mod answers;
-mod closing;
-mod cuts;
-#[cfg(test)]
-mod cuts_tests;
-mod deleting;
+mod commit;
+mod del;
 mod engine;
-mod finishing;
+mod finish;
+mod get;
 mod laws;
-mod meeting;
+mod meet;
 mod opening;
 mod parts;
+mod put;
 mod range;
-mod reading;
-mod scanning;
+mod rollback;
+mod scan;
 mod session;
 mod session_list;
+mod settling;
+#[cfg(test)]
+mod settling_tests;
 #[cfg(test)]
 mod tests;
 #[cfg(test)]
 mod threads_tests;
 mod totals;
-mod writing;
 
 pub use answers::{Deleted, Ended, GetRefusal, PutRefusal, Read, Scanned, Written};
-pub use cuts::settle;
 pub use engine::Engine;
-pub use finishing::finish_all;
+pub use finish::finish_all;
 pub use laws::{places_differ, replies_are_right};
 pub use opening::{Passes, TableDecl};
 pub use session::Session;
 pub use session_list::SessionList;
+pub use settling::settle;

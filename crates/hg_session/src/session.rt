@@ -1,11 +1,11 @@
 //! A session, which begins transactions at an engine.
 
-ghost use Rattle.std.specs.Prelude.{◌≡◌, ◌+◌, ◌<◌, ◌∷◌, [], is_some, Some, None};
+ghost use Rattle.std.specs.Prelude.{◌≡◌, ◌+◌, ◌<◌, ◌∷◌, [], is_some, Some, None, IsSome};
 ghost use Rattle.hg_base.specs.declared.statement.Statement.TheVariants as say;
 ghost use Rattle.hg_base.specs.declared.line.Answer.TheVariants.{Begun};
 ghost use Rattle.hg_base.specs.Lists.{Each};
 ghost use Rattle.hg_core.specs.Words.{IsBelow};
-ghost use Rattle.hg_core.specs.declared.log.LogEntry.TheVariants.{Began};
+ghost use Rattle.hg_core.specs.declared.log.LogEntry.TheVariants.{Began, Over};
 ghost use Rattle.hg_tracker.specs.Begun.{AtMost};
 ghost use Rattle.hg_session.specs.declared.engine.Engine.{Engine};
 ghost use Rattle.hg_session.specs.Engines.{engine_sizes};
@@ -47,6 +47,20 @@ impl Session {
         let snapshot = engine.trackers.begin(&mut self.pass, scope);
         self.opened = Some(snapshot);
         snapshot
+    }
+
+    // Ends the open transaction, which wrote nothing.
+    pub(crate) fn end(&mut self, engine: &Engine)
+        requires own { IsIn engine.now 0 0 self.old }
+        requires opened { IsSome (opened_of self.old) }
+        requires unwritten { written_of self.old ≡ [] }
+        ensures gains { Gains (view_of self.old) (Over ∷ []) (view_of self.new) }
+        ensures kept { (opened_of self.new ≡ None) × (left_of self.new ≡ left_of self.old) }
+        ensures retries { retries_of self.new ≡ retries_of self.old }
+        ensures own { IsIn engine.now 0 0 self.new }
+    {
+        engine.trackers.end(&mut self.pass);
+        self.opened = None;
     }
 
     // One statement of those that are left.

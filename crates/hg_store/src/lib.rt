@@ -18,12 +18,12 @@
 //! oldest image, with one step for each (`Clears`), and afterwards each record of the table is cut at the table's bound, or clean.
 #![tactic(auto)]
 
-mod cutting;
+mod cut;
 mod held;
-mod reading;
+mod read;
 mod store;
-mod sweeping;
-mod writing;
+mod sweep;
+mod write;
 
 pub use held::Held;
 pub use store::{Place, Store};

@@ -16,5 +16,5 @@ pub returns-clause-answers : goal.returns-clause-answers
 returns-clause-answers g c =
     let v = view_of c.args.self.now in
     let one = open_one (current (session v).log) c.requires.opened in
-    let r = c.roll_back.ensures.gains in
-    rollback_inside (engine_sizes c.args.engine.now) v (view_of c.roll_back.new.self) one.0 r.0 one.1 r.1.0 r.1.1
+    let r = c.undo_open.ensures.gains in
+    rollback_inside (engine_sizes c.args.engine.now) v (view_of c.undo_open.new.self) one.0 r.0 one.1 r.1.0 r.1.1

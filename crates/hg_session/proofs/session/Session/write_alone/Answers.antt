@@ -20,8 +20,8 @@ returns-in-Err-clause-refused g c =
     let z = engine_sizes c.args.engine.now in
     let v = view_of c.args.self.now in
     let m = view_of c.write_row.new.self in
-    let w = view_of c.roll_back.new.self in
-    let r = c.roll_back.ensures.gains in
+    let w = view_of c.undo_open.new.self in
+    let r = c.undo_open.ensures.gains in
     let wrote = subst (λ x. Gains v (entries_of c.args.rid c.args.image x) m) c.in-Err.is c.write_row.ensures.gains in
     let bare = refused_bare v m c.args.rid c.args.image c.in-Err.refusal wrote (no_writes (written_of c.args.self.now) (session v).log c.requires.own.ties.plain c.requires.own.ties.written_is c.requires.unwritten) in
     let none = nothing_undone r.0 (subst (λ own. UndoesAll own r.0) bare r.1.0) in
@@ -33,23 +33,23 @@ pub returns-in-Ok-clause-stored : goal.returns-in-Ok-clause-stored
 returns-in-Ok-clause-stored g c =
     let v = view_of c.args.self.now in
     let m = view_of c.write_row.new.self in
-    let w = view_of c.close.new.self in
+    let w = view_of c.commit_open.new.self in
     let r = c.in-Ok.receipt in
     let is : c.write_row.result ≡ Ok tt = search rules in
     let wrote = subst (λ x. Gains v (entries_of c.args.rid c.args.image x) m) is c.write_row.ensures.gains in
-    let closes : Gains m (close (number_in r)) w = subst (λ x. IfOk x (λ receipt. Gains m (close (number_in receipt)) w)) c.in-Ok.is c.close.ensures.gains in
-    let some : is_some r ≡ is_written (own_writes (session m).log) = subst (λ x. IfOk x (λ receipt. is_some receipt ≡ is_written (own_writes (session m).log))) c.in-Ok.is c.close.ensures.wrote in
-    let after : IfSome (number_in r) (IsAfter m.sights c.args.snapshot.at) = subst (λ x. IfOk x (λ receipt. IfSome (number_in receipt) (IsAfter m.sights c.args.snapshot.at))) c.in-Ok.is c.close.ensures.after in
+    let closes : Gains m (close (number_in r)) w = subst (λ x. IfOk x (λ receipt. Gains m (close (number_in receipt)) w)) c.in-Ok.is c.commit_open.ensures.gains in
+    let some : is_some r ≡ is_written (own_writes (session m).log) = subst (λ x. IfOk x (λ receipt. is_some receipt ≡ is_written (own_writes (session m).log))) c.in-Ok.is c.commit_open.ensures.wrote in
+    let after : IfSome (number_in r) (IsAfter m.sights c.args.snapshot.at) = subst (λ x. IfOk x (λ receipt. IfSome (number_in receipt) (IsAfter m.sights c.args.snapshot.at))) c.in-Ok.is c.commit_open.ensures.after in
     let number : c.map.result ≡ number_in r = search rules in
     subst (WritesAlone v c.args.rid c.args.image c.args.snapshot.at w) (sym number) (committed_alone v m w c.args.rid c.args.image c.args.snapshot.at r wrote closes some after)
 
-pub returns-in-Err-close-clause-refused : goal.returns-in-Err-close-clause-refused
-returns-in-Err-close-clause-refused g c =
+pub returns-in-Err-commit_open-clause-refused : goal.returns-in-Err-commit_open-clause-refused
+returns-in-Err-commit_open-clause-refused g c =
     let v = view_of c.args.self.now in
     let m = view_of c.write_row.new.self in
-    let n = view_of c.close.new.self in
-    let w = view_of c.roll_back-in-Err-close.new.self in
-    let r = c.roll_back-in-Err-close.ensures.gains in
+    let n = view_of c.commit_open.new.self in
+    let w = view_of c.undo_open-in-Err-commit_open.new.self in
+    let r = c.undo_open-in-Err-commit_open.ensures.gains in
     let stored = Wrote c.args.rid c.args.image ∷ [] in
     let is : c.write_row.result ≡ Ok tt = search rules in
     let wrote = subst (λ x. Gains v (entries_of c.args.rid c.args.image x) m) is c.write_row.ensures.gains in

@@ -1,0 +1,60 @@
+//! An engine on which nobody did anything is settled twice.
+
+ghost use Rattle.std.specs.Prelude.{◌≡◌};
+ghost use Rattle.hg_rule.specs.New.{IsNewSession, IsNewPass};
+ghost use Rattle.hg_rule.specs.Seats.{table_of, sizes_of, pass_view, IsPassOf};
+ghost use Rattle.hg_session.specs.Ended.{IsEnded};
+ghost use Rattle.hg_session.specs.Settled.{HasHeardAll};
+
+use crate::engine::Engine;
+use crate::settling::settle;
+use hg_group::GroupList;
+use hg_rule::{Board, CollectorPass, SessionPass};
+use hg_store::Store;
+use hg_tracker::{Gathered, Trackers};
+use std::test::Fail;
+
+fn bring_all(
+    board: &Board,
+    session: SessionPass,
+    pass: &mut CollectorPass,
+    group: CollectorPass,
+    interval: CollectorPass,
+)
+    requires one { (sizes_of board.now).sessions ≡ 1 }
+    requires session { IsNewSession (table_of board.now) 1 session }
+    requires passes { IsNewPass (table_of board.now) 0 group × IsNewPass (table_of board.now) 1 pass.old × IsNewPass (table_of board.now) 2 interval }
+    ensures own { IsPassOf (table_of board.now) pass.new }
+    ensures ended { IsEnded (sizes_of board.now) (pass_view pass.new) }
+    ensures heard { HasHeardAll (sizes_of board.now) (pass_view pass.new) }
+{
+    pass.join(board, group);
+    pass.join(board, interval);
+    session.finish(board, pass);
+}
+
+#[test]
+fn a_new_engine_is_settled(rt: HostRuntime) -> Result<(), Fail> {
+    let (board, seats) = Board::new(rt.alloc(), 1, 2, 2, 1)?;
+    let store = Store::new(rt.alloc(), seats.buckets)?;
+    let groups = GroupList::new(rt.alloc(), seats.commit, 1)?;
+    let mut pass = seats.table;
+    let mut sessions = seats.sessions.into_vec();
+    let Some(session) = sessions.pop() else {
+        unreachable!();
+    };
+    bring_all(&board, session, &mut pass, seats.group, seats.interval);
+    let trackers = Trackers::new(board);
+    let engine = Engine {
+        trackers,
+        store,
+        groups,
+    };
+    let mut gathered = Gathered::new(rt.alloc(), 1, 2)?;
+    settle(&rt, &engine, &mut pass, &mut gathered);
+    settle(&rt, &engine, &mut pass, &mut gathered);
+    assert_eq!(rt; gathered.tables(), 2);
+    assert_eq!(rt; gathered.mark(), 0);
+    assert_eq!(rt; gathered.entries().len(), 0);
+    Ok(())
+}
