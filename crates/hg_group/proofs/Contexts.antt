@@ -15,7 +15,7 @@ drop_more zero h g le = refl
 drop_more (suc k) [] g le = absurd (omega (arith, le))
 drop_more (suc k) (f ∷ h) g le = drop_more k h g (omega (arith, le))
 
-drop_length : (k : ℕ) (h : History) → k ≤ length h → suc k + length (drop k h) ≡ suc (length h)
+pub drop_length : (k : ℕ) (h : History) → k ≤ length h → suc k + length (drop k h) ≡ suc (length h)
 drop_length zero h le = let e : length (drop 0 h) ≡ length h = refl in omega (arith, e)
 drop_length (suc k) [] le = absurd (omega (arith, le))
 drop_length (suc k) (f ∷ h) le = let e : suc k + length (drop k h) ≡ suc (length h) = drop_length k h (omega (arith, le)) in omega (arith, e)

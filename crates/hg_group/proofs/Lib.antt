@@ -14,3 +14,4 @@ pub mod Collecting
 pub mod Listing
 pub mod Back
 pub mod Through
+pub mod NextGroup

@@ -9,3 +9,4 @@ pub mod Founded
 pub mod Submitting
 pub mod Pushing
 pub mod Keeping
+pub mod Oldest

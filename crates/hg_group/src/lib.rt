@@ -33,6 +33,7 @@ mod held_list;
 mod laid;
 mod laying;
 mod making;
+mod oldest;
 mod pusher;
 mod receipt;
 mod records;

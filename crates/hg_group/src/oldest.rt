@@ -1,0 +1,69 @@
+//! A collector's pass takes the oldest group.
+
+ghost use Rattle.std.specs.Prelude.{◌≡◌, ◌≤◌, length};
+ghost use Rattle.hg_rule.specs.Views.{pass as own_pass};
+ghost use Rattle.hg_rule.specs.Holding.{HasCommit, commit};
+ghost use Rattle.hg_rule.specs.Seats.{table_of, pass_view, IsPassOf};
+ghost use Rattle.hg_group.specs.Contexts.{AreContexts};
+ghost use Rattle.hg_group.specs.Oldest.{TakesOldest, PopsBelow};
+
+use crate::context::GroupContext;
+use crate::group_list::GroupList;
+use hg_rule::{Board, CollectorPass};
+use std::collections::VecDeque;
+use std::sync::Wait;
+
+// The committer's part is with the pass. Contexts are there for all groups that were not taken, so their number tells how many
+// were.
+fn pop_below(
+    board: &Board,
+    pass: &mut CollectorPass,
+    contexts: &mut VecDeque<GroupContext>,
+    mark: u64,
+    bound: u64,
+) -> Option<GroupContext>
+    requires own { IsPassOf (table_of board.now) pass.old }
+    requires held { HasCommit (pass_view pass.old) }
+    requires mark { length (commit (pass_view pass.old)).history.list ≡ mark }
+    requires taken { (commit (pass_view pass.old)).taken ≤ mark }
+    requires bound { bound ≤ mark }
+    requires contexts { AreContexts (commit (pass_view pass.old)).history.list (commit (pass_view pass.old)).taken contexts.old.items }
+    ensures popped { PopsBelow (pass_view pass.old) bound result (pass_view pass.new) }
+    ensures contexts { AreContexts (commit (pass_view pass.new)).history.list (commit (pass_view pass.new)).taken contexts.new.items }
+    ensures own { IsPassOf (table_of board.now) pass.new }
+{
+    let taken = mark - contexts.len() as u64;
+    if taken >= bound {
+        return None;
+    }
+    board.take_group(pass);
+    contexts.pop_front()
+}
+
+impl GroupList {
+    ghost use Rattle.hg_group.specs.Lists.{groups_table};
+
+    /// Where fewer than `bound` groups were taken, counts one more as taken, and gives its context out. Else none is given, and the
+    /// pass has seen how many were. The bound is at most the mark of the pass's record. It waits for the commit lock, so the pass
+    /// holds no bucket. No memory is taken.
+    pub fn take_oldest<R: Wait>(
+        &self,
+        rt: &R,
+        board: &Board,
+        bound: u64,
+        pass: &mut CollectorPass,
+    ) -> Option<GroupContext>
+        requires table { groups_table self.now ≡ table_of board.now }
+        requires own { IsPassOf (table_of board.now) pass.old }
+        requires bound { bound ≤ (own_pass (pass_view pass.old)).mark }
+        ensures taken { TakesOldest (pass_view pass.old) bound result (pass_view pass.new) }
+        ensures own { IsPassOf (table_of board.now) pass.new }
+    {
+        let (mut held, seat) = self.take(rt);
+        let mark = board.join_commit(pass, seat);
+        let context = pop_below(board, pass, &mut held.contexts, mark, bound);
+        let seat = board.split_commit(pass);
+        held.give(seat);
+        context
+    }
+}
