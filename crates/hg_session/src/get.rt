@@ -44,24 +44,13 @@ fn row_of(image: Option<&Image>) -> Result<Option<Row>, NoMemory>
     }
 }
 
-// Whether a transaction may name the table.
-fn may_name(scope: Scope, table: TableId) -> bool
-    requires { table.0 < MOST_TABLES }
-    ensures { result ≡ has scope table }
-{
-    match scope {
-        Scope::All => true,
-        Scope::Declared(mask) => (mask >> table.0) & 1 == 1,
-    }
-}
-
 // What a transaction that is one statement declares.
 pub(crate) fn only(table: TableId) -> Scope
     requires { table.0 < MOST_TABLES }
     ensures is { result ≡ base.only (Some table) }
     ensures below { (tables : ℕ) → table.0 < tables → IsBelow tables result }
 {
-    Scope::Declared(1 << table.0)
+    Scope::only(table)
 }
 
 impl Session {
@@ -102,7 +91,7 @@ impl Session {
         ensures retries { retries_of self.new ≡ retries_of self.old }
         ensures own { IsIn engine.now 0 1 self.new }
     {
-        if may_name(snapshot.scope, table) {
+        if snapshot.scope.has(table) {
             return false;
         }
         engine.board().look(&mut self.pass, &Ask::Outside(table));
