@@ -1,5 +1,5 @@
 -- Whether a session's transaction is open after a statement.
-use Rattle.std.proofs.Common.{◌≡◌, ℕ, ℤ, zero, suc, List, [], ◌∷◌, ◌++◌, Bool, true, false, Option, Some, None, refl, sym, ap, ◌∙◌, arith}
+use Rattle.std.proofs.Common.{◌≡◌, ℕ, ℤ, List, [], ◌∷◌, ◌++◌, Bool, true, false, Option, Some, None, refl, sym, ap, ◌∙◌, arith}
 use Rattle.std.specs.Prelude.{cond, fold, is_some, unwrap_or, ◌==◌}
 use Rattle.std.proofs.lemmas.Bool.Decides.{Decides-eqb, nat_tests}
 use Rattle.hg_base.specs.declared.rid.Rid.{Rid}
@@ -19,6 +19,7 @@ use Rattle.hg_core.specs.declared.log.LogEntry.TheVariants.{Began}
 use Rattle.hg_core.specs.Logs.{current}
 use Rattle.hg_core.specs.Events.{put}
 use Rattle.hg_core.specs.Reading.{Unprinted, Fits, get_entries, put_entries, del_entries, scan_entries, saws, own_entries, log_after, log_with, is_access, is_alone, close}
+use Rattle.hg_core.proofs.OwnKeys.{saws_keep}
 use Rattle.hg_core.proofs.Indices.{at_index, put_here, put_else}
 use Rattle.hg_script.specs.Rules.{is_open, opened, opened_by}
 
@@ -45,12 +46,11 @@ open_del n found r (OpenBy writer) log = refl
 open_del n found r (Undeclared table) log = refl
 open_del n found r _ log = refl
 
-pub open_saws : (t : TableId) (low high : ℕ) (part : ℕ → List (ℕ × List ℤ)) (n : ℕ) (log : List LogEntry) → current (saws t low high part n ++ log) ≡ current log
-open_saws t low high part zero log = refl
-open_saws t low high part (suc n) log = open_saws t low high part n log
+pub open_saws : (buckets : ℕ) (t : TableId) (low high : ℕ) (part : ℕ → List (ℕ × List ℤ)) (n : ℕ) (log : List LogEntry) → current (saws buckets t low high part n ++ log) ≡ current log
+open_saws buckets t low high part n log = saws_keep (λ m. current m ≡ current log) buckets t low high part n log (λ b rows m e. e) refl
 
 pub open_scan : (n : ℕ) (part : ℕ → List (ℕ × List ℤ)) (t : TableId) (low high : ℕ) (a : Answer) (log : List LogEntry) → current (scan_entries n part t low high a ++ log) ≡ current log
-open_scan n part t low high (Rows rows) log = open_saws t low high part n log
+open_scan n part t low high (Rows rows) log = open_saws n t low high part n log
 open_scan n part t low high (Undeclared table) log = refl
 open_scan n part t low high _ log = refl
 
