@@ -4,8 +4,8 @@ use Rattle.hg_base.specs.declared.limits.TheConstants.{MOST_SCRIPT_BYTES}
 use Rattle.hg_script.specs.Codes.{code_text}
 use Rattle.hg_script.specs.declared.refusal.ScriptRefusal.{ScriptRefusal}
 use Rattle.hg_script.specs.declared.refusal.ScriptRefusal.TheVariants as refusal
-use Rattle.hg_run.specs.declared.reading.ReadError.{ReadError}
-use Rattle.hg_run.specs.declared.reading.ReadError.TheVariants as error
+use Rattle.hg_run.specs.declared.source.ReadError.{ReadError}
+use Rattle.hg_run.specs.declared.source.ReadError.TheVariants as error
 use Rattle.hg_run.specs.declared.status.Status.{Status}
 use Rattle.hg_run.specs.declared.status.Status.TheVariants.{Done, Usage, BadScript, ReadFault, WriteFault, TooLong, NoMemory}
 

@@ -17,18 +17,18 @@
 //! text (`text_determines_what_was_printed`).
 #![tactic(auto)]
 
-mod asking;
-mod closing;
+mod ask;
+mod close;
 mod laws;
-mod playing;
-mod reading;
+mod play;
 mod replay;
-mod replying;
+mod reply;
 mod serving;
+mod sink;
+mod source;
 mod status;
-mod turning;
+mod turn;
 mod words;
-mod writing;
 
 pub use laws::{rows_have_their_columns, text_determines_what_was_printed, what_is_sound_fits};
 pub use serving::serve;

@@ -4,8 +4,8 @@ ghost use Rattle.std.specs.Prelude.{◌≡◌, length, map, IfOk};
 ghost use Rattle.hg_script.specs.Lawful.{IsLawful};
 ghost use Rattle.hg_run.specs.Printing.{IsPrintedFor};
 
-use crate::closing::close;
-use crate::playing::play;
+use crate::close::close;
+use crate::play::play;
 use hg_base::{DEFAULT_BUCKETS, NoMemory};
 use hg_script::Script;
 use hg_session::{Engine, TableDecl};

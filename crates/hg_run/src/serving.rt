@@ -7,11 +7,11 @@ ghost use Rattle.hg_script.specs.Meaning.{refusal_of};
 ghost use Rattle.hg_run.specs.Words.{are_accepted};
 ghost use Rattle.hg_run.specs.Serving.{Answers, Comes, Gives, HasFailed, IsTextFor, IsUnlessNoMemory, RefusesBytes, RefusesSource, WritesAll, change_of, may_write};
 
-use crate::reading::read_all;
 use crate::replay::replay;
+use crate::sink::write_all;
+use crate::source::read_all;
 use crate::status::Status;
 use crate::words::are_accepted;
-use crate::writing::write_all;
 use hg_base::{Failed, Gate, MOST_SCRIPT_BYTES, Sink, Source};
 use hg_script::read_script;
 use std::alloc::Global;
@@ -42,8 +42,8 @@ fn text_of_source<R: Wait, S: Source>(
     text_of_bytes(rt, alloc, bytes)
 }
 
-// The answer, which always comes.
-fn answer<R: Wait, So: Source, Si: Sink>(
+// How the call ends.
+fn outcome<R: Wait, So: Source, Si: Sink>(
     rt: &R,
     alloc: Global,
     words: &[String],
@@ -104,5 +104,5 @@ pub fn serve<R: Threads + Wait + Sync, So: Source, Si: Sink, G: Gate + Sync>(
         → Gives (change_of So.left So.faults source.old source.new) bytes → MOST_SCRIPT_BYTES < length bytes
         → IsUnlessNoMemory result Status.TooLong }
 {
-    answer(rt, alloc, words, source, sink)
+    outcome(rt, alloc, words, source, sink)
 }

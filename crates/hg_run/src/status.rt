@@ -3,7 +3,7 @@
 ghost use Rattle.std.specs.Prelude.{◌≡◌};
 ghost use Rattle.hg_run.specs.Status.{exit_code_of};
 
-use crate::reading::ReadError;
+use crate::source::ReadError;
 use hg_base::{MOST_SCRIPT_BYTES, NoMemory};
 use hg_script::{Code, ScriptRefusal};
 use std::fmt;

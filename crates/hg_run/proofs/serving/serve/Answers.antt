@@ -6,24 +6,24 @@ use Rattle.hg_run.proofs.serving.serve.Goals as goal
 
 pub returns-clause-sound : goal.returns-clause-sound
 returns-clause-sound g c =
-    let source = change_of g.So.Source.left g.So.Source.faults c.args.source.now c.answer.new.source in
-    let sink = change_of g.Si.Sink.taken g.Si.Sink.faults c.args.sink.now c.answer.new.sink in
-    sound (map string_bytes c.args.words.now) source sink c.answer.result c.answer.ensures.comes
+    let source = change_of g.So.Source.left g.So.Source.faults c.args.source.now c.outcome.new.source in
+    let sink = change_of g.Si.Sink.taken g.Si.Sink.faults c.args.sink.now c.outcome.new.sink in
+    sound (map string_bytes c.args.words.now) source sink c.outcome.result c.outcome.ensures.comes
 
 pub returns-clause-complete : goal.returns-clause-complete
 returns-clause-complete g c bytes =
-    let source = change_of g.So.Source.left g.So.Source.faults c.args.source.now c.answer.new.source in
-    let sink = change_of g.Si.Sink.taken g.Si.Sink.faults c.args.sink.now c.answer.new.sink in
-    complete (map string_bytes c.args.words.now) source sink bytes c.answer.result c.answer.ensures.comes
+    let source = change_of g.So.Source.left g.So.Source.faults c.args.source.now c.outcome.new.source in
+    let sink = change_of g.Si.Sink.taken g.Si.Sink.faults c.args.sink.now c.outcome.new.sink in
+    complete (map string_bytes c.args.words.now) source sink bytes c.outcome.result c.outcome.ensures.comes
 
 pub returns-clause-bad_script : goal.returns-clause-bad_script
 returns-clause-bad_script g c bytes line code =
-    let source = change_of g.So.Source.left g.So.Source.faults c.args.source.now c.answer.new.source in
-    let sink = change_of g.Si.Sink.taken g.Si.Sink.faults c.args.sink.now c.answer.new.sink in
-    bad_script (map string_bytes c.args.words.now) source sink bytes line code c.answer.result c.answer.ensures.comes
+    let source = change_of g.So.Source.left g.So.Source.faults c.args.source.now c.outcome.new.source in
+    let sink = change_of g.Si.Sink.taken g.Si.Sink.faults c.args.sink.now c.outcome.new.sink in
+    bad_script (map string_bytes c.args.words.now) source sink bytes line code c.outcome.result c.outcome.ensures.comes
 
 pub returns-clause-too_long : goal.returns-clause-too_long
 returns-clause-too_long g c bytes =
-    let source = change_of g.So.Source.left g.So.Source.faults c.args.source.now c.answer.new.source in
-    let sink = change_of g.Si.Sink.taken g.Si.Sink.faults c.args.sink.now c.answer.new.sink in
-    too_long (map string_bytes c.args.words.now) source sink bytes c.answer.result c.answer.ensures.comes
+    let source = change_of g.So.Source.left g.So.Source.faults c.args.source.now c.outcome.new.source in
+    let sink = change_of g.Si.Sink.taken g.Si.Sink.faults c.args.sink.now c.outcome.new.sink in
+    too_long (map string_bytes c.args.words.now) source sink bytes c.outcome.result c.outcome.ensures.comes

@@ -1,0 +1,10 @@
+use Rattle.std.proofs.Common.{◌≡◌, drop}
+use Rattle.hg_run.proofs.Going.{Going}
+use Rattle.hg_run.proofs.play.play.Given as goal
+
+-- the replay goes on with the records that are left
+abbrev pub invariant-loop-next : goal.invariant-loop-next
+invariant-loop-next g l = record {
+  tables : l.transcript.tables ≡ l.script.tables;
+  going : Going l.engine l.list.items l.last l.transcript.lines (drop l.next l.script.records) l.script;
+}

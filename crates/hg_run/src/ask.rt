@@ -1,0 +1,55 @@
+//! One statement of one session.
+
+ghost use Rattle.std.specs.Prelude.{◌≡◌, ◌+◌, ◌<◌, ◌≤◌, is_some, IfOk};
+ghost use Rattle.hg_script.specs.Lawful.{MayStand};
+ghost use Rattle.hg_session.specs.Engines.{engine_sizes};
+ghost use Rattle.hg_session.specs.Sessions.{IsOf, view_of, open_of, left_of};
+ghost use Rattle.hg_session.specs.Replies.{Answers};
+ghost use Rattle.hg_run.specs.Asked.{IsOnTables};
+
+use crate::reply::{commit_reply, del_reply, get_reply, inside, put_reply, scan_reply};
+use hg_base::{Answer, NoMemory, Reply, Statement};
+use hg_session::{Engine, Session};
+use std::sync::Wait;
+
+/// Answers a statement. A `gc` is not in this version.
+pub(crate) fn ask<R: Wait>(
+    rt: &R,
+    engine: &Engine,
+    session: &mut Session,
+    statement: &Statement,
+) -> Result<Reply, NoMemory>
+    requires own { IsOf engine.now session.old }
+    requires left { 0 < left_of session.old }
+    requires may { MayStand (is_some (open_of session.old)) statement.now }
+    requires tables { IsOnTables (engine_sizes engine.now).tables statement.now }
+    ensures answers { IfOk result (λ reply. Answers (engine_sizes engine.now) (view_of session.old) statement.now reply (view_of session.new)) }
+    ensures left { left_of session.old ≤ left_of session.new + 1 }
+    ensures own { IsOf engine.now session.new }
+{
+    let alone = !session.is_open();
+    match statement {
+        Statement::Begin(scope) => {
+            let at = session.begin(engine, *scope);
+            Ok(inside(Answer::Begun(at)))
+        }
+        Statement::Get(rid) => get_reply(alone, session.get(rt, engine, *rid)),
+        Statement::Put(rid, row) => {
+            let row = row.copy()?;
+            put_reply(alone, session.put(rt, engine, *rid, row))
+        }
+        Statement::Del(rid) => del_reply(alone, session.del(rt, engine, *rid)),
+        Statement::Scan { table, low, high } => {
+            scan_reply(alone, session.scan(rt, engine, *table, *low, *high))
+        }
+        Statement::Commit => {
+            let ended = session.commit(rt, engine)?;
+            Ok(commit_reply(ended))
+        }
+        Statement::Rollback => {
+            session.rollback(rt, engine);
+            Ok(inside(Answer::Undone))
+        }
+        Statement::Gc(_) => unreachable!(),
+    }
+}

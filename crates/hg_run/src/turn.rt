@@ -1,0 +1,118 @@
+//! Sessions of one thread, each in its turn.
+//!
+//! A session knows of another what it heard at a meeting. Before its statement it meets the session that ran last, and so has
+//! heard every log as it stands: its snapshot and its commit number are then over all that was printed before. Where its write
+//! is refused for another's, it meets that other session, whose log shows that the write stands open.
+
+ghost use Rattle.std.specs.Prelude.{◌≡◌, ℕ, suc, ◌+◌, ◌-◌, ◌<◌, ◌≤◌, ◌≢◌, length, get_or, is_some, IfOk, OnOk};
+ghost use Rattle.hg_base.specs.declared.writer.Writer.{Writer};
+ghost use Rattle.hg_core.specs.Logs.{current};
+ghost use Rattle.hg_core.specs.Phases.{IsSession};
+ghost use Rattle.hg_rule.specs.Moves.{joined, meeting};
+ghost use Rattle.hg_rule.specs.Agreed.{IsMet};
+ghost use Rattle.hg_script.specs.Lawful.{MayStand};
+ghost use Rattle.hg_session.specs.declared.session.Session.{Session};
+ghost use Rattle.hg_session.specs.Engines.{engine_sizes};
+ghost use Rattle.hg_session.specs.Sessions.{IsOf, view_of, open_of, left_of};
+ghost use Rattle.hg_session.specs.Replies.{Answers};
+ghost use Rattle.hg_session.specs.Finished.{logs_of};
+ghost use Rattle.hg_run.specs.Listed.{AreReady};
+ghost use Rattle.hg_run.specs.Asked.{IsOnTables, IsReplied};
+
+use crate::ask::ask;
+use hg_base::{Answer, NoMemory, Reply, Statement};
+use hg_session::{Engine, Session};
+use std::sync::Wait;
+
+// The session at i meets the one at j.
+fn meet_two(engine: &Engine, list: &mut Vec<Session>, i: usize, j: usize)
+    requires first { i < length list.old.items }
+    requires second { j < length list.old.items }
+    requires apart { i ≢ j }
+    requires own { (d : Session) → IsOf engine.now (get_or list.old.items i d) × IsOf engine.now (get_or list.old.items j d) }
+    ensures many { length list.new.items ≡ length list.old.items }
+    ensures told { (d : Session) → IsMet (engine_sizes engine.now) (joined (view_of (get_or list.old.items i d)) (view_of (get_or list.old.items j d))) }
+    ensures this { (d : Session) → view_of (get_or list.new.items i d) ≡ meeting (view_of (get_or list.old.items i d)) (view_of (get_or list.old.items j d)) }
+    ensures other { (d : Session) → view_of (get_or list.new.items j d) ≡ meeting (view_of (get_or list.old.items j d)) (meeting (view_of (get_or list.old.items i d)) (view_of (get_or list.old.items j d))) }
+    ensures left { (d : Session) → (left_of (get_or list.new.items i d) ≡ left_of (get_or list.old.items i d)) × (left_of (get_or list.new.items j d) ≡ left_of (get_or list.old.items j d)) }
+    ensures rest { (d : Session) (k : ℕ) → k ≢ i → k ≢ j → get_or list.new.items k d ≡ get_or list.old.items k d }
+    ensures own { (d : Session) → IsOf engine.now (get_or list.new.items i d) × IsOf engine.now (get_or list.new.items j d) }
+{
+    if i < j {
+        let (front, back) = list.split_at_mut(j);
+        front[i].meet(engine, &mut back[0]);
+    } else {
+        let (front, back) = list.split_at_mut(i);
+        back[0].meet(engine, &mut front[j]);
+    }
+}
+
+// The session at i meets the one that ran last, where that is another.
+fn turn(engine: &Engine, list: &mut Vec<Session>, i: usize, last: usize)
+    requires ready { AreReady engine.now last 0 list.old.items }
+    requires within { i < length list.old.items }
+    ensures logs { logs_of list.new.items ≡ logs_of list.old.items }
+    ensures ready { (left : ℕ) → AreReady engine.now last left list.old.items → AreReady engine.now i left list.new.items }
+{
+    if i != last {
+        meet_two(engine, list, i, last);
+    }
+}
+
+// The session at i answers a statement.
+fn ask_at<R: Wait>(
+    rt: &R,
+    engine: &Engine,
+    list: &mut Vec<Session>,
+    i: usize,
+    statement: &Statement,
+) -> Result<Reply, NoMemory>
+    requires within { i < length list.old.items }
+    requires own { (d : Session) → IsOf engine.now (get_or list.old.items i d) }
+    requires left { (d : Session) → 0 < left_of (get_or list.old.items i d) }
+    requires may { (d : Session) → MayStand (is_some (open_of (get_or list.old.items i d))) statement.now }
+    requires tables { IsOnTables (engine_sizes engine.now).tables statement.now }
+    ensures many { length list.new.items ≡ length list.old.items }
+    ensures answers { (d : Session) → IfOk result (λ reply. Answers (engine_sizes engine.now) (view_of (get_or list.old.items i d)) statement.now reply (view_of (get_or list.new.items i d))) }
+    ensures left { (d : Session) → left_of (get_or list.old.items i d) ≤ left_of (get_or list.new.items i d) + 1 }
+    ensures rest { (d : Session) (k : ℕ) → k ≢ i → get_or list.new.items k d ≡ get_or list.old.items k d }
+    ensures own { (d : Session) → IsOf engine.now (get_or list.new.items i d) }
+{
+    ask(rt, engine, &mut list[i], statement)
+}
+
+// Where a write of the session at i is refused for another's, it meets that other session.
+fn show(engine: &Engine, list: &mut Vec<Session>, i: usize, answer: &Answer)
+    requires ready { AreReady engine.now i 0 list.old.items }
+    requires other { (writer : Writer) → answer.now ≡ Answer.OpenBy writer → IsSession (engine_sizes engine.now).sessions writer.session × (writer.session ≢ suc i) }
+    ensures told { (d : Session) (writer : Writer) → answer.now ≡ Answer.OpenBy writer → IsMet (engine_sizes engine.now) (joined (view_of (get_or list.old.items i d)) (view_of (get_or list.old.items (writer.session - 1) d))) }
+    ensures logs { logs_of list.new.items ≡ logs_of list.old.items }
+    ensures ready { (left : ℕ) → AreReady engine.now i left list.old.items → AreReady engine.now i left list.new.items }
+{
+    if let Answer::OpenBy(writer) = answer {
+        meet_two(engine, list, i, writer.session as usize - 1);
+    }
+}
+
+/// The session at i answers a statement in its turn.
+pub(crate) fn answer<R: Wait>(
+    rt: &R,
+    engine: &Engine,
+    list: &mut Vec<Session>,
+    last: usize,
+    i: usize,
+    statement: &Statement,
+) -> Result<Reply, NoMemory>
+    requires ready { AreReady engine.now last 1 list.old.items }
+    requires some { 0 < (engine_sizes engine.now).buckets }
+    requires within { i < length list.old.items }
+    requires may { MayStand (is_some (current (logs_of list.old.items (suc i)))) statement.now }
+    requires tables { IsOnTables (engine_sizes engine.now).tables statement.now }
+    ensures replied { IfOk result (λ reply. IsReplied (engine_sizes engine.now).buckets (engine_sizes engine.now).sessions (logs_of list.old.items) (suc i) statement.now reply (logs_of list.new.items)) }
+    ensures ready { OnOk result ((left : ℕ) → AreReady engine.now last (suc left) list.old.items → AreReady engine.now i left list.new.items) }
+{
+    turn(engine, list, i, last);
+    let reply = ask_at(rt, engine, list, i, statement)?;
+    show(engine, list, i, &reply.answer);
+    Ok(reply)
+}
