@@ -34,9 +34,9 @@ mod rollback;
 mod scan;
 mod session;
 mod session_list;
-mod settling;
+mod settlement;
 #[cfg(test)]
-mod settling_tests;
+mod settlement_tests;
 #[cfg(test)]
 mod tests;
 #[cfg(test)]
@@ -50,4 +50,4 @@ pub use laws::{places_differ, replies_are_right};
 pub use opening::{Passes, TableDecl};
 pub use session::Session;
 pub use session_list::SessionList;
-pub use settling::settle;
+pub use settlement::settle;

@@ -10,7 +10,7 @@ use Rattle.hg_tracker.specs.Gathers.{IsGatherOf}
 use Rattle.hg_session.specs.Engines.{engine_sizes}
 use Rattle.hg_session.specs.Settled.{CutsTables}
 use Rattle.hg_session.proofs.Cutting.{pass_taken, same_taken, bucket_cut}
-use Rattle.hg_session.proofs.settling.settle_bucket.Goals as goal
+use Rattle.hg_session.proofs.settlement.settle_bucket.Goals as goal
 
 pub cut_tables-requires-clause-shown : goal.cut_tables-requires-clause-shown
 cut_tables-requires-clause-shown g c =

@@ -5,7 +5,7 @@ use Rattle.hg_rule.specs.Seats.{sizes_of, pass_view}
 use Rattle.hg_tracker.specs.Begun.{HasGathered}
 use Rattle.hg_session.specs.Engines.{engine_sizes}
 use Rattle.hg_session.proofs.Leaving.{quiet, left_after, removed_after, ended_after, heard_after}
-use Rattle.hg_session.proofs.settling.settle.Goals as goal
+use Rattle.hg_session.proofs.settlement.settle.Goals as goal
 
 -- a gather at the board of the trackers is one at the engine's
 gathered : (v w : View) (a b : Board) → a ≡ b → HasGathered v (sizes_of a).sessions w → HasGathered v (sizes_of b).sessions w

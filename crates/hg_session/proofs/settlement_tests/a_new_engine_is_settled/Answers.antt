@@ -3,7 +3,7 @@ use Rattle.hg_rule.specs.declared.view.Sizes.{Sizes}
 use Rattle.hg_rule.specs.Seats.{table_of, sizes_of}
 use Rattle.hg_tracker.specs.Boards.{board_of}
 use Rattle.hg_store.specs.Stores.{store_buckets}
-use Rattle.hg_session.proofs.settling_tests.a_new_engine_is_settled.Goals as goal
+use Rattle.hg_session.proofs.settlement_tests.a_new_engine_is_settled.Goals as goal
 
 pub invariant_of-engine : goal.invariant_of-engine
 invariant_of-engine g c =

@@ -7,7 +7,7 @@ ghost use Rattle.hg_session.specs.Ended.{IsEnded};
 ghost use Rattle.hg_session.specs.Settled.{HasHeardAll};
 
 use crate::engine::Engine;
-use crate::settling::settle;
+use crate::settlement::settle;
 use hg_group::GroupList;
 use hg_rule::{Board, CollectorPass, SessionPass};
 use hg_store::Store;

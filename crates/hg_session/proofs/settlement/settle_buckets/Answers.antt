@@ -5,7 +5,7 @@ use Rattle.hg_session.specs.Engines.{engine_sizes}
 use Rattle.hg_session.specs.Ended.{logs_in}
 use Rattle.hg_session.specs.Settled.{CutsBuckets}
 use Rattle.hg_session.proofs.Leaving.{cuts_more}
-use Rattle.hg_session.proofs.settling.settle_buckets.Goals as goal
+use Rattle.hg_session.proofs.settlement.settle_buckets.Goals as goal
 
 pub loop-bucket-preserved : goal.loop-bucket-preserved
 loop-bucket-preserved g c =

@@ -2,7 +2,7 @@ use Rattle.std.proofs.Common.{◌≡◌, ◌+◌, ◌∙◌, suc, subst, arith}
 use Rattle.hg_rule.specs.Seats.{pass_view}
 use Rattle.hg_session.specs.Settled.{CutsTables}
 use Rattle.hg_session.proofs.Cutting.{cut_more}
-use Rattle.hg_session.proofs.settling.cut_tables.Goals as goal
+use Rattle.hg_session.proofs.settlement.cut_tables.Goals as goal
 
 pub loop-number-preserved : goal.loop-number-preserved
 loop-number-preserved c =

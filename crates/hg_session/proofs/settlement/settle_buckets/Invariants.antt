@@ -3,7 +3,7 @@ use Rattle.hg_rule.specs.Seats.{pass_view, IsPassOf}
 use Rattle.hg_session.specs.Engines.{engine_table, engine_sizes}
 use Rattle.hg_session.specs.Ended.{logs_in}
 use Rattle.hg_session.specs.Settled.{CutsBuckets}
-use Rattle.hg_session.proofs.settling.settle_buckets.Given as goal
+use Rattle.hg_session.proofs.settlement.settle_buckets.Given as goal
 
 abbrev pub invariant-loop-bucket : goal.invariant-loop-bucket
 invariant-loop-bucket g l =

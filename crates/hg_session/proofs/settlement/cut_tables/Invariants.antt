@@ -2,7 +2,7 @@ use Rattle.std.proofs.Common.{◌≡◌}
 use Rattle.hg_rule.specs.Seats.{table_of, pass_view, IsPassOf}
 use Rattle.hg_store.specs.Stores.{held_table, held_number, Holds}
 use Rattle.hg_session.specs.Settled.{CutsTables}
-use Rattle.hg_session.proofs.settling.cut_tables.Given as goal
+use Rattle.hg_session.proofs.settlement.cut_tables.Given as goal
 
 abbrev pub invariant-loop-number : goal.invariant-loop-number
 invariant-loop-number l =
