@@ -1,8 +1,7 @@
 -- What is found in a bucket's parts.
 use Rattle.std.proofs.Common.{◌≡◌, ℕ, List, [], ◌∷◌, Bool, true, false, Option, Some, None, refl, sym, ap, ◌∙◌, cond, subst}
 use Rattle.std.specs.Prelude.{is_some, unwrap_or, option_map, find, option_to_list, nat_le}
-use Rattle.std.specs.Option.{option_or, option_copied}
-use Rattle.std.specs.Borrow.{Bor}
+use Rattle.std.specs.Option.{option_or}
 use Rattle.std.specs.Map.{lookup}
 use Rattle.hg_base.specs.declared.rid.Rid.{Rid}
 use Rattle.hg_base.specs.declared.rid.TableId.{TableId}
@@ -122,7 +121,3 @@ read_there es cs places r p own at h =
 
 pub read_absent : (es : List (Rid × ℕ)) (cs : Places) (places : List Seat) (r : Rid) (own : Writer) (at : ℕ) → place_of es r ≡ None → read_at own at (versions_of (records_of es cs places) r) ≡ None
 read_absent es cs places r own at h = ap (read_at own at) (no_versions es cs places r h)
-
-pub copied_either : {X : Type 0} (a b : Option (Bor X)) → option_copied (option_or a b) ≡ option_or (option_copied a) (option_copied b)
-copied_either None b = refl
-copied_either (Some a) b = refl
