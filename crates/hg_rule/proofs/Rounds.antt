@@ -11,13 +11,7 @@ use Rattle.hg_rule.specs.declared.view.Event.{Event}
 use Rattle.hg_rule.specs.declared.view.Event.TheVariants as events
 use Rattle.hg_rule.specs.declared.view.Sight.{Sight}
 use Rattle.hg_rule.specs.declared.view.Sight.TheVariants.{Saw, Heard, Took, Did}
-use Rattle.hg_rule.specs.Rounds.{IsNoMark, IsRound, mark_in, then_loaded, loaded_after, round_record, takes_in, removed_in, IsReportOf, round_told, seen_taken}
-
--- a step that takes away versions, or takes a group
-abbrev pub IsWork : Event → Type 0
-IsWork (events.Reclaim p kind rid n) = ⊤
-IsWork (events.Take p mark) = ⊤
-IsWork _ = ⊥
+use Rattle.hg_rule.specs.Rounds.{IsNoMark, IsWork, IsRound, mark_in, then_loaded, loaded_after, round_record, takes_in, removed_in, IsReportOf, round_told, seen_taken}
 
 work_no_mark : (e : Event) → IsWork e → IsNoMark e
 work_no_mark (events.Reclaim p kind rid n) h = tt

@@ -23,6 +23,12 @@ abbrev pub IsNoMark : Event → Type 0
 IsNoMark (Mark p mark) = ⊥
 IsNoMark _ = ⊤
 
+-- it takes away versions, or takes a group
+abbrev pub IsWork : Event → Type 0
+IsWork (Reclaim p kind rid n) = ⊤
+IsWork (Take p mark) = ⊤
+IsWork _ = ⊥
+
 -- they begin with a load of the mark by pass p, and no other follows
 abbrev pub IsRound : ℕ → List Event → Type 0
 IsRound p [] = ⊥

@@ -1,0 +1,5 @@
+pub mod Counted
+pub mod Going
+pub mod One
+pub mod Groups
+pub mod Rounds

@@ -1,0 +1,107 @@
+//! The collector.
+
+ghost use Rattle.std.specs.Prelude.{◌≡◌, ◌<◌, ◌≤◌, IfOk, IfErr};
+ghost use Rattle.hg_rule.specs.Seats.{TableId, table_of, sizes_of, IsPassOf};
+ghost use Rattle.hg_store.specs.Stores.{store_table, store_buckets};
+ghost use Rattle.hg_group.specs.Lists.{groups_table};
+ghost use Rattle.hg_tracker.specs.Boards.{board_table, board_sizes};
+
+use crate::taking::take_all;
+use hg_base::{EntryList, Kind, NoMemory, Report};
+use hg_group::GroupList;
+use hg_rule::CollectorPass;
+use hg_store::Store;
+use hg_tracker::{Gathered, Trackers};
+use std::alloc::Global;
+use std::sync::Wait;
+
+/// A collector's pass, with room for a gather and for the report of its last round.
+#[derive(Drop)]
+pub struct GroupCollector {
+    pub(crate) pass: CollectorPass,
+    pub(crate) gathered: Gathered,
+    pub(crate) report: Report,
+}
+
+fn no_report(alloc: Global, sessions: u32) -> Result<Report, NoMemory>
+    ensures { IfOk result (λ report. sessions ≤ report.entries.room) }
+{
+    Ok(Report {
+        kind: Kind::Group,
+        mark: 0,
+        horizon: 0,
+        removed: 0,
+        entries: EntryList::with_capacity(alloc, sessions as usize)?,
+    })
+}
+
+impl GroupCollector {
+    ghost use Rattle.std.specs.Prelude.{ℕ};
+    ghost use Rattle.hg_rule.specs.declared.view.Sizes.{Sizes};
+    ghost use Rattle.hg_gc_group.specs.Collectors.{pass_of, view_of, report_in, IsCollectorOf, Collects};
+
+    /// Takes all memory that passes at a board of so many sessions and tables need. A refusal hands the pass back.
+    pub fn new(
+        alloc: Global,
+        pass: CollectorPass,
+        sessions: u32,
+        tables: u32,
+    ) -> Result<GroupCollector, (CollectorPass, NoMemory)>
+        requires tables { tables ≤ 16 }
+        ensures collector { (t : TableId) (z : Sizes) → IsPassOf t pass → z.sessions ≡ sessions → z.tables ≡ tables → IfOk result (IsCollectorOf t z) }
+        ensures same { IfOk result (λ c. pass_of c ≡ pass) }
+        ensures refused { IfErr result (λ e. e.0 ≡ pass) }
+    {
+        let Ok(gathered) = Gathered::new(alloc, sessions, tables) else {
+            return Err((pass, NoMemory));
+        };
+        let Ok(report) = no_report(alloc, sessions) else {
+            return Err((pass, NoMemory));
+        };
+        Ok(GroupCollector {
+            pass,
+            gathered,
+            report,
+        })
+    }
+
+    /// The pass, which the collector gives up.
+    pub fn into_pass(self) -> CollectorPass
+        ensures { result ≡ pass_of self }
+    {
+        self.pass
+    }
+
+    /// The report of the last round.
+    pub fn report(&self) -> &Report
+        ensures { result.now ≡ report_in self.now }
+    {
+        &self.report
+    }
+
+    /// One round. It waits for the commit lock and for buckets' locks, one at a time.
+    pub fn collect<R: Wait>(
+        &mut self,
+        rt: &R,
+        trackers: &Trackers,
+        store: &Store,
+        groups: &GroupList,
+    )
+        requires own { IsCollectorOf (board_table trackers.now) (board_sizes trackers.now) self.old }
+        requires tables { (store_table store.now ≡ board_table trackers.now) × (groups_table groups.now ≡ board_table trackers.now) }
+        requires buckets { (0 < store_buckets store.now) × (store_buckets store.now ≡ (board_sizes trackers.now).buckets) }
+        ensures collects { Collects (board_sizes trackers.now) (view_of self.old) (report_in self.new) (view_of self.new) }
+        ensures own { IsCollectorOf (board_table trackers.now) (board_sizes trackers.now) self.new }
+    {
+        let board = trackers.board();
+        trackers.gather(&mut self.pass, &mut self.gathered);
+        board.look_at(&mut self.pass);
+        let bound = self.gathered.least();
+        let removed = take_all(rt, board, store, groups, &mut self.pass, bound);
+        self.report.kind = Kind::Group;
+        self.report.mark = self.gathered.mark();
+        self.report.horizon = self.gathered.horizon();
+        self.report.removed = removed;
+        self.report.entries.refill(self.gathered.entries());
+    }
+}
