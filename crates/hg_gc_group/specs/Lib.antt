@@ -3,3 +3,4 @@ pub mod Cutting
 pub mod Taking
 -- The collector.
 pub mod Collectors
+pub mod Lending

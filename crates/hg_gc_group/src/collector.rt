@@ -38,6 +38,8 @@ fn no_report(alloc: Global, sessions: u32) -> Result<Report, NoMemory>
 impl GroupCollector {
     ghost use Rattle.std.specs.Prelude.{ℕ};
     ghost use Rattle.hg_rule.specs.declared.view.Sizes.{Sizes};
+    ghost use Rattle.std.specs.Borrow.{sem};
+    ghost use Rattle.hg_gc_group.specs.Lending.{LendsPass, EndsAs};
     ghost use Rattle.hg_gc_group.specs.Collectors.{pass_of, view_of, report_in, IsCollectorOf, Collects};
 
     /// Takes all memory that passes at a board of so many sessions and tables need. A refusal hands the pass back.
@@ -72,6 +74,14 @@ impl GroupCollector {
         self.pass
     }
 
+    /// Lends the pass between two rounds.
+    pub fn lend(&mut self) -> &mut CollectorPass
+        ensures* back { sem 𝓛 (LendsPass self.entry result) }
+        ensures pass { result.now ≡ pass_of self.old }
+    {
+        &mut self.pass
+    }
+
     /// The report of the last round.
     pub fn report(&self) -> &Report
         ensures { result.now ≡ report_in self.now }
@@ -103,5 +113,22 @@ impl GroupCollector {
         self.report.horizon = self.gathered.horizon();
         self.report.removed = removed;
         self.report.entries.refill(self.gathered.entries());
+    }
+
+    /// One round, and its report.
+    pub fn pass<R: Wait>(
+        &mut self,
+        rt: &R,
+        trackers: &Trackers,
+        store: &Store,
+        groups: &GroupList,
+    ) -> &Report
+        requires own { IsCollectorOf (board_table trackers.now) (board_sizes trackers.now) self.old }
+        requires tables { (store_table store.now ≡ board_table trackers.now) × (groups_table groups.now ≡ board_table trackers.now) }
+        requires buckets { (0 < store_buckets store.now) × (store_buckets store.now ≡ (board_sizes trackers.now).buckets) }
+        ensures* ends { sem 𝓛 (EndsAs self.entry (λ c. Collects (board_sizes trackers.now) (view_of self.old) result.now (view_of c) × IsCollectorOf (board_table trackers.now) (board_sizes trackers.now) c)) }
+    {
+        self.collect(rt, trackers, store, groups);
+        &self.report
     }
 }
