@@ -18,3 +18,5 @@ pub mod Sweeps
 pub mod Sweeping
 pub mod Costing
 pub mod Numbers
+pub mod Rounds
+pub mod Paying

@@ -1,5 +1,5 @@
 -- Which records a cut or a sweep can shorten.
-use Rattle.std.specs.Prelude.{◌≡◌, ℕ, ◌≤◌, ◌<◌, List, Option, IsTrue, IsFalse}
+use Rattle.std.specs.Prelude.{◌≡◌, ℕ, ◌≤◌, ◌<◌, List, Option, Some, IsTrue, IsFalse, slice_get}
 use Rattle.std.specs.Option.{MatchOption}
 use Rattle.hg_base.specs.declared.rid.Rid.{Rid}
 use Rattle.hg_base.specs.declared.rid.TableId.{TableId}
@@ -19,3 +19,13 @@ IsNextLong records table from found =
     MatchOption found
     ((k : ℕ) → from ≤ k → IsShort (versions_of records (record_at table k)))
     (λ least. (from ≤ least) × IsTrue (is_long (versions_of records (record_at table least))) × ((k : ℕ) → from ≤ k → k < least → IsShort (versions_of records (record_at table k))))
+
+-- no key stands twice
+abbrev pub NoKeyTwice : List ℕ → Type 0
+NoKeyTwice keys = (i j k : ℕ) → slice_get keys i ≡ Some k → slice_get keys j ≡ Some k → i ≡ j
+
+-- these are the keys of a table, in whatever order, whose records have more than an oldest image: each other record is short
+pub record AreLong (keys : List ℕ) (table : TableId) (records : List (Rid × List Kept)) : Type 0 where
+  pub once : NoKeyTwice keys
+  pub long : (at k : ℕ) → slice_get keys at ≡ Some k → IsTrue (is_long (versions_of records (record_at table k)))
+  pub rest : (k : ℕ) → ((at : ℕ) → slice_get keys at ≡ Some k → ⊥) → IsShort (versions_of records (record_at table k))
