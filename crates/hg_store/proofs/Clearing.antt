@@ -57,11 +57,11 @@ held_apart v w r kind step q apart = held_after v w r kind step q ∙ ap (λ b. 
 
 -- ---- many steps
 
-reclaims_more : (v w x : View) (rids : List Rid) (r : Rid) (kind : Kind) → ReclaimsAll v rids kind w → Reclaims w r kind x → ReclaimsAll v (rids ++ r ∷ []) kind x
+pub reclaims_more : (v w x : View) (rids : List Rid) (r : Rid) (kind : Kind) → ReclaimsAll v rids kind w → Reclaims w r kind x → ReclaimsAll v (rids ++ r ∷ []) kind x
 reclaims_more v w x [] r kind same step = (x, (subst (λ u. Reclaims u r kind x) same step, refl))
 reclaims_more v w x (q ∷ rids) r kind steps step = (steps.0, (steps.1.0, reclaims_more steps.0 w x rids r kind steps.1.1 step))
 
-each_more : {A : Type 0} (P : A → Type 0) (xs : List A) (x : A) → Each P xs → P x → Each P (xs ++ x ∷ [])
+pub each_more : {A : Type 0} (P : A → Type 0) (xs : List A) (x : A) → Each P xs → P x → Each P (xs ++ x ∷ [])
 each_more P [] x h p = (p, tt)
 each_more P (y ∷ xs) x h p = (h.0, each_more P xs x h.1 p)
 
@@ -79,7 +79,7 @@ at_next : (n : ℕ) (next : Option ℕ) → ((m : ℕ) → IsFrom m next → n <
 at_next n None later = tt
 at_next n (Some m) later = later m (omega arith)
 
-among_more : (q r : Rid) (rids : List Rid) → is_among q rids ≡ false → same_rid q r ≡ false → is_among q (rids ++ r ∷ []) ≡ false
+pub among_more : (q r : Rid) (rids : List Rid) → is_among q rids ≡ false → same_rid q r ≡ false → is_among q (rids ++ r ∷ []) ≡ false
 among_more q r [] h e = ap (λ b. b || false) e
 among_more q r (x ∷ rids) h e = go (same_rid q x) h (among_more q r rids)
   where
@@ -161,7 +161,7 @@ pub record Walks (z : Sizes) (kind : Kind) (table : TableId) (b : ℕ) (v w : Vi
   pub counts : Counts v kind gone w
   pub next_is : IfSome next (IsNext z table v b)
 
-long_there : (z : Sizes) (n b : ℕ) (v : View) (r : Rid) → Each (λ e. bucket_of z.buckets e.0 ≡ b) (bucket v).content → is_long (map kept (held v r)) ≡ true → bucket_of z.buckets r ≡ b
+pub long_there : (z : Sizes) (n b : ℕ) (v : View) (r : Rid) → Each (λ e. bucket_of z.buckets e.0 ≡ b) (bucket v).content → is_long (map kept (held v r)) ≡ true → bucket_of z.buckets r ≡ b
 long_there z n b v r placed long = go (bucket_of z.buckets r == b) refl
   where
     go : (t : Bool) → (bucket_of z.buckets r == b) ≡ t → bucket_of z.buckets r ≡ b

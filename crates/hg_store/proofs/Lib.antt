@@ -16,3 +16,4 @@ pub mod Owning
 pub mod Rising
 pub mod Clearing
 pub mod Boxing
+pub mod Rounding
