@@ -20,3 +20,4 @@ pub mod Costing
 pub mod Numbers
 pub mod Rounds
 pub mod Paying
+pub mod Listing

@@ -5,3 +5,4 @@ pub mod Sweeping
 pub mod Long
 pub mod Parts
 pub mod Writes
+pub mod Listed
