@@ -82,7 +82,8 @@ impl Roster {
         list[at].key
     }
 
-    /// Puts a record at the end of its table's list. No list has another of its place.
+    /// Puts a record at the end of its table's list. No list has another of its place. A list of 2^32 records takes no more: that
+    /// is refused as memory is.
     pub fn enter(&mut self, table: TableId, key: u64, place: u64) -> Result<(), NoMemory>
         requires new_place { StandsNowhere self.old place }
         requires small { place < 2 ^ 40 }
