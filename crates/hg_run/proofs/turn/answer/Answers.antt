@@ -16,9 +16,6 @@ ready g c = c.turn.ensures.ready 1 c.requires.ready
 may : (g : _) (c : goal.After-ask_at-arg-1 g) → MayStand (is_some (current (logs_of c.turn.new.list.items (suc c.args.i)))) c.args.statement.now
 may g c = subst (λ logs. MayStand (is_some (current (logs (suc c.args.i)))) c.args.statement.now) (sym c.turn.ensures.logs) c.requires.may
 
-asked : (g : _) (c : goal.After-show-arg-2-1 g) → HasAsked c.args.engine.now c.args.i c.args.statement.now c.in_ok-reply.reply c.turn.new.list.items c.ask_at.new.list.items
-asked g c = let m = c.in_ok-reply.ensures in record { many = m.many; answers = m.answers; left = m.left; rest = m.rest; own = m.own }
-
 pub ask_at-requires-clause-within : goal.ask_at-requires-clause-within
 unfolding ready
 ask_at-requires-clause-within g c = (ready g c).within
@@ -36,12 +33,14 @@ unfolding may
 ask_at-requires-clause-may g c d = subst (λ l. MayStand (is_some (current l)) c.args.statement.now) (log_at d c.turn.new.list.items c.args.i (ready g c).within) (may g c)
 
 pub show-requires-clause-ready : goal.show-requires-clause-ready
-unfolding asked
-show-requires-clause-ready g c = ready_asked c.args.engine.now c.args.i 0 c.args.statement.now c.in_ok-reply.reply c.turn.new.list.items c.ask_at.new.list.items (asked g c) (c.turn.ensures.ready 1 c.requires.ready)
+show-requires-clause-ready g c =
+    let h : HasAsked c.args.engine.now c.args.i c.args.statement.now c.in_ok-reply.reply c.turn.new.list.items c.ask_at.new.list.items = (let m = c.in_ok-reply.ensures in record { many = m.many; answers = m.answers; left = m.left; rest = m.rest; own = m.own }) in
+    ready_asked c.args.engine.now c.args.i 0 c.args.statement.now c.in_ok-reply.reply c.turn.new.list.items c.ask_at.new.list.items h (c.turn.ensures.ready 1 c.requires.ready)
 
 pub show-requires-clause-other : goal.show-requires-clause-other
-unfolding asked
-show-requires-clause-other g c writer is = other_asked c.args.engine.now c.args.i c.args.statement.now c.in_ok-reply.reply c.turn.new.list.items c.ask_at.new.list.items 1 (asked g c) (c.turn.ensures.ready 1 c.requires.ready) writer is
+show-requires-clause-other g c writer is =
+    let h : HasAsked c.args.engine.now c.args.i c.args.statement.now c.in_ok-reply.reply c.turn.new.list.items c.ask_at.new.list.items = (let m = c.in_ok-reply.ensures in record { many = m.many; answers = m.answers; left = m.left; rest = m.rest; own = m.own }) in
+    other_asked c.args.engine.now c.args.i c.args.statement.now c.in_ok-reply.reply c.turn.new.list.items c.ask_at.new.list.items 1 h (c.turn.ensures.ready 1 c.requires.ready) writer is
 
 pub returns-clause-replied : goal.returns-clause-replied
 returns-clause-replied g c =
