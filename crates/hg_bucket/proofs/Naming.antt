@@ -14,7 +14,7 @@ use Rattle.hg_chain.specs.Places.{Places, list_at, OthersStay as ListsStay}
 use Rattle.hg_space.specs.Index.{place_of, IsIndex}
 use Rattle.hg_space.specs.Places.{Seat, free, image_at, IsTaken}
 use Rattle.hg_bucket.specs.Held.{versions_of, left, OthersStay}
-use Rattle.hg_bucket.specs.Parts.{kept, whole, versions_at, records_of, seat_at, AreAlike, IsGiven, Falls, AreWhole, IsOver}
+use Rattle.hg_bucket.specs.Parts.{kept, whole, versions_at, records_of, seat_at, AreAlike, ListsAlike, IsGiven, Falls, AreWhole, IsOver}
 use Rattle.hg_bucket.proofs.Reading.{found, alike, versions_there}
 use Rattle.hg_bucket.proofs.Seating.{each_place, same_image, not_taken, given_taken}
 use Rattle.hg_bucket.proofs.Turning.{versions_stay, taken_again, taken_before, falls_again, held_again}
@@ -116,9 +116,6 @@ come_whole es fs cs ds places seats r p w h =
     falls_here = subst (Falls (list_at ds p)) (sym (ap (λ seat. image_at (seat ∷ []) 0) h.given.now)) (record { over = all_over_none (list_at ds p); row = tt })
 
 -- ---- each place has what it had
-
-abbrev pub ListsAlike : Places → Places → Type 0
-ListsAlike cs ds = (q : ℕ) → list_at ds q ≡ list_at cs q
 
 versions_alike : (cs ds : Places) (places seats : List Seat) → ListsAlike cs ds → AreAlike places seats → (n : ℕ) → versions_at ds seats n ≡ versions_at cs places n
 versions_alike cs ds places seats lists stay n = λ i. whole (lists n i) (same_image places seats n (stay n) i)

@@ -93,3 +93,12 @@ each_stamped n by image vs h = (omega arith, go (begins_open by vs))
     go : (b : Bool) → Each (IsBelow (n + 1)) (cond b (drop 1 vs) vs)
     go true = behind vs h
     go false = each_more n (n + 1) vs (omega arith) h
+
+-- a write that is taken back
+pub each_taken_back : (n : ℕ) (by : Writer) (image : Image) (vs : List Kept) → Each (IsBelow n) vs → Each (IsBelow n) (drop 1 (installed by image vs))
+each_taken_back n by image [] h = tt
+each_taken_back n by image (v ∷ vs) h = go (begins_open by (v ∷ vs))
+  where
+    go : (b : Bool) → Each (IsBelow n) (cond b vs (v ∷ vs))
+    go true = h.1
+    go false = h

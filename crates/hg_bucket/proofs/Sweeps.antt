@@ -14,7 +14,7 @@ use Rattle.hg_chain.specs.declared.version.Version.{Version}
 use Rattle.hg_chain.specs.Versions.{number_in}
 use Rattle.hg_chain.specs.Sweeps as chain
 use Rattle.hg_chain.specs.Sweeps.{last_number, swept_away}
-use Rattle.hg_base.specs.Lifetimes.{is_within, is_in_use, goes, MayStay, IsGuarded}
+use Rattle.hg_base.specs.Lifetimes.{goes, MayStay, IsGuarded}
 use Rattle.hg_chain.proofs.Sweeps as runs
 use Rattle.hg_chain.proofs.Sweeps.{last_after, last_of_all, swept_sum}
 use Rattle.hg_chain.proofs.Readers.{lies, over_horizon, in_use_stays}

@@ -1,12 +1,12 @@
--- A walk through a table, key by key, that changes each record in one way.
-use Rattle.std.proofs.Common.{◌≡◌, ℕ, ◌+◌, ◌-◌, ◌≤◌, ◌<◌, List, [], Bool, true, false, Option, Some, None, refl, sym, ◌∙◌, subst, arith}
+-- A walk through a table, key by key: which records it passes over, and what it does of the others.
+use Rattle.std.proofs.Common.{◌≡◌, ℕ, ◌+◌, ◌-◌, ◌≤◌, ◌<◌, List, [], Bool, true, false, Option, Some, None, refl, sym, subst, arith}
 use Rattle.std.specs.Prelude.{IfSome, IsSome, IsTrue, ◌^◌, ⊤, nat_lt, unwrap_or, ◌==◌}
 use Rattle.std.specs.Map.{lookup}
 use Rattle.std.proofs.lemmas.Bool.Decides.{nat_tests}
 use Rattle.hg_base.specs.declared.rid.Rid.{Rid}
 use Rattle.hg_base.specs.declared.rid.TableId.{TableId}
 use Rattle.hg_base.specs.History.{same_rid}
-use Rattle.hg_bucket.specs.Held.{Kept, versions_of, record_at, cut_at, left, OthersStay, IsNextKey}
+use Rattle.hg_bucket.specs.Held.{Kept, versions_of, record_at, cut_at, IsNextKey}
 use Rattle.hg_bucket.specs.Long.{IsShort, IsNextLong}
 use Rattle.hg_bucket.specs.Sweeping.{swept, IsClean, is_long}
 use Rattle.hg_bucket.proofs.Settling.{settled_short}
@@ -23,14 +23,6 @@ IsFrom k (Some n) = n ≤ k
 abbrev pub to_go : Option ℕ → ℕ
 to_go None = 0
 to_go (Some n) = 2 ^ 64 - n
-
--- Done says what becomes of a record's versions
-pub record Walks (Done : List Kept → List Kept → Type 0) (t : TableId) (old now : List (Rid × List Kept)) (next : Option ℕ) (gone : ℕ) : Type 0 where
-  pub done : (k : ℕ) → IsBefore k next → Done (versions_of old (record_at t k)) (versions_of now (record_at t k))
-  pub rest : (k : ℕ) → IsFrom k next → versions_of now (record_at t k) ≡ versions_of old (record_at t k)
-  pub others : (q : Rid) → (q.table ≡ t → ⊥) → versions_of now q ≡ versions_of old q
-  pub left : left now + gone ≡ left old
-  pub fits : IfSome next (λ k. k < 2 ^ 64)
 
 -- what can't be shortened stays
 abbrev pub KeepsShort : (List Kept → List Kept → Type 0) → Type 0
@@ -50,42 +42,9 @@ pub short_before : (records : List (Rid × List Kept)) (t : TableId) (from : ℕ
 short_before records t from None h k le before = h k le
 short_before records t from (Some n) h k le before = h.2 k le before
 
-pub begins : (Done : List Kept → List Kept → Type 0) (t : TableId) (old : List (Rid × List Kept)) (next : Option ℕ) → KeepsShort Done → IsNextLong old t 0 next → IfSome next (λ k. k < 2 ^ 64) → Walks Done t old old next 0
-begins Done t old next keeps h fits =
-    record {
-      done = λ k before. keeps (versions_of old (record_at t k)) (short_before old t 0 next h k (omega arith) before);
-      rest = λ k from. refl;
-      others = λ q apart. refl;
-      left = omega arith;
-      fits = fits;
-    }
-
 pub over : (records : List (Rid × List Kept)) (t : TableId) (n : ℕ) (next : Option ℕ) → IsNextLong records t (n + 1) next → (k : ℕ) → IsFrom k next → n < k
 over records t n None h k from = absurd from
 over records t n (Some m) h k from = let le : n + 1 ≤ m = h.0 in omega (arith, le, from)
-
-pub goes : (Done : List Kept → List Kept → Type 0) (t : TableId) (old now new : List (Rid × List Kept)) (n : ℕ) (next : Option ℕ) (gone more : ℕ) → KeepsShort Done → Walks Done t old now (Some n) gone → Done (versions_of now (record_at t n)) (versions_of new (record_at t n)) → OthersStay now new (record_at t n) → left new + more ≡ left now → IsNextLong new t (n + 1) next → IfSome next (λ k. k < 2 ^ 64) → Walks Done t old new next (gone + more)
-goes Done t old now new n next gone more keeps h here others count long fits =
-    record {
-      done = done;
-      rest = λ k from. let less = over new t n next long k from in others (record_at t k) (keys_apart t n k (λ e. omega (arith, less, e))) ∙ h.rest k (omega (arith, less));
-      others = λ q apart. others q (tables_apart t n q apart) ∙ h.others q apart;
-      left = omega (arith, count, h.left);
-      fits = fits;
-    }
-  where
-    done : (k : ℕ) → IsBefore k next → Done (versions_of old (record_at t k)) (versions_of new (record_at t k))
-    done k before = go (nat_lt k n) (nat_lt n k) refl refl
-      where
-        go : (a b : Bool) → nat_lt k n ≡ a → nat_lt n k ≡ b → Done (versions_of old (record_at t k)) (versions_of new (record_at t k))
-        go true b e f = let less : k < n = grind (arith, nat_tests, e) in subst (Done (versions_of old (record_at t k))) (sym (others (record_at t k) (keys_apart t n k (λ e. omega (arith, less, e))))) (h.done k less)
-        go false true e f =
-            let less : n < k = grind (arith, nat_tests, f) in
-            let same = others (record_at t k) (keys_apart t n k (λ e. omega (arith, less, e))) ∙ h.rest k (omega (arith, less)) in
-            subst (λ vs. Done vs (versions_of new (record_at t k))) same (keeps (versions_of new (record_at t k)) (short_before new t (n + 1) next long k (omega (arith, less)) before))
-        go false false e f =
-            let same : n ≡ k = grind (arith, nat_tests, e, f) in
-            subst (λ x. Done (versions_of old (record_at t x)) (versions_of new (record_at t x))) same (subst (λ vs. Done vs (versions_of new (record_at t n))) (h.rest n (omega arith)) here)
 
 -- ---- the search for the next key
 

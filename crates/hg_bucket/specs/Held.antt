@@ -8,6 +8,7 @@ use Rattle.hg_base.specs.declared.writer.Writer.{Writer}
 use Rattle.hg_base.specs.declared.line.Totals.{Totals}
 use Rattle.hg_base.specs.declared.rid.TableId.{TableId}
 use Rattle.hg_base.specs.History.{same_rid}
+use Rattle.hg_space.specs.Rosters.{list_of}
 
 -- a version: its number, unless it is an open write; its writer, unless it is the record's oldest image; and its image
 pub record Kept : Type 0 where
@@ -15,9 +16,11 @@ pub record Kept : Type 0 where
   pub by : Option Writer
   pub image : Image
 
--- the records with their versions, newest first, and how many versions were made, undone and removed
+-- the records with their versions, newest first; for each table, in the order of the tables, the keys of the records that can be
+-- shortened; and how many versions were made, undone and removed
 pub record Held : Type 0 where
   pub records : List (Rid × List Kept)
+  pub long : List (List ℕ)
   pub made : ℕ
   pub undone : ℕ
   pub group : ℕ
@@ -27,6 +30,10 @@ pub record Held : Type 0 where
 -- the versions of a record, none where it is not there
 abbrev pub versions_of : List (Rid × List Kept) → Rid → List Kept
 versions_of records r = unwrap_or (lookup (same_rid r) records) []
+
+-- the keys of a table's records that can be shortened
+abbrev pub keys_in : List (List ℕ) → TableId → List ℕ
+keys_in long table = list_of long table.0
 
 -- how many versions are held
 abbrev pub left : List (Rid × List Kept) → ℕ

@@ -5,4 +5,3 @@ pub mod Sweeping
 pub mod Long
 pub mod Parts
 pub mod Writes
-pub mod Listed

@@ -1,5 +1,5 @@
 -- What a bucket holds, read from its parts: for the bucket itself.
-use Rattle.std.specs.Prelude.{◌≡◌, ◌≢◌, ℕ, List, ◌++◌, map, Option, Some, None, option_map, option_to_list, nat_le, if◌then◌else◌, ◌<◌, ◌^◌, length, is_some, IsTrue, ⊤, slice_index_or}
+use Rattle.std.specs.Prelude.{◌≡◌, ◌≢◌, ◌↔◌, ℕ, List, [], ◌∷◌, ◌++◌, take, slice_get, map, Option, Some, None, option_map, option_to_list, nat_le, if◌then◌else◌, ◌<◌, ◌^◌, length, is_some, IsTrue, ⊤, slice_index_or}
 use Rattle.hg_base.specs.declared.rid.Rid.{Rid}
 use Rattle.hg_base.specs.declared.image.Image.{Image}
 use Rattle.hg_base.specs.Lists.{Each}
@@ -10,6 +10,8 @@ use Rattle.hg_chain.specs.Places.{Places, list_at}
 use Rattle.hg_space.specs.Places as seat
 use Rattle.hg_space.specs.Places.{Seat, Oldest, image_at, IsTaken, free}
 use Rattle.hg_space.specs.Index.{AreTaken, place_of}
+use Rattle.hg_space.specs.declared.roster.Listed.{Listed}
+use Rattle.hg_space.specs.Rosters.{list_of, keys_of, trimmed, Has}
 use Rattle.hg_bucket.specs.Held.{Kept}
 
 -- a version of a chain
@@ -71,6 +73,43 @@ pub record AreWhole (index : List (Rid × ℕ)) (chains : Places) (places : List
   pub falls : (p : ℕ) → IsTaken places p → Falls (list_at chains p) (image_at places p)
   pub fits : (p : ℕ) → IsTaken places p → p < 2 ^ 40
 
+-- ---- the lists of records that can be shortened
+
+-- a record with its place, as its table's list has it
+abbrev pub listed : Rid → ℕ → Listed
+listed r p = record { key = r.key; place = p }
+
+abbrev pub IsListed : List (List Listed) → Rid → ℕ → Type 0
+IsListed longs r p = Has (list_of longs r.table.0) (listed r p)
+
+-- the lists have each record that has a chain, and nothing else
+abbrev pub AreListed : List (Rid × ℕ) → Places → List (List Listed) → Type 0
+AreListed index chains longs = (r : Rid) (p : ℕ) → IsListed longs r p ↔ ((place_of index r ≡ Some p) × (0 < length (list_at chains p)))
+
+-- the keys of each list
+abbrev pub longs_of : List (List Listed) → List (List ℕ)
+longs_of longs = trimmed (map keys_of longs)
+
+-- what callers see of the parts
+pub record Recorded : Type 0 where
+  pub records : List (Rid × List Kept)
+  pub long : List (List ℕ)
+
+pub record AreKept (index : List (Rid × ℕ)) (chains : Places) (places : List Seat) (longs : List (List Listed)) : Type 0 where
+  pub whole : AreWhole index chains places
+  pub listed : AreListed index chains longs
+
+-- a record comes to the end of its table's list
+pub record Enters (old new : List (List Listed)) (r : Rid) (p : ℕ) : Type 0 where
+  pub last : list_of new r.table.0 ≡ list_of old r.table.0 ++ listed r p ∷ []
+  pub others : (t : ℕ) → t ≢ r.table.0 → list_of new t ≡ list_of old t
+
+-- the record of a place leaves its table's list: those in front of it stay
+pub record Leaves (old new : List (List Listed)) (r : Rid) (p : ℕ) : Type 0 where
+  pub front : (at : ℕ) (e : Listed) → slice_get (list_of old r.table.0) at ≡ Some e → e.place ≡ p → take at (list_of new r.table.0) ≡ take at (list_of old r.table.0)
+  pub stay : (e : Listed) → Has (list_of new r.table.0) e ↔ (Has (list_of old r.table.0) e × e.place ≢ p)
+  pub others : (t : ℕ) → t ≢ r.table.0 → list_of new t ≡ list_of old t
+
 -- what a cut hands out of a chain becomes the oldest image, where it is a row; where nothing is handed out, that stays
 abbrev pub settled : Oldest → Oldest → Oldest
 settled None image = image
@@ -84,6 +123,10 @@ seat_at places p = slice_index_or places p free
 -- each place but one is as before
 abbrev pub SeatsStay : ℕ → List Seat → List Seat → Type 0
 SeatsStay p old new = (q : ℕ) → q ≢ p → seat_at new q ≡ seat_at old q
+
+-- each place has the chain that it had
+abbrev pub ListsAlike : Places → Places → Type 0
+ListsAlike old new = (q : ℕ) → list_at new q ≡ list_at old q
 
 -- each place is as before
 abbrev pub AreAlike : List Seat → List Seat → Type 0

@@ -1,6 +1,6 @@
 //! Records with their versions, and counters of them.
 
-ghost use Rattle.std.specs.Prelude.{◌≡◌, ℕ, ◌+◌, ◌<◌, ◌≤◌, ◌^◌, length, [], None, not, IsTrue, IsOk, IfOk, IfSome, IfErr, OnOk, OnErr, drop, if◌then◌else◌};
+ghost use Rattle.std.specs.Prelude.{◌≡◌, ℕ, ◌+◌, ◌<◌, ◌≤◌, ◌^◌, length, take, slice_get, [], None, Some, not, IsTrue, IsOk, IfOk, IfSome, IfErr, OnOk, OnErr, drop, if◌then◌else◌};
 ghost use Rattle.std.specs.Option.{option_copied};
 ghost use Rattle.std.specs.List.{IsDistinct};
 ghost use Rattle.std.specs.Map.{keys_of};
@@ -13,8 +13,8 @@ ghost use Rattle.hg_base.specs.declared.writer.Writer.{Writer};
 ghost use Rattle.hg_chain.specs.Sweeps.{Rises};
 ghost use Rattle.hg_base.specs.Lifetimes.{IsGuarded};
 ghost use Rattle.hg_bucket.specs.Sweeping.{swept, IsClean, record_steps, sweep_steps};
-ghost use Rattle.hg_bucket.specs.Long.{IsNextLong};
-ghost use Rattle.hg_bucket.specs.Held.{versions_of, begins_open, installed, stamped, OthersStay, IsBelow, read_at, record_at, cut_at, left, counts_of, IsBalanced, IsNextKey};
+ghost use Rattle.hg_bucket.specs.Long.{IsNextLong, AreLong};
+ghost use Rattle.hg_bucket.specs.Held.{keys_in, versions_of, begins_open, installed, stamped, OthersStay, IsBelow, read_at, record_at, cut_at, left, counts_of, IsBalanced, IsNextKey};
 
 use crate::records::Records;
 use crate::refusal::WriteRefusal;
@@ -39,15 +39,15 @@ impl Model for Bucket {
 
     ghost Value = { Held };
 
-    ghost view = { λ b. record { records = b.records; made = b.made; undone = b.undone; group = b.group; table = b.table; interval = b.interval } };
+    ghost view = { λ b. record { records = b.records.records; long = b.records.long; made = b.made; undone = b.undone; group = b.group; table = b.table; interval = b.interval } };
 
-    ghost invariant = { λ b. IsSound record { records = b.records; made = b.made; undone = b.undone; group = b.group; table = b.table; interval = b.interval } };
+    ghost invariant = { λ b. IsSound record { records = b.records.records; long = b.records.long; made = b.made; undone = b.undone; group = b.group; table = b.table; interval = b.interval } };
 }
 
 impl Bucket {
     /// No record. It takes no memory.
     pub fn new(alloc: Global) -> Bucket
-        ensures { result ≡ record { records = []; made = 0; undone = 0; group = 0; table = 0; interval = 0 } }
+        ensures { result ≡ record { records = []; long = []; made = 0; undone = 0; group = 0; table = 0; interval = 0 } }
     {
         Bucket {
             records: Records::new(alloc),
@@ -84,7 +84,7 @@ impl Bucket {
         ensures stored { OnOk result (versions_of self.new.records rid ≡ installed by image (versions_of self.old.records rid)) }
         ensures others { OthersStay self.old.records self.new.records rid }
         ensures added { IfOk result (λ added. added ≡ not (begins_open by (versions_of self.old.records rid))) }
-        ensures made { OnOk result (self.new ≡ record self.old { records = self.new.records; made = self.old.made + (if begins_open by (versions_of self.old.records rid) then 0 else 1) }) }
+        ensures made { OnOk result (self.new ≡ record self.old { records = self.new.records; long = self.new.long; made = self.old.made + (if begins_open by (versions_of self.old.records rid) then 0 else 1) }) }
         ensures refused { OnErr result (self.new ≡ self.old) }
     {
         let added = self.records.write(rid, image, snapshot, mark, by)?;
@@ -97,7 +97,7 @@ impl Bucket {
         requires { IsTrue (begins_open by (versions_of self.old.records rid)) }
         ensures here { versions_of self.new.records rid ≡ drop 1 (versions_of self.old.records rid) }
         ensures others { OthersStay self.old.records self.new.records rid }
-        ensures undone { self.new ≡ record self.old { records = self.new.records; undone = self.old.undone + 1 } }
+        ensures undone { self.new ≡ record self.old { records = self.new.records; long = self.new.long; undone = self.old.undone + 1 } }
     {
         self.records.undo(rid, by);
         self.undone += 1;
@@ -109,7 +109,7 @@ impl Bucket {
         requires over { Each (IsBelow number) (drop 1 (versions_of self.old.records rid)) }
         ensures here { versions_of self.new.records rid ≡ stamped by number (versions_of self.old.records rid) }
         ensures others { OthersStay self.old.records self.new.records rid }
-        ensures counters { self.new ≡ record self.old { records = self.new.records } }
+        ensures counters { self.new ≡ record self.old { records = self.new.records; long = self.new.long } }
     {
         self.records.stamp(rid, by, number);
     }
@@ -119,7 +119,7 @@ impl Bucket {
         ensures here { versions_of self.new.records rid ≡ cut_at bound (versions_of self.old.records rid) }
         ensures others { OthersStay self.old.records self.new.records rid }
         ensures gone { length (versions_of self.new.records rid) + result ≡ length (versions_of self.old.records rid) }
-        ensures group { self.new ≡ record self.old { records = self.new.records; group = self.old.group + result } }
+        ensures group { self.new ≡ record self.old { records = self.new.records; long = self.new.long; group = self.old.group + result } }
     {
         let gone = self.records.cut(rid, bound);
         self.group += gone;
@@ -131,7 +131,8 @@ impl Bucket {
         ensures here { versions_of self.new.records rid ≡ cut_at bound (versions_of self.old.records rid) }
         ensures others { OthersStay self.old.records self.new.records rid }
         ensures gone { length (versions_of self.new.records rid) + result ≡ length (versions_of self.old.records rid) }
-        ensures table { self.new ≡ record self.old { records = self.new.records; table = self.old.table + result } }
+        ensures table { self.new ≡ record self.old { records = self.new.records; long = self.new.long; table = self.old.table + result } }
+        ensures front { (at : ℕ) → slice_get (keys_in self.old.long rid.table) at ≡ Some rid.key → take at (keys_in self.new.long rid.table) ≡ take at (keys_in self.old.long rid.table) }
     {
         let gone = self.records.cut(rid, bound);
         self.table += gone;
@@ -153,7 +154,8 @@ impl Bucket {
         ensures seen { (s : ℕ) (own : Writer) → IsGuarded horizon snapshots.now s → read_at own s (versions_of self.new.records rid) ≡ read_at own s (versions_of self.old.records rid) }
         ensures others { OthersStay self.old.records self.new.records rid }
         ensures gone { length (versions_of self.new.records rid) + result ≡ length (versions_of self.old.records rid) }
-        ensures interval { self.new ≡ record self.old { records = self.new.records; interval = self.old.interval + result } }
+        ensures interval { self.new ≡ record self.old { records = self.new.records; long = self.new.long; interval = self.old.interval + result } }
+        ensures front { (at : ℕ) → slice_get (keys_in self.old.long rid.table) at ≡ Some rid.key → take at (keys_in self.new.long rid.table) ≡ take at (keys_in self.old.long rid.table) }
         ensures cost { steps.new ≤ steps.old + record_steps snapshots.now (versions_of self.old.records rid) }
     {
         let swept = self.records.sweep(rid, horizon, snapshots, steps);
@@ -161,7 +163,24 @@ impl Bucket {
         swept
     }
 
-    /// The least key of a table whose record can be shortened: it has more than its oldest image.
+    /// How many records of a table can be shortened: each has more than its oldest image.
+    pub fn long_count(&self, table: TableId) -> usize
+        ensures count { result ≡ length (keys_in self.now.long table) }
+        ensures whole { AreLong (keys_in self.now.long table) table self.now.records }
+    {
+        self.records.long_count(table)
+    }
+
+    /// The key of one of them. They stand in no order. Where one is cut or swept, those before it stay where they are: so a
+    /// walk that begins at the last one meets each once.
+    pub fn long_key(&self, table: TableId, at: usize) -> u64
+        requires { at < length (keys_in self.now.long table) }
+        ensures { slice_get (keys_in self.now.long table) at ≡ Some result }
+    {
+        self.records.long_key(table, at)
+    }
+
+    /// The least key of a table whose record can be shortened.
     pub fn first_long(&self, table: TableId) -> Option<u64>
         ensures next { IsNextLong self.now.records table 0 result }
         ensures fits { IfSome result (λ key. key < 2 ^ 64) }
@@ -183,7 +202,7 @@ impl Bucket {
         ensures each { (k : ℕ) → versions_of self.new.records (record_at table k) ≡ cut_at bound (versions_of self.old.records (record_at table k)) }
         ensures others { (q : Rid) → (q.table ≡ table → ⊥) → versions_of self.new.records q ≡ versions_of self.old.records q }
         ensures gone { left self.new.records + result ≡ left self.old.records }
-        ensures counted { self.new ≡ record self.old { records = self.new.records; table = self.old.table + result } }
+        ensures counted { self.new ≡ record self.old { records = self.new.records; long = self.new.long; table = self.old.table + result } }
     {
         let gone = self.records.cut_table(table, bound);
         self.table += gone;
@@ -206,7 +225,7 @@ impl Bucket {
         ensures seen { (k s : ℕ) (own : Writer) → IsGuarded horizon snapshots.now s → read_at own s (versions_of self.new.records (record_at table k)) ≡ read_at own s (versions_of self.old.records (record_at table k)) }
         ensures others { (q : Rid) → (q.table ≡ table → ⊥) → versions_of self.new.records q ≡ versions_of self.old.records q }
         ensures gone { left self.new.records + result ≡ left self.old.records }
-        ensures counted { self.new ≡ record self.old { records = self.new.records; interval = self.old.interval + result } }
+        ensures counted { self.new ≡ record self.old { records = self.new.records; long = self.new.long; interval = self.old.interval + result } }
         ensures cost { steps.new ≤ steps.old + sweep_steps table snapshots.now self.old.records }
     {
         let gone = self.records.sweep_table(table, horizon, snapshots, steps);

@@ -11,8 +11,9 @@
 //! and a cut puts an image at the place, and takes no memory. A free place has neither chain nor image, and each other place
 //! has one of them. A record that loses its last version is dropped, and its place is free again.
 //!
-//! Only records with a chain can be shortened: an oldest image is always a row. A sweep or a cut of a table goes through the
-//! table's keys, and passes over each record without a chain.
+//! Only records with a chain can be shortened: an oldest image is always a row. Each table has a list of them (`Roster` of
+//! `hg_space`), which a record enters when its chain begins, and leaves when the chain has become empty. A sweep or a cut of
+//! a table goes down that list from its end, so it costs what can be shortened, however many records the table has.
 //!
 //! What was made is what was undone, removed by a cut or a sweep, and is held.
 #![tactic(auto)]

@@ -1,21 +1,24 @@
 //! What stands at a record's place: its chain, and its oldest image.
 
-ghost use Rattle.std.specs.Prelude.{◌≡◌, ◌+◌, ◌<◌, ◌^◌, [], is_some, slice_set, not, IsOk, IsTrue, IfOk, OnOk, OnErr, None, Some, nat_lt, if◌then◌else◌, option_map, option_and_then};
+ghost use Rattle.std.specs.Prelude.{◌≡◌, ◌+◌, ◌<◌, ◌^◌, ◌==◌, List, [], length, is_some, slice_set, not, IsOk, IsTrue, IfOk, OnOk, OnErr, None, Some, nat_lt, if◌then◌else◌, option_map, option_and_then};
 ghost use Rattle.std.specs.Option.{option_copied, option_or};
+ghost use Rattle.std.specs.Bool.{OnTrue, OnFalse};
 ghost use Rattle.hg_chain.specs.Places.{list_at, OthersStay as ListsStay};
 ghost use Rattle.hg_chain.specs.Versions.{image_by, image_at, installed, is_open_by, NoOther};
 ghost use Rattle.hg_space.specs.Places as seat;
 ghost use Rattle.hg_space.specs.Places.{IsTaken};
 ghost use Rattle.hg_space.specs.Index.{place_of, IsIndex};
+ghost use Rattle.hg_space.specs.declared.roster.Listed.{Listed};
+ghost use Rattle.hg_space.specs.Rosters.{list_of, StandsIn, StandsNowhere};
 ghost use Rattle.hg_bucket.specs.Conflicts.{conflict};
 ghost use Rattle.hg_bucket.specs.declared.refusal.WriteRefusal.TheVariants.{Newer};
 ghost use Rattle.hg_bucket.specs.Held.{versions_of, OthersStay, left};
-ghost use Rattle.hg_bucket.specs.Parts.{oldest_by, settled, whole, records_of, AreWhole, AreAlike, IsGiven, MayBeBare};
+ghost use Rattle.hg_bucket.specs.Parts.{oldest_by, settled, whole, records_of, AreWhole, AreListed, AreAlike, ListsAlike, IsGiven, MayBeBare, Enters, Leaves};
 
 use crate::refusal::{WriteRefusal, refusal};
 use hg_base::{Image, NoMemory, Rid, Writer};
 use hg_chain::Chains;
-use hg_space::{RidIndex, TableSpace};
+use hg_space::{RidIndex, Roster, TableSpace};
 
 /// What a transaction reads of a record's chain.
 pub(crate) fn read_chain(chains: &Chains, place: u64, snapshot: u64, own: Writer) -> Option<&Image>
@@ -79,24 +82,51 @@ pub(crate) fn conflict(
     }
 }
 
-/// Writes an image into a record's chain. The answer says whether a version was added.
+/// Writes an image into a record's chain. The answer says whether a version was added. A record whose chain begins enters its
+/// table's list.
 pub(crate) fn add(
     chains: &mut Chains,
+    longs: &mut Roster,
+    rid: Rid,
     place: u64,
     image: Image,
     by: Writer,
 ) -> Result<bool, NoMemory>
     requires place { place < 2 ^ 40 }
     requires own { NoOther by (list_at chains.old place) }
+    requires not_listed { OnTrue (length (list_at chains.old place) == 0) (StandsNowhere longs.old place) }
     ensures here { OnOk result (list_at chains.new place ≡ installed by image (list_at chains.old place)) }
     ensures others { ListsStay place chains.old chains.new }
     ensures added { IfOk result (λ added. added ≡ not (is_open_by by (list_at chains.old place))) }
-    ensures refused { OnErr result (chains.new ≡ chains.old) }
+    ensures entered { OnOk result (OnTrue (length (list_at chains.old place) == 0) (Enters longs.old longs.new rid place)) }
+    ensures listed { OnOk result (OnFalse (length (list_at chains.old place) == 0) (longs.new ≡ longs.old)) }
+    ensures refused { OnErr result (ListsAlike chains.old chains.new) }
+    ensures lists { OnErr result (longs.new ≡ longs.old) }
     ensures replaced { IsTrue (is_open_by by (list_at chains.old place)) → IsOk result }
 {
-    match chains.install(place, by, image) {
-        Ok(added) => Ok(added),
-        Err((_, refused)) => Err(refused),
+    let begins = chains.is_empty(place);
+    let added = match chains.install(place, by, image) {
+        Ok(added) => added,
+        Err((_, refused)) => return Err(refused),
+    };
+    if !begins {
+        return Ok(added);
+    }
+    if let Err(refused) = longs.enter(rid.table, rid.key, place) {
+        chains.undo(place, by);
+        return Err(refused);
+    }
+    Ok(added)
+}
+
+/// A record whose chain has become empty leaves its table's list.
+pub(crate) fn leave_bare(longs: &mut Roster, chains: &Chains, rid: Rid, place: u64)
+    requires { StandsIn (list_of longs.old rid.table.0) place }
+    ensures bare { OnTrue (length (list_at chains.now place) == 0) (Leaves longs.old longs.new rid place) }
+    ensures listed { OnFalse (length (list_at chains.now place) == 0) (longs.new ≡ longs.old) }
+{
+    if chains.is_empty(place) {
+        longs.leave(rid.table, place);
     }
 }
 
@@ -155,6 +185,7 @@ pub(crate) fn drop_bare(
     requires has { place_of index.old rid ≡ Some place }
     requires bare { MayBeBare place index.old chains.now space.old.places }
     ensures whole { AreWhole index.new chains.now space.new.places }
+    ensures lists { (longs : List (List Listed)) → AreListed index.old chains.now longs → AreListed index.new chains.now longs }
     ensures here { versions_of (records_of index.new chains.now space.new.places) rid ≡ versions_of (records_of index.old chains.now space.old.places) rid }
     ensures others { OthersStay (records_of index.old chains.now space.old.places) (records_of index.new chains.now space.new.places) rid }
     ensures left { left (records_of index.new chains.now space.new.places) ≡ left (records_of index.old chains.now space.old.places) }

@@ -1,6 +1,6 @@
 //! Records with their versions.
 
-ghost use Rattle.std.specs.Prelude.{◌≡◌, ℕ, ◌+◌, ◌<◌, ◌≤◌, ◌^◌, length, [], ◌∷◌, not, drop, IsTrue, IfOk, IfErr, OnOk, OnErr, IfSome, if◌then◌else◌};
+ghost use Rattle.std.specs.Prelude.{◌≡◌, ℕ, ◌+◌, ◌<◌, ◌≤◌, ◌^◌, length, [], ◌∷◌, not, drop, take, Some, slice_get, IsTrue, IfOk, IfErr, OnOk, OnErr, IfSome, if◌then◌else◌};
 ghost use Rattle.std.specs.List.{IsDistinct};
 ghost use Rattle.std.specs.Map.{keys_of};
 ghost use Rattle.hg_base.specs.History.{same_rid};
@@ -8,18 +8,18 @@ ghost use Rattle.hg_base.specs.Lists.{Each};
 ghost use Rattle.hg_base.specs.declared.rid.Rid.{Rid};
 ghost use Rattle.std.specs.Bool.{OnTrue, OnFalse};
 ghost use Rattle.std.specs.Option.{option_copied};
-ghost use Rattle.hg_bucket.specs.Parts.{records_of, AreWhole};
+ghost use Rattle.hg_bucket.specs.Parts.{records_of, AreKept, longs_of};
 ghost use Rattle.hg_bucket.specs.Writes.{Writes};
 ghost use Rattle.hg_chain.specs.Sweeps.{Rises};
 ghost use Rattle.hg_bucket.specs.Sweeping.{swept, IsClean, is_long, record_steps, sweep_steps};
-ghost use Rattle.hg_bucket.specs.Long.{IsShort, IsNextLong};
-ghost use Rattle.hg_bucket.specs.Held.{versions_of, begins_open, open_write, installed, stamped, OthersStay, IsBelow, read_at, record_at, cut_at, IsNextKey, left};
+ghost use Rattle.hg_bucket.specs.Long.{IsShort, IsNextLong, AreLong};
+ghost use Rattle.hg_bucket.specs.Held.{keys_in, versions_of, begins_open, open_write, installed, stamped, OthersStay, IsBelow, read_at, record_at, cut_at, IsNextKey, left};
 
-use crate::places::{self, drop_bare};
+use crate::places::{self, drop_bare, leave_bare};
 use crate::refusal::WriteRefusal;
 use hg_base::{Image, NoMemory, Rid, Steps, TableId, Writer};
 use hg_chain::{Chains, Cut};
-use hg_space::{RidIndex, TableSpace};
+use hg_space::{RidIndex, Roster, TableSpace};
 use std::alloc::Global;
 use std::marker::Model;
 use std::sync::ledger::Ledger;
@@ -30,36 +30,34 @@ pub(crate) struct Records {
     index: RidIndex,
     space: TableSpace,
     chains: Chains,
+    longs: Roster,
 }
 
 impl Model for Records {
-    ghost use Rattle.std.specs.Prelude.{List};
-    ghost use Rattle.hg_base.specs.declared.rid.Rid.{Rid};
-    ghost use Rattle.hg_bucket.specs.Held.{Kept};
+    ghost use Rattle.hg_bucket.specs.Parts.{Recorded, records_of, longs_of, AreKept};
 
-    ghost Value = { List (Rid × List Kept) };
+    ghost Value = { Recorded };
 
-    ghost use Rattle.hg_bucket.specs.Parts.{records_of, AreWhole};
+    ghost view = { λ s. record { records = records_of s.index s.chains s.space.places; long = longs_of s.longs } };
 
-    ghost view = { λ s. records_of s.index s.chains s.space.places };
-
-    ghost invariant = { λ s. AreWhole s.index s.chains s.space.places };
+    ghost invariant = { λ s. AreKept s.index s.chains s.space.places s.longs };
 }
 
 impl Records {
     pub fn new(alloc: Global) -> Records
-        ensures { result ≡ [] }
+        ensures { result ≡ record { records = []; long = [] } }
     {
         Records {
             index: RidIndex::new(alloc),
             space: TableSpace::new(alloc),
             chains: Chains::new(alloc),
+            longs: Roster::new(alloc),
         }
     }
 
     /// What a transaction reads of a record.
     pub fn read(&self, rid: Rid, snapshot: u64, own: Writer) -> Option<&Image>
-        ensures { option_copied result ≡ read_at own snapshot (versions_of self.now rid) }
+        ensures { option_copied result ≡ read_at own snapshot (versions_of self.now.records rid) }
     {
         let place = self.index.place(rid)?;
         match places::read_chain(&self.chains, place, snapshot, own) {
@@ -70,15 +68,15 @@ impl Records {
 
     /// The least key of a table at or over a number, of those that have a version.
     pub fn next_key(&self, table: TableId, from: u64) -> Option<u64>
-        ensures next { IsNextKey self.now table from result }
-        ensures there { IfSome result (λ key. 0 < length (versions_of self.now (record_at table key))) }
+        ensures next { IsNextKey self.now.records table from result }
+        ensures there { IfSome result (λ key. 0 < length (versions_of self.now.records (record_at table key))) }
     {
         self.index.next_key(table, from)
     }
 
     /// No record stands twice: for the counts, which tell it.
     pub fn stand_once(&self)
-        ensures { IsDistinct same_rid (keys_of self.now) }
+        ensures { IsDistinct same_rid (keys_of self.now.records) }
     {
         self.index.stands_once();
     }
@@ -92,7 +90,8 @@ impl Records {
         mark: u64,
         by: Writer,
     ) -> Result<bool, WriteRefusal>
-        ensures { Writes by image snapshot mark self.old self.new rid result }
+        ensures writes { Writes by image snapshot mark self.old.records self.new.records rid result }
+        ensures refused { OnErr result (self.new ≡ self.old) }
     {
         let Some(place) = self.index.place(rid) else {
             self.begin(rid, image, by)?;
@@ -102,24 +101,32 @@ impl Records {
         if let Some(refusal) = refusal {
             return Err(refusal);
         }
-        Ok(places::add(&mut self.chains, place, image, by)?)
+        Ok(places::add(&mut self.chains, &mut self.longs, rid, place, image, by)?)
     }
 
     // Begins a record.
     fn begin(&mut self, rid: Rid, image: Image, by: Writer) -> Result<(), NoMemory>
-        requires { versions_of self.old rid ≡ [] }
-        ensures stored { OnOk result (versions_of self.new rid ≡ open_write by image ∷ []) }
-        ensures others { OthersStay self.old self.new rid }
-        ensures left { OnOk result (left self.new ≡ left self.old + 1) }
+        requires { versions_of self.old.records rid ≡ [] }
+        ensures stored { OnOk result (versions_of self.new.records rid ≡ open_write by image ∷ []) }
+        ensures others { OthersStay self.old.records self.new.records rid }
+        ensures left { OnOk result (left self.new.records ≡ left self.old.records + 1) }
         ensures refused { OnErr result (self.new ≡ self.old) }
     {
         self.index.stands_once();
         let place = places::take(&mut self.space)?;
-        if let Err(refused) = places::add(&mut self.chains, place, image, by) {
+        if let Err(refused) = places::add(
+            &mut self.chains,
+            &mut self.longs,
+            rid,
+            place,
+            image,
+            by,
+        ) {
             self.space.give_place(place);
             return Err(refused);
         }
         if let Err(refused) = self.index.insert(rid, place) {
+            self.longs.leave(rid.table, place);
             self.chains.undo(place, by);
             self.space.give_place(place);
             return Err(refused);
@@ -129,25 +136,26 @@ impl Records {
 
     /// Removes the transaction's open write of a record. A record that has no other version is dropped.
     pub fn undo(&mut self, rid: Rid, by: Writer)
-        requires { IsTrue (begins_open by (versions_of self.old rid)) }
-        ensures here { versions_of self.new rid ≡ drop 1 (versions_of self.old rid) }
-        ensures others { OthersStay self.old self.new rid }
-        ensures left { left self.new + 1 ≡ left self.old }
+        requires { IsTrue (begins_open by (versions_of self.old.records rid)) }
+        ensures here { versions_of self.new.records rid ≡ drop 1 (versions_of self.old.records rid) }
+        ensures others { OthersStay self.old.records self.new.records rid }
+        ensures left { left self.new.records + 1 ≡ left self.old.records }
     {
         let Some(place) = self.index.place(rid) else {
             return;
         };
         self.chains.undo(place, by);
+        leave_bare(&mut self.longs, &self.chains, rid, place);
         drop_bare(&mut self.index, &mut self.space, &self.chains, rid, place);
     }
 
     /// Gives the transaction's open write of a record its number.
     pub fn stamp(&mut self, rid: Rid, by: Writer, number: u64)
-        requires open_write { IsTrue (begins_open by (versions_of self.old rid)) }
-        requires over { Each (IsBelow number) (drop 1 (versions_of self.old rid)) }
-        ensures here { versions_of self.new rid ≡ stamped by number (versions_of self.old rid) }
-        ensures others { OthersStay self.old self.new rid }
-        ensures left { left self.new ≡ left self.old }
+        requires open_write { IsTrue (begins_open by (versions_of self.old.records rid)) }
+        requires over { Each (IsBelow number) (drop 1 (versions_of self.old.records rid)) }
+        ensures here { versions_of self.new.records rid ≡ stamped by number (versions_of self.old.records rid) }
+        ensures others { OthersStay self.old.records self.new.records rid }
+        ensures left { left self.new.records ≡ left self.old.records }
     {
         if let Some(place) = self.index.place(rid) {
             self.chains.stamp(place, by, number);
@@ -156,11 +164,12 @@ impl Records {
 
     /// Cuts a record's versions at a bound. The answer says how many went.
     pub fn cut(&mut self, rid: Rid, bound: u64) -> u64
-        requires { left self.old ≤ 2 ^ 40 }
-        ensures here { versions_of self.new rid ≡ cut_at bound (versions_of self.old rid) }
-        ensures others { OthersStay self.old self.new rid }
-        ensures gone { length (versions_of self.new rid) + result ≡ length (versions_of self.old rid) }
-        ensures left { left self.new + result ≡ left self.old }
+        requires { left self.old.records ≤ 2 ^ 40 }
+        ensures here { versions_of self.new.records rid ≡ cut_at bound (versions_of self.old.records rid) }
+        ensures others { OthersStay self.old.records self.new.records rid }
+        ensures gone { length (versions_of self.new.records rid) + result ≡ length (versions_of self.old.records rid) }
+        ensures left { left self.new.records + result ≡ left self.old.records }
+        ensures front { (at : ℕ) → slice_get (keys_in self.old.long rid.table) at ≡ Some rid.key → take at (keys_in self.new.long rid.table) ≡ take at (keys_in self.old.long rid.table) }
     {
         let Some(place) = self.index.place(rid) else {
             return 0;
@@ -170,13 +179,32 @@ impl Records {
             return 0;
         };
         let gone = gone + places::settle(&mut self.space, place, newest);
+        leave_bare(&mut self.longs, &self.chains, rid, place);
         drop_bare(&mut self.index, &mut self.space, &self.chains, rid, place);
         gone
     }
 
+    /// How many records of a table can be shortened.
+    pub fn long_count(&self, table: TableId) -> usize
+        ensures count { result ≡ length (keys_in self.now.long table) }
+        ensures whole { AreLong (keys_in self.now.long table) table self.now.records }
+    {
+        self.index.stands_once();
+        self.longs.stand_once();
+        self.longs.count(table)
+    }
+
+    /// The key of one of them.
+    pub fn long_key(&self, table: TableId, at: usize) -> u64
+        requires { at < length (keys_in self.now.long table) }
+        ensures { slice_get (keys_in self.now.long table) at ≡ Some result }
+    {
+        self.longs.key(table, at)
+    }
+
     /// The least key of a table whose record can be shortened.
     pub fn first_long(&self, table: TableId) -> Option<u64>
-        ensures next { IsNextLong self.now table 0 result }
+        ensures next { IsNextLong self.now.records table 0 result }
         ensures fits { IfSome result (λ key. key < 2 ^ 64) }
     {
         self.long_from(table, self.index.next_key(table, 0))
@@ -184,7 +212,7 @@ impl Records {
 
     /// The least key of a table over another whose record can be shortened.
     pub fn long_after(&self, table: TableId, key: u64) -> Option<u64>
-        ensures next { IsNextLong self.now table (key + 1) result }
+        ensures next { IsNextLong self.now.records table (key + 1) result }
         ensures fits { IfSome result (λ key. key < 2 ^ 64) }
     {
         self.long_from(table, self.index.key_after(table, key))
@@ -192,7 +220,7 @@ impl Records {
 
     // The first key from a key of the index on whose record can be shortened.
     fn long_from(&self, table: TableId, first: Option<u64>) -> Option<u64>
-        ensures next { (from : ℕ) → IsNextKey self.now table from first → IsNextLong self.now table from result }
+        ensures next { (from : ℕ) → IsNextKey self.now.records table from first → IsNextLong self.now.records table from result }
         ensures fits { IfSome result (λ key. key < 2 ^ 64) }
     {
         let mut next = first;
@@ -208,8 +236,8 @@ impl Records {
 
     // Whether a record can be shortened.
     fn is_long(&self, rid: Rid) -> bool
-        ensures long { OnTrue result (IsTrue (is_long (versions_of self.now rid))) }
-        ensures short { OnFalse result (IsShort (versions_of self.now rid)) }
+        ensures long { OnTrue result (IsTrue (is_long (versions_of self.now.records rid))) }
+        ensures short { OnFalse result (IsShort (versions_of self.now.records rid)) }
     {
         match self.index.place(rid) {
             Some(place) => !self.chains.is_empty(place),
@@ -219,16 +247,17 @@ impl Records {
 
     /// Cuts each record of a table at a bound. The answer says how many versions went.
     pub fn cut_table(&mut self, table: TableId, bound: u64) -> u64
-        requires { left self.old ≤ 2 ^ 40 }
-        ensures each { (k : ℕ) → versions_of self.new (record_at table k) ≡ cut_at bound (versions_of self.old (record_at table k)) }
-        ensures others { (q : Rid) → (q.table ≡ table → ⊥) → versions_of self.new q ≡ versions_of self.old q }
-        ensures left { left self.new + result ≡ left self.old }
+        requires { left self.old.records ≤ 2 ^ 40 }
+        ensures each { (k : ℕ) → versions_of self.new.records (record_at table k) ≡ cut_at bound (versions_of self.old.records (record_at table k)) }
+        ensures others { (q : Rid) → (q.table ≡ table → ⊥) → versions_of self.new.records q ≡ versions_of self.old.records q }
+        ensures left { left self.new.records + result ≡ left self.old.records }
     {
         let mut gone = 0;
-        let mut next = self.first_long(table);
-        while let Some(key) = next {
+        let mut left = self.long_count(table);
+        while left > 0 {
+            left -= 1;
+            let key = self.long_key(table, left);
             gone += self.cut(Rid { table, key }, bound);
-            next = self.long_after(table, key);
         }
         gone
     }
@@ -242,13 +271,14 @@ impl Records {
         steps: &mut Steps<L>,
     ) -> u64
         requires rises { Rises snapshots.now }
-        requires few { left self.old ≤ 2 ^ 40 }
-        ensures here { versions_of self.new rid ≡ swept horizon snapshots.now (versions_of self.old rid) }
-        ensures clean { IsClean horizon snapshots.now (versions_of self.new rid) }
-        ensures others { OthersStay self.old self.new rid }
-        ensures gone { length (versions_of self.new rid) + result ≡ length (versions_of self.old rid) }
-        ensures left { left self.new + result ≡ left self.old }
-        ensures cost { steps.new ≤ steps.old + record_steps snapshots.now (versions_of self.old rid) }
+        requires few { left self.old.records ≤ 2 ^ 40 }
+        ensures here { versions_of self.new.records rid ≡ swept horizon snapshots.now (versions_of self.old.records rid) }
+        ensures clean { IsClean horizon snapshots.now (versions_of self.new.records rid) }
+        ensures others { OthersStay self.old.records self.new.records rid }
+        ensures gone { length (versions_of self.new.records rid) + result ≡ length (versions_of self.old.records rid) }
+        ensures left { left self.new.records + result ≡ left self.old.records }
+        ensures listed { self.new.long ≡ self.old.long }
+        ensures cost { steps.new ≤ steps.old + record_steps snapshots.now (versions_of self.old.records rid) }
     {
         let Some(place) = self.index.place(rid) else {
             return 0;
@@ -274,18 +304,19 @@ impl Records {
         steps: &mut Steps<L>,
     ) -> u64
         requires rises { Rises snapshots.now }
-        requires few { left self.old ≤ 2 ^ 40 }
-        ensures each { (k : ℕ) → versions_of self.new (record_at table k) ≡ swept horizon snapshots.now (versions_of self.old (record_at table k)) }
-        ensures clean { (k : ℕ) → IsClean horizon snapshots.now (versions_of self.new (record_at table k)) }
-        ensures others { (q : Rid) → (q.table ≡ table → ⊥) → versions_of self.new q ≡ versions_of self.old q }
-        ensures left { left self.new + result ≡ left self.old }
-        ensures cost { steps.new ≤ steps.old + sweep_steps table snapshots.now self.old }
+        requires few { left self.old.records ≤ 2 ^ 40 }
+        ensures each { (k : ℕ) → versions_of self.new.records (record_at table k) ≡ swept horizon snapshots.now (versions_of self.old.records (record_at table k)) }
+        ensures clean { (k : ℕ) → IsClean horizon snapshots.now (versions_of self.new.records (record_at table k)) }
+        ensures others { (q : Rid) → (q.table ≡ table → ⊥) → versions_of self.new.records q ≡ versions_of self.old.records q }
+        ensures left { left self.new.records + result ≡ left self.old.records }
+        ensures cost { steps.new ≤ steps.old + sweep_steps table snapshots.now self.old.records }
     {
         let mut gone = 0;
-        let mut next = self.first_long(table);
-        while let Some(key) = next {
+        let mut left = self.long_count(table);
+        while left > 0 {
+            left -= 1;
+            let key = self.long_key(table, left);
             gone += self.sweep(Rid { table, key }, horizon, snapshots, steps);
-            next = self.long_after(table, key);
         }
         gone
     }

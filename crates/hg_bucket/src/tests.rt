@@ -428,7 +428,7 @@ fn a_bucket_does_as_a_plain_list(rt: HostRuntime) -> Result<(), Fail> {
     Ok(())
 }
 
-// A record that has only its oldest image is passed over. What is cut or swept one record at a time is counted for its kind.
+// A record that has only its oldest image isn't named. What is cut or swept one record at a time is counted for its kind.
 #[test]
 fn long_records_are_named(rt: HostRuntime) -> Result<(), Fail> {
     let mut run = Run {
@@ -438,23 +438,38 @@ fn long_records_are_named(rt: HostRuntime) -> Result<(), Fail> {
     for (table, key) in [(1, 5), (1, 5), (1, 9), (2, 4), (1, 9)] {
         run = commit(run, rid(table, key), image(rt.alloc(), Some(10))?)?;
     }
-    assert_eq!(rt; run.bucket.first_long(TableId(1)), Some(5));
-    assert_eq!(rt; run.bucket.long_after(TableId(1), 5), Some(9));
-    assert_eq!(rt; run.bucket.long_after(TableId(1), 9), None);
+    assert!(rt; are_named(&run, 1, &[5, 9]));
     let mut gone;
     (run, gone) = cut_for_table(run, rid(1, 5), 2);
     assert_eq!(rt; gone, 1);
-    assert_eq!(rt; run.bucket.first_long(TableId(1)), Some(9));
+    assert!(rt; are_named(&run, 1, &[9]));
     (run, gone) = sweep_one(run, rid(1, 9), 5, &[4]);
     assert_eq!(rt; gone, 0);
     (run, gone) = sweep_one(run, rid(1, 9), 5, &[2, 5]);
     assert_eq!(rt; gone, 1);
-    assert_eq!(rt; run.bucket.first_long(TableId(2)), Some(4));
-    assert_eq!(rt; run.bucket.first_long(TableId(3)), None);
+    assert!(rt; are_named(&run, 1, &[9]));
+    assert!(rt; are_named(&run, 2, &[4]));
+    assert!(rt; are_named(&run, 3, &[]));
+    run = commit(run, rid(1, 5), image(rt.alloc(), Some(11))?)?;
+    assert!(rt; are_named(&run, 1, &[9, 5]));
     let counts = run.bucket.counts();
     assert_eq!(rt;
         (counts.group, counts.table, counts.interval, counts.left),
-        (0, 1, 1, 3)
+        (0, 1, 1, 4)
     );
     Ok(())
+}
+
+// Whether these are the keys of a table's records that can be shortened, in their order.
+fn are_named(run: &Run, table: u8, keys: &[u64]) -> bool {
+    let many = run.bucket.long_count(TableId(table));
+    if many != keys.len() {
+        return false;
+    }
+    for at in 0..many {
+        if run.bucket.long_key(TableId(table), at) != keys[at] {
+            return false;
+        }
+    }
+    true
 }

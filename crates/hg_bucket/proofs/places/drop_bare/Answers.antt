@@ -1,4 +1,4 @@
-use Rattle.std.proofs.Common.{sym, ap, ◌∙◌}
+use Rattle.std.proofs.Common.{length, sym, ap, ◌∙◌}
 use Rattle.std.specs.Prelude.{is_some}
 use Rattle.hg_chain.specs.Places.{list_at}
 use Rattle.hg_space.specs.Places.{image_at, free}
@@ -7,6 +7,7 @@ use Rattle.hg_bucket.proofs.Seating.{freed_here, seat_apart}
 use Rattle.hg_bucket.proofs.Turning.{filled}
 use Rattle.hg_bucket.proofs.Bare.{with_image, no_chain, some_chain, long_chain, no_image, mapped_some}
 use Rattle.hg_bucket.proofs.Dropping.{gone_whole, gone_here, gone_others, gone_left}
+use Rattle.hg_bucket.proofs.Listing.{unnamed_lists}
 use Rattle.hg_bucket.proofs.places.drop_bare.Goals as goal
 
 pub returns-then-not-is_empty-clause-whole : goal.returns-then-not-is_empty-clause-whole
@@ -88,3 +89,15 @@ returns-clause-left c =
       chain = no_chain (list_at c.args.chains.now p) (sym c.is_empty.ensures ∙ c.if-not-is_empty.false);
       image = no_image (image_at places p) (ap is_some (sym c.image.ensures) ∙ mapped_some (λ p. (p.0, p.1.now)) c.image.result ∙ sym c.is_some.ensures ∙ c.if-is_some.false);
     })
+
+pub returns-then-not-is_empty-clause-lists : goal.returns-then-not-is_empty-clause-lists
+returns-then-not-is_empty-clause-lists c = λ ls h. h
+
+pub returns-then-is_some-clause-lists : goal.returns-then-is_some-clause-lists
+returns-then-is_some-clause-lists c = λ ls h. h
+
+pub returns-clause-lists : goal.returns-clause-lists
+returns-clause-lists c =
+    λ ls h.
+    let none = ap (λ vs. length vs) (no_chain (list_at c.args.chains.now c.args.place) (sym c.is_empty.ensures ∙ c.if-not-is_empty.false)) in
+    unnamed_lists c.args.index.now c.remove.new.self c.args.chains.now ls c.args.rid c.args.place h c.requires.has none c.remove.ensures.gone c.remove.ensures.others

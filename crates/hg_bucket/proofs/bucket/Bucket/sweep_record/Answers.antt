@@ -6,7 +6,7 @@ use Rattle.hg_bucket.proofs.bucket.Bucket.sweep_record.Goals as goal
 pub returns-clause-seen : goal.returns-clause-seen
 returns-clause-seen g c =
     λ s own protected.
-    let vs = versions_of c.self.inside.records c.args.rid in
+    let vs = versions_of c.self.inside.records.records c.args.rid in
     ap (read_at own s) c.sweep-swept.ensures.here
     ∙ read_same own c.args.horizon s c.args.snapshots.now vs protected
     ∙ ap (λ h. read_at own s (versions_of h.records c.args.rid)) c.self.view_is

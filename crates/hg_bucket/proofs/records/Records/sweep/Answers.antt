@@ -1,4 +1,4 @@
-use Rattle.std.proofs.Common.{◌≡◌, ℕ, ◌+◌, ◌≤◌, length, sym, ap, ◌∙◌, subst, Option, arith}
+use Rattle.std.proofs.Common.{◌<◌, ◌≡◌, ℕ, ◌+◌, ◌≤◌, length, sym, ap, ◌∙◌, subst, Option, arith}
 use Rattle.std.specs.Prelude.{◌^◌, option_to_list}
 use Rattle.std.specs.Bool.{OnFalse}
 use Rattle.hg_chain.specs.Places.{list_at}
@@ -14,18 +14,20 @@ use Rattle.hg_bucket.proofs.Settling.{bare_short}
 use Rattle.hg_bucket.proofs.Bare.{no_chain, some_chain}
 use Rattle.hg_bucket.proofs.Sweeping.{says, keeps, drops}
 use Rattle.hg_bucket.proofs.Costing.{cost_of, record_paid}
+use Rattle.hg_bucket.specs.Parts.{Recorded}
+use Rattle.hg_bucket.proofs.Listing.{chain_stays, swept_some}
 use Rattle.hg_bucket.proofs.records.Records.sweep.Goals as goal
 
 pub returns-in_default-clause-here : goal.returns-in_default-clause-here
 returns-in_default-clause-here g c =
     let b = c.self.inside in
-    let empty = ap (λ h. versions_of h c.args.rid) (sym c.self.view_is) ∙ no_versions b.index b.chains b.space.places c.args.rid (sym c.place.ensures.place ∙ c.in_default.is) in
+    let empty = ap (λ h. versions_of h c.args.rid) (sym (ap (λ (h : Recorded). h.records) c.self.view_is)) ∙ no_versions b.index b.chains b.space.places c.args.rid (sym c.place.ensures.place ∙ c.in_default.is) in
     empty ∙ ap (swept c.args.horizon c.args.snapshots.now) (sym empty)
 
 pub returns-in_default-clause-clean : goal.returns-in_default-clause-clean
 returns-in_default-clause-clean g c =
     let b = c.self.inside in
-    let empty = ap (λ h. versions_of h c.args.rid) (sym c.self.view_is) ∙ no_versions b.index b.chains b.space.places c.args.rid (sym c.place.ensures.place ∙ c.in_default.is) in
+    let empty = ap (λ h. versions_of h c.args.rid) (sym (ap (λ (h : Recorded). h.records) c.self.view_is)) ∙ no_versions b.index b.chains b.space.places c.args.rid (sym c.place.ensures.place ∙ c.in_default.is) in
     subst (IsClean c.args.horizon c.args.snapshots.now) (sym empty) tt
 
 pub returns-then-is_empty-clause-here : goal.returns-then-is_empty-clause-here
@@ -33,16 +35,16 @@ returns-then-is_empty-clause-here g c =
     let b = c.self.inside in
     let p = c.in-Some.place in
     let has = sym c.place.ensures.place ∙ c.in-Some.is in
-    let short = bare_short b.index b.chains b.space.places c.args.rid p c.self.invariant has (no_chain (list_at b.chains p) (sym c.is_empty.ensures ∙ c.if-is_empty.true)) in
-    subst (λ h. versions_of h c.args.rid ≡ swept c.args.horizon c.args.snapshots.now (versions_of h c.args.rid)) c.self.view_is (sym (short.swept c.args.horizon c.args.snapshots.now))
+    let short = bare_short b.index b.chains b.space.places c.args.rid p c.self.invariant.whole has (no_chain (list_at b.chains p) (sym c.is_empty.ensures ∙ c.if-is_empty.true)) in
+    subst (λ h. versions_of h c.args.rid ≡ swept c.args.horizon c.args.snapshots.now (versions_of h c.args.rid)) (ap (λ (h : Recorded). h.records) c.self.view_is) (sym (short.swept c.args.horizon c.args.snapshots.now))
 
 pub returns-then-is_empty-clause-clean : goal.returns-then-is_empty-clause-clean
 returns-then-is_empty-clause-clean g c =
     let b = c.self.inside in
     let p = c.in-Some.place in
     let has = sym c.place.ensures.place ∙ c.in-Some.is in
-    let short = bare_short b.index b.chains b.space.places c.args.rid p c.self.invariant has (no_chain (list_at b.chains p) (sym c.is_empty.ensures ∙ c.if-is_empty.true)) in
-    subst (λ h. IsClean c.args.horizon c.args.snapshots.now (versions_of h c.args.rid)) c.self.view_is (short.clean c.args.horizon c.args.snapshots.now)
+    let short = bare_short b.index b.chains b.space.places c.args.rid p c.self.invariant.whole has (no_chain (list_at b.chains p) (sym c.is_empty.ensures ∙ c.if-is_empty.true)) in
+    subst (λ h. IsClean c.args.horizon c.args.snapshots.now (versions_of h c.args.rid)) (ap (λ (h : Recorded). h.records) c.self.view_is) (short.clean c.args.horizon c.args.snapshots.now)
 
 pub invariant_of-self : goal.invariant_of-self
 invariant_of-self g c =
@@ -57,8 +59,12 @@ invariant_of-self g c =
     let has = sym c.place.ensures.place ∙ c.in-Some.is in
     let base_gone = c.sweep-swept.result.base_gone in
     let told = says c.args.horizon xs (list_at cs p) (image_at places p) c.number-base.result base_gone c.sweep-swept.result.gone c.number-base.ensures c.sweep-swept.ensures.base_gone c.sweep-swept.ensures.gone (subst (chain.IsClean c.args.horizon xs) c.sweep-swept.ensures.left c.sweep-swept.ensures.clean) (subst (λ us. OnFalse base_gone (MayStay c.args.horizon xs (last_number us) c.number-base.result)) c.sweep-swept.ensures.left c.sweep-swept.ensures.base_clean) in
-    let done = keeps c.args.horizon xs b.index cs ds places r p base_gone c.sweep-swept.result.gone index c.self.invariant has c.sweep-swept.ensures.left c.sweep-swept.ensures.others told c.if-not-swept.true in
-    done.whole
+    let done = keeps c.args.horizon xs b.index cs ds places r p base_gone c.sweep-swept.result.gone index c.self.invariant.whole has c.sweep-swept.ensures.left c.sweep-swept.ensures.others told c.if-not-swept.true in
+    let some = some_chain (list_at cs p) (sym c.is_empty.ensures ∙ c.if-is_empty.false) in
+    record {
+      whole = done.whole;
+      listed = chain_stays b.index cs ds b.longs p c.self.invariant.listed c.sweep-swept.ensures.others some (subst (λ vs. 0 < length vs) (sym c.sweep-swept.ensures.left) (swept_some c.args.horizon xs (list_at cs p) some));
+    }
 
 pub returns-then-not-swept-clause-here : goal.returns-then-not-swept-clause-here
 returns-then-not-swept-clause-here g c =
@@ -73,8 +79,8 @@ returns-then-not-swept-clause-here g c =
     let has = sym c.place.ensures.place ∙ c.in-Some.is in
     let base_gone = c.sweep-swept.result.base_gone in
     let told = says c.args.horizon xs (list_at cs p) (image_at places p) c.number-base.result base_gone c.sweep-swept.result.gone c.number-base.ensures c.sweep-swept.ensures.base_gone c.sweep-swept.ensures.gone (subst (chain.IsClean c.args.horizon xs) c.sweep-swept.ensures.left c.sweep-swept.ensures.clean) (subst (λ us. OnFalse base_gone (MayStay c.args.horizon xs (last_number us) c.number-base.result)) c.sweep-swept.ensures.left c.sweep-swept.ensures.base_clean) in
-    let done = keeps c.args.horizon xs b.index cs ds places r p base_gone c.sweep-swept.result.gone index c.self.invariant has c.sweep-swept.ensures.left c.sweep-swept.ensures.others told c.if-not-swept.true in
-    done.here ∙ ap (λ h. swept c.args.horizon xs (versions_of h r)) c.self.view_is
+    let done = keeps c.args.horizon xs b.index cs ds places r p base_gone c.sweep-swept.result.gone index c.self.invariant.whole has c.sweep-swept.ensures.left c.sweep-swept.ensures.others told c.if-not-swept.true in
+    done.here ∙ ap (λ h. swept c.args.horizon xs (versions_of h r)) (ap (λ (h : Recorded). h.records) c.self.view_is)
 
 pub returns-then-not-swept-clause-clean : goal.returns-then-not-swept-clause-clean
 returns-then-not-swept-clause-clean g c =
@@ -89,7 +95,7 @@ returns-then-not-swept-clause-clean g c =
     let has = sym c.place.ensures.place ∙ c.in-Some.is in
     let base_gone = c.sweep-swept.result.base_gone in
     let told = says c.args.horizon xs (list_at cs p) (image_at places p) c.number-base.result base_gone c.sweep-swept.result.gone c.number-base.ensures c.sweep-swept.ensures.base_gone c.sweep-swept.ensures.gone (subst (chain.IsClean c.args.horizon xs) c.sweep-swept.ensures.left c.sweep-swept.ensures.clean) (subst (λ us. OnFalse base_gone (MayStay c.args.horizon xs (last_number us) c.number-base.result)) c.sweep-swept.ensures.left c.sweep-swept.ensures.base_clean) in
-    let done = keeps c.args.horizon xs b.index cs ds places r p base_gone c.sweep-swept.result.gone index c.self.invariant has c.sweep-swept.ensures.left c.sweep-swept.ensures.others told c.if-not-swept.true in
+    let done = keeps c.args.horizon xs b.index cs ds places r p base_gone c.sweep-swept.result.gone index c.self.invariant.whole has c.sweep-swept.ensures.left c.sweep-swept.ensures.others told c.if-not-swept.true in
     done.clean
 
 pub returns-then-not-swept-clause-others : goal.returns-then-not-swept-clause-others
@@ -105,8 +111,8 @@ returns-then-not-swept-clause-others g c =
     let has = sym c.place.ensures.place ∙ c.in-Some.is in
     let base_gone = c.sweep-swept.result.base_gone in
     let told = says c.args.horizon xs (list_at cs p) (image_at places p) c.number-base.result base_gone c.sweep-swept.result.gone c.number-base.ensures c.sweep-swept.ensures.base_gone c.sweep-swept.ensures.gone (subst (chain.IsClean c.args.horizon xs) c.sweep-swept.ensures.left c.sweep-swept.ensures.clean) (subst (λ us. OnFalse base_gone (MayStay c.args.horizon xs (last_number us) c.number-base.result)) c.sweep-swept.ensures.left c.sweep-swept.ensures.base_clean) in
-    let done = keeps c.args.horizon xs b.index cs ds places r p base_gone c.sweep-swept.result.gone index c.self.invariant has c.sweep-swept.ensures.left c.sweep-swept.ensures.others told c.if-not-swept.true in
-    subst (λ h. OthersStay h (records_of b.index ds places) r) c.self.view_is done.others
+    let done = keeps c.args.horizon xs b.index cs ds places r p base_gone c.sweep-swept.result.gone index c.self.invariant.whole has c.sweep-swept.ensures.left c.sweep-swept.ensures.others told c.if-not-swept.true in
+    subst (λ h. OthersStay h (records_of b.index ds places) r) (ap (λ (h : Recorded). h.records) c.self.view_is) done.others
 
 pub returns-then-not-swept-clause-gone : goal.returns-then-not-swept-clause-gone
 returns-then-not-swept-clause-gone g c =
@@ -121,8 +127,8 @@ returns-then-not-swept-clause-gone g c =
     let has = sym c.place.ensures.place ∙ c.in-Some.is in
     let base_gone = c.sweep-swept.result.base_gone in
     let told = says c.args.horizon xs (list_at cs p) (image_at places p) c.number-base.result base_gone c.sweep-swept.result.gone c.number-base.ensures c.sweep-swept.ensures.base_gone c.sweep-swept.ensures.gone (subst (chain.IsClean c.args.horizon xs) c.sweep-swept.ensures.left c.sweep-swept.ensures.clean) (subst (λ us. OnFalse base_gone (MayStay c.args.horizon xs (last_number us) c.number-base.result)) c.sweep-swept.ensures.left c.sweep-swept.ensures.base_clean) in
-    let done = keeps c.args.horizon xs b.index cs ds places r p base_gone c.sweep-swept.result.gone index c.self.invariant has c.sweep-swept.ensures.left c.sweep-swept.ensures.others told c.if-not-swept.true in
-    done.lost ∙ ap (λ h. length (versions_of h r)) c.self.view_is
+    let done = keeps c.args.horizon xs b.index cs ds places r p base_gone c.sweep-swept.result.gone index c.self.invariant.whole has c.sweep-swept.ensures.left c.sweep-swept.ensures.others told c.if-not-swept.true in
+    done.lost ∙ ap (λ h. length (versions_of h r)) (ap (λ (h : Recorded). h.records) c.self.view_is)
 
 pub returns-then-not-swept-clause-left : goal.returns-then-not-swept-clause-left
 returns-then-not-swept-clause-left g c =
@@ -137,8 +143,8 @@ returns-then-not-swept-clause-left g c =
     let has = sym c.place.ensures.place ∙ c.in-Some.is in
     let base_gone = c.sweep-swept.result.base_gone in
     let told = says c.args.horizon xs (list_at cs p) (image_at places p) c.number-base.result base_gone c.sweep-swept.result.gone c.number-base.ensures c.sweep-swept.ensures.base_gone c.sweep-swept.ensures.gone (subst (chain.IsClean c.args.horizon xs) c.sweep-swept.ensures.left c.sweep-swept.ensures.clean) (subst (λ us. OnFalse base_gone (MayStay c.args.horizon xs (last_number us) c.number-base.result)) c.sweep-swept.ensures.left c.sweep-swept.ensures.base_clean) in
-    let done = keeps c.args.horizon xs b.index cs ds places r p base_gone c.sweep-swept.result.gone index c.self.invariant has c.sweep-swept.ensures.left c.sweep-swept.ensures.others told c.if-not-swept.true in
-    done.left ∙ ap left c.self.view_is
+    let done = keeps c.args.horizon xs b.index cs ds places r p base_gone c.sweep-swept.result.gone index c.self.invariant.whole has c.sweep-swept.ensures.left c.sweep-swept.ensures.others told c.if-not-swept.true in
+    done.left ∙ ap left (ap (λ (h : Recorded). h.records) c.self.view_is)
 
 pub overflow_add-result : goal.overflow_add-result
 overflow_add-result g c =
@@ -153,8 +159,8 @@ overflow_add-result g c =
     let has = sym c.place.ensures.place ∙ c.in-Some.is in
     let base_gone = c.sweep-swept.result.base_gone in
     let told = says c.args.horizon xs (list_at cs p) (image_at places p) c.number-base.result base_gone c.sweep-swept.result.gone c.number-base.ensures c.sweep-swept.ensures.base_gone c.sweep-swept.ensures.gone (subst (chain.IsClean c.args.horizon xs) c.sweep-swept.ensures.left c.sweep-swept.ensures.clean) (subst (λ us. OnFalse base_gone (MayStay c.args.horizon xs (last_number us) c.number-base.result)) c.sweep-swept.ensures.left c.sweep-swept.ensures.base_clean) in
-    let done = drops c.args.horizon xs b.index cs ds places c.set_image.new.self.places r p base_gone c.sweep-swept.result.gone index c.self.invariant has c.sweep-swept.ensures.left c.sweep-swept.ensures.others told c.if-not-swept.false c.set_image.ensures.set in
-    let few = subst (λ h. left h ≤ 2 ^ 40) (sym c.self.view_is) c.requires.few in
+    let done = drops c.args.horizon xs b.index cs ds places c.set_image.new.self.places r p base_gone c.sweep-swept.result.gone index c.self.invariant.whole has c.sweep-swept.ensures.left c.sweep-swept.ensures.others told c.if-not-swept.false c.set_image.ensures.set in
+    let few = subst (λ h. left h ≤ 2 ^ 40) (sym (ap (λ (h : Recorded). h.records) c.self.view_is)) c.requires.few in
     omega (arith, few, done.few)
 
 pub invariant_of-self-2 : goal.invariant_of-self-2
@@ -170,8 +176,12 @@ invariant_of-self-2 g c =
     let has = sym c.place.ensures.place ∙ c.in-Some.is in
     let base_gone = c.sweep-swept.result.base_gone in
     let told = says c.args.horizon xs (list_at cs p) (image_at places p) c.number-base.result base_gone c.sweep-swept.result.gone c.number-base.ensures c.sweep-swept.ensures.base_gone c.sweep-swept.ensures.gone (subst (chain.IsClean c.args.horizon xs) c.sweep-swept.ensures.left c.sweep-swept.ensures.clean) (subst (λ us. OnFalse base_gone (MayStay c.args.horizon xs (last_number us) c.number-base.result)) c.sweep-swept.ensures.left c.sweep-swept.ensures.base_clean) in
-    let done = drops c.args.horizon xs b.index cs ds places c.set_image.new.self.places r p base_gone c.sweep-swept.result.gone index c.self.invariant has c.sweep-swept.ensures.left c.sweep-swept.ensures.others told c.if-not-swept.false c.set_image.ensures.set in
-    done.whole
+    let done = drops c.args.horizon xs b.index cs ds places c.set_image.new.self.places r p base_gone c.sweep-swept.result.gone index c.self.invariant.whole has c.sweep-swept.ensures.left c.sweep-swept.ensures.others told c.if-not-swept.false c.set_image.ensures.set in
+    let some = some_chain (list_at cs p) (sym c.is_empty.ensures ∙ c.if-is_empty.false) in
+    record {
+      whole = done.whole;
+      listed = chain_stays b.index cs ds b.longs p c.self.invariant.listed c.sweep-swept.ensures.others some (subst (λ vs. 0 < length vs) (sym c.sweep-swept.ensures.left) (swept_some c.args.horizon xs (list_at cs p) some));
+    }
 
 pub returns-clause-here : goal.returns-clause-here
 returns-clause-here g c =
@@ -186,8 +196,8 @@ returns-clause-here g c =
     let has = sym c.place.ensures.place ∙ c.in-Some.is in
     let base_gone = c.sweep-swept.result.base_gone in
     let told = says c.args.horizon xs (list_at cs p) (image_at places p) c.number-base.result base_gone c.sweep-swept.result.gone c.number-base.ensures c.sweep-swept.ensures.base_gone c.sweep-swept.ensures.gone (subst (chain.IsClean c.args.horizon xs) c.sweep-swept.ensures.left c.sweep-swept.ensures.clean) (subst (λ us. OnFalse base_gone (MayStay c.args.horizon xs (last_number us) c.number-base.result)) c.sweep-swept.ensures.left c.sweep-swept.ensures.base_clean) in
-    let done = drops c.args.horizon xs b.index cs ds places c.set_image.new.self.places r p base_gone c.sweep-swept.result.gone index c.self.invariant has c.sweep-swept.ensures.left c.sweep-swept.ensures.others told c.if-not-swept.false c.set_image.ensures.set in
-    done.here ∙ ap (λ h. swept c.args.horizon xs (versions_of h r)) c.self.view_is
+    let done = drops c.args.horizon xs b.index cs ds places c.set_image.new.self.places r p base_gone c.sweep-swept.result.gone index c.self.invariant.whole has c.sweep-swept.ensures.left c.sweep-swept.ensures.others told c.if-not-swept.false c.set_image.ensures.set in
+    done.here ∙ ap (λ h. swept c.args.horizon xs (versions_of h r)) (ap (λ (h : Recorded). h.records) c.self.view_is)
 
 pub returns-clause-clean : goal.returns-clause-clean
 returns-clause-clean g c =
@@ -202,7 +212,7 @@ returns-clause-clean g c =
     let has = sym c.place.ensures.place ∙ c.in-Some.is in
     let base_gone = c.sweep-swept.result.base_gone in
     let told = says c.args.horizon xs (list_at cs p) (image_at places p) c.number-base.result base_gone c.sweep-swept.result.gone c.number-base.ensures c.sweep-swept.ensures.base_gone c.sweep-swept.ensures.gone (subst (chain.IsClean c.args.horizon xs) c.sweep-swept.ensures.left c.sweep-swept.ensures.clean) (subst (λ us. OnFalse base_gone (MayStay c.args.horizon xs (last_number us) c.number-base.result)) c.sweep-swept.ensures.left c.sweep-swept.ensures.base_clean) in
-    let done = drops c.args.horizon xs b.index cs ds places c.set_image.new.self.places r p base_gone c.sweep-swept.result.gone index c.self.invariant has c.sweep-swept.ensures.left c.sweep-swept.ensures.others told c.if-not-swept.false c.set_image.ensures.set in
+    let done = drops c.args.horizon xs b.index cs ds places c.set_image.new.self.places r p base_gone c.sweep-swept.result.gone index c.self.invariant.whole has c.sweep-swept.ensures.left c.sweep-swept.ensures.others told c.if-not-swept.false c.set_image.ensures.set in
     done.clean
 
 pub returns-clause-others : goal.returns-clause-others
@@ -218,8 +228,8 @@ returns-clause-others g c =
     let has = sym c.place.ensures.place ∙ c.in-Some.is in
     let base_gone = c.sweep-swept.result.base_gone in
     let told = says c.args.horizon xs (list_at cs p) (image_at places p) c.number-base.result base_gone c.sweep-swept.result.gone c.number-base.ensures c.sweep-swept.ensures.base_gone c.sweep-swept.ensures.gone (subst (chain.IsClean c.args.horizon xs) c.sweep-swept.ensures.left c.sweep-swept.ensures.clean) (subst (λ us. OnFalse base_gone (MayStay c.args.horizon xs (last_number us) c.number-base.result)) c.sweep-swept.ensures.left c.sweep-swept.ensures.base_clean) in
-    let done = drops c.args.horizon xs b.index cs ds places c.set_image.new.self.places r p base_gone c.sweep-swept.result.gone index c.self.invariant has c.sweep-swept.ensures.left c.sweep-swept.ensures.others told c.if-not-swept.false c.set_image.ensures.set in
-    subst (λ h. OthersStay h (records_of b.index ds c.set_image.new.self.places) r) c.self.view_is done.others
+    let done = drops c.args.horizon xs b.index cs ds places c.set_image.new.self.places r p base_gone c.sweep-swept.result.gone index c.self.invariant.whole has c.sweep-swept.ensures.left c.sweep-swept.ensures.others told c.if-not-swept.false c.set_image.ensures.set in
+    subst (λ h. OthersStay h (records_of b.index ds c.set_image.new.self.places) r) (ap (λ (h : Recorded). h.records) c.self.view_is) done.others
 
 pub returns-clause-gone : goal.returns-clause-gone
 returns-clause-gone g c =
@@ -234,8 +244,8 @@ returns-clause-gone g c =
     let has = sym c.place.ensures.place ∙ c.in-Some.is in
     let base_gone = c.sweep-swept.result.base_gone in
     let told = says c.args.horizon xs (list_at cs p) (image_at places p) c.number-base.result base_gone c.sweep-swept.result.gone c.number-base.ensures c.sweep-swept.ensures.base_gone c.sweep-swept.ensures.gone (subst (chain.IsClean c.args.horizon xs) c.sweep-swept.ensures.left c.sweep-swept.ensures.clean) (subst (λ us. OnFalse base_gone (MayStay c.args.horizon xs (last_number us) c.number-base.result)) c.sweep-swept.ensures.left c.sweep-swept.ensures.base_clean) in
-    let done = drops c.args.horizon xs b.index cs ds places c.set_image.new.self.places r p base_gone c.sweep-swept.result.gone index c.self.invariant has c.sweep-swept.ensures.left c.sweep-swept.ensures.others told c.if-not-swept.false c.set_image.ensures.set in
-    done.lost ∙ ap (λ h. length (versions_of h r)) c.self.view_is
+    let done = drops c.args.horizon xs b.index cs ds places c.set_image.new.self.places r p base_gone c.sweep-swept.result.gone index c.self.invariant.whole has c.sweep-swept.ensures.left c.sweep-swept.ensures.others told c.if-not-swept.false c.set_image.ensures.set in
+    done.lost ∙ ap (λ h. length (versions_of h r)) (ap (λ (h : Recorded). h.records) c.self.view_is)
 
 pub returns-clause-left : goal.returns-clause-left
 returns-clause-left g c =
@@ -250,8 +260,8 @@ returns-clause-left g c =
     let has = sym c.place.ensures.place ∙ c.in-Some.is in
     let base_gone = c.sweep-swept.result.base_gone in
     let told = says c.args.horizon xs (list_at cs p) (image_at places p) c.number-base.result base_gone c.sweep-swept.result.gone c.number-base.ensures c.sweep-swept.ensures.base_gone c.sweep-swept.ensures.gone (subst (chain.IsClean c.args.horizon xs) c.sweep-swept.ensures.left c.sweep-swept.ensures.clean) (subst (λ us. OnFalse base_gone (MayStay c.args.horizon xs (last_number us) c.number-base.result)) c.sweep-swept.ensures.left c.sweep-swept.ensures.base_clean) in
-    let done = drops c.args.horizon xs b.index cs ds places c.set_image.new.self.places r p base_gone c.sweep-swept.result.gone index c.self.invariant has c.sweep-swept.ensures.left c.sweep-swept.ensures.others told c.if-not-swept.false c.set_image.ensures.set in
-    done.left ∙ ap left c.self.view_is
+    let done = drops c.args.horizon xs b.index cs ds places c.set_image.new.self.places r p base_gone c.sweep-swept.result.gone index c.self.invariant.whole has c.sweep-swept.ensures.left c.sweep-swept.ensures.others told c.if-not-swept.false c.set_image.ensures.set in
+    done.left ∙ ap left (ap (λ (h : Recorded). h.records) c.self.view_is)
 
 pub returns-then-not-swept-clause-cost : goal.returns-then-not-swept-clause-cost
 returns-then-not-swept-clause-cost g c =
@@ -262,7 +272,7 @@ returns-then-not-swept-clause-cost g c =
     let places = b.space.places in
     let p = c.in-Some.place in
     let has = sym c.place.ensures.place ∙ c.in-Some.is in
-    let there = sym (versions_there b.index cs places r p has) ∙ ap (λ h. versions_of h r) c.self.view_is in
+    let there = sym (versions_there b.index cs places r p has) ∙ ap (λ h. versions_of h r) (ap (λ (h : Recorded). h.records) c.self.view_is) in
     let some = subst (λ (base : Option ℕ). c.sweep-swept.new.steps ≤ c.args.steps.now + length (list_at cs p) + length (option_to_list base) + n) c.number-base.ensures c.sweep-swept.ensures.cost in
     subst (λ vs. c.sweep-swept.new.steps ≤ c.args.steps.now + cost_of n vs) there (record_paid n c.args.steps.now c.sweep-swept.new.steps (list_at cs p) (image_at places p) (some_chain (list_at cs p) (sym c.is_empty.ensures ∙ c.if-is_empty.false)) some)
 
@@ -275,6 +285,6 @@ returns-clause-cost g c =
     let places = b.space.places in
     let p = c.in-Some.place in
     let has = sym c.place.ensures.place ∙ c.in-Some.is in
-    let there = sym (versions_there b.index cs places r p has) ∙ ap (λ h. versions_of h r) c.self.view_is in
+    let there = sym (versions_there b.index cs places r p has) ∙ ap (λ h. versions_of h r) (ap (λ (h : Recorded). h.records) c.self.view_is) in
     let some = subst (λ (base : Option ℕ). c.sweep-swept.new.steps ≤ c.args.steps.now + length (list_at cs p) + length (option_to_list base) + n) c.number-base.ensures c.sweep-swept.ensures.cost in
     subst (λ vs. c.sweep-swept.new.steps ≤ c.args.steps.now + cost_of n vs) there (record_paid n c.args.steps.now c.sweep-swept.new.steps (list_at cs p) (image_at places p) (some_chain (list_at cs p) (sym c.is_empty.ensures ∙ c.if-is_empty.false)) some)

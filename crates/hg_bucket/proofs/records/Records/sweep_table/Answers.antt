@@ -1,30 +1,87 @@
-use Rattle.std.proofs.Common.{◌+◌, ◌≤◌, length, subst, arith}
-use Rattle.hg_bucket.specs.Sweeping.{sweep_steps}
-use Rattle.hg_bucket.proofs.Walking.{Walks, Swept, swept_keeps, begins, goes}
-use Rattle.hg_bucket.proofs.Costing.{cost_of, to_pay, one_paid, next_paid, first_paid}
+use Rattle.std.proofs.Common.{◌≡◌, ◌-◌, ◌+◌, ◌<◌, ◌≤◌, length, take, slice_get, refl, sym, ap, ◌∙◌, subst, arith}
+use Rattle.std.proofs.lemmas.List.{take_all}
+use Rattle.hg_bucket.specs.Held.{keys_in}
+use Rattle.hg_bucket.proofs.Walking.{Swept, swept_keeps}
+use Rattle.hg_bucket.proofs.Rounds.{Rounds, round_begins, round_goes, round_ends}
+use Rattle.hg_bucket.proofs.Costing.{cost_of}
+use Rattle.hg_bucket.proofs.Paying.{keys_cost, all_keys_paid, key_paid}
 use Rattle.hg_bucket.proofs.records.Records.sweep_table.Goals as goal
 
-pub loop-next-init : goal.loop-next-init
-loop-next-init g c =
+pub loop-left-init : goal.loop-left-init
+loop-left-init g c =
     let xs = c.args.snapshots.now in
-    let paid = first_paid c.args.table xs c.args.self.now c.first_long-next.result in (
-      begins (Swept c.args.horizon xs) c.args.table c.args.self.now c.first_long-next.result (swept_keeps c.args.horizon xs) c.first_long-next.ensures.next c.first_long-next.ensures.fits,
-      omega (arith, paid),
+    let t = c.args.table in
+    let old = c.args.self.now in
+    let keys = keys_in old.long t in
+    let count = c.long_count-left.ensures.count in
+    let whole = c.long_count-left.ensures.whole in
+    let cost = ap (λ n. keys_cost t (length xs) old.records (take n keys)) count ∙ ap (keys_cost t (length xs) old.records) (take_all (length keys) keys (omega arith)) in
+    let paid = all_keys_paid t xs old.records keys whole.once in (
+      subst (λ n. Rounds (Swept c.args.horizon xs) t keys old.records old.records n 0) (sym count) (round_begins (Swept c.args.horizon xs) t keys old.records (swept_keeps c.args.horizon xs) whole),
+      refl,
+      omega (arith, count),
+      omega (arith, cost, paid),
     )
 
-pub loop-next-preserved : goal.loop-next-preserved
-loop-next-preserved g c =
+pub long_key-key-requires : goal.long_key-key-requires
+long_key-key-requires g c =
+    let some = c.loop-left-test.true in
+    let walk = c.loop-left.invariant in
+    subst (λ ls. c.loop-left.left - 1 < length (keys_in ls c.args.table)) (sym walk.1) (omega (arith, some, walk.2))
+
+pub loop-left-preserved : goal.loop-left-preserved
+loop-left-preserved g c =
     let xs = c.args.snapshots.now in
     let n = length xs in
     let t = c.args.table in
-    let k = c.in-Some.key in
     let old = c.args.self.now in
-    let walk = subst (λ next. Walks (Swept c.args.horizon xs) t old c.loop-next.self next c.loop-next.gone) c.in-Some.is c.loop-next.invariant.0 in
-    let before = subst (λ next. c.loop-next.steps + to_pay t n old next ≤ c.args.steps.now + sweep_steps t xs old) c.in-Some.is c.loop-next.invariant.1 in
-    let same = walk.rest k (omega arith) in
-    let cost = subst (λ vs. c.sweep-gone.new.steps ≤ c.loop-next.steps + cost_of n vs) same c.sweep-gone.ensures.cost in
-    let once = one_paid t k n old in
-    let later = next_paid t n k old c.sweep-gone.new.self c.long_after-next.result c.long_after-next.ensures.next in (
-      goes (Swept c.args.horizon xs) t old c.loop-next.self c.sweep-gone.new.self k c.long_after-next.result c.loop-next.gone c.sweep-gone.result (swept_keeps c.args.horizon xs) walk (c.sweep-gone.ensures.here, c.sweep-gone.ensures.clean) c.sweep-gone.ensures.others c.sweep-gone.ensures.left c.long_after-next.ensures.next c.long_after-next.ensures.fits,
-      omega (arith, before, cost, once, later),
+    let now = c.loop-left.self in
+    let new = c.sweep-gone.new.self in
+    let keys = keys_in old.long t in
+    let many = c.loop-left.left in
+    let l = many - 1 in
+    let k = c.long_key-key.result in
+    let some = c.loop-left-test.true in
+    let walk = c.loop-left.invariant in
+    let there = ap (λ ls. slice_get (keys_in ls t) l) (sym walk.1) ∙ c.long_key-key.ensures in
+    let same = walk.0.rest l k (omega (arith, some)) there in
+    let cost = subst (λ vs. c.sweep-gone.new.steps ≤ c.loop-left.steps + cost_of n vs) same c.sweep-gone.ensures.cost in
+    let once = key_paid t n old.records keys many l k (omega (arith, some)) there in (
+      round_goes (Swept c.args.horizon xs) t keys old.records now.records new.records many l k c.loop-left.gone c.sweep-gone.result (omega (arith, some)) c.long_count-left.ensures.whole.once there walk.0 (c.sweep-gone.ensures.here, c.sweep-gone.ensures.clean) c.sweep-gone.ensures.others c.sweep-gone.ensures.left,
+      c.sweep-gone.ensures.listed ∙ walk.1,
+      omega (arith, some, walk.2),
+      omega (arith, walk.3, cost, once),
     )
+
+pub sweep-gone-requires-clause-few : goal.sweep-gone-requires-clause-few
+sweep-gone-requires-clause-few g c = omega (arith, c.requires.few, c.loop-left.invariant.0.left)
+
+pub overflow_add-gone : goal.overflow_add-gone
+overflow_add-gone g c = omega (arith, c.requires.few, c.loop-left.invariant.0.left, c.sweep-gone.ensures.left)
+
+pub returns-clause-each : goal.returns-clause-each
+returns-clause-each g c =
+    λ k.
+    let xs = c.args.snapshots.now in
+    let keys = keys_in c.args.self.now.long c.args.table in
+    let none : c.loop-left.left ≡ 0 = omega (arith, c.loop-left-test.false) in
+    (round_ends (Swept c.args.horizon xs) c.args.table keys c.args.self.now.records c.loop-left.self.records c.loop-left.gone
+    (subst (λ n. Rounds (Swept c.args.horizon xs) c.args.table keys c.args.self.now.records c.loop-left.self.records n c.loop-left.gone) none c.loop-left.invariant.0) k).0
+
+pub returns-clause-clean : goal.returns-clause-clean
+returns-clause-clean g c =
+    λ k.
+    let xs = c.args.snapshots.now in
+    let keys = keys_in c.args.self.now.long c.args.table in
+    let none : c.loop-left.left ≡ 0 = omega (arith, c.loop-left-test.false) in
+    (round_ends (Swept c.args.horizon xs) c.args.table keys c.args.self.now.records c.loop-left.self.records c.loop-left.gone
+    (subst (λ n. Rounds (Swept c.args.horizon xs) c.args.table keys c.args.self.now.records c.loop-left.self.records n c.loop-left.gone) none c.loop-left.invariant.0) k).1
+
+pub returns-clause-others : goal.returns-clause-others
+returns-clause-others g c = c.loop-left.invariant.0.others
+
+pub returns-clause-left : goal.returns-clause-left
+returns-clause-left g c = c.loop-left.invariant.0.left
+
+pub returns-clause-cost : goal.returns-clause-cost
+returns-clause-cost g c = omega (arith, c.loop-left.invariant.3)
