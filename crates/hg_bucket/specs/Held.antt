@@ -35,6 +35,9 @@ versions_of records r = unwrap_or (lookup (same_rid r) records) []
 abbrev pub keys_in : List (List ℕ) → TableId → List ℕ
 keys_in long table = list_of long table.0
 
+abbrev pub long_keys : Held → TableId → List ℕ
+long_keys h table = keys_in h.long table
+
 -- how many versions are held
 abbrev pub left : List (Rid × List Kept) → ℕ
 left records = sum_by (λ e. length e.1) records

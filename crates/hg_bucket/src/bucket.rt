@@ -14,7 +14,7 @@ ghost use Rattle.hg_chain.specs.Sweeps.{Rises};
 ghost use Rattle.hg_base.specs.Lifetimes.{IsGuarded};
 ghost use Rattle.hg_bucket.specs.Sweeping.{swept, IsClean, record_steps, sweep_steps};
 ghost use Rattle.hg_bucket.specs.Long.{IsNextLong, AreLong};
-ghost use Rattle.hg_bucket.specs.Held.{keys_in, versions_of, begins_open, installed, stamped, OthersStay, IsBelow, read_at, record_at, cut_at, left, counts_of, IsBalanced, IsNextKey};
+ghost use Rattle.hg_bucket.specs.Held.{long_keys, versions_of, begins_open, installed, stamped, OthersStay, IsBelow, read_at, record_at, cut_at, left, counts_of, IsBalanced, IsNextKey};
 
 use crate::records::Records;
 use crate::refusal::WriteRefusal;
@@ -132,7 +132,7 @@ impl Bucket {
         ensures others { OthersStay self.old.records self.new.records rid }
         ensures gone { length (versions_of self.new.records rid) + result ≡ length (versions_of self.old.records rid) }
         ensures table { self.new ≡ record self.old { records = self.new.records; long = self.new.long; table = self.old.table + result } }
-        ensures front { (at : ℕ) → slice_get (keys_in self.old.long rid.table) at ≡ Some rid.key → take at (keys_in self.new.long rid.table) ≡ take at (keys_in self.old.long rid.table) }
+        ensures front { (at : ℕ) → slice_get (long_keys self.old rid.table) at ≡ Some rid.key → take at (long_keys self.new rid.table) ≡ take at (long_keys self.old rid.table) }
     {
         let gone = self.records.cut(rid, bound);
         self.table += gone;
@@ -155,7 +155,7 @@ impl Bucket {
         ensures others { OthersStay self.old.records self.new.records rid }
         ensures gone { length (versions_of self.new.records rid) + result ≡ length (versions_of self.old.records rid) }
         ensures interval { self.new ≡ record self.old { records = self.new.records; long = self.new.long; interval = self.old.interval + result } }
-        ensures front { (at : ℕ) → slice_get (keys_in self.old.long rid.table) at ≡ Some rid.key → take at (keys_in self.new.long rid.table) ≡ take at (keys_in self.old.long rid.table) }
+        ensures front { (at : ℕ) → slice_get (long_keys self.old rid.table) at ≡ Some rid.key → take at (long_keys self.new rid.table) ≡ take at (long_keys self.old rid.table) }
         ensures cost { steps.new ≤ steps.old + record_steps snapshots.now (versions_of self.old.records rid) }
     {
         let swept = self.records.sweep(rid, horizon, snapshots, steps);
@@ -165,8 +165,8 @@ impl Bucket {
 
     /// How many records of a table can be shortened: each has more than its oldest image.
     pub fn long_count(&self, table: TableId) -> usize
-        ensures count { result ≡ length (keys_in self.now.long table) }
-        ensures whole { AreLong (keys_in self.now.long table) table self.now.records }
+        ensures count { result ≡ length (long_keys self.now table) }
+        ensures whole { AreLong (long_keys self.now table) table self.now.records }
     {
         self.records.long_count(table)
     }
@@ -174,8 +174,8 @@ impl Bucket {
     /// The key of one of them. They stand in no order. Where one is cut or swept, those before it stay where they are: so a
     /// walk that begins at the last one meets each once.
     pub fn long_key(&self, table: TableId, at: usize) -> u64
-        requires { at < length (keys_in self.now.long table) }
-        ensures { slice_get (keys_in self.now.long table) at ≡ Some result }
+        requires { at < length (long_keys self.now table) }
+        ensures { slice_get (long_keys self.now table) at ≡ Some result }
     {
         self.records.long_key(table, at)
     }

@@ -1,18 +1,18 @@
 //! What a collector's pass cuts in a bucket that it holds. Each record that is visited costs one step.
 
-ghost use Rattle.std.specs.Prelude.{◌≡◌, ℕ};
+ghost use Rattle.std.specs.Prelude.{◌≡◌, ℕ, Some, slice_get, take};
 ghost use Rattle.hg_base.specs.declared.rid.Rid.{Rid};
 ghost use Rattle.hg_base.specs.declared.report.Kind.TheVariants.{Group, Table};
 ghost use Rattle.hg_core.specs.Passes.{IsWhole, group_bound, table_bound};
 ghost use Rattle.hg_core.specs.Contents.{bucket_of};
 ghost use Rattle.hg_core.specs.Clean.{IsCutAt};
-ghost use Rattle.hg_bucket.specs.Held.{record_at};
+ghost use Rattle.hg_bucket.specs.Held.{long_keys, record_at};
 ghost use Rattle.hg_rule.specs.Holding.{held};
 ghost use Rattle.hg_rule.specs.Facts.{record_of};
 ghost use Rattle.hg_rule.specs.Views.{pass as own_pass};
 ghost use Rattle.hg_rule.specs.Removes.{left_of, removed_of, Reclaims};
 ghost use Rattle.hg_rule.specs.Seats.{table_of, sizes_of, pass_view, IsPassOf};
-ghost use Rattle.hg_store.specs.Stores.{held_table, held_number, Holds};
+ghost use Rattle.hg_store.specs.Stores.{held_table, held_number, held_records, Holds};
 ghost use Rattle.hg_store.specs.Clearing.{Clears, Counts};
 
 use crate::held::Held;
@@ -67,10 +67,11 @@ impl<'a> Held<'a> {
     {
         board.look_at(pass);
         let mut gone = 0;
-        let mut next = self.bucket.first_long(table);
-        while let Some(key) = next {
+        let mut left = self.bucket.long_count(table);
+        while left > 0 {
+            left -= 1;
+            let key = self.bucket.long_key(table, left);
             gone += self.cut_one(board, pass, Rid { table, key }, bound);
-            next = self.bucket.long_after(table, key);
         }
         gone
     }
@@ -86,6 +87,7 @@ impl<'a> Held<'a> {
         ensures gone { result ≡ removed_of (pass_view pass.old) rid Table }
         ensures holds { Holds (pass_view pass.new) self.new }
         ensures held { (held_table self.new ≡ held_table self.old) × (held_number self.new ≡ held_number self.old) }
+        ensures front { (at : ℕ) → slice_get (long_keys (held_records self.old) rid.table) at ≡ Some rid.key → take at (long_keys (held_records self.new) rid.table) ≡ take at (long_keys (held_records self.old) rid.table) }
         ensures own { IsPassOf (table_of board.now) pass.new }
     {
         board.reclaim(pass, rid, Kind::Table);

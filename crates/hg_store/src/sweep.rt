@@ -1,13 +1,13 @@
 //! What a collector's pass sweeps in a bucket that it holds. Each record that is visited costs one step of the pass.
 
-ghost use Rattle.std.specs.Prelude.{◌≡◌, ℕ, ◌+◌, ◌≤◌};
+ghost use Rattle.std.specs.Prelude.{◌≡◌, ℕ, ◌+◌, ◌≤◌, Some, slice_get, take};
 ghost use Rattle.std.specs.List.Sorted.{IsNonDecreasing};
 ghost use Rattle.hg_base.specs.declared.rid.Rid.{Rid};
 ghost use Rattle.hg_base.specs.declared.report.Kind.TheVariants.{Interval};
 ghost use Rattle.hg_core.specs.Passes.{IsWhole, recorded, horizon as own_horizon};
 ghost use Rattle.hg_core.specs.Contents.{bucket_of};
 ghost use Rattle.hg_core.specs.Clean.{IsClean};
-ghost use Rattle.hg_bucket.specs.Held.{record_at, versions_of};
+ghost use Rattle.hg_bucket.specs.Held.{long_keys, record_at, versions_of};
 ghost use Rattle.hg_bucket.specs.Sweeping.{record_steps, sweep_steps};
 ghost use Rattle.hg_rule.specs.Holding.{held};
 ghost use Rattle.hg_rule.specs.Facts.{record_of};
@@ -53,10 +53,11 @@ impl<'a> Held<'a> {
     {
         board.look_at(pass);
         let mut gone = 0;
-        let mut next = self.bucket.first_long(table);
-        while let Some(key) = next {
+        let mut left = self.bucket.long_count(table);
+        while left > 0 {
+            left -= 1;
+            let key = self.bucket.long_key(table, left);
             gone += self.sweep_one(board, pass, Rid { table, key }, horizon, snapshots, steps);
-            next = self.bucket.long_after(table, key);
         }
         gone
     }
@@ -82,6 +83,7 @@ impl<'a> Held<'a> {
         ensures gone { result ≡ removed_of (pass_view pass.old) rid Interval }
         ensures holds { Holds (pass_view pass.new) self.new }
         ensures held { (held_table self.new ≡ held_table self.old) × (held_number self.new ≡ held_number self.old) }
+        ensures front { (at : ℕ) → slice_get (long_keys (held_records self.old) rid.table) at ≡ Some rid.key → take at (long_keys (held_records self.new) rid.table) ≡ take at (long_keys (held_records self.old) rid.table) }
         ensures own { IsPassOf (table_of board.now) pass.new }
         ensures cost { steps.new ≤ steps.old + record_steps snapshots.now (versions_of (held_records self.old).records rid) }
     {
