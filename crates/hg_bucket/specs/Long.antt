@@ -1,6 +1,5 @@
 -- Which records a cut or a sweep can shorten.
-use Rattle.std.specs.Prelude.{◌≡◌, ℕ, ◌≤◌, ◌<◌, List, Option, Some, IsTrue, IsFalse, slice_get}
-use Rattle.std.specs.Option.{MatchOption}
+use Rattle.std.specs.Prelude.{◌≡◌, ℕ, ◌≤◌, ◌<◌, List, Some, IsTrue, IsFalse, slice_get}
 use Rattle.hg_base.specs.declared.rid.Rid.{Rid}
 use Rattle.hg_base.specs.declared.rid.TableId.{TableId}
 use Rattle.hg_bucket.specs.Held.{Kept, versions_of, record_at, cut_at}
@@ -12,13 +11,6 @@ pub record IsShort (vs : List Kept) : Type 0 where
   pub cut : (bound : ℕ) → cut_at bound vs ≡ vs
   pub swept : (horizon : ℕ) (snapshots : List ℕ) → swept horizon snapshots vs ≡ vs
   pub clean : (horizon : ℕ) (snapshots : List ℕ) → IsClean horizon snapshots vs
-
--- the least key of a table at or over a number whose record has more than an oldest image: each record passed over is short
-abbrev pub IsNextLong : List (Rid × List Kept) → TableId → ℕ → Option ℕ → Type 0
-IsNextLong records table from found =
-    MatchOption found
-    ((k : ℕ) → from ≤ k → IsShort (versions_of records (record_at table k)))
-    (λ least. (from ≤ least) × IsTrue (is_long (versions_of records (record_at table least))) × ((k : ℕ) → from ≤ k → k < least → IsShort (versions_of records (record_at table k))))
 
 -- no key stands twice
 abbrev pub NoKeyTwice : List ℕ → Type 0

@@ -13,7 +13,7 @@ ghost use Rattle.hg_base.specs.declared.writer.Writer.{Writer};
 ghost use Rattle.hg_chain.specs.Sweeps.{Rises};
 ghost use Rattle.hg_base.specs.Lifetimes.{IsGuarded};
 ghost use Rattle.hg_bucket.specs.Sweeping.{swept, IsClean, record_steps, sweep_steps};
-ghost use Rattle.hg_bucket.specs.Long.{IsNextLong, AreLong};
+ghost use Rattle.hg_bucket.specs.Long.{AreLong};
 ghost use Rattle.hg_bucket.specs.Held.{long_keys, versions_of, begins_open, installed, stamped, OthersStay, IsBelow, read_at, record_at, cut_at, left, counts_of, IsBalanced, IsNextKey};
 
 use crate::records::Records;
@@ -178,22 +178,6 @@ impl Bucket {
         ensures { slice_get (long_keys self.now table) at ≡ Some result }
     {
         self.records.long_key(table, at)
-    }
-
-    /// The least key of a table whose record can be shortened.
-    pub fn first_long(&self, table: TableId) -> Option<u64>
-        ensures next { IsNextLong self.now.records table 0 result }
-        ensures fits { IfSome result (λ key. key < 2 ^ 64) }
-    {
-        self.records.first_long(table)
-    }
-
-    /// The least such key over another.
-    pub fn long_after(&self, table: TableId, key: u64) -> Option<u64>
-        ensures next { IsNextLong self.now.records table (key + 1) result }
-        ensures fits { IfSome result (λ key. key < 2 ^ 64) }
-    {
-        self.records.long_after(table, key)
     }
 
     /// Cuts each record of a table at a bound. The answer says how many versions went. A record that has only its oldest

@@ -6,13 +6,12 @@ ghost use Rattle.std.specs.Map.{keys_of};
 ghost use Rattle.hg_base.specs.History.{same_rid};
 ghost use Rattle.hg_base.specs.Lists.{Each};
 ghost use Rattle.hg_base.specs.declared.rid.Rid.{Rid};
-ghost use Rattle.std.specs.Bool.{OnTrue, OnFalse};
 ghost use Rattle.std.specs.Option.{option_copied};
 ghost use Rattle.hg_bucket.specs.Parts.{records_of, AreKept, longs_of};
 ghost use Rattle.hg_bucket.specs.Writes.{Writes};
 ghost use Rattle.hg_chain.specs.Sweeps.{Rises};
 ghost use Rattle.hg_bucket.specs.Sweeping.{swept, IsClean, is_long, record_steps, sweep_steps};
-ghost use Rattle.hg_bucket.specs.Long.{IsShort, IsNextLong, AreLong};
+ghost use Rattle.hg_bucket.specs.Long.{AreLong};
 ghost use Rattle.hg_bucket.specs.Held.{keys_in, versions_of, begins_open, open_write, installed, stamped, OthersStay, IsBelow, read_at, record_at, cut_at, IsNextKey, left};
 
 use crate::places::{self, drop_bare, leave_bare};
@@ -202,49 +201,6 @@ impl Records {
         self.longs.key(table, at)
     }
 
-    /// The least key of a table whose record can be shortened.
-    pub fn first_long(&self, table: TableId) -> Option<u64>
-        ensures next { IsNextLong self.now.records table 0 result }
-        ensures fits { IfSome result (λ key. key < 2 ^ 64) }
-    {
-        self.long_from(table, self.index.next_key(table, 0))
-    }
-
-    /// The least key of a table over another whose record can be shortened.
-    pub fn long_after(&self, table: TableId, key: u64) -> Option<u64>
-        ensures next { IsNextLong self.now.records table (key + 1) result }
-        ensures fits { IfSome result (λ key. key < 2 ^ 64) }
-    {
-        self.long_from(table, self.index.key_after(table, key))
-    }
-
-    // The first key from a key of the index on whose record can be shortened.
-    fn long_from(&self, table: TableId, first: Option<u64>) -> Option<u64>
-        ensures next { (from : ℕ) → IsNextKey self.now.records table from first → IsNextLong self.now.records table from result }
-        ensures fits { IfSome result (λ key. key < 2 ^ 64) }
-    {
-        let mut next = first;
-        while let Some(key) = next {
-            fits(key);
-            if self.is_long(Rid { table, key }) {
-                return Some(key);
-            }
-            next = self.index.key_after(table, key);
-        }
-        None
-    }
-
-    // Whether a record can be shortened.
-    fn is_long(&self, rid: Rid) -> bool
-        ensures long { OnTrue result (IsTrue (is_long (versions_of self.now.records rid))) }
-        ensures short { OnFalse result (IsShort (versions_of self.now.records rid)) }
-    {
-        match self.index.place(rid) {
-            Some(place) => !self.chains.is_empty(place),
-            None => false,
-        }
-    }
-
     /// Cuts each record of a table at a bound. The answer says how many versions went.
     pub fn cut_table(&mut self, table: TableId, bound: u64) -> u64
         requires { left self.old.records ≤ 2 ^ 40 }
@@ -320,11 +276,4 @@ impl Records {
         }
         gone
     }
-}
-
-// A fact of every key, for clauses.
-fn fits(key: u64)
-    ensures { key < 2 ^ 64 }
-{
-    let _ = key;
 }

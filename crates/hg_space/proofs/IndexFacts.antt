@@ -1,13 +1,12 @@
 -- What look-ups find after an insertion and a removal, and from a key on.
-use Rattle.std.proofs.Common.{◌≡◌, ℕ, ◌+◌, ◌≤◌, ◌<◌, List, [], ◌∷◌, Bool, true, false, Option, Some, None, refl, sym, ap, ◌∙◌, cond, subst, arith}
+use Rattle.std.proofs.Common.{◌≡◌, ℕ, ◌≤◌, ◌<◌, List, [], ◌∷◌, Bool, true, false, Option, Some, None, refl, sym, ap, ◌∙◌, cond, subst, arith}
 use Rattle.std.specs.Prelude.{IsTrue, IsSome, is_some}
 use Rattle.std.specs.Map.{lookup, keys_of, remove_entry}
 use Rattle.std.specs.List.Sorted.{IsStrictlySortedBy}
 use Rattle.std.specs.BTreeMap.{BTreeMap, is_at}
-use Rattle.std.specs.BTreeMap.Range.{IsRangeOf, IsLeBy, IsLtBy}
-use Rattle.std.specs.declared.ops.Bound.TheVariants.{Included, Excluded, Unbounded}
+use Rattle.std.specs.BTreeMap.Range.{IsRangeOf, IsLeBy}
+use Rattle.std.specs.declared.ops.Bound.TheVariants.{Included, Unbounded}
 use Rattle.std.proofs.lemmas.Option.{none-some, same_Some}
-use Rattle.std.proofs.lemmas.Bool.Decides.{nat_tests}
 use Rattle.hg_base.specs.declared.rid.Rid.{Rid}
 use Rattle.hg_base.specs.declared.rid.TableId.{TableId}
 use Rattle.hg_base.specs.History.{same_rid}
@@ -94,32 +93,6 @@ next_found m t from r p first same =
       ap is_some (ap (place_of m.entries) (sym here) ∙ first.found),
       λ k le there. le_in_table r (record_at t k) (first.least k le there) same,
     )
-
--- ---- over a key
-
-abbrev pub Behind : BTreeMap Rid ℕ → TableId → ℕ → List (Rid × ℕ) → Type 0
-Behind m t key rs = IsRangeOf rid_cmp (Excluded (record_at t key)) Unbounded m rs
-
-over_keys : (t : TableId) (key k : ℕ) → key + 1 ≤ k → IsLtBy rid_cmp (record_at t key) (record_at t k)
-over_keys t key k h = grind (arith, nat_tests, h)
-
-over_record : (t : TableId) (key : ℕ) (r : Rid) → IsLtBy rid_cmp (record_at t key) r → IsLeBy rid_cmp (record_at t (key + 1)) r
-over_record t key r h = grind (arith, nat_tests, h)
-
-pub none_behind : (m : BTreeMap Rid ℕ) (t : TableId) (key : ℕ) (rs : List (Rid × ℕ)) → Behind m t key rs → rs ≡ [] → IsNextKey m.entries t (key + 1) None
-none_behind m t key rs h e =
-    λ k le there.
-    let none = h.5 e (record_at t k) (over_keys t key k le, tt) in
-    none_there (place_of m.entries (record_at t k)) (sym (looked_up m.entries (record_at t k)) ∙ none) there
-
-pub first_behind : (m : BTreeMap Rid ℕ) (t : TableId) (key : ℕ) (rs : List (Rid × ℕ)) (r : Rid) (p : ℕ) (more : List (Rid × ℕ)) → Behind m t key rs → rs ≡ (r, p) ∷ more → First m t (key + 1) r p
-first_behind m t key rs r p more h e =
-    let k : Behind m t key ((r, p) ∷ more) = subst (Behind m t key) e h in
-    record {
-      above = over_record t key r k.1.0.0;
-      found = sym (looked_up m.entries r) ∙ k.1.1;
-      least = λ n le there. k.2 (record_at t n) (over_keys t key n le, tt) (subst IsSome (sym (looked_up m.entries (record_at t n))) there);
-    }
 
 -- ---- as lists
 

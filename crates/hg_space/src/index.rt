@@ -1,6 +1,6 @@
 //! Which place a record has.
 
-ghost use Rattle.std.specs.Prelude.{◌≡◌, ◌+◌, ℕ, [], Some, None, IsFalse, OnOk, OnErr};
+ghost use Rattle.std.specs.Prelude.{◌≡◌, ℕ, [], Some, None, IsFalse, OnOk, OnErr};
 ghost use Rattle.std.specs.BTreeMap.{insert_entry};
 ghost use Rattle.std.specs.Map.{remove_entry};
 ghost use Rattle.hg_base.specs.declared.rid.Rid.{Rid};
@@ -12,7 +12,6 @@ use hg_base::{NoMemory, Rid, TableId};
 use std::alloc::Global;
 use std::collections::BTreeMap;
 use std::marker::Model;
-use std::ops::Bound;
 
 /// A place for each record, and no place for two.
 #[derive(Debug, Drop)]
@@ -87,18 +86,6 @@ impl RidIndex {
     {
         let start = Rid { table, key: from };
         let (rid, _) = self.places.range(start..).next()?;
-        if rid.table != table {
-            return None;
-        }
-        Some(rid.key)
-    }
-
-    /// The least such key over another.
-    pub fn key_after(&self, table: TableId, key: u64) -> Option<u64>
-        ensures { IsNextKey self.now table (key + 1) result }
-    {
-        let start = Bound::Excluded(Rid { table, key });
-        let (rid, _) = self.places.range((start, Bound::Unbounded)).next()?;
         if rid.table != table {
             return None;
         }

@@ -96,8 +96,6 @@ fn next_key_stays_in_its_table(rt: HostRuntime) -> Result<(), Fail> {
     assert_eq!(rt; index.remove(rid), Some(2));
     assert_eq!(rt; index.place(rid), None);
     assert_eq!(rt; index.next_key(TableId(0), 0), Some(9));
-    assert_eq!(rt; index.key_after(TableId(0), 8), Some(9));
-    assert_eq!(rt; index.key_after(TableId(0), 9), None);
     Ok(())
 }
 

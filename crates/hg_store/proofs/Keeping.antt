@@ -42,7 +42,7 @@ ordered_stored content r vs mark all here = at_store r vs content (λ q ws. (m :
 
 -- ---- by each change
 
-pub undo_kept : (old new : Held) (part : BucketPart) (r : Rid) → Keeps old part → versions_of new.records r ≡ drop 1 (versions_of old.records r) → OthersStay old.records new.records r → new ≡ record old { records = new.records; undone = old.undone + 1 } → Keeps new (undoing r part)
+pub undo_kept : (old new : Held) (part : BucketPart) (r : Rid) → Keeps old part → versions_of new.records r ≡ drop 1 (versions_of old.records r) → OthersStay old.records new.records r → new ≡ record old { records = new.records; long = new.long; undone = old.undone + 1 } → Keeps new (undoing r part)
 undo_kept old new part r k here others counters = record {
   versions = versions_stored old new part.content r (undone (look r part.content)) k.versions (here ∙ ap (drop 1) (k.versions r) ∙ undone_kept (look r part.content)) others;
   made = ap (λ (h : Held). h.made) counters ∙ k.made;
@@ -52,7 +52,7 @@ undo_kept old new part r k here others counters = record {
   interval = ap (λ (h : Held). h.interval) counters ∙ k.interval;
 }
 
-pub stamp_kept : (old new : Held) (part : BucketPart) (r : Rid) (n : ℕ) (w : Writer) → Keeps old part → versions_of new.records r ≡ bucket.stamped w n (versions_of old.records r) → OthersStay old.records new.records r → new ≡ record old { records = new.records } → Keeps new (stamping n w r part)
+pub stamp_kept : (old new : Held) (part : BucketPart) (r : Rid) (n : ℕ) (w : Writer) → Keeps old part → versions_of new.records r ≡ bucket.stamped w n (versions_of old.records r) → OthersStay old.records new.records r → new ≡ record old { records = new.records; long = new.long } → Keeps new (stamping n w r part)
 stamp_kept old new part r n w k here others counters = record {
   versions = versions_stored old new part.content r (stamped n w (look r part.content)) k.versions (here ∙ ap (bucket.stamped w n) (k.versions r) ∙ stamped_kept n w (look r part.content)) others;
   made = ap (λ (h : Held). h.made) counters ∙ k.made;
@@ -62,7 +62,7 @@ stamp_kept old new part r n w k here others counters = record {
   interval = ap (λ (h : Held). h.interval) counters ∙ k.interval;
 }
 
-pub install_kept : (mark : ℕ) (old new : Held) (part : BucketPart) (r : Rid) (image : Image) (w : Writer) → IsFreeFor mark w (look r part.content) → Keeps old part → versions_of new.records r ≡ bucket.installed w image (versions_of old.records r) → OthersStay old.records new.records r → new ≡ record old { records = new.records; made = old.made + cond (begins_open w (versions_of old.records r)) 0 1 } → Keeps new (installing w r image part)
+pub install_kept : (mark : ℕ) (old new : Held) (part : BucketPart) (r : Rid) (image : Image) (w : Writer) → IsFreeFor mark w (look r part.content) → Keeps old part → versions_of new.records r ≡ bucket.installed w image (versions_of old.records r) → OthersStay old.records new.records r → new ≡ record old { records = new.records; long = new.long; made = old.made + cond (begins_open w (versions_of old.records r)) 0 1 } → Keeps new (installing w r image part)
 install_kept mark old new part r image w free k here others counters = record {
   versions = versions_stored old new part.content r (installed w image (look r part.content)) k.versions (here ∙ ap (bucket.installed w image) (k.versions r) ∙ installed_kept mark w image (look r part.content) free) others;
   made = (λ i. ap (λ (h : Held). h.made) counters i) ∙ (λ i. k.made i + cond (begins_open w (k.versions r i)) 0 1) ∙ ap (λ n. part.counters.made + n) (added_kept mark w (look r part.content) free);
@@ -77,13 +77,13 @@ kept_length vs = simp length-map
 
 -- ---- by a reclaim, of any kind
 
--- the records, and the counter of that kind
-abbrev pub counted : Kind → ℕ → Held → List (Rid × List Kept) → Held
-counted Group n h rs = record h { records = rs; group = h.group + n }
-counted Table n h rs = record h { records = rs; table = h.table + n }
-counted Interval n h rs = record h { records = rs; interval = h.interval + n }
+-- with the records of another, and more in the counter of that kind
+abbrev pub counted : Kind → ℕ → Held → Held → Held
+counted Group n h new = record h { records = new.records; long = new.long; group = h.group + n }
+counted Table n h new = record h { records = new.records; long = new.long; table = h.table + n }
+counted Interval n h new = record h { records = new.records; long = new.long; interval = h.interval + n }
 
-keeps_counted : (kind : Kind) (gone : ℕ) (old new : Held) (part : BucketPart) (content : Content) → Keeps old part → ((q : Rid) → versions_of new.records q ≡ map kept (look q content)) → new ≡ counted kind gone old new.records
+keeps_counted : (kind : Kind) (gone : ℕ) (old new : Held) (part : BucketPart) (content : Content) → Keeps old part → ((q : Rid) → versions_of new.records q ≡ map kept (look q content)) → new ≡ counted kind gone old new
     → Keeps new (record { content = content; counters = record part.counters { removed = removed_more kind gone part.counters.removed } })
 keeps_counted Group gone old new part content k all counters = record {
   versions = all;
@@ -120,7 +120,7 @@ gone_is kind p does mark gone old new part r d o k here sum =
     let before : length (versions_of old.records r) ≡ length vs = ap length (k.versions r) ∙ kept_length vs in
     omega arith
 
-pub reclaim_kept : (kind : Kind) (p : PassRecord) (does : List Kept → List Kept) (mark gone : ℕ) (old new : Held) (part : BucketPart) (r : Rid) → Does kind r.table p does → IsOrdered mark (look r part.content) → Keeps old part → versions_of new.records r ≡ does (versions_of old.records r) → OthersStay old.records new.records r → length (versions_of new.records r) + gone ≡ length (versions_of old.records r) → new ≡ counted kind gone old new.records
+pub reclaim_kept : (kind : Kind) (p : PassRecord) (does : List Kept → List Kept) (mark gone : ℕ) (old new : Held) (part : BucketPart) (r : Rid) → Does kind r.table p does → IsOrdered mark (look r part.content) → Keeps old part → versions_of new.records r ≡ does (versions_of old.records r) → OthersStay old.records new.records r → length (versions_of new.records r) + gone ≡ length (versions_of old.records r) → new ≡ counted kind gone old new
     → Keeps new (shortening r kind (reclaimed kind r.table p (look r part.content)) (length (look r part.content) - length (reclaimed kind r.table p (look r part.content))) part)
 reclaim_kept kind p does mark gone old new part r d o k here others sum counters =
     let ws = reclaimed kind r.table p (look r part.content) in

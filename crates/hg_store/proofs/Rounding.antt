@@ -7,7 +7,7 @@ use Rattle.hg_base.specs.declared.rid.Rid.{Rid}
 use Rattle.hg_base.specs.declared.rid.TableId.{TableId}
 use Rattle.hg_base.specs.declared.report.Kind.{Kind}
 use Rattle.hg_base.specs.Lists.{Each}
-use Rattle.hg_base.specs.History.{same_rid, is_among, NoneTwice}
+use Rattle.hg_base.specs.History.{same_rid, NoneTwice}
 use Rattle.hg_core.specs.Contents.{bucket_of}
 use Rattle.hg_core.specs.Removal.{reclaimed}
 use Rattle.hg_bucket.specs.Held.{Kept, versions_of, record_at}

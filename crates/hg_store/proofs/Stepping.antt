@@ -73,7 +73,7 @@ look_holds v w h ask n hold k =
 -- ---- an undo
 
 pub undo_holds : (v w : View) (h h' : Held) (r : Rid) → Holds v h → held_number h' ≡ held_number h → IsOpenBy (writer v) (held v r) → Undoes v r w
-    → versions_of (held_records h').records r ≡ drop 1 (versions_of (held_records h).records r) → OthersStay (held_records h).records (held_records h').records r → held_records h' ≡ record (held_records h) { records = (held_records h').records; undone = (held_records h).undone + 1 } → Holds w h'
+    → versions_of (held_records h').records r ≡ drop 1 (versions_of (held_records h).records r) → OthersStay (held_records h).records (held_records h').records r → held_records h' ≡ record (held_records h) { records = (held_records h').records; long = (held_records h').long; undone = (held_records h).undone + 1 } → Holds w h'
 undo_holds v w h h' r hold same mine step here others counters =
     subst (λ x. Holds x h') (sym step) (session_holds h' (number v) (bucket_number v) _ (undoing r (bucket v)) (beyond v) _ _ (number_is (held_number h) v hold.has ∙ sym same)
     (undo_kept (held_records h) (held_records h') (bucket v) r hold.keeps here others counters)
@@ -92,7 +92,7 @@ over_by z n m v h r w hold k both here mine next =
     (subst (λ x. Each (IsBelow x) (drop 1 (map kept (held v r)))) (ap suc (mark_held z n v k hold.has.0 both) ∙ sym next) (all_below n w (held v r) mine (ordered_at z n (held_number h) v k hold.has r here)))
 
 pub stamp_holds : (z : Sizes) (n number j : ℕ) (v x : View) (h h' : Held) (r : Rid) (w : Writer) → w ≡ writer_at j (members (farther v)) → Holds v h → IsBacked z n v → HasBoth v → held_number h' ≡ held_number h → bucket_of z.buckets r ≡ held_number h → IsOpenBy w (held v r) → number ≡ suc (length (commit_behind v).history.list) → Stamps v j r number x
-    → versions_of (held_records h').records r ≡ bucket_words.stamped w number (versions_of (held_records h).records r) → OthersStay (held_records h).records (held_records h').records r → held_records h' ≡ record (held_records h) { records = (held_records h').records } → Holds x h'
+    → versions_of (held_records h').records r ≡ bucket_words.stamped w number (versions_of (held_records h).records r) → OthersStay (held_records h).records (held_records h').records r → held_records h' ≡ record (held_records h) { records = (held_records h').records; long = (held_records h').long } → Holds x h'
 stamp_holds z n m j v x h h' r w is hold k both same here mine next step stored apart counters =
     let o = (opened_is n w (held v r) mine (ordered_at z n (held_number h) v k hold.has r here)).ordered_stamped in
     let p = subst (λ x. IsOrdered n (stamped x w (held v r))) (ap suc (mark_held z n v k hold.has.0 both) ∙ sym next) o in
@@ -124,7 +124,7 @@ pub reclaim_gone : (kind : Kind) (does : List Kept → List Kept) (v : View) (h 
 reclaim_gone kind does v h new r gone hold d here sum = gone_is kind (record_of (pass v)) does (hold.ordered r).0 gone (held_records h) new (bucket v) r d (hold.ordered r).1 hold.keeps here sum
 
 pub reclaim_holds : (kind : Kind) (does : List Kept → List Kept) (v w : View) (h h' : Held) (r : Rid) (gone : ℕ) → Holds v h → HasPass v → held_number h' ≡ held_number h → Does kind r.table (record_of (pass v)) does → Reclaims v r kind w
-    → versions_of (held_records h').records r ≡ does (versions_of (held_records h).records r) → OthersStay (held_records h).records (held_records h').records r → length (versions_of (held_records h').records r) + gone ≡ length (versions_of (held_records h).records r) → held_records h' ≡ counted kind gone (held_records h) (held_records h').records → Holds w h'
+    → versions_of (held_records h').records r ≡ does (versions_of (held_records h).records r) → OthersStay (held_records h).records (held_records h').records r → length (versions_of (held_records h').records r) + gone ≡ length (versions_of (held_records h).records r) → held_records h' ≡ counted kind gone (held_records h) (held_records h') → Holds w h'
 reclaim_holds kind does v w h h' r gone hold own same d step here others sum counters =
     let order = reclaimed_in_order kind r.table (record_of (pass v)) (hold.ordered r).0 (held v r) (hold.ordered r).1 in
     subst (λ x. Holds x h') (sym step) (pass_holds h' (number v) (bucket_number v) (removed_of v r kind) kind (pass v) (shortening r kind (left_of v r kind) (removed_of v r kind) (bucket v)) (beyond v) _ _ (number_is (held_number h) v hold.has ∙ sym same)

@@ -95,7 +95,7 @@ pub read_own : (w : Writer) (at : ℕ) (image : Image) (ks : List Kept) → read
 read_own w at image ks = ap (λ b. option_map (λ (k : Kept). k.image) (option_or (cond b (Some (held_words.open_write w image)) (find (is_open_by w) (cond (begins_open w ks) (drop 1 ks) ks))) (find (is_at_most at) (held_words.installed w image ks)))) (writer_itself w)
 
 pub install_holds : (n : ℕ) (v w : View) (h h' : Held) (r : Rid) (image : Image) → Holds v h → held_number h' ≡ held_number h → IsFreeFor n (writer v) (held v r) → IsOrdered n (held v r) → Installs v r image w
-    → versions_of (held_records h').records r ≡ held_words.installed (writer v) image (versions_of (held_records h).records r) → OthersStay (held_records h).records (held_records h').records r → held_records h' ≡ record (held_records h) { records = (held_records h').records; made = (held_records h).made + cond (begins_open (writer v) (versions_of (held_records h).records r)) 0 1 } → Holds w h'
+    → versions_of (held_records h').records r ≡ held_words.installed (writer v) image (versions_of (held_records h).records r) → OthersStay (held_records h).records (held_records h').records r → held_records h' ≡ record (held_records h) { records = (held_records h').records; long = (held_records h').long; made = (held_records h).made + cond (begins_open (writer v) (versions_of (held_records h).records r)) 0 1 } → Holds w h'
 install_holds n v w h h' r image hold same free o step here others counters =
     subst (λ x. Holds x h') (sym step) (session_holds h' (number v) (bucket_number v) _ (installing (writer v) r image (bucket v)) (beyond v) _ _ (number_is (held_number h) v hold.has ∙ sym same)
     (install_kept n (held_records h) (held_records h') (bucket v) r image (writer v) free hold.keeps here others counters)

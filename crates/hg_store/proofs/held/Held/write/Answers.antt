@@ -72,7 +72,7 @@ returns-clause-holds c =
     let free = free_at n v r c.write.result _ c.in_ok-added.was told in
     let by = c.requires.by ∙ sym (writer_same_after n v w r c.look-mark.ensures.step) in
     let stored = subst (λ o. OnOk o (versions_of new.records r ≡ installed c.args.by c.args.image ks)) c.in_ok-added.was c.write.ensures.stored in
-    let made = subst (λ o. OnOk o (new ≡ record old { records = new.records; made = old.made + (if begins_open c.args.by ks then 0 else 1) })) c.in_ok-added.was c.write.ensures.made in
+    let made = subst (λ o. OnOk o (new ≡ record old { records = new.records; long = new.long; made = old.made + (if begins_open c.args.by ks then 0 else 1) })) c.in_ok-added.was c.write.ensures.made in
     let hold = look_holds v w (boxed c.args.self.now c.deref_mut.result.now) _ n (boxed_holds c.args.self.now c.deref_mut.result.now c.deref_mut.ensures.value c.requires.holds) c.look-mark.ensures.step in
     let content = content_after n v w r c.look-mark.ensures.step in
     let free_for = subst (λ x. IsFreeFor n x (held w r)) (sym (writer_same_after n v w r c.look-mark.ensures.step)) (subst (IsFreeFor n (writer v)) (sym content) (free_of n (writer v) (snapshot v) (held v r) d.ordered d.unstamped free)) in
@@ -80,7 +80,7 @@ returns-clause-holds c =
     (subst (λ x. Installs w r x (session_view c.install.new.pass)) c.of-written.ensures c.install.ensures.step)
     (subst (λ (b : Writer). versions_of new.records r ≡ installed b c.args.image ks) by stored)
     c.write.ensures.others
-    (subst (λ (b : Writer). new ≡ record old { records = new.records; made = old.made + (if begins_open b ks then 0 else 1) }) by made)
+    (subst (λ (b : Writer). new ≡ record old { records = new.records; long = new.long; made = old.made + (if begins_open b ks then 0 else 1) }) by made)
 
 pub returns-in_err-added-clause-owner : goal.returns-in_err-added-clause-owner
 returns-in_err-added-clause-owner c =
