@@ -9,7 +9,7 @@ use Rattle.hg_chain.specs.declared.version.Stamp.TheVariants.{Written, Numbered}
 use Rattle.hg_chain.specs.declared.version.Version.{Version}
 use Rattle.hg_chain.specs.Versions as chain
 use Rattle.hg_space.specs.Places.{Oldest}
-use Rattle.hg_bucket.specs.Held.{begins_open, stamped, IsBelow}
+use Rattle.hg_bucket.specs.BucketModel.{begins_open, stamped, IsBelow}
 use Rattle.hg_bucket.specs.Parts.{kept_as, whole, IsOver}
 use Rattle.hg_bucket.proofs.Reading.{open_kept}
 

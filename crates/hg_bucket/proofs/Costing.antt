@@ -10,7 +10,7 @@ use Rattle.hg_chain.specs.declared.version.Stamp.{Stamp}
 use Rattle.hg_chain.specs.declared.version.Stamp.TheVariants.{Written, Numbered}
 use Rattle.hg_chain.specs.declared.version.Version.{Version}
 use Rattle.hg_space.specs.Places.{Oldest}
-use Rattle.hg_bucket.specs.Held.{Kept}
+use Rattle.hg_bucket.specs.BucketModel.{Kept}
 use Rattle.hg_bucket.specs.Parts.{kept_as, whole}
 use Rattle.hg_bucket.specs.Sweeping.{is_long, is_looked_at, sweep_steps}
 use Rattle.hg_bucket.proofs.Bare.{whole_sum}

@@ -12,7 +12,7 @@ use Rattle.hg_chain.specs.declared.version.Stamp.TheVariants.{Written, Numbered}
 use Rattle.hg_chain.specs.declared.version.Version.{Version}
 use Rattle.hg_chain.specs.Versions as chain
 use Rattle.hg_space.specs.Places.{Oldest}
-use Rattle.hg_bucket.specs.Held.{Kept, is_at_most, survivor, cut_at}
+use Rattle.hg_bucket.specs.BucketModel.{Kept, is_at_most, survivor, cut_at}
 use Rattle.hg_bucket.specs.Parts.{kept, kept_as, oldest, whole, settled, IsOver, IsRow}
 use Rattle.hg_bucket.proofs.Reading.{at_most_kept}
 use Rattle.hg_bucket.proofs.Bare.{whole_sum}

@@ -8,7 +8,7 @@ use Rattle.hg_base.specs.History.{same_rid}
 use Rattle.hg_chain.specs.Places.{Places, list_at}
 use Rattle.hg_space.specs.Index.{place_of, IsIndex}
 use Rattle.hg_space.specs.Places.{Seat, free, image_at, IsTaken}
-use Rattle.hg_bucket.specs.Held.{versions_of, left, OthersStay}
+use Rattle.hg_bucket.specs.BucketModel.{versions_of, left, OthersStay}
 use Rattle.hg_bucket.specs.Parts.{whole, versions_at, records_of, seat_at, SeatsStay, AreWhole, MayBeBare}
 use Rattle.hg_bucket.proofs.Reading.{found, alike, versions_there, no_versions}
 use Rattle.hg_bucket.proofs.Seating.{not_taken}

@@ -21,7 +21,7 @@ use Rattle.hg_base.proofs.HistoryFacts.{same_rid_equal}
 use Rattle.hg_chain.specs.Places.{Places}
 use Rattle.hg_space.specs.Index.{place_of, IsIndex}
 use Rattle.hg_space.specs.Places.{Seat}
-use Rattle.hg_bucket.specs.Held.{left}
+use Rattle.hg_bucket.specs.BucketModel.{left}
 use Rattle.hg_bucket.specs.Parts.{versions_at, records_of}
 
 pub distinct : (es : List (Rid × ℕ)) → IsIndex es → IsDistinct same_rid (keys_of es)

@@ -20,7 +20,7 @@ use Rattle.hg_space.specs.declared.roster.Listed.{Listed}
 use Rattle.hg_space.specs.Rosters.{list_of, keys_of, Has, StandsIn, StandsNowhere, StandOnce}
 use Rattle.hg_space.proofs.RosterFacts.{front_stays, get_push, trimmed_list, trimmed_same}
 use Rattle.hg_space.proofs.Entering.{get_more, get_last}
-use Rattle.hg_bucket.specs.Held.{Kept, versions_of, record_at, keys_in}
+use Rattle.hg_bucket.specs.BucketModel.{Kept, versions_of, record_at, keys_in}
 use Rattle.hg_bucket.specs.Long.{AreLong, IsShort}
 use Rattle.hg_bucket.specs.Parts.{Recorded, records_of, listed, longs_of, IsListed, AreListed, ListsAlike, AreWhole, Enters, Leaves}
 use Rattle.hg_chain.specs.Versions as chain

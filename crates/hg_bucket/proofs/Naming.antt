@@ -13,7 +13,7 @@ use Rattle.hg_chain.specs.declared.version.Version.{Version}
 use Rattle.hg_chain.specs.Places.{Places, list_at, OthersStay as ListsStay}
 use Rattle.hg_space.specs.Index.{place_of, IsIndex}
 use Rattle.hg_space.specs.Places.{Seat, free, image_at, IsTaken}
-use Rattle.hg_bucket.specs.Held.{versions_of, left, OthersStay}
+use Rattle.hg_bucket.specs.BucketModel.{versions_of, left, OthersStay}
 use Rattle.hg_bucket.specs.Parts.{kept, whole, versions_at, records_of, seat_at, AreAlike, ListsAlike, IsGiven, Falls, AreWhole, IsOver}
 use Rattle.hg_bucket.proofs.Reading.{found, alike, versions_there}
 use Rattle.hg_bucket.proofs.Seating.{each_place, same_image, not_taken, given_taken}

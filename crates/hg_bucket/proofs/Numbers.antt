@@ -12,7 +12,7 @@ use Rattle.hg_base.specs.Lists.{Each}
 use Rattle.hg_base.proofs.HistoryFacts.{same_rid_equal}
 use Rattle.hg_base.proofs.ListFacts.{cases}
 use Rattle.hg_base.specs.Lifetimes.{goes}
-use Rattle.hg_bucket.specs.Held.{Kept, versions_of, record_at, IsBelow, OthersStay, is_at_most, survivor, cut_at, installed, stamped, begins_open}
+use Rattle.hg_bucket.specs.BucketModel.{Kept, versions_of, record_at, IsBelow, OthersStay, is_at_most, survivor, cut_at, installed, stamped, begins_open}
 use Rattle.hg_bucket.specs.Sweeping.{swept}
 use Rattle.hg_bucket.proofs.Cutting.{found_is}
 use Rattle.hg_bucket.proofs.Sweeps.{swept_from, first_goes, first_stays}

@@ -8,7 +8,7 @@ use Rattle.std.proofs.lemmas.Option.{none-some, same_Some}
 use Rattle.hg_base.specs.declared.rid.Rid.{Rid}
 use Rattle.hg_base.specs.declared.rid.TableId.{TableId}
 use Rattle.hg_base.specs.History.{same_rid}
-use Rattle.hg_bucket.specs.Held.{Kept, versions_of, record_at}
+use Rattle.hg_bucket.specs.BucketModel.{Kept, versions_of, record_at}
 use Rattle.hg_bucket.specs.Sweeping.{sweep_steps}
 use Rattle.hg_bucket.specs.Long.{NoKeyTwice}
 use Rattle.hg_bucket.proofs.Costing.{cost_of, is_to_come, cost_at, cost_from, all_paid}

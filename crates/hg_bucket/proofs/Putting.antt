@@ -9,7 +9,7 @@ use Rattle.hg_space.specs.Index.{place_of}
 use Rattle.hg_space.specs.Places.{Seat}
 use Rattle.hg_bucket.specs.declared.refusal.WriteRefusal.{WriteRefusal}
 use Rattle.hg_bucket.specs.declared.refusal.WriteRefusal.TheVariants.{NoMemory}
-use Rattle.hg_bucket.specs.Held.{Kept, versions_of, begins_open, open_write, installed, OthersStay, left}
+use Rattle.hg_bucket.specs.BucketModel.{Kept, versions_of, begins_open, open_write, installed, OthersStay, left}
 use Rattle.hg_bucket.specs.Conflicts.{conflict}
 use Rattle.hg_bucket.specs.Parts.{records_of, AreWhole}
 use Rattle.hg_bucket.specs.Writes.{Writes}

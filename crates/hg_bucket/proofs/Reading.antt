@@ -17,7 +17,7 @@ use Rattle.hg_space.specs.Index as index
 use Rattle.hg_space.specs.Index.{place_of}
 use Rattle.hg_space.specs.Places.{Seat, Oldest, image_at}
 use Rattle.hg_base.proofs.RidOrder.{rids_equiv}
-use Rattle.hg_bucket.specs.Held.{Kept, versions_of, read_at, is_at_most, is_open_by, IsNextKey}
+use Rattle.hg_bucket.specs.BucketModel.{Kept, versions_of, read_at, is_at_most, is_open_by, IsNextKey}
 use Rattle.hg_bucket.specs.Parts.{kept, kept_as, oldest, whole, versions_at, records_of, oldest_by}
 
 -- a record that a test tells apart, for its look-ups: those of the same record are alike

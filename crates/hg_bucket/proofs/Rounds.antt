@@ -6,7 +6,7 @@ use Rattle.std.proofs.lemmas.List.{length-take, take-take}
 use Rattle.std.proofs.lemmas.Option.{same_Some, slice_get_within}
 use Rattle.hg_base.specs.declared.rid.Rid.{Rid}
 use Rattle.hg_base.specs.declared.rid.TableId.{TableId}
-use Rattle.hg_bucket.specs.Held.{Kept, versions_of, record_at, left, OthersStay}
+use Rattle.hg_bucket.specs.BucketModel.{Kept, versions_of, record_at, left, OthersStay}
 use Rattle.hg_bucket.specs.Long.{NoKeyTwice, AreLong}
 use Rattle.hg_bucket.proofs.Walking.{KeepsShort, keys_apart, tables_apart}
 

@@ -8,7 +8,7 @@ use Rattle.hg_chain.specs.declared.version.Version.{Version}
 use Rattle.hg_chain.specs.Places.{Places, list_at}
 use Rattle.hg_space.specs.Index.{place_of}
 use Rattle.hg_space.specs.Places.{Seat, Oldest, image_at}
-use Rattle.hg_bucket.specs.Held.{Kept, versions_of, record_at, cut_at, is_at_most, survivor, IsNextKey}
+use Rattle.hg_bucket.specs.BucketModel.{Kept, versions_of, record_at, cut_at, is_at_most, survivor, IsNextKey}
 use Rattle.hg_bucket.specs.Parts.{whole, records_of, AreWhole, IsRow}
 use Rattle.hg_bucket.specs.Sweeping.{is_long}
 use Rattle.hg_bucket.specs.Long.{IsShort}

@@ -11,7 +11,7 @@ use Rattle.hg_chain.specs.Versions as chain
 use Rattle.hg_chain.specs.Places.{Places, list_at, OthersStay as ListsStay}
 use Rattle.hg_space.specs.Index.{place_of, IsIndex}
 use Rattle.hg_space.specs.Places.{Seat, Oldest, taken, image_at}
-use Rattle.hg_bucket.specs.Held.{Kept, versions_of, left, cut_at, OthersStay}
+use Rattle.hg_bucket.specs.BucketModel.{Kept, versions_of, left, cut_at, OthersStay}
 use Rattle.hg_bucket.specs.Parts.{whole, settled, records_of, seat_at, AreWhole, MayBeBare, Falls}
 use Rattle.hg_bucket.proofs.Reading.{versions_there}
 use Rattle.hg_bucket.proofs.Seating.{seat_apart, seat_here}

@@ -9,7 +9,7 @@ use Rattle.hg_chain.specs.Versions as chain
 use Rattle.hg_chain.specs.Places.{Places, list_at, OthersStay as ListsStay}
 use Rattle.hg_space.specs.Index.{place_of, IsIndex}
 use Rattle.hg_space.specs.Places.{Seat, Oldest, image_at}
-use Rattle.hg_bucket.specs.Held.{Kept, versions_of, left, begins_open, stamped, IsBelow, OthersStay}
+use Rattle.hg_bucket.specs.BucketModel.{Kept, versions_of, left, begins_open, stamped, IsBelow, OthersStay}
 use Rattle.hg_bucket.specs.Parts.{whole, versions_at, records_of, AreWhole, IsOver, MayBeBare}
 use Rattle.hg_bucket.proofs.Reading.{versions_there, no_versions}
 use Rattle.hg_bucket.proofs.Changing.{open_chain, below_behind, whole_stamped, stamped_length, stamped_over}

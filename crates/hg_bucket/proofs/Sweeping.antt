@@ -9,7 +9,7 @@ use Rattle.hg_chain.specs.Sweeps.{last_number, swept_away}
 use Rattle.hg_base.specs.Lifetimes.{goes, MayStay}
 use Rattle.hg_space.specs.Index.{place_of, IsIndex}
 use Rattle.hg_space.specs.Places.{Seat, Oldest, taken, image_at}
-use Rattle.hg_bucket.specs.Held.{versions_of, left, OthersStay}
+use Rattle.hg_bucket.specs.BucketModel.{versions_of, left, OthersStay}
 use Rattle.hg_bucket.specs.Sweeping.{swept, IsClean}
 use Rattle.hg_bucket.specs.Parts.{whole, records_of, AreWhole, IsRow, Falls}
 use Rattle.hg_bucket.proofs.Reading.{versions_there}

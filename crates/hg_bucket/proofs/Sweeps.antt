@@ -19,7 +19,7 @@ use Rattle.hg_chain.proofs.Sweeps as runs
 use Rattle.hg_chain.proofs.Sweeps.{last_after, last_of_all, swept_sum}
 use Rattle.hg_chain.proofs.Readers.{lies, over_horizon, in_use_stays}
 use Rattle.hg_space.specs.Places.{Oldest}
-use Rattle.hg_bucket.specs.Held.{Kept, is_at_most, is_open_by, read_at}
+use Rattle.hg_bucket.specs.BucketModel.{Kept, is_at_most, is_open_by, read_at}
 use Rattle.hg_bucket.specs.Sweeping.{with_successors, goes_after, swept, IsClean}
 use Rattle.hg_bucket.specs.Parts.{kept, kept_as, oldest, whole, IsOver}
 use Rattle.hg_bucket.proofs.Bare.{whole_sum}

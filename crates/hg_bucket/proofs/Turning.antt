@@ -7,7 +7,7 @@ use Rattle.hg_chain.specs.declared.version.Version.{Version}
 use Rattle.hg_chain.specs.Places.{Places, list_at, OthersStay as ListsStay}
 use Rattle.hg_space.specs.Index.{place_of, IsIndex}
 use Rattle.hg_space.specs.Places.{Seat, Oldest, taken, image_at, IsTaken}
-use Rattle.hg_bucket.specs.Held.{versions_of, left, OthersStay}
+use Rattle.hg_bucket.specs.BucketModel.{versions_of, left, OthersStay}
 use Rattle.hg_bucket.specs.Parts.{whole, versions_at, records_of, seat_at, SeatsStay, Falls, AreWhole, MayBeBare}
 use Rattle.hg_bucket.proofs.Reading.{found, versions_there}
 use Rattle.hg_bucket.proofs.Seating.{each_place, same_image}

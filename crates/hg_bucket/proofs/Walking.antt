@@ -5,7 +5,7 @@ use Rattle.std.proofs.lemmas.Bool.Decides.{nat_tests}
 use Rattle.hg_base.specs.declared.rid.Rid.{Rid}
 use Rattle.hg_base.specs.declared.rid.TableId.{TableId}
 use Rattle.hg_base.specs.History.{same_rid}
-use Rattle.hg_bucket.specs.Held.{Kept, record_at, cut_at}
+use Rattle.hg_bucket.specs.BucketModel.{Kept, record_at, cut_at}
 use Rattle.hg_bucket.specs.Long.{IsShort}
 use Rattle.hg_bucket.specs.Sweeping.{swept, IsClean}
 

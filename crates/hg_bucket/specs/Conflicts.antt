@@ -5,7 +5,7 @@ use Rattle.hg_base.specs.declared.writer.Writer.{Writer}
 use Rattle.hg_base.specs.Lists.{Each}
 use Rattle.hg_bucket.specs.declared.refusal.WriteRefusal.{WriteRefusal}
 use Rattle.hg_bucket.specs.declared.refusal.WriteRefusal.TheVariants.{Open, Newer, NoMemory}
-use Rattle.hg_bucket.specs.Held.{Kept, is_open_by, begins_open}
+use Rattle.hg_bucket.specs.BucketModel.{Kept, is_open_by, begins_open}
 
 -- whether a version is another's open write, or numbered over the mark
 abbrev pub is_unpublished : Writer → ℕ → Kept → Bool

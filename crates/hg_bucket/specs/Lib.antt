@@ -1,5 +1,5 @@
 -- What a bucket holds, and what its calls do.
-pub mod Held
+pub mod BucketModel
 pub mod Conflicts
 pub mod Sweeping
 pub mod Long

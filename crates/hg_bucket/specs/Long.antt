@@ -2,7 +2,7 @@
 use Rattle.std.specs.Prelude.{◌≡◌, ℕ, ◌≤◌, ◌<◌, List, Some, IsTrue, IsFalse, slice_get}
 use Rattle.hg_base.specs.declared.rid.Rid.{Rid}
 use Rattle.hg_base.specs.declared.rid.TableId.{TableId}
-use Rattle.hg_bucket.specs.Held.{Kept, versions_of, record_at, cut_at}
+use Rattle.hg_bucket.specs.BucketModel.{Kept, versions_of, record_at, cut_at}
 use Rattle.hg_bucket.specs.Sweeping.{swept, IsClean, is_long}
 
 -- no version goes by any cut or sweep, and it is clean already

@@ -12,7 +12,7 @@ use Rattle.hg_space.specs.Places.{Seat, Oldest, image_at, IsTaken, free}
 use Rattle.hg_space.specs.Index.{AreTaken, place_of}
 use Rattle.hg_space.specs.declared.roster.Listed.{Listed}
 use Rattle.hg_space.specs.Rosters.{list_of, keys_of, trimmed, Has}
-use Rattle.hg_bucket.specs.Held.{Kept}
+use Rattle.hg_bucket.specs.BucketModel.{Kept}
 
 -- a version of a chain
 abbrev pub kept_as : Stamp → Image → Kept

@@ -4,7 +4,7 @@ use Rattle.hg_base.specs.declared.rid.Rid.{Rid}
 use Rattle.hg_base.specs.declared.rid.TableId.{TableId}
 use Rattle.hg_base.specs.Lists.{Each}
 use Rattle.hg_base.specs.Lifetimes.{goes, MayStay}
-use Rattle.hg_bucket.specs.Held.{Kept}
+use Rattle.hg_bucket.specs.BucketModel.{Kept}
 
 -- each version with its successor's number, where up is that of the first
 abbrev pub with_successors : Option ℕ → List Kept → List (Option ℕ × Kept)

@@ -4,7 +4,7 @@ use Rattle.hg_base.specs.declared.rid.Rid.{Rid}
 use Rattle.hg_base.specs.declared.image.Image.{Image}
 use Rattle.hg_base.specs.declared.writer.Writer.{Writer}
 use Rattle.hg_bucket.specs.declared.refusal.WriteRefusal.{WriteRefusal}
-use Rattle.hg_bucket.specs.Held.{Kept, versions_of, begins_open, installed, OthersStay, left}
+use Rattle.hg_bucket.specs.BucketModel.{Kept, versions_of, begins_open, installed, OthersStay, left}
 use Rattle.hg_bucket.specs.Conflicts.{conflict, IsCause}
 
 -- into a record

@@ -14,7 +14,7 @@ ghost use Rattle.hg_chain.specs.Sweeps.{Rises};
 ghost use Rattle.hg_base.specs.Lifetimes.{IsGuarded};
 ghost use Rattle.hg_bucket.specs.Sweeping.{swept, IsClean, record_steps, sweep_steps};
 ghost use Rattle.hg_bucket.specs.Long.{AreLong};
-ghost use Rattle.hg_bucket.specs.Held.{long_keys, versions_of, begins_open, installed, stamped, OthersStay, IsBelow, read_at, record_at, cut_at, left, counts_of, IsBalanced, IsNextKey};
+ghost use Rattle.hg_bucket.specs.BucketModel.{long_keys, versions_of, begins_open, installed, stamped, OthersStay, IsBelow, read_at, record_at, cut_at, left, counts_of, IsBalanced, IsNextKey};
 
 use crate::records::Records;
 use crate::refusal::WriteRefusal;
@@ -35,9 +35,9 @@ pub struct Bucket {
 }
 
 impl Model for Bucket {
-    ghost use Rattle.hg_bucket.specs.Held.{Held, IsSound};
+    ghost use Rattle.hg_bucket.specs.BucketModel.{BucketModel, IsSound};
 
-    ghost Value = { Held };
+    ghost Value = { BucketModel };
 
     ghost view = { λ b. record { records = b.records.records; long = b.records.long; made = b.made; undone = b.undone; group = b.group; table = b.table; interval = b.interval } };
 

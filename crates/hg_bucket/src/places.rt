@@ -12,7 +12,7 @@ ghost use Rattle.hg_space.specs.declared.roster.Listed.{Listed};
 ghost use Rattle.hg_space.specs.Rosters.{list_of, StandsIn, StandsNowhere};
 ghost use Rattle.hg_bucket.specs.Conflicts.{conflict};
 ghost use Rattle.hg_bucket.specs.declared.refusal.WriteRefusal.TheVariants.{Newer};
-ghost use Rattle.hg_bucket.specs.Held.{versions_of, OthersStay, left};
+ghost use Rattle.hg_bucket.specs.BucketModel.{versions_of, OthersStay, left};
 ghost use Rattle.hg_bucket.specs.Parts.{oldest_by, settled, whole, records_of, AreWhole, AreListed, AreAlike, ListsAlike, IsGiven, MayBeBare, Enters, Leaves};
 
 use crate::refusal::{WriteRefusal, refusal};

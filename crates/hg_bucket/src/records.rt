@@ -12,7 +12,7 @@ ghost use Rattle.hg_bucket.specs.Writes.{Writes};
 ghost use Rattle.hg_chain.specs.Sweeps.{Rises};
 ghost use Rattle.hg_bucket.specs.Sweeping.{swept, IsClean, is_long, record_steps, sweep_steps};
 ghost use Rattle.hg_bucket.specs.Long.{AreLong};
-ghost use Rattle.hg_bucket.specs.Held.{keys_in, versions_of, begins_open, open_write, installed, stamped, OthersStay, IsBelow, read_at, record_at, cut_at, IsNextKey, left};
+ghost use Rattle.hg_bucket.specs.BucketModel.{keys_in, versions_of, begins_open, open_write, installed, stamped, OthersStay, IsBelow, read_at, record_at, cut_at, IsNextKey, left};
 
 use crate::places::{self, drop_bare, leave_bare};
 use crate::refusal::WriteRefusal;

@@ -28,9 +28,9 @@ struct Run {
 impl Model for Run {
     ghost use Rattle.hg_base.specs.Lists.{Each};
     ghost use Rattle.hg_base.specs.declared.rid.Rid.{Rid};
-    ghost use Rattle.hg_bucket.specs.Held.{Held, IsBelow, versions_of};
+    ghost use Rattle.hg_bucket.specs.BucketModel.{BucketModel, IsBelow, versions_of};
 
-    ghost Value = { Held };
+    ghost Value = { BucketModel };
 
     ghost view = { λ r. r.bucket };
 

@@ -82,4 +82,4 @@ run_alone s [] h a r = a
 run_alone s (e ∷ steps) h a r = run_alone (step s e) steps (step_kept s e h r.0) (step_alone s e h r.0 a) r.1
 
 pub alone_after : Always (λ s. AloneHaveLogs s.sessions s.log)
-alone_after sessions tables buckets passes each steps r = run_alone (opened sessions tables buckets passes each) steps (opened_steady sessions tables buckets passes each) (λ j. inr refl) r
+alone_after sessions tables buckets passes quota steps r = run_alone (opened sessions tables buckets passes quota) steps (opened_steady sessions tables buckets passes quota) (λ j. inr refl) r

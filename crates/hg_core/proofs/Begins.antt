@@ -60,7 +60,7 @@ turn : (s : CoreState) (j : ℕ) (p : Phase) (register : ℕ → Register) (log 
     → ((r : Rid) → open_in r (log j) ≡ None)
     → OpenWritesStand s.mark (begun_in log) (open_writes log) (versions s.buckets s.bucket)
     → StampedIsNext s.mark (open_writes log) (versions s.buckets s.bucket) s.stamped_list
-    → LogsAnswer s.sessions s.each s.history (put s.phase j p) log
+    → LogsAnswer s.sessions s.quota s.history (put s.phase j p) log
     → CountersBalance s.sessions s.buckets s.passes log s.bucket s.counters s.visits
     → IsSteady (record s { phase = put s.phase j p; register = register; log = log })
 turn s j p register log added h session up shows same bounds grown enters replies narrow none stand next answer counters = record {
@@ -99,8 +99,8 @@ turn s j p register log added h session up shows same bounds grown enters replie
         (λ k other r image e. h.open_writes_may_commit k r image (sym (ap (open_in r) (grown.there k other)) ∙ e))
 
 -- its log stays
-quiet : (s : CoreState) (j : ℕ) (p : Phase) → IsSteady s → snapshot_in (s.phase j) ≡ snapshot_in p → FixedOver p (s.log j) → MayHaveBegun s.each p (begans (s.log j)) → LogsAnswer s.sessions s.each s.history (put s.phase j p) s.log
-quiet s j p h same over room = log_step s.sessions s.each s.history s.phase (put s.phase j p) s.log s.log j p (s.log j) h.logs_answer (only_put s.phase j p) (only_same s.log j) (h.logs_answer.reads j ∙ same) room over (h.logs_answer.within j) (h.logs_answer.judged j) (h.logs_answer.undone j) (h.logs_answer.written j) (λ n. refl) (λ n e. e)
+quiet : (s : CoreState) (j : ℕ) (p : Phase) → IsSteady s → snapshot_in (s.phase j) ≡ snapshot_in p → FixedOver p (s.log j) → MayHaveBegun s.quota p (begans (s.log j)) → LogsAnswer s.sessions s.quota s.history (put s.phase j p) s.log
+quiet s j p h same over room = log_step s.sessions s.quota s.history s.phase (put s.phase j p) s.log s.log j p (s.log j) h.logs_answer (only_put s.phase j p) (only_same s.log j) (h.logs_answer.reads j ∙ same) room over (h.logs_answer.within j) (h.logs_answer.judged j) (h.logs_answer.undone j) (h.logs_answer.written j) (λ n. refl) (λ n e. e)
 
 -- only the board's sessions are not at rest
 pub session_at : (s : CoreState) (j : ℕ) → IsSteady s → (s.phase j ≡ Idle → ⊥) → IsSession s.sessions j
@@ -135,7 +135,7 @@ enter_kept s j f h may = turn s j (Entered f) (put s.register j (registers.Enter
     h.replies_answer
     (λ table n reads. absurd reads) (λ r. none_open s.history r (s.log j) (h.logs_answer.judged j) (h.logs_answer.reads j ∙ ap snapshot_in may))
     h.open_writes_stand h.stamped_is_next
-    (quiet s j (Entered f) h (ap snapshot_in may) tt (subst (λ p. MayHaveBegun s.each p (begans (s.log j))) may (h.logs_answer.room j)))
+    (quiet s j (Entered f) h (ap snapshot_in may) tt (subst (λ p. MayHaveBegun s.quota p (begans (s.log j))) may (h.logs_answer.room j)))
     h.counters_balance
 
 pub fix_kept : (s : CoreState) (j f : ℕ) → IsSteady s → May s (Fix j f) → IsSteady (happens s (Fix j f))
@@ -151,7 +151,7 @@ fix_kept s j f h may =
     h.replies_answer
     (λ table n reads. inl reads) (λ r. none_open s.history r (s.log j) (h.logs_answer.judged j) (h.logs_answer.reads j ∙ ap snapshot_in may))
     h.open_writes_stand h.stamped_is_next
-    (quiet s j (Fixed f s.mark) h (ap snapshot_in may) (subst (λ n. UpTo n (s.log j)) (sym h.mark_is_length.is_length) (h.logs_answer.within j)) (subst (λ p. MayHaveBegun s.each p (begans (s.log j))) may (h.logs_answer.room j)))
+    (quiet s j (Fixed f s.mark) h (ap snapshot_in may) (subst (λ n. UpTo n (s.log j)) (sym h.mark_is_length.is_length) (h.logs_answer.within j)) (subst (λ p. MayHaveBegun s.quota p (begans (s.log j))) may (h.logs_answer.room j)))
     h.counters_balance
 
 -- a fixed session's bound is a live one's
@@ -178,9 +178,9 @@ go_live_kept s j m scope h may =
     (λ r. ap (open_in r) (put_here s.log j (Began m scope ∷ s.log j)))
     (stand_alike s.mark (begun_in s.log) (begun_in (put s.log j (Began m scope ∷ s.log j))) (open_writes s.log) _ (versions s.buckets s.bucket) opened (λ k r i. number k r i) h.open_writes_stand)
     (next_alike s.mark (open_writes s.log) _ (versions s.buckets s.bucket) s.stamped_list opened h.stamped_is_next)
-    (log_step s.sessions s.each s.history s.phase (put s.phase j (Live m scope)) s.log (put s.log j (Began m scope ∷ s.log j)) j (Live m scope) (Began m scope ∷ s.log j) h.logs_answer (only_put s.phase j (Live m scope)) (only_put s.log j (Began m scope ∷ s.log j))
+    (log_step s.sessions s.quota s.history s.phase (put s.phase j (Live m scope)) s.log (put s.log j (Began m scope ∷ s.log j)) j (Live m scope) (Began m scope ∷ s.log j) h.logs_answer (only_put s.phase j (Live m scope)) (only_put s.log j (Began m scope ∷ s.log j))
     refl
-    (let room : begans (s.log j) < s.each = subst (λ p. MayHaveBegun s.each p (begans (s.log j))) at (h.logs_answer.room j) in omega arith)
+    (let room : begans (s.log j) < s.quota = subst (λ p. MayHaveBegun s.quota p (begans (s.log j))) at (h.logs_answer.room j) in omega arith)
     tt
     (below, h.logs_answer.within j)
     (record { within = below; over = over; alone = h.logs_answer.reads j ∙ ap snapshot_in at }, h.logs_answer.judged j)
@@ -208,12 +208,12 @@ not_entering Idle some e = e
 not_entering (Probed f) some e = e
 not_entering (Live at scope) some e = e
 
-live_room : (each n : ℕ) (p : Phase) → IsSome (snapshot_in p) → MayHaveBegun each p n → n ≤ each
-live_room each n Idle some e = e
-live_room each n (Probed f) some e = omega arith
-live_room each n (Entered f) some e = omega arith
-live_room each n (Fixed f m) some e = omega arith
-live_room each n (Live at scope) some e = e
+live_room : (quota n : ℕ) (p : Phase) → IsSome (snapshot_in p) → MayHaveBegun quota p n → n ≤ quota
+live_room quota n Idle some e = e
+live_room quota n (Probed f) some e = omega arith
+live_room quota n (Entered f) some e = omega arith
+live_room quota n (Fixed f m) some e = omega arith
+live_room quota n (Live at scope) some e = e
 
 pub end_kept : (s : CoreState) (j : ℕ) → IsSteady s → May s (End j) → IsSteady (happens s (End j))
 end_kept s j h may = turn s j Idle (put s.register j registers.Idle) (put s.log j (Over ∷ s.log j)) (Over ∷ []) h (session_at s j h (no_snapshot _ may.live))
@@ -227,7 +227,7 @@ end_kept s j h may = turn s j Idle (put s.register j registers.Idle) (put s.log 
     (λ table n reads. absurd reads) (λ r. ap (open_in r) (put_here s.log j (Over ∷ s.log j)))
     (stand_alike s.mark (begun_in s.log) (begun_in (put s.log j (Over ∷ s.log j))) (open_writes s.log) _ (versions s.buckets s.bucket) opened (λ k r i e. number k) h.open_writes_stand)
     (next_alike s.mark (open_writes s.log) _ (versions s.buckets s.bucket) s.stamped_list opened h.stamped_is_next)
-    (log_step s.sessions s.each s.history s.phase (put s.phase j Idle) s.log (put s.log j (Over ∷ s.log j)) j Idle (Over ∷ s.log j) h.logs_answer (only_put s.phase j Idle) (only_put s.log j (Over ∷ s.log j))
+    (log_step s.sessions s.quota s.history s.phase (put s.phase j Idle) s.log (put s.log j (Over ∷ s.log j)) j Idle (Over ∷ s.log j) h.logs_answer (only_put s.phase j Idle) (only_put s.log j (Over ∷ s.log j))
     refl
     (live_room _ _ _ may.live (h.logs_answer.room j))
     tt

@@ -31,12 +31,12 @@ firsts_most buckets n (Published m ∷ log) = firsts_most buckets n log
 firsts_most buckets n (Over ∷ log) = firsts_most buckets n log
 
 -- what was made in all buckets
-pub made_most : (s : CoreState) → IsSteady s → sum_below s.buckets (λ b. (s.counters b).made) ≤ s.sessions * s.each
+pub made_most : (s : CoreState) → IsSteady s → sum_below s.buckets (λ b. (s.counters b).made) ≤ s.sessions * s.quota
 made_most s h =
     let all : sum_below s.buckets (λ b. sum_to s.sessions (λ j. first_writes (is_of s.buckets b) (s.log j))) ≡ sum_below s.buckets (λ b. (s.counters b).made) = below_same s.buckets (λ b. (s.counters b).made) (λ b. sum_to s.sessions (λ j. first_writes (is_of s.buckets b) (s.log j))) (λ b less. sym (h.counters_balance.made b)) in
     let swapped = sums_swap s.buckets s.sessions (λ b j. first_writes (is_of s.buckets b) (s.log j)) in
-    let most : (j : ℕ) → sum_below s.buckets (λ b. first_writes (is_of s.buckets b) (s.log j)) ≤ s.each = λ j. omega (arith, firsts_most s.buckets s.buckets (s.log j), h.logs_answer.written j) in
-    omega (arith, all, swapped, sum_most s.sessions s.each (λ j. sum_below s.buckets (λ b. first_writes (is_of s.buckets b) (s.log j))) most)
+    let most : (j : ℕ) → sum_below s.buckets (λ b. first_writes (is_of s.buckets b) (s.log j)) ≤ s.quota = λ j. omega (arith, firsts_most s.buckets s.buckets (s.log j), h.logs_answer.written j) in
+    omega (arith, all, swapped, sum_most s.sessions s.quota (λ j. sum_below s.buckets (λ b. first_writes (is_of s.buckets b) (s.log j))) most)
 
 -- ---- the mark
 

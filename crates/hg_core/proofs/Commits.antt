@@ -70,12 +70,12 @@ numbers_most m j (Wrote r image ∷ log) = numbers_most m j log
 numbers_most m j (Undid r ∷ log) = numbers_most m j log
 numbers_most m j (Over ∷ log) = numbers_most m j log
 
-begun_most : (each n : ℕ) (p : Phase) → MayHaveBegun each p n → n ≤ each
-begun_most each n Idle h = h
-begun_most each n (Probed f) h = omega (arith, h)
-begun_most each n (Entered f) h = omega (arith, h)
-begun_most each n (Fixed f m) h = omega (arith, h)
-begun_most each n (Live at scope) h = h
+begun_most : (quota n : ℕ) (p : Phase) → MayHaveBegun quota p n → n ≤ quota
+begun_most quota n Idle h = h
+begun_most quota n (Probed f) h = omega (arith, h)
+begun_most quota n (Entered f) h = omega (arith, h)
+begun_most quota n (Fixed f m) h = omega (arith, h)
+begun_most quota n (Live at scope) h = h
 
 -- ---- one group
 
@@ -136,7 +136,7 @@ summed first (g ∷ h) =
     unlike j k other = grind (arith, nat_tests)
 
 -- the commits are at most the begins
-pub commits_most : (s : CoreState) → IsSteady s → AloneHaveLogs s.sessions s.log → commits_in s.history ≤ s.sessions * s.each
+pub commits_most : (s : CoreState) → IsSteady s → AloneHaveLogs s.sessions s.log → commits_in s.history ≤ s.sessions * s.quota
 commits_most s h alone =
     let a = h.logs_answer in
     let m : ℕ = 1 + length s.history in
@@ -145,6 +145,6 @@ commits_most s h alone =
     let total : commits_in s.history ≡ sum_below m (λ i. length (group_at s.history i)) = summed 1 s.history in
     let turned : sum_below m (λ i. length (group_at s.history i)) ≡ sum_below m (λ i. sum_to s.sessions (λ j. length (published i j (s.log j)))) = below_same m (λ i. sum_to s.sessions (λ j. length (published i j (s.log j)))) (λ i. length (group_at s.history i)) (λ i l. group i) in
     let swapped = sums_swap m s.sessions (λ i j. length (published i j (s.log j))) in
-    let few : (j : ℕ) → sum_below m (λ i. length (published i j (s.log j))) ≤ s.each = λ j. omega (arith, numbers_most m j (s.log j), (fewer s.history (s.log j) (a.judged j)).most, begun_most s.each (begans (s.log j)) (s.phase j) (a.room j)) in
-    let most = sum_most s.sessions s.each (λ j. sum_below m (λ i. length (published i j (s.log j)))) few in
+    let few : (j : ℕ) → sum_below m (λ i. length (published i j (s.log j))) ≤ s.quota = λ j. omega (arith, numbers_most m j (s.log j), (fewer s.history (s.log j) (a.judged j)).most, begun_most s.quota (begans (s.log j)) (s.phase j) (a.room j)) in
+    let most = sum_most s.sessions s.quota (λ j. sum_below m (λ i. length (published i j (s.log j)))) few in
     omega (arith, total, turned, swapped, most)

@@ -98,15 +98,15 @@ groups_counted sessions log (suc n) named =
     let less : (m : ℕ) → 0 < m → m ≤ n → IsNamed sessions log m = λ m some last. named m some (omega arith) in
     omega (arith, groups_counted sessions log n less, sum_more sessions (λ j. numbers_to n (log j)) (λ j. numbers_to (suc n) (log j)) one.0 one.1.first one.1.last (λ k. numbers_grow n (log k)) (numbers_named n (log one.0) one.2))
 
-begun_most : (each n : ℕ) (p : Phase) → MayHaveBegun each p n → n ≤ each
-begun_most each n Idle e = e
-begun_most each n (Probed f) e = omega arith
-begun_most each n (Entered f) e = omega arith
-begun_most each n (Fixed f m) e = omega arith
-begun_most each n (Live at scope) e = e
+begun_most : (quota n : ℕ) (p : Phase) → MayHaveBegun quota p n → n ≤ quota
+begun_most quota n Idle e = e
+begun_most quota n (Probed f) e = omega arith
+begun_most quota n (Entered f) e = omega arith
+begun_most quota n (Fixed f m) e = omega arith
+begun_most quota n (Live at scope) e = e
 
-pub mark_most : (s : CoreState) → IsSteady s → s.mark ≤ s.sessions * s.each
+pub mark_most : (s : CoreState) → IsSteady s → s.mark ≤ s.sessions * s.quota
 mark_most s h =
     let n = length s.history in
-    let each_most : (k : ℕ) → numbers_to n (s.log k) ≤ s.each = λ k. omega (arith, (counted s.history n (s.log k) (h.logs_answer.judged k)).most, begun_most s.each (begans (s.log k)) (s.phase k) (h.logs_answer.room k)) in
-    omega (arith, h.mark_is_length.is_length, groups_counted s.sessions s.log n h.logs_answer.named, sum_most s.sessions s.each (λ j. numbers_to n (s.log j)) each_most)
+    let each_most : (k : ℕ) → numbers_to n (s.log k) ≤ s.quota = λ k. omega (arith, (counted s.history n (s.log k) (h.logs_answer.judged k)).most, begun_most s.quota (begans (s.log k)) (s.phase k) (h.logs_answer.room k)) in
+    omega (arith, h.mark_is_length.is_length, groups_counted s.sessions s.log n h.logs_answer.named, sum_most s.sessions s.quota (λ j. numbers_to n (s.log j)) each_most)

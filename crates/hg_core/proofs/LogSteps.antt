@@ -9,22 +9,22 @@ use Rattle.hg_core.specs.Phases.{snapshot_in, MayHaveBegun}
 use Rattle.hg_core.specs.Judged.{Judged, UndoesOpen, FixedOver, of_session, LogsAnswer}
 use Rattle.hg_core.proofs.Indices.{at_index, Only}
 
-pub log_step : (sessions each : ℕ) (history : History) (phase phase' : ℕ → Phase) (log log' : ℕ → List LogEntry) (j : ℕ) (p : Phase) (l : List LogEntry)
-    → LogsAnswer sessions each history phase log → Only phase phase' j p → Only log log' j l
+pub log_step : (sessions quota : ℕ) (history : History) (phase phase' : ℕ → Phase) (log log' : ℕ → List LogEntry) (j : ℕ) (p : Phase) (l : List LogEntry)
+    → LogsAnswer sessions quota history phase log → Only phase phase' j p → Only log log' j l
     → current l ≡ snapshot_in p
-    → MayHaveBegun each p (begans l)
+    → MayHaveBegun quota p (begans l)
     → FixedOver p l
     → UpTo (length history) l
     → Judged history l
     → UndoesOpen l
-    → wrotes l ≤ each
+    → wrotes l ≤ quota
     → ((n : ℕ) → published n j l ≡ published n j (log j))
     → ((n : ℕ) → IsTrue (has_number n (log j)) → IsTrue (has_number n l))
-    → LogsAnswer sessions each history phase' log'
-log_step sessions each history phase phase' log log' j p l h op ol reads room fixed within judged undone wrote commits named = record {
+    → LogsAnswer sessions quota history phase' log'
+log_step sessions quota history phase phase' log log' j p l h op ol reads room fixed within judged undone wrote commits named = record {
   reads = at_index j (λ k. current (log' k) ≡ snapshot_in (phase' k)) (rw (ol.here, op.here) reads) (λ k other. rw (ol.there k other, op.there k other) (h.reads k));
-  room = at_index j (λ k. MayHaveBegun each (phase' k) (begans (log' k))) (rw (ol.here, op.here) room) (λ k other. rw (ol.there k other, op.there k other) (h.room k));
-  written = at_index j (λ k. wrotes (log' k) ≤ each) (rw ol.here wrote) (λ k other. rw (ol.there k other) (h.written k));
+  room = at_index j (λ k. MayHaveBegun quota (phase' k) (begans (log' k))) (rw (ol.here, op.here) room) (λ k other. rw (ol.there k other, op.there k other) (h.room k));
+  written = at_index j (λ k. wrotes (log' k) ≤ quota) (rw ol.here wrote) (λ k other. rw (ol.there k other) (h.written k));
   fixed = at_index j (λ k. FixedOver (phase' k) (log' k)) (rw (ol.here, op.here) fixed) (λ k other. rw (ol.there k other, op.there k other) (h.fixed k));
   within = at_index j (λ k. UpTo (length history) (log' k)) (rw ol.here within) (λ k other. rw (ol.there k other) (h.within k));
   judged = at_index j (λ k. Judged history (log' k)) (rw ol.here judged) (λ k other. rw (ol.there k other) (h.judged k));

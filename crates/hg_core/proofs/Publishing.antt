@@ -77,8 +77,8 @@ over_live (Entered f) log some = tt
 over_live (Fixed f m) log some = cc
 over_live (Live at scope) log some = tt
 
-logs_published : (sessions each : ℕ) (h : History) (phase : ℕ → Phase) (log : ℕ → List LogEntry) (list : List (ℕ × Rid)) (js : List ℕ) → LogsAnswer sessions each h phase log → ((j : ℕ) → IsSome (current (log j)) → IsSession sessions j) → MayPublish log list js → LogsAnswer sessions each (h ++ new_group log js ∷ []) phase (published_logs log js (suc (length h)))
-logs_published sessions each h phase log list js a session_of may = record {
+logs_published : (sessions quota : ℕ) (h : History) (phase : ℕ → Phase) (log : ℕ → List LogEntry) (list : List (ℕ × Rid)) (js : List ℕ) → LogsAnswer sessions quota h phase log → ((j : ℕ) → IsSome (current (log j)) → IsSession sessions j) → MayPublish log list js → LogsAnswer sessions quota (h ++ new_group log js ∷ []) phase (published_logs log js (suc (length h)))
+logs_published sessions quota h phase log list js a session_of may = record {
   reads = λ j. reads_new j (is_in js j);
   room = λ j. room_new j (is_in js j);
   written = λ j. written_new j (is_in js j);
@@ -119,7 +119,7 @@ logs_published sessions each h phase log list js a session_of may = record {
     reads_new j true = a.reads j
     reads_new j false = a.reads j
 
-    room_new : (j : ℕ) (b : Bool) → MayHaveBegun each (phase j) (begans (if b then Published (suc (length h)) ∷ log j else log j))
+    room_new : (j : ℕ) (b : Bool) → MayHaveBegun quota (phase j) (begans (if b then Published (suc (length h)) ∷ log j else log j))
     room_new j true = a.room j
     room_new j false = a.room j
 
@@ -127,7 +127,7 @@ logs_published sessions each h phase log list js a session_of may = record {
     undone_new j true = a.undone j
     undone_new j false = a.undone j
 
-    written_new : (j : ℕ) (b : Bool) → wrotes (if b then Published (suc (length h)) ∷ log j else log j) ≤ each
+    written_new : (j : ℕ) (b : Bool) → wrotes (if b then Published (suc (length h)) ∷ log j else log j) ≤ quota
     written_new j true = a.written j
     written_new j false = a.written j
 
@@ -187,7 +187,7 @@ publish_kept s js h may = record {
   no_update_is_lost = update_more s.history (new_group s.log js) h.no_update_is_lost (group_loses_nothing s.history s.phase s.log js h.logs_answer.reads h.open_writes_may_commit may.plain);
   taken_at_most_mark = omega (arith, h.taken_at_most_mark);
   replies_answer = subst (λ n. RepliesAnswer s.buckets (s.history ++ new_group s.log js ∷ []) (published_logs s.log js (suc n))) (sym h.mark_is_length.is_length) (replies_published s.buckets s.history (new_group s.log js) s.log js h.logs_answer.within h.replies_answer);
-  logs_answer = subst (λ n. LogsAnswer s.sessions s.each (s.history ++ new_group s.log js ∷ []) s.phase (published_logs s.log js (suc n))) (sym h.mark_is_length.is_length) (logs_published s.sessions s.each s.history s.phase s.log s.stamped_list js h.logs_answer session_of may);
+  logs_answer = subst (λ n. LogsAnswer s.sessions s.quota (s.history ++ new_group s.log js ∷ []) s.phase (published_logs s.log js (suc n))) (sym h.mark_is_length.is_length) (logs_published s.sessions s.quota s.history s.phase s.log s.stamped_list js h.logs_answer session_of may);
 }
   where
     session_of : (j : ℕ) → IsSome (current (s.log j)) → IsSession s.sessions j

@@ -48,8 +48,8 @@ none_removed Group = refl
 none_removed Table = refl
 none_removed Interval = refl
 
-pub opened_steady : (sessions tables buckets passes each : ℕ) → IsSteady (opened sessions tables buckets passes each)
-opened_steady sessions tables buckets passes each = record {
+pub opened_steady : (sessions tables buckets passes quota : ℕ) → IsSteady (opened sessions tables buckets passes quota)
+opened_steady sessions tables buckets passes quota = record {
   contents_are_placed = λ b. record { bucket = tt; table = tt; once = tt };
   counters_balance = record { made = λ b. sym (sum_none sessions); undone = λ b. sym (sum_none sessions); removed = λ kind b. none_removed kind ∙ sym (below_none passes); balance = λ b. refl };
   visits_stay = record { each = λ p. tt; others = λ p. inr refl };
@@ -70,4 +70,4 @@ opened_steady sessions tables buckets passes each = record {
 }
 
 pub steady_after : Always IsSteady
-steady_after sessions tables buckets passes each steps r = run_kept (opened sessions tables buckets passes each) steps (opened_steady sessions tables buckets passes each) r
+steady_after sessions tables buckets passes quota steps r = run_kept (opened sessions tables buckets passes quota) steps (opened_steady sessions tables buckets passes quota) r

@@ -24,5 +24,5 @@ shown_has_word tables mark (Entered f) register a u t m = subst IsRegister (sym 
 shown_has_word tables mark (Fixed f n) register a u t m = subst IsRegister (sym a.0) (record { number = omega (arith, u.0); tables = tt })
 shown_has_word tables mark (Live at scope) register a u t m = subst IsRegister (sym a.1.value) (record { number = omega arith; tables = below_more tables 16 scope t a.1.within })
 
-pub has_word : (s : CoreState) (j : ℕ) → IsSteady s → s.tables ≤ 16 → s.sessions * s.each < 2 ^ 44 → IsRegister (s.register j)
+pub has_word : (s : CoreState) (j : ℕ) → IsSteady s → s.tables ≤ 16 → s.sessions * s.quota < 2 ^ 44 → IsRegister (s.register j)
 has_word s j h tables room = shown_has_word s.tables s.mark (s.phase j) (s.register j) (h.registers_agree.shows j) (h.mark_is_length.sessions j) tables (omega (arith, mark_most s h))

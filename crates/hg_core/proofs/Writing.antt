@@ -92,11 +92,11 @@ own_judge top h (Wrote r image) log own s = s
 own_judge top h (Undid r) log own s = s
 own_judge top h _ log own s = absurd own
 
-pub answer_more : (s : CoreState) (j : ℕ) (e : LogEntry) → IsSteady s → IsOwn (length s.history) e → IsSome (current (s.log j)) → UndoesOpen (e ∷ s.log j) → wrotes (e ∷ s.log j) ≤ s.each → LogsAnswer s.sessions s.each s.history s.phase (put s.log j (e ∷ s.log j))
+pub answer_more : (s : CoreState) (j : ℕ) (e : LogEntry) → IsSteady s → IsOwn (length s.history) e → IsSome (current (s.log j)) → UndoesOpen (e ∷ s.log j) → wrotes (e ∷ s.log j) ≤ s.quota → LogsAnswer s.sessions s.quota s.history s.phase (put s.log j (e ∷ s.log j))
 answer_more s j e h own some undone room =
     let top : ℕ = length s.history in
     let same = own_same top e (s.log j) own in
-    log_step s.sessions s.each s.history s.phase s.phase s.log (put s.log j (e ∷ s.log j)) j (s.phase j) (e ∷ s.log j) h.logs_answer (only_same s.phase j) (only_put s.log j (e ∷ s.log j))
+    log_step s.sessions s.quota s.history s.phase s.phase s.log (put s.log j (e ∷ s.log j)) j (s.phase j) (e ∷ s.log j) h.logs_answer (only_same s.phase j) (only_put s.log j (e ∷ s.log j))
     (same.0 ∙ h.logs_answer.reads j)
     (rw same.1 (h.logs_answer.room j))
     (over_live (s.phase j) (e ∷ s.log j) (subst IsSome (h.logs_answer.reads j) some))

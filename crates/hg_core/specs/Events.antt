@@ -136,7 +136,7 @@ happens s (Look j ask b rows) = record s { log = put s.log j (looked s j ask b r
 pub record MayProbe (s : CoreState) (j : ℕ) : Type 0 where
   pub session : IsSession s.sessions j
   pub rests : s.phase j ≡ Idle
-  pub room : begans (s.log j) < s.each
+  pub room : begans (s.log j) < s.quota
 
 -- a session may go live at the number that it fixed, with tables that are there
 pub record MayGoLive (s : CoreState) (j m : ℕ) (scope : Scope) : Type 0 where
@@ -166,7 +166,7 @@ pub record MayInstall (s : CoreState) (j : ℕ) (r : Rid) (at : ℕ) (scope : Sc
   pub there : r.table.0 < s.tables
   pub plain : IsTrue (is_plain (s.log j))
   pub unstamped : IsFalse (has_stamped j s.stamped_list)
-  pub room : wrotes (s.log j) < s.each
+  pub room : wrotes (s.log j) < s.quota
   pub free : IsFreeFor s.mark (writer_of (begun_in s.log) j) (versions s.buckets s.bucket r)
   pub newest : IfSome (newest_at s.mark (versions s.buckets s.bucket r)) (λ pair. pair.0 ≤ at)
 

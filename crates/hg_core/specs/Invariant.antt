@@ -40,7 +40,7 @@ pub record IsSteady (s : CoreState) : Type 0 where
   pub history : IsHistory s.history
   pub no_update_is_lost : NoLostUpdate s.history
   -- the logs give the history; each begin is at or over all numbers before it in its log; an entry stands in an open transaction
-  pub logs_answer : LogsAnswer s.sessions s.each s.history s.phase s.log
+  pub logs_answer : LogsAnswer s.sessions s.quota s.history s.phase s.log
   -- each entry says what a table replies that never reclaims
   pub replies_answer : RepliesAnswer s.buckets s.history s.log
   -- each register that a record has was once what its session's log says

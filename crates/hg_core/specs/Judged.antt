@@ -59,11 +59,11 @@ of_session j group = filter (λ c. c.session == j) group
 abbrev pub IsNamed : ℕ → (ℕ → List LogEntry) → ℕ → Type 0
 IsNamed sessions log n = (j : ℕ) × IsSession sessions j × IsTrue (has_number n (log j))
 
-pub record LogsAnswer (sessions each : ℕ) (history : History) (phase : ℕ → Phase) (log : ℕ → List LogEntry) : Type 0 where
+pub record LogsAnswer (sessions quota : ℕ) (history : History) (phase : ℕ → Phase) (log : ℕ → List LogEntry) : Type 0 where
   -- a session reads at the snapshot of the transaction that its log has open
   pub reads : (j : ℕ) → current (log j) ≡ snapshot_in (phase j)
-  pub room : (j : ℕ) → MayHaveBegun each (phase j) (begans (log j))
-  pub written : (j : ℕ) → wrotes (log j) ≤ each
+  pub room : (j : ℕ) → MayHaveBegun quota (phase j) (begans (log j))
+  pub written : (j : ℕ) → wrotes (log j) ≤ quota
   pub fixed : (j : ℕ) → FixedOver (phase j) (log j)
   -- no number is over the mark
   pub within : (j : ℕ) → UpTo (length history) (log j)

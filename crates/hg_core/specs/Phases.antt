@@ -27,8 +27,8 @@ IsEntering (Live at scope) = ⊥
 
 -- how many transactions a session in this phase may have begun: fewer than all that it may, while it takes a snapshot
 abbrev pub MayHaveBegun : ℕ → Phase → ℕ → Type 0
-MayHaveBegun each Idle n = n ≤ each
-MayHaveBegun each (Probed f) n = n < each
-MayHaveBegun each (Entered f) n = n < each
-MayHaveBegun each (Fixed f m) n = n < each
-MayHaveBegun each (Live at scope) n = n ≤ each
+MayHaveBegun quota Idle n = n ≤ quota
+MayHaveBegun quota (Probed f) n = n < quota
+MayHaveBegun quota (Entered f) n = n < quota
+MayHaveBegun quota (Fixed f m) n = n < quota
+MayHaveBegun quota (Live at scope) n = n ≤ quota

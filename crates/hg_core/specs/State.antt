@@ -19,7 +19,7 @@ pub record CoreState : Type 0 where
   pub sessions : ℕ
   pub tables : ℕ
   pub buckets : ℕ
-  pub each : ℕ
+  pub quota : ℕ
   -- how many collector passes there are
   pub passes : ℕ
   -- the words, which all may load: the mark, and the register of each session
@@ -42,11 +42,11 @@ pub record CoreState : Type 0 where
 
 -- the state in which a board opens
 abbrev pub opened : ℕ → ℕ → ℕ → ℕ → ℕ → CoreState
-opened sessions tables buckets passes each = record {
+opened sessions tables buckets passes quota = record {
   sessions = sessions;
   tables = tables;
   buckets = buckets;
-  each = each;
+  quota = quota;
   passes = passes;
   mark = 0;
   register = λ j. registers.Idle;

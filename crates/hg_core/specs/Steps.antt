@@ -59,4 +59,4 @@ acts events = map Act events
 
 -- P holds after every list of steps, from the state in which a board of any numbers opens
 abbrev pub Always : (CoreState → Type 0) → Type 0
-Always P = (sessions tables buckets passes each : ℕ) (steps : List Step) → Run (opened sessions tables buckets passes each) steps → P (run (opened sessions tables buckets passes each) steps)
+Always P = (sessions tables buckets passes quota : ℕ) (steps : List Step) → Run (opened sessions tables buckets passes quota) steps → P (run (opened sessions tables buckets passes quota) steps)

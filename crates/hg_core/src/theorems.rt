@@ -114,13 +114,13 @@ pub fn history_is_sound()
 /// No commit number passes the number of sessions times how often each may begin. And the logs tell the mark: it is the
 /// greatest commit number in them.
 pub fn mark_is_bounded()
-    ensures most { Always (λ s. s.mark ≤ s.sessions * s.each) }
+    ensures most { Always (λ s. s.mark ≤ s.sessions * s.quota) }
     ensures told { Always (λ s. s.mark ≡ newest_of s.sessions s.log) }
 {}
 
 /// Nor does the number of commits: a session commits a transaction once, and nobody but the board's sessions begins one.
 pub fn commits_are_bounded()
-    ensures most { Always (λ s. commits_in s.history ≤ s.sessions * s.each) }
+    ensures most { Always (λ s. commits_in s.history ≤ s.sessions * s.quota) }
     ensures alone { Always (λ s. AloneHaveLogs s.sessions s.log) }
 {}
 
@@ -133,7 +133,7 @@ pub fn what_is_open_is_new()
 /// Nor does any count of versions: what was made in all buckets together is at most the number of sessions times how often each may write,
 /// and what was undone, removed and held is what was made.
 pub fn counts_are_bounded()
-    ensures { Always (λ s. sum_below s.buckets (λ b. (s.counters b).made) ≤ s.sessions * s.each) }
+    ensures { Always (λ s. sum_below s.buckets (λ b. (s.counters b).made) ≤ s.sessions * s.quota) }
 {}
 
 /// What settles. Where a record found all registers idle, as those of sessions at rest are, each bound is its mark. Where all
@@ -169,5 +169,5 @@ pub fn a_visit_counts()
 pub fn words_are_exact()
     ensures back { (register : Register) → IsRegister register → register_of (word_of register) ≡ register }
     ensures fits { (register : Register) → IsRegister register → word_of register < 2 ^ 64 }
-    ensures all { (s : CoreState) (j : ℕ) → IsSteady s → s.tables ≤ 16 → s.sessions * s.each < 2 ^ 44 → IsRegister (s.register j) }
+    ensures all { (s : CoreState) (j : ℕ) → IsSteady s → s.tables ≤ 16 → s.sessions * s.quota < 2 ^ 44 → IsRegister (s.register j) }
 {}

@@ -81,18 +81,18 @@ module _ (s : CoreState) (h : IsSteady s) where
   by_buckets : (p : ℕ) → p < s.passes → (b : ℕ) → removed_in Group b (s.visits p) ≤ (s.counters b).made
   by_buckets p less b = omega (arith, below_has s.passes p (λ q. removed_in Group b (s.visits q)) less, h.counters_balance.removed Group b, h.counters_balance.balance b)
 
-  all_made : sum_below s.buckets (λ b. (s.counters b).made) ≤ s.sessions * s.each
+  all_made : sum_below s.buckets (λ b. (s.counters b).made) ≤ s.sessions * s.quota
   all_made =
       let logs = λ (b : ℕ). sum_to s.sessions (λ j. first_writes (is_of s.buckets b) (s.log j)) in
       let same = below_least s.buckets (λ b. (s.counters b).made) logs (λ b. omega (arith, h.counters_balance.made b)) in
       let swap = sums_swap s.buckets s.sessions (λ b j. first_writes (is_of s.buckets b) (s.log j)) in
-      let most = sum_most s.sessions s.each (λ j. sum_below s.buckets (λ b. first_writes (is_of s.buckets b) (s.log j))) (λ j. omega (arith, firsts_all s.buckets s.buckets (s.log j), h.logs_answer.written j)) in
+      let most = sum_most s.sessions s.quota (λ j. sum_below s.buckets (λ b. first_writes (is_of s.buckets b) (s.log j))) (λ j. omega (arith, firsts_all s.buckets s.buckets (s.log j), h.logs_answer.written j)) in
       omega (arith, same, swap, most)
 
-  pub few_removed : (p : ℕ) → removed_all (s.visits p) ≤ s.sessions * s.each
+  pub few_removed : (p : ℕ) → removed_all (s.visits p) ≤ s.sessions * s.quota
   few_removed p = go (h.visits_stay.others p)
     where
-      go : (p < s.passes) ⊎ (s.visits p ≡ []) → removed_all (s.visits p) ≤ s.sessions * s.each
+      go : (p < s.passes) ⊎ (s.visits p ≡ []) → removed_all (s.visits p) ≤ s.sessions * s.quota
       go (inl less) =
           let all = all_in s.buckets (s.visits p) (each_map _ _ (λ v i. i.bucket) (s.visits p) (h.visits_stay.each p)) in
           let least = below_least s.buckets (λ b. removed_in Group b (s.visits p)) (λ b. (s.counters b).made) (by_buckets p less) in
@@ -106,7 +106,7 @@ few z mark v room k own =
     let s = k.state in
     let shown : Shown s (OfPass (number v) (pass v)) = (subst (Each (Shown s)) own k.true_of.parts).0 in
     let e : removed_all (s.visits (number v)) ≡ removed_all (pass v).visits = ap removed_all shown.1.0 in
-    let size : s.sessions * s.each ≡ z.sessions * z.each = λ i. k.sized.sessions i * k.sized.each i in
+    let size : s.sessions * s.quota ≡ z.sessions * z.quota = λ i. k.sized.sessions i * k.sized.quota i in
     omega (arith, few_removed s k.steady (number v), e, size, room.begins)
 
 pub length_most : (r : Rid) (content : Content) → length (look r content) ≤ total content

@@ -13,7 +13,7 @@ use Rattle.hg_rule.specs.Views.{number, number_in, pass, pass_there, first_in, a
 use Rattle.hg_rule.specs.Rounds.{IsWork}
 use Rattle.hg_rule.proofs.Growing.{among_later}
 use Rattle.hg_rule.proofs.Lists.{each_map}
-use Rattle.hg_rule.proofs.Rounds.{removed_on, takes_on}
+use Rattle.hg_rule.proofs.Rounds.{gone_on, takes_on}
 use Rattle.hg_gc_group.specs.Cutting.{removed_all, WasCut, GoesOn, CutsAll}
 
 pub among_first : {A : Type 0} (a : A) (xs more : List A) → IsAmong a xs → IsAmong a (xs ++ more)
@@ -64,7 +64,7 @@ goes_on u v w a b = record {
   visits = b.visits ++ a.visits;
   steps = a.steps ++ b.steps;
   work = works a.steps b.steps a.work b.work;
-  sum = let l = removed_on a.steps b.steps in let r = removed_append b.visits a.visits in omega (arith, l, r, a.sum, b.sum);
+  sum = let l = gone_on a.steps b.steps in let r = removed_append b.visits a.visits in omega (arith, l, r, a.sum, b.sum);
   parts = b.parts ∙ ap F a.parts ∙ ap (λ vs. OfPass (number u) (record (pass u) { visits = vs }) ∷ others u) (sym (append_assoc b.visits a.visits (pass u).visits));
   kept = (a.kept.0 ++ b.kept.0, b.kept.1 ∙ (ap (λ l. l ++ b.kept.0) a.kept.1 ∙ append_assoc u.sights a.kept.0 b.kept.0));
   events = b.events ∙ (ap (λ l. l ++ b.steps) a.events ∙ append_assoc u.events a.steps b.steps);
@@ -95,7 +95,7 @@ cuts_more buckets bound u v w xs ys m n a b =
     let C : Rid → Type 0 = λ r. WasCut buckets (number u) (pass u).mark bound (b.on.visits ++ a.on.visits) (a.on.steps ++ b.on.steps) r in
     let there : Each (WasCut buckets (number u) (pass u).mark bound b.on.visits b.on.steps) ys = subst (λ (k : ℕ × ℕ). Each (WasCut buckets k.0 k.1 bound b.on.visits b.on.steps) ys) (λ i. (s.number_is i, s.mark_is i)) b.cut in record {
       on = goes_on u v w a.on b.on;
-      gone_is = let l = removed_on a.on.steps b.on.steps in omega (arith, l, a.gone_is, b.gone_is);
+      gone_is = let l = gone_on a.on.steps b.on.steps in omega (arith, l, a.gone_is, b.gone_is);
       takes_none = let l = takes_on a.on.steps b.on.steps in omega (arith, l, a.takes_none, b.takes_none);
       cut = each_append C xs ys
           (each_map _ C (λ r c. cut_before buckets (number u) (pass u).mark bound r a.on.visits b.on.visits a.on.steps b.on.steps c) xs a.cut)

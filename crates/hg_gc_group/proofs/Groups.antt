@@ -17,7 +17,7 @@ use Rattle.hg_rule.specs.Facts.{IsAmong, StartsWith, record_of}
 use Rattle.hg_rule.specs.Views.{number, pass, HasPass}
 use Rattle.hg_rule.specs.Rounds.{seen_taken}
 use Rattle.hg_rule.proofs.Lists.{each_map}
-use Rattle.hg_rule.proofs.Rounds.{removed_on, takes_on, taken_append}
+use Rattle.hg_rule.proofs.Rounds.{gone_on, takes_on, taken_append}
 use Rattle.hg_group.specs.declared.context.GroupContext.{GroupContext}
 use Rattle.hg_group.specs.Oldest.{TakesOne, TakesNone, TakesOldest}
 use Rattle.hg_gc_group.specs.Cutting.{removed_all, WasCut, GoesOn, CutsAll}
@@ -93,8 +93,8 @@ module _ (buckets bound : ℕ) (u v : View) (m : ℕ) (a : TakesGroups buckets b
       let p = number u in
       let mark = (pass u).mark in
       let cuts : Each (WasCut buckets p mark bound b.on.visits b.on.steps) c.records.list = subst (λ (k : ℕ × ℕ). Each (WasCut buckets k.0 k.1 bound b.on.visits b.on.steps) c.records.list) (λ i. (s.number_is i, s.mark_is i)) b.cut in
-      let r1 = removed_on a.on.steps first.steps in
-      let r2 = removed_on to.steps b.on.steps in
+      let r1 = gone_on a.on.steps first.steps in
+      let r2 = gone_on to.steps b.on.steps in
       let k1 = takes_on a.on.steps first.steps in
       let k2 = takes_on to.steps b.on.steps in record {
         on = goes_on u x w to b.on;
@@ -112,7 +112,7 @@ module _ (buckets bound : ℕ) (u v : View) (m : ℕ) (a : TakesGroups buckets b
   pub groups_all : (w : View) → TakesNone v bound w → TakesAll buckets bound u m w
   groups_all w t =
       let last = seen_on v w bound own_still t in
-      let r = removed_on a.on.steps last.steps in
+      let r = gone_on a.on.steps last.steps in
       let k = takes_on a.on.steps last.steps in record {
         some = record {
           on = goes_on u v w a.on last;

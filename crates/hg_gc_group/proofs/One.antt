@@ -68,13 +68,13 @@ module _ (buckets b bound : ℕ) (v : View) (rid : Rid) (part : BucketPart) (see
       right = append_assoc v.sights seen []
 
   pub few_after : (z : Sizes) (mark : ℕ) (w : View) (n : ℕ) → HasRoom z → IsBacked z mark hand → n ≡ gone_of → (c : CutsAll buckets bound v (rid ∷ []) n w) → removed_all (pass w).visits ≤ 2 ^ 41
-  few_after z mark w n room told gone c =
-      let s = told.state in
-      let before = few z mark hand room told refl in
-      let content : s.bucket b ≡ part.content = told.true_of.parts.1.0.0 in
+  few_after z mark w n room backed gone c =
+      let s = backed.state in
+      let before = few z mark hand room backed refl in
+      let content : s.bucket b ≡ part.content = backed.true_of.parts.1.0.0 in
       let long = length_most rid part.content in
-      let most : total part.content ≤ s.sessions * s.each = subst (λ k. total k ≤ s.sessions * s.each) content (total_most s told.steady b) in
-      let size : s.sessions * s.each ≡ z.sessions * z.each = λ i. told.sized.sessions i * told.sized.each i in
+      let most : total part.content ≤ s.sessions * s.quota = subst (λ k. total k ≤ s.sessions * s.quota) content (total_most s backed.steady b) in
+      let size : s.sessions * s.quota ≡ z.sessions * z.quota = λ i. backed.sized.sessions i * backed.sized.quota i in
       let all : removed_all (pass w).visits ≡ removed_all (c.on.visits ++ (pass v).visits) = ap removed_all (visits_after v w c.on) in
       let sum = removed_append c.on.visits (pass v).visits in
       omega (arith, before, long, most, size, room.begins, all, sum, c.on.sum, c.gone_is, gone)

@@ -10,7 +10,7 @@ use Rattle.hg_rule.specs.declared.view.Sizes.{Sizes}
 use Rattle.hg_rule.specs.Facts.{record_of}
 use Rattle.hg_rule.specs.Views.{number, pass}
 use Rattle.hg_rule.specs.Rounds.{IsRoundOf, mark_in, loaded_after, entries_of}
-use Rattle.hg_rule.proofs.Rounds.{round_on, mark_on, loaded_on, removed_on}
+use Rattle.hg_rule.proofs.Rounds.{round_on, mark_on, loaded_on, gone_on}
 use Rattle.hg_tracker.specs.Begun.{AtMost, HasGathered}
 use Rattle.hg_tracker.proofs.Rounds.{gather_events, gather_round, gather_gains, gather_removes_none}
 use Rattle.hg_gc_group.specs.Taking.{TakesAll}
@@ -48,7 +48,7 @@ module _ (z : Sizes) (v x w : View) (report : Report) (g : HasGathered v z.sessi
           kind_is = kind;
           mark_is = mark ∙ sym mark_same;
           horizon_is = low ∙ (λ i. least_entering (sym mark_same i) (sym loaded_same i));
-          removed_is = let r = removed_on (gather_events v x) t.some.on.steps in let none = gather_removes_none v x in omega (arith, r, none, t.some.gone_is);
+          removed_is = let r = gone_on (gather_events v x) t.some.on.steps in let none = gather_removes_none v x in omega (arith, r, none, t.some.gone_is);
           entries_are = entries ∙ ap entries_of (sym loaded_same);
         };
         most = subst (λ m. Each (AtMost m) v.sights) (sym mark) g.most;

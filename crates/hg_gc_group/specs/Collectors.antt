@@ -11,7 +11,7 @@ use Rattle.hg_rule.specs.declared.view.Sizes.{Sizes}
 use Rattle.hg_rule.specs.Facts.{record_of}
 use Rattle.hg_rule.specs.Views.{number, pass}
 use Rattle.hg_rule.specs.Rounds.{IsRoundOf, IsReportOf}
-use Rattle.hg_rule.specs.Seats.{TableId, pass_view, IsPassOf}
+use Rattle.hg_rule.specs.Seats.{BoardId, pass_view, IsPassOf}
 use Rattle.hg_tracker.specs.Begun.{AtMost, HasGathered}
 use Rattle.hg_tracker.specs.Gathers.{IsMadeFor}
 use Rattle.hg_gc_group.specs.Taking.{TakesAll}
@@ -29,7 +29,7 @@ abbrev pub report_in : GroupCollector → Report
 report_in c = c.report
 
 -- its pass is of this board, and it has room for the board's sessions and tables
-abbrev pub IsCollectorOf : TableId → Sizes → GroupCollector → Type 0
+abbrev pub IsCollectorOf : BoardId → Sizes → GroupCollector → Type 0
 IsCollectorOf t z c = IsPassOf t c.pass × (IsMadeFor z.sessions z.tables c.gathered × (z.sessions ≤ c.report.entries.room))
 
 -- One round: a gather, and then groups were taken until as many as the bound of its record were, and their records cut at that

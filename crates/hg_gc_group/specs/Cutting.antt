@@ -13,7 +13,7 @@ use Rattle.hg_rule.specs.declared.view.Part.TheVariants.{OfPass}
 use Rattle.hg_rule.specs.declared.view.View.{View}
 use Rattle.hg_rule.specs.Facts.{StartsWith, IsAmong}
 use Rattle.hg_rule.specs.Views.{number, pass, others}
-use Rattle.hg_rule.specs.Rounds.{IsWork, takes_in, removed_in}
+use Rattle.hg_rule.specs.Rounds.{IsWork, takes_in, gone_in}
 
 -- how many versions these visits removed for the group collector
 abbrev pub removed_all : List Visit → ℕ
@@ -37,7 +37,7 @@ pub record GoesOn (v w : View) : Type 0 where
   pub visits : List Visit
   pub steps : List Event
   pub work : Each IsWork steps
-  pub sum : removed_in steps ≡ removed_all visits
+  pub sum : gone_in steps ≡ removed_all visits
   pub parts : w.parts ≡ OfPass (number v) (record (pass v) { visits = visits ++ (pass v).visits }) ∷ others v
   pub kept : StartsWith w.sights v.sights
   pub events : w.events ≡ v.events ++ steps
@@ -45,6 +45,6 @@ pub record GoesOn (v w : View) : Type 0 where
 -- it cut each of these records, removed so many versions, and took no group
 pub record CutsAll (buckets bound : ℕ) (v : View) (rids : List Rid) (gone : ℕ) (w : View) : Type 0 where
   pub on : GoesOn v w
-  pub gone_is : gone ≡ removed_in on.steps
+  pub gone_is : gone ≡ gone_in on.steps
   pub takes_none : takes_in on.steps ≡ 0
   pub cut : Each (WasCut buckets (number v) (pass v).mark bound on.visits on.steps) rids

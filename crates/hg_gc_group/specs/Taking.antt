@@ -10,7 +10,7 @@ use Rattle.hg_rule.specs.declared.view.Sight.TheVariants.{Saw}
 use Rattle.hg_rule.specs.declared.view.View.{View}
 use Rattle.hg_rule.specs.Facts.{IsAmong, groups}
 use Rattle.hg_rule.specs.Views.{number, pass}
-use Rattle.hg_rule.specs.Rounds.{takes_in, removed_in, seen_taken}
+use Rattle.hg_rule.specs.Rounds.{takes_in, gone_in, seen_taken}
 use Rattle.hg_group.specs.Oldest.{StandsBehind}
 use Rattle.hg_gc_group.specs.Cutting.{WasCut, GoesOn}
 
@@ -32,7 +32,7 @@ FallsBelow n (m ∷ ms) = (m < n) × FallsBelow m ms
 -- Groups were taken, one with each Take, and the records of each were cut. Their numbers are given, the last one first.
 pub record TakesGroups (buckets bound : ℕ) (v : View) (gone : ℕ) (w : View) : Type 0 where
   pub on : GoesOn v w
-  pub gone_is : gone ≡ removed_in on.steps
+  pub gone_is : gone ≡ gone_in on.steps
   pub taken : List ℕ
   pub count : length taken ≡ takes_in on.steps
   pub falls : FallsBelow (suc (seen_taken w.sights)) taken

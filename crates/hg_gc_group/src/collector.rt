@@ -1,7 +1,7 @@
 //! The collector.
 
 ghost use Rattle.std.specs.Prelude.{◌≡◌, ◌<◌, ◌≤◌, IfOk, IfErr};
-ghost use Rattle.hg_rule.specs.Seats.{TableId, table_of, sizes_of, IsPassOf};
+ghost use Rattle.hg_rule.specs.Seats.{BoardId, table_of, sizes_of, IsPassOf};
 ghost use Rattle.hg_store.specs.Stores.{store_table, store_buckets};
 ghost use Rattle.hg_group.specs.Lists.{groups_table};
 ghost use Rattle.hg_tracker.specs.Boards.{board_table, board_sizes};
@@ -50,7 +50,7 @@ impl GroupCollector {
         tables: u32,
     ) -> Result<GroupCollector, (CollectorPass, NoMemory)>
         requires tables { tables ≤ 16 }
-        ensures collector { (t : TableId) (z : Sizes) → IsPassOf t pass → z.sessions ≡ sessions → z.tables ≡ tables → IfOk result (IsCollectorOf t z) }
+        ensures collector { (t : BoardId) (z : Sizes) → IsPassOf t pass → z.sessions ≡ sessions → z.tables ≡ tables → IfOk result (IsCollectorOf t z) }
         ensures same { IfOk result (λ c. pass_of c ≡ pass) }
         ensures refused { IfErr result (λ e. e.0 ≡ pass) }
     {

@@ -9,7 +9,7 @@ use Rattle.hg_rule.specs.Facts.{StartsWith}
 use Rattle.hg_rule.specs.Views.{number, session, since, others, seeing}
 use Rattle.hg_rule.specs.Holding.{beyond}
 use Rattle.hg_rule.specs.Handing.{Members, lent, next_lent, lent_alone, hands_back}
-use Rattle.hg_rule.specs.Seats.{TableId, tx_view, IsTxOf}
+use Rattle.hg_rule.specs.Seats.{BoardId, tx_view, IsTxOf}
 use Rattle.hg_rule.proofs.Lists.{starts_same, starts_on}
 use Rattle.hg_queue.specs.declared.open_tx.OpenTx.{OpenTx}
 use Rattle.hg_queue.specs.Handing.{seat_number, seat_part}
@@ -58,7 +58,7 @@ next_of sessions v tx txs b = go b.ms b.taken v.parts b.parts v.sights v.events
 pub same_on : (v w x : View) → Same v w → Same w x → Same v x
 same_on v w x a b = record { number_is = b.number_is ∙ a.number_is; session_is = b.session_is ∙ a.session_is; since_is = b.since_is ∙ a.since_is; sights = b.sights ∙ a.sights; events = starts_on x.events w.events v.events a.events b.events }
 
-pub refused_one : (sessions : ℕ) (v : View) (tx : OpenTx) (txs : List OpenTx) (t : TableId) (x : Laid) → Next sessions v tx txs → x.outcome ≡ Refused tx → IsTxOf t x.seat → seat_number x.seat ≡ tx.writer.session → tx_view x.seat ≡ lent_alone tx.writer.session (next_lent v) v → IsLaid t tx.writer.session x
+pub refused_one : (sessions : ℕ) (v : View) (tx : OpenTx) (txs : List OpenTx) (t : BoardId) (x : Laid) → Next sessions v tx txs → x.outcome ≡ Refused tx → IsTxOf t x.seat → seat_number x.seat ≡ tx.writer.session → tx_view x.seat ≡ lent_alone tx.writer.session (next_lent v) v → IsLaid t tx.writer.session x
 refused_one sessions v tx txs t x n out seat number_is view =
     let part : seat_part x.seat ≡ next_lent v = ap session view in record {
       seat = seat;

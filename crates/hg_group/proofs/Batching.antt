@@ -22,7 +22,7 @@ use Rattle.hg_rule.specs.Holding.{beyond, farther, bucket, bucket_number, commit
 use Rattle.hg_rule.specs.Places.{arrive_first, without_bucket, HoldsBucket}
 use Rattle.hg_rule.specs.Writes.{listing}
 use Rattle.hg_rule.specs.Handing.{Members, members, lent, who, part_of, writer_at, flag, Stamps, hands_back}
-use Rattle.hg_rule.specs.Seats.{TableId, session_view, session_rest, IsSeatOf, IsAwayOf}
+use Rattle.hg_rule.specs.Seats.{BoardId, session_view, session_rest, IsSeatOf, IsAwayOf}
 use Rattle.hg_rule.proofs.Grouping.{each_part, each_lent}
 use Rattle.hg_rule.proofs.Holders.{still_away}
 use Rattle.hg_store.specs.Stores.{Takes}
@@ -94,9 +94,9 @@ stamped_one v u w x b j n r t step is = record {
     none [] = refl
     none (y ∷ ys) = ap (λ l. y ∷ l) (none ys)
 
-pub away_with : (t : TableId) (z : Sizes) (p q : SessionPass) (os : List Part) → IsAwayOf t z p → IsSeatOf t q.seat → session_rest q ≡ session_rest p → (session_view q).parts ≡ Away (number (session_view p)) (session (session_view p)) (since (session_view p)) ∷ os → IsAwayOf t z q × (q.number ≡ p.number)
+pub away_with : (t : BoardId) (z : Sizes) (p q : SessionPass) (os : List Part) → IsAwayOf t z p → IsSeatOf t q.seat → session_rest q ≡ session_rest p → (session_view q).parts ≡ Away (number (session_view p)) (session (session_view p)) (since (session_view p)) ∷ os → IsAwayOf t z q × (q.number ≡ p.number)
 away_with t z p q os own seat rest e = (still_away t z p q os own seat rest e, ap (λ x. x.0) rest)
 
 -- the pass's own part is away still once another was handed back
-pub away_back : (t : TableId) (z : Sizes) (p q : SessionPass) → IsAwayOf t z p → IsSeatOf t q.seat → session_rest q ≡ session_rest p → session_view q ≡ hands_back (session_view p) → IsAwayOf t z q × (q.number ≡ p.number)
+pub away_back : (t : BoardId) (z : Sizes) (p q : SessionPass) → IsAwayOf t z p → IsSeatOf t q.seat → session_rest q ≡ session_rest p → session_view q ≡ hands_back (session_view p) → IsAwayOf t z q × (q.number ≡ p.number)
 away_back t z p q own seat rest is = away_with t z p q (beyond (session_view p)) own seat rest (ap (λ (y : View). y.parts) is ∙ ap but_second own.3)

@@ -119,10 +119,10 @@ each_heard n (m ∷ ms) before after = (among_right _ before _ (inl refl), turne
 -- ---- the committer's part leaves again, and nothing was done
 
 pub has_batch : (v w u : View) (part : CommitPart) (ms : Members) (txs : List OpenTx) (z : Sizes) (mark : ℕ) → InHand v w part ms → u ≡ without_commit w → IsBacked z mark w → AreTaken txs ms → HasBatch z.sessions u txs
-has_batch v w u part ms txs z mark o left told taken = record {
+has_batch v w u part ms txs z mark o left backed taken = record {
   ms = ms;
   taken = taken;
-  inside = each_mapped (IsSession z.sessions) txs (subst (Each (IsSession z.sessions)) (taken_whose txs ms taken) (all_in z ms ms (sessions_in z mark w told (Away (number v) (session v) (since v)) part ms o.parts) (each_in ms)));
+  inside = each_mapped (IsSession z.sessions) txs (subst (Each (IsSession z.sessions)) (taken_whose txs ms taken) (all_in z ms ms (sessions_in z mark w backed (Away (number v) (session v) (since v)) part ms o.parts) (each_in ms)));
   parts = u_parts ∙ (λ i. Away (sym number_is i) (sym session_is i) (sym since_is i) ∷ lent ms);
 }
   where
@@ -174,11 +174,11 @@ module _ (v w x y u : View) (part : CommitPart) (ms : Members) (txs : List OpenT
       (ap (λ (z : View). z.sights) p.1 ∙ (λ i. x.sights ++ (Saw (groups ((history_is i).list ++ same_of group_of bare_group (members (beyond x)) ms alike i ∷ [])) ∷ same_of (hears n) (bare_hears n) (members (beyond x)) ms alike i)))
 
   pub has_group : (z : Sizes) (mark place : ℕ) → IsBacked z mark w → AreTaken txs ms → n ≡ suc (length part.history.list) → place ≡ commits_in part.history.list → HasGroup z.sessions u txs n place
-  has_group z mark place told taken next at = record {
+  has_group z mark place backed taken next at = record {
     ms = ms;
     history = part.history.list;
     whose = taken_whose txs ms taken;
-    inside = each_mapped (IsSession z.sessions) txs (subst (Each (IsSession z.sessions)) (taken_whose txs ms taken) (all_in z ms ms (sessions_in z mark w told (Away (number v) (session v) (since v)) part ms o.parts) (each_in ms)));
+    inside = each_mapped (IsSession z.sessions) txs (subst (Each (IsSession z.sessions)) (taken_whose txs ms taken) (all_in z ms ms (sessions_in z mark w backed (Away (number v) (session v) (since v)) part ms o.parts) (each_in ms)));
     parts = u_parts ∙ (λ i. Away (sym number_is i) (sym session_is i) (sym since_is i) ∷ lent (numbered n ms));
     saw = subst (IsAmong (Saw (groups (part.history.list ++ group ∷ [])))) (sym u_sights) (among_left _ (x.sights ++ (Saw (groups (part.history.list ++ group ∷ [])) ∷ hears n ms)) _ (among_right _ x.sights _ (inl refl)));
     heard = turned ms (each_heard n ms (x.sights ++ Saw (groups (part.history.list ++ group ∷ [])) ∷ []) (Saw (commit y).history ∷ Took (commit y).taken ∷ []));

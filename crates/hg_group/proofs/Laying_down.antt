@@ -14,7 +14,7 @@ use Rattle.hg_rule.specs.Views.{number, session, since, others, seeing}
 use Rattle.hg_rule.specs.Holding.{beyond}
 use Rattle.hg_rule.specs.Writes.{with_published}
 use Rattle.hg_rule.specs.Handing.{Members, lent, who, numbered, group_of, next_lent, lent_alone, hands_back}
-use Rattle.hg_rule.specs.Seats.{TableId, tx_view, IsTxOf}
+use Rattle.hg_rule.specs.Seats.{BoardId, tx_view, IsTxOf}
 use Rattle.hg_rule.proofs.Lists.{starts_same, starts_on}
 use Rattle.hg_queue.specs.declared.open_tx.OpenTx.{OpenTx}
 use Rattle.hg_queue.specs.Handing.{seat_number, seat_part}
@@ -81,7 +81,7 @@ each_at P [] i d l h = absurd (omega (arith, l))
 each_at P (x ∷ xs) zero d l h = h.0
 each_at P (x ∷ xs) (suc i) d l h = each_at P xs i d (omega (arith, l)) h.1
 
-pub laid_set : (t : TableId) (k i : ℕ) (xs : List (Option Laid)) (x : Laid) → i < length xs → AreLaid t k xs → IsLaid t (k + i) x → AreLaid t k (set xs i (Some x))
+pub laid_set : (t : BoardId) (k i : ℕ) (xs : List (Option Laid)) (x : Laid) → i < length xs → AreLaid t k xs → IsLaid t (k + i) x → AreLaid t k (set xs i (Some x))
 laid_set t k i [] x l h y = absurd (omega (arith, l))
 laid_set t k zero (z ∷ xs) x l h y = (subst (λ n. IsLaid t n x) (plain k) y, h.1)
   where
@@ -132,7 +132,7 @@ module _ (sessions : ℕ) (v : View) (txs : List OpenTx) (n place : ℕ) (g : Ha
     events = starts_on x.events w.events v.events s.events (_, ap (λ (y : View). y.events) is);
   }
 
-  pub laid_one : (t : TableId) (x : Laid) (receipt : Receipt) → x.outcome ≡ Committed receipt → IsTxOf t x.seat → seat_number x.seat ≡ (get_or txs i d).writer.session → tx_view x.seat ≡ lent_alone (get_or txs i d).writer.session (next_lent w) w → receipt.number ≡ n → receipt.place ≡ place + i → IsLaid t (get_or txs i d).writer.session x
+  pub laid_one : (t : BoardId) (x : Laid) (receipt : Receipt) → x.outcome ≡ Committed receipt → IsTxOf t x.seat → seat_number x.seat ≡ (get_or txs i d).writer.session → tx_view x.seat ≡ lent_alone (get_or txs i d).writer.session (next_lent w) w → receipt.number ≡ n → receipt.place ≡ place + i → IsLaid t (get_or txs i d).writer.session x
   laid_one t x receipt out seat number_is view is at =
       let part : seat_part x.seat ≡ with_published n m.1 = ap session view ∙ next_is.1 in
       let sights : (tx_view x.seat).sights ≡ v.sights = ap (λ (y : View). y.sights) view ∙ s.sights in
@@ -167,7 +167,7 @@ laid_end sessions v txs n place g i w end s = record {
 
 -- ---- what is laid at a place
 
-pub laid_at : (t : TableId) (k i : ℕ) (xs : List (Option Laid)) (d : Option Laid) → i < length xs → AreLaid t k xs → IfSome (get_or xs i d) (IsLaid t (k + i))
+pub laid_at : (t : BoardId) (k i : ℕ) (xs : List (Option Laid)) (d : Option Laid) → i < length xs → AreLaid t k xs → IfSome (get_or xs i d) (IsLaid t (k + i))
 laid_at t k i [] d l h = absurd (omega (arith, l))
 laid_at t k zero (x ∷ xs) d l h = subst (λ n. IfSome x (IsLaid t n)) (plain k) h.0
   where
@@ -178,7 +178,7 @@ laid_at t k (suc i) (x ∷ xs) d l h = subst (λ n. IfSome (get_or xs i d) (IsLa
     up : (k i : ℕ) → suc k + i ≡ k + suc i
     up k i = omega arith
 
-pub laid_none : (t : TableId) (k i : ℕ) (xs : List (Option Laid)) → AreLaid t k xs → AreLaid t k (set xs i None)
+pub laid_none : (t : BoardId) (k i : ℕ) (xs : List (Option Laid)) → AreLaid t k xs → AreLaid t k (set xs i None)
 laid_none t k i [] h = h
 laid_none t k zero (x ∷ xs) h = (tt, h.1)
 laid_none t k (suc i) (x ∷ xs) h = (h.0, laid_none t (suc k) i xs h.1)

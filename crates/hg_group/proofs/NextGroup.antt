@@ -79,9 +79,9 @@ module _ (z : Sizes) (mark : ℕ) (v seat : View) (part : CommitPart) where
   pub in_hand : (u : View) → HasPass v → seat.parts ≡ OfCommit part ∷ [] → u ≡ joined v seat → u ≡ hand
   in_hand u own only is = is ∙ (λ i. seeing (put_in (own i) (only i)) (v.sights ++ seat.sights) v.events)
 
-  module _ (told : IsBacked z mark hand) (own : HasPass v) where
+  module _ (backed : IsBacked z mark hand) (own : HasPass v) where
     most : seen_taken (v.sights ++ seat.sights) ≤ part.taken
-    most = let known = known_taken told.state (v.sights ++ seat.sights) told.true_of.sights in let same = told.true_of.parts.1.0.1.1 in omega (arith, known, same)
+    most = let known = known_taken backed.state (v.sights ++ seat.sights) backed.true_of.sights in let same = backed.true_of.parts.1.0.1.1 in omega (arith, known, same)
 
     seen_before : seen_taken v.sights ≤ part.taken
     seen_before = omega (arith, most, taken_append v.sights seat.sights)

@@ -19,7 +19,7 @@ use Rattle.hg_core.specs.Contents.{is_stamped, has_stamped}
 use Rattle.hg_core.specs.Phases.{IsSession}
 use Rattle.hg_rule.specs.Handing.{Members, members, who, lent, flag, numbered, group_of}
 use Rattle.hg_core.specs.Commits.{commits_in}
-use Rattle.hg_rule.specs.Seats.{TableId, tx_view, IsTxOf}
+use Rattle.hg_rule.specs.Seats.{BoardId, tx_view, IsTxOf}
 use Rattle.hg_queue.specs.declared.open_tx.OpenTx.{OpenTx}
 use Rattle.hg_queue.specs.Handing.{IsOpenTxOf, MayCommit, seat_number, seat_part}
 use Rattle.hg_group.specs.declared.laid.Outcome.{Outcome}
@@ -114,14 +114,14 @@ IsOutcome j part sights (Committed receipt) = (log : List LogEntry) × ((h : His
 IsOutcome j part sights (Refused tx) = IsOpenTxOf j part tx × MayCommit part
 
 -- What is laid for session j: its part of this board's state, and what became of its transaction.
-pub record IsLaid (t : TableId) (j : ℕ) (x : Laid) : Type 0 where
+pub record IsLaid (t : BoardId) (j : ℕ) (x : Laid) : Type 0 where
   pub seat : IsTxOf t x.seat
   pub number_is : seat_number x.seat ≡ j
   pub unstamped : (seat_part x.seat).stamped ≡ false
   pub outcome : IsOutcome j (seat_part x.seat) (tx_view x.seat).sights x.outcome
 
 -- each place has what is laid for its session, or nothing
-abbrev pub AreLaid : TableId → ℕ → List (Option Laid) → Type 0
+abbrev pub AreLaid : BoardId → ℕ → List (Option Laid) → Type 0
 AreLaid t k [] = ⊤
 AreLaid t k (x ∷ laids) = IfSome x (IsLaid t k) × AreLaid t (suc k) laids
 

@@ -1,7 +1,7 @@
 -- What fits under the locks of group commit.
 use Rattle.std.specs.Prelude.{ℕ}
 use Rattle.std.specs.declared.snapshot.Snapshot.{Snapshot}
-use Rattle.hg_rule.specs.Seats.{TableId}
+use Rattle.hg_rule.specs.Seats.{BoardId}
 use Rattle.hg_queue.specs.Queues.{IsPassOf}
 use Rattle.hg_group.specs.declared.batch.Batches.{Batches}
 use Rattle.hg_group.specs.declared.batch.Founding.{Founding}
@@ -9,7 +9,7 @@ use Rattle.hg_group.specs.Places.{seat_table}
 use Rattle.hg_group.specs.Leading.{IsKept}
 
 -- the board
-abbrev pub founding_table : Founding → TableId
+abbrev pub founding_table : Founding → BoardId
 founding_table f = seat_table f.seat.value
 
 -- under the commit lock: what is kept of this board, and the pass of its queue

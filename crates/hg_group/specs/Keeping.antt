@@ -2,7 +2,7 @@
 use Rattle.std.specs.Prelude.{◌≡◌, ◌≤◌, true, false, [], length, vec_capacity}
 use Rattle.hg_lock.specs.Locks.{tag_of}
 use Rattle.hg_rule.specs.declared.view.CommitPart.{CommitPart}
-use Rattle.hg_rule.specs.Seats.{TableId}
+use Rattle.hg_rule.specs.Seats.{BoardId}
 use Rattle.hg_queue.specs.Queues.{IsPassOf, known}
 use Rattle.hg_group.specs.declared.held_list.HeldList.{HeldList}
 use Rattle.hg_core.specs.Commits.{commits_in}
@@ -12,7 +12,7 @@ use Rattle.hg_group.specs.Batch.{AreLaid}
 use Rattle.hg_group.specs.Founded.{founding_table}
 
 -- the board
-abbrev pub held_table : HeldList → TableId
+abbrev pub held_table : HeldList → BoardId
 held_table h = founding_table (tag_of h.locks.now).value
 
 -- With this part of the committer's it may lie under the lock again.

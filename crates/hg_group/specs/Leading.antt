@@ -4,7 +4,7 @@ use Rattle.hg_rule.specs.declared.view.Part.TheVariants.{Away}
 use Rattle.hg_rule.specs.declared.view.View.{View}
 use Rattle.hg_rule.specs.Facts.{StartsWith}
 use Rattle.hg_rule.specs.Views.{number, session, since}
-use Rattle.hg_rule.specs.Seats.{TableId, IsCommitOf}
+use Rattle.hg_rule.specs.Seats.{BoardId, IsCommitOf}
 use Rattle.hg_queue.specs.Queues.{known}
 use Rattle.hg_group.specs.declared.batch.Batches.{Batches}
 use Rattle.hg_core.specs.Commits.{commits_in}
@@ -14,7 +14,7 @@ use Rattle.hg_group.specs.Places.{part_in}
 use Rattle.hg_group.specs.Batch.{AreLaid}
 
 -- No write has the next number, and the contexts are those of the groups that were not taken. The commits are counted, each has its pair among those that were popped, and their last places rise. There is room for a transaction of each session, and a place for what is laid for it.
-pub record IsKept (t : TableId) (sessions : ℕ) (x : Batches) : Type 0 where
+pub record IsKept (t : BoardId) (sessions : ℕ) (x : Batches) : Type 0 where
   pub seat : IsCommitOf t x.seat
   pub unstamped : (part_in x.seat).stamped ≡ []
   pub taken : (part_in x.seat).taken ≤ length (part_in x.seat).history.list

@@ -1,7 +1,7 @@
 -- What a clause says of the locks of group commit.
 use Rattle.std.specs.Prelude.{◌≡◌, ℕ, List, [], ◌∷◌, ◌++◌}
-use Rattle.hg_lock.specs.Locks.{tag_of, place_of, IsLoanOf}
-use Rattle.hg_rule.specs.Seats.{TableId}
+use Rattle.hg_lock.specs.Locks.{tag_of, lock_of, IsLoanOf}
+use Rattle.hg_rule.specs.Seats.{BoardId}
 use Rattle.hg_group.specs.declared.group_list.GroupList.{GroupList}
 use Rattle.hg_group.specs.Founded.{founding_table}
 use Rattle.hg_group.specs.Pushing.{PusherFits}
@@ -9,7 +9,7 @@ use Rattle.hg_group.specs.declared.submitted.Submitted.{Submitted}
 use Rattle.hg_queue.specs.Queues.{known}
 
 -- the board
-abbrev pub groups_table : GroupList → TableId
+abbrev pub groups_table : GroupList → BoardId
 groups_table q = founding_table (tag_of q.batches).value
 
 -- how many sessions there are
@@ -18,7 +18,7 @@ groups_sessions q = q.sessions
 
 -- it holds a lock of these, and what it has may lie there again
 abbrev pub IsSubmittedTo : GroupList → Submitted → Type 0
-IsSubmittedTo q s = IsLoanOf q.pushers s.loan × PusherFits (tag_of q.pushers) (place_of s.loan) s.pusher
+IsSubmittedTo q s = IsLoanOf q.pushers s.loan × PusherFits (tag_of q.pushers) (lock_of s.loan) s.pusher
 
 -- the last pair that it knows is this one
 abbrev pub has_pushed : ℕ → ℕ → Submitted → Type 0

@@ -2,10 +2,10 @@
 use Rattle.hg_rule.specs.declared.passes.CommitSeat.{CommitSeat}
 use Rattle.hg_rule.specs.declared.view.CommitPart.{CommitPart}
 use Rattle.hg_rule.specs.Views.{commit_there, first_in}
-use Rattle.hg_rule.specs.Seats.{TableId, commit_seat, commit_view}
+use Rattle.hg_rule.specs.Seats.{BoardId, commit_seat, commit_view}
 
 -- the board of the committer's seat, and its part
-abbrev pub seat_table : CommitSeat → TableId
+abbrev pub seat_table : CommitSeat → BoardId
 seat_table s = (commit_seat s).table_id
 
 abbrev pub part_in : CommitSeat → CommitPart

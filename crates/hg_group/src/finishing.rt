@@ -3,7 +3,7 @@
 ghost use Rattle.std.specs.Prelude.{◌≡◌, ℕ, suc, ◌<◌, [], length, IfOk, IfErr, IfSome};
 ghost use Rattle.hg_lock.specs.Locks.{tag_of, count_of};
 ghost use Rattle.hg_rule.specs.Views.{session, others};
-ghost use Rattle.hg_rule.specs.Seats.{TableId, table_of, sizes_of, session_view, IsSessionOf, IsAwayOf};
+ghost use Rattle.hg_rule.specs.Seats.{BoardId, table_of, sizes_of, session_view, IsSessionOf, IsAwayOf};
 ghost use Rattle.hg_store.specs.Stores.{store_table, store_buckets};
 ghost use Rattle.hg_queue.specs.Handing.{MayCommit};
 ghost use Rattle.hg_queue.specs.Queues.{IsPassOf};
@@ -30,31 +30,31 @@ fn ready<R: Wait>(
     pass: &mut SessionPass,
     kept: Batches,
     sessions: u32,
-    place: usize,
+    index: usize,
 ) -> Batches
     requires tables { store_table store.now ≡ table_of board.now }
     requires buckets { (0 < store_buckets store.now) × (store_buckets store.now ≡ (sizes_of board.now).buckets) }
     requires own { IsAwayOf (table_of board.now) (sizes_of board.now) pass.old }
     requires alone { others (session_view pass.old) ≡ [] }
     requires kept { IsKept (table_of board.now) (sizes_of board.now).sessions kept × IsPassOf queue.now kept.line }
-    requires sessions { (sessions ≡ (sizes_of board.now).sessions) × (place < sessions) }
+    requires sessions { (sessions ≡ (sizes_of board.now).sessions) × (index < sessions) }
     ensures kept { IsKept (table_of board.now) (sizes_of board.now).sessions result × IsPassOf queue.now result.line }
     ensures led { Leads (session_view pass.old) (session_view pass.new) }
     ensures own { IsAwayOf (table_of board.now) (sizes_of board.now) pass.new × (pass.new.number ≡ pass.old.number) }
 {
-    if kept.laid[place].is_none() {
+    if kept.laid[index].is_none() {
         return lead(rt, board, store, queue, pass, kept, sessions as usize);
     }
     kept
 }
 
 // What is laid at a place is taken from there.
-fn take_laid(kept: &mut Batches, place: usize) -> Option<Laid>
-    requires place { place < length kept.old.laid.items }
-    ensures taken { (t : TableId) (sessions : ℕ) → IsKept t sessions kept.old → IsKept t sessions kept.new × IfSome result (IsLaid t (suc place)) }
+fn take_laid(kept: &mut Batches, index: usize) -> Option<Laid>
+    requires index { index < length kept.old.laid.items }
+    ensures taken { (t : BoardId) (sessions : ℕ) → IsKept t sessions kept.old → IsKept t sessions kept.new × IfSome result (IsLaid t (suc index)) }
     ensures line { kept.new.line ≡ kept.old.line }
 {
-    kept.laid[place].take()
+    kept.laid[index].take()
 }
 
 /// Takes the commit lock. Where nothing is laid for the session, it leads a batch; and then again, until something is.
@@ -79,11 +79,11 @@ pub(crate) fn finish<R: Wait>(
     ensures refused { IfErr result (λ tx. IsRefused (session_view pass.old) tx (session_view pass.new)) }
     ensures own { IsSessionOf (table_of board.now) (sizes_of board.now) pass.new × (pass.new.number ≡ pass.old.number) }
 {
-    let place = pass.writer().session as usize - 1;
+    let index = pass.writer().session as usize - 1;
     for _ in rt.forever() {
         let (kept, loan) = batches.take(rt, 0);
-        let mut kept = ready(rt, board, store, queue, pass, kept, sessions, place);
-        let laid = take_laid(&mut kept, place);
+        let mut kept = ready(rt, board, store, queue, pass, kept, sessions, index);
+        let laid = take_laid(&mut kept, index);
         batches.give(kept, loan);
         if let Some(laid) = laid {
             return take_back(board, pass, laid);

@@ -38,7 +38,7 @@ impl GroupList {
     ghost use Rattle.std.specs.Prelude.{ℕ, ◌<◌, [], length, IfOk, IfErr};
     ghost use Rattle.hg_rule.specs.New.{IsNewCommit};
     ghost use Rattle.hg_rule.specs.Views.{number, session, others, HasOnlySession};
-    ghost use Rattle.hg_rule.specs.Seats.{TableId, table_of, sizes_of, session_view, IsSessionOf, IsAwayOf};
+    ghost use Rattle.hg_rule.specs.Seats.{BoardId, table_of, sizes_of, session_view, IsSessionOf, IsAwayOf};
     ghost use Rattle.hg_store.specs.Stores.{store_table, store_buckets};
     ghost use Rattle.hg_queue.specs.Handing.{IsOpenTxOf, MayCommit};
     ghost use Rattle.hg_group.specs.Batch.{HasFinished, IsRefused};
@@ -47,8 +47,8 @@ impl GroupList {
 
     /// Nothing is committed, and nothing waits. The seat is the committer's of a new board with so many sessions.
     pub fn new(alloc: Global, seat: CommitSeat, sessions: u32) -> Result<GroupList, NoMemory>
-        requires seat { (t : TableId) × IsNewCommit t seat }
-        ensures table { (t : TableId) → IsNewCommit t seat → IfOk result (λ groups. groups_table groups ≡ t) }
+        requires seat { (t : BoardId) × IsNewCommit t seat }
+        ensures table { (t : BoardId) → IsNewCommit t seat → IfOk result (λ groups. groups_table groups ≡ t) }
         ensures sessions { IfOk result (λ groups. groups_sessions groups ≡ sessions) }
     {
         let (queue, line, mut pushing) = Queue::new(alloc, &seat)?;
@@ -102,8 +102,8 @@ impl GroupList {
         ensures refused { IfErr result (λ e. (e.0 ≡ tx) × (IsBackAgain (session_view pass.old) (session_view pass.new) × IsSessionOf (table_of board.now) (sizes_of board.now) pass.new)) }
         ensures number { pass.new.number ≡ pass.old.number }
     {
-        let place = pass.writer().session as usize - 1;
-        let (mut pusher, loan) = self.pushers.take(rt, place);
+        let index = pass.writer().session as usize - 1;
+        let (mut pusher, loan) = self.pushers.take(rt, index);
         match submit(rt, board, &self.queue, &mut pusher.line, tx, pass) {
             Ok(_) => Ok(Submitted { pusher, loan }),
             Err(tx) => {

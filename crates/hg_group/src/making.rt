@@ -2,7 +2,7 @@
 
 ghost use Rattle.std.specs.Prelude.{◌≡◌, ℕ, false, length, IfOk};
 ghost use Rattle.hg_lock.specs.Locks.{EachFits};
-ghost use Rattle.hg_rule.specs.Seats.{TableId};
+ghost use Rattle.hg_rule.specs.Seats.{BoardId};
 ghost use Rattle.hg_queue.specs.Queues.{IsPassOf, known};
 ghost use Rattle.hg_group.specs.Batch.{AreLaid};
 ghost use Rattle.hg_group.specs.Founded.{founding_table};
@@ -18,7 +18,7 @@ use std::snapshot::Snapshot;
 
 /// A place for each session, where nothing is laid.
 pub(crate) fn empty_places(alloc: Global, sessions: u32) -> Result<Vec<Option<Laid>>, NoMemory>
-    ensures laid { (t : TableId) (k : ℕ) → IfOk result (λ places. AreLaid t k places.items) }
+    ensures laid { (t : BoardId) (k : ℕ) → IfOk result (λ places. AreLaid t k places.items) }
     ensures count { IfOk result (λ places. length places.items ≡ sessions) }
 {
     let mut places = Vec::with_capacity(alloc, sessions as usize)?;

@@ -27,7 +27,7 @@ fn begin(board: &Board, pass: &mut SessionPass) -> u64
     requires own { IsSessionOf (table_of board.now) (sizes_of board.now) pass.old }
     requires only { HasOnlySession (session_view pass.old) }
     requires rests { (session (session_view pass.old)).phase ≡ Idle }
-    requires room { begans (session (session_view pass.old)).log < (sizes_of board.now).each }
+    requires room { begans (session (session_view pass.old)).log < (sizes_of board.now).quota }
     ensures own { IsSessionOf (table_of board.now) (sizes_of board.now) pass.new }
     ensures parts { (session_view pass.new).parts ≡ OfSession (number (session_view pass.old)) (logging (Began result All) (Live result All) (session (session_view pass.old))) ∷ [] }
 {
@@ -61,7 +61,7 @@ fn write<R: Wait>(
     requires log { (session (session_view pass.old)).log ≡ Began at All ∷ [] }
     requires unstamped { (session (session_view pass.old)).stamped ≡ false }
     requires known { rid.table.0 < (sizes_of board.now).tables }
-    requires room { 0 < (sizes_of board.now).each }
+    requires room { 0 < (sizes_of board.now).quota }
     ensures own { IsSessionOf (table_of board.now) (sizes_of board.now) pass.new }
     ensures by { result.0 ≡ writer (session_view pass.old) }
     ensures stored { result.1 ≡ true → (session_view pass.new).parts ≡ OfSession (number (session_view pass.old)) (with_entry (Wrote rid image) (session (session_view pass.old))) ∷ [] }
@@ -89,7 +89,7 @@ fn put<R: Wait>(
     requires rests { (session (session_view pass.old)).phase ≡ Idle }
     requires log { (session (session_view pass.old)).log ≡ [] }
     requires unstamped { (session (session_view pass.old)).stamped ≡ false }
-    requires room { (0 < (sizes_of board.now).tables) × (0 < (sizes_of board.now).each) }
+    requires room { (0 < (sizes_of board.now).tables) × (0 < (sizes_of board.now).quota) }
     ensures own { IsSessionOf (table_of board.now) (sizes_of board.now) pass.new }
     ensures ready { IfOk result (λ r. IfSome r (λ tx. HasOnlySession (session_view pass.new) × (MayCommit (session (session_view pass.new)) × (IsOpenTxOf (number (session_view pass.new)) (session (session_view pass.new)) tx × (0 < length tx.records.list))))) }
 {

@@ -134,7 +134,7 @@ state_logged s h some = record {
 }
 
 pub always_logged : Always (λ s. 0 < s.buckets → Logged s.buckets s.history s.log)
-always_logged sessions tables buckets passes each steps r some = state_logged _ (steady_after sessions tables buckets passes each steps r) some
+always_logged sessions tables buckets passes quota steps r some = state_logged _ (steady_after sessions tables buckets passes quota steps r) some
 
 pub state_made : (s : CoreState) → IsSteady s → 0 < s.buckets → sum_below s.buckets (λ b. (s.counters b).made) ≡ made_in s.sessions s.log
 state_made s h some = below_same s.buckets (λ b. sum_to s.sessions (λ j. first_writes (is_of s.buckets b) (s.log j))) (λ b. (s.counters b).made) (λ b le. h.counters_balance.made b) ∙ made_over s.buckets s.sessions s.log some
@@ -148,16 +148,16 @@ state_removed s kind h =
     ∙ all_removed_over kind s.buckets s.passes s.visits (λ p. each_keeps _ (λ (v : Visit). v.bucket < s.buckets) (λ v k. k.bucket) (s.visits p) (h.visits_stay.each p))
 
 pub always_made : Always (λ s. 0 < s.buckets → sum_below s.buckets (λ b. (s.counters b).made) ≡ made_in s.sessions s.log)
-always_made sessions tables buckets passes each steps r = state_made _ (steady_after sessions tables buckets passes each steps r)
+always_made sessions tables buckets passes quota steps r = state_made _ (steady_after sessions tables buckets passes quota steps r)
 
 pub always_undone : Always (λ s. 0 < s.buckets → sum_below s.buckets (λ b. (s.counters b).undone) ≡ undone_in s.sessions s.log)
-always_undone sessions tables buckets passes each steps r = state_undone _ (steady_after sessions tables buckets passes each steps r)
+always_undone sessions tables buckets passes quota steps r = state_undone _ (steady_after sessions tables buckets passes quota steps r)
 
 pub always_removed : Always (λ s. (kind : Kind) → sum_below s.buckets (λ b. removed_by kind (s.counters b).removed) ≡ sum_below s.passes (λ p. removed_all kind (s.visits p)))
-always_removed sessions tables buckets passes each steps r kind = state_removed _ kind (steady_after sessions tables buckets passes each steps r)
+always_removed sessions tables buckets passes quota steps r kind = state_removed _ kind (steady_after sessions tables buckets passes quota steps r)
 
 pub state_left : (s : CoreState) → IsSteady s → 0 < s.buckets → ((b : ℕ) → b < s.buckets → IsSettled s b) → sum_below s.buckets (λ b. total (s.bucket b)) ≡ length (live s.history)
 state_left s h some settled = below_same s.buckets (λ b. length (filter (is_of s.buckets b) (live s.history))) (λ b. total (s.bucket b)) (λ b le. rows_left s h b (settled b le)) ∙ filtered_over s.buckets (live s.history) some
 
 pub always_left : Always (λ s. 0 < s.buckets → ((b : ℕ) → b < s.buckets → IsSettled s b) → sum_below s.buckets (λ b. total (s.bucket b)) ≡ length (live s.history))
-always_left sessions tables buckets passes each steps r = state_left _ (steady_after sessions tables buckets passes each steps r)
+always_left sessions tables buckets passes quota steps r = state_left _ (steady_after sessions tables buckets passes quota steps r)

@@ -133,8 +133,8 @@ firsts_few (Undid r ∷ l) = firsts_few l
 firsts_few (Published n ∷ l) = firsts_few l
 firsts_few (Over ∷ l) = firsts_few l
 
-pub made_few : (sessions each : ℕ) (logs : ℕ → List LogEntry) → ((j : ℕ) → wrotes (logs j) ≤ each) → made_in sessions logs ≤ sessions * each
-made_few sessions each logs few = sum_most sessions each (λ j. first_writes every (logs j)) (λ j. omega (arith, firsts_few (logs j), few j))
+pub made_few : (sessions quota : ℕ) (logs : ℕ → List LogEntry) → ((j : ℕ) → wrotes (logs j) ≤ quota) → made_in sessions logs ≤ sessions * quota
+made_few sessions quota logs few = sum_most sessions quota (λ j. first_writes every (logs j)) (λ j. omega (arith, firsts_few (logs j), few j))
 
 -- the first ones of a sum
 below_least : (m n : ℕ) (f : ℕ → ℕ) → m ≤ n → sum_below m f ≤ sum_below n f

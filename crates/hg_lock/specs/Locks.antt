@@ -13,8 +13,8 @@ module _ {X T : Type 0} where
   count_of locks = locks.table.shared.table_id.slots
 
   -- the place of the lock that the loan is of
-  abbrev pub place_of : Loan X T → ℕ
-  place_of loan = loan.place
+  abbrev pub lock_of : Loan X T → ℕ
+  lock_of loan = loan.lock
 
   -- the loan is of a lock of this list
   abbrev pub IsLoanOf : Locks X T → Loan X T → Type 0

@@ -1,10 +1,10 @@
 //! Values under locks, where a clause can read what is known of them.
 //!
 //! Of a value under the standard library's `Mutex` only its type's invariant is known. Here a list of locks has a tag,
-//! and a type says what a value is to be by that tag and by its place in the list: it fits (`Fits::fits`).
+//! and a type says what a value is to be by that tag and by which lock of the list it is of: it fits (`Fits::fits`).
 //!
 //!     tag       the board's seats
-//!     place        0            1            2
+//!     lock         0            1            2
 //!     word         0            1            2
 //!                free         held         held, and somebody may sleep
 //!     slot      [ value ]    ( out )      ( out )

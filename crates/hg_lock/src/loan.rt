@@ -7,18 +7,18 @@ use atomic_table::Seat;
 
 /// The right to give a value back, and the duty: it has no `Drop`.
 pub struct Loan<X, T> {
-    pub(crate) place: usize,
+    pub(crate) lock: usize,
     pub(crate) seat: Seat<Option<X>, Seen<T>>,
-    ghost out: { seat.me.1 ≡ (place, None) ∷ [] },
+    ghost out: { seat.me.1 ≡ (lock, None) ∷ [] },
 }
 
 impl<X, T> Loan<X, T> {
-    ghost use Rattle.hg_lock.specs.Locks.{place_of};
+    ghost use Rattle.hg_lock.specs.Locks.{lock_of};
 
     /// Which lock of its list it is of.
-    pub fn place(&self) -> usize
-        ensures { result ≡ place_of self.now }
+    pub fn lock(&self) -> usize
+        ensures { result ≡ lock_of self.now }
     {
-        self.place
+        self.lock
     }
 }

@@ -23,7 +23,7 @@ pub struct Locks<X: Fits> {
 
 // A lock that was freed. It has no `Drop`: it ends in `wake` where somebody may sleep on it, and else in `settle`.
 struct Freed<X, T> {
-    place: usize,
+    lock: usize,
     awaited: bool,
     seat: Seat<Option<X>, Seen<T>>,
     ghost home: { seat.me.1 ≡ [] },
@@ -36,7 +36,7 @@ fn settle<X: Drop, T>(freed: Freed<X, T>)
     requires { IsFalse freed.awaited }
 {
     let Freed {
-        place: _,
+        lock: _,
         awaited: _,
         seat: _,
     } = freed;
@@ -50,7 +50,7 @@ fn filled<X: Drop>(alloc: Global, values: Vec<X>) -> Result<Vec<Option<X>>, Allo
 
 impl<X: Fits + Drop> Locks<X> {
     ghost use Rattle.hg_lock.specs.Guarded.{HasValue};
-    ghost use Rattle.hg_lock.specs.Locks.{EachFits, IsLoanOf, count_of, place_of, tag_of};
+    ghost use Rattle.hg_lock.specs.Locks.{EachFits, IsLoanOf, count_of, lock_of, tag_of};
 
     /// A free lock for each value, in order.
     pub fn new(alloc: Global, values: Vec<X>, tag: &X::Tag) -> Result<Locks<X>, NoMemory>
@@ -74,20 +74,20 @@ impl<X: Fits + Drop> Locks<X> {
     }
 
     /// Sleeps while the lock is held. A thread that holds it already waits for itself.
-    pub fn take<R: Wait>(&self, rt: &R, place: usize) -> (X, Loan<X, X::Tag>)
-        requires { place < count_of self.now }
-        ensures fits { X.fits (tag_of self.now) place result.0 }
+    pub fn take<R: Wait>(&self, rt: &R, lock: usize) -> (X, Loan<X, X::Tag>)
+        requires { lock < count_of self.now }
+        ensures fits { X.fits (tag_of self.now) lock result.0 }
         ensures loan { IsLoanOf self.now result.1 }
-        ensures place { place_of result.1 ≡ place }
+        ensures lock { lock_of result.1 ≡ lock }
     {
-        let mut seat = self.claim(rt, place);
-        let value = self.table.shared.exchange(&mut seat, place, None);
-        (value.unwrap(), Loan { place, seat })
+        let mut seat = self.claim(rt, lock);
+        let value = self.table.shared.exchange(&mut seat, lock, None);
+        (value.unwrap(), Loan { lock, seat })
     }
 
     /// Frees the lock, with this value under it. It waits for nobody.
     pub fn give(&self, value: X, loan: Loan<X, X::Tag>)
-        requires fits { X.fits (tag_of self.now) (place_of loan) value }
+        requires fits { X.fits (tag_of self.now) (lock_of loan) value }
         requires loan { IsLoanOf self.now loan }
     {
         let freed = self.free(value, loan);
@@ -99,69 +99,69 @@ impl<X: Fits + Drop> Locks<X> {
     }
 
     // Takes the slot, by one step where the lock is free.
-    fn claim<R: Wait>(&self, rt: &R, place: usize) -> Seat<Option<X>, Seen<X::Tag>>
-        requires { place < count_of self.now }
+    fn claim<R: Wait>(&self, rt: &R, lock: usize) -> Seat<Option<X>, Seen<X::Tag>>
+        requires { lock < count_of self.now }
         ensures list { result.table_id ≡ self.now.table.shared.table_id }
-        ensures value { HasValue (X.fits (tag_of self.now)) place result.me }
+        ensures value { HasValue (X.fits (tag_of self.now)) lock result.me }
         ensures left { (result.me.0.left ≡ 1) ⊎ (result.me.0.left ≡ 2) }
     {
-        match self.seize(place, HELD) {
+        match self.seize(lock, HELD) {
             Ok(seat) => seat,
-            Err(found) => self.wait(rt, place, found),
+            Err(found) => self.wait(rt, lock, found),
         }
     }
 
     // Takes the slot of a lock that was found held. `HELD` may have been written over `AWAITED` then, which is put back.
-    fn wait<R: Wait>(&self, rt: &R, place: usize, found: u64) -> Seat<Option<X>, Seen<X::Tag>>
-        requires { place < count_of self.now }
+    fn wait<R: Wait>(&self, rt: &R, lock: usize, found: u64) -> Seat<Option<X>, Seen<X::Tag>>
+        requires { lock < count_of self.now }
         ensures list { result.table_id ≡ self.now.table.shared.table_id }
-        ensures value { HasValue (X.fits (tag_of self.now)) place result.me }
+        ensures value { HasValue (X.fits (tag_of self.now)) lock result.me }
         ensures left { (result.me.0.left ≡ 2) ⊎ ((found ≡ 1) × (result.me.0.left ≡ 1)) }
     {
-        if found == HELD && self.look(place) == FREE {
-            if let Ok(seat) = self.seize(place, HELD) {
+        if found == HELD && self.look(lock) == FREE {
+            if let Ok(seat) = self.seize(lock, HELD) {
                 return seat;
             }
         }
-        self.sleep(rt, place)
+        self.sleep(rt, lock)
     }
 
     // Takes the slot, and sleeps until it can. Others may sleep still.
-    fn sleep<R: Wait>(&self, rt: &R, place: usize) -> Seat<Option<X>, Seen<X::Tag>>
-        requires { place < count_of self.now }
+    fn sleep<R: Wait>(&self, rt: &R, lock: usize) -> Seat<Option<X>, Seen<X::Tag>>
+        requires { lock < count_of self.now }
         ensures list { result.table_id ≡ self.now.table.shared.table_id }
-        ensures value { HasValue (X.fits (tag_of self.now)) place result.me }
+        ensures value { HasValue (X.fits (tag_of self.now)) lock result.me }
         ensures left { result.me.0.left ≡ 2 }
     {
         for _ in rt.forever() {
-            if let Ok(seat) = self.seize(place, AWAITED) {
+            if let Ok(seat) = self.seize(lock, AWAITED) {
                 return seat;
             }
-            self.table.shared.park(rt, place, AWAITED as u32);
-            self.look(place);
+            self.table.shared.park(rt, lock, AWAITED as u32);
+            self.look(lock);
         }
         unreachable!()
     }
 
     // Writes the word of a lock, which is held from then on, and takes the slot if it was free. Else answers the word
     // that it found.
-    fn seize(&self, place: usize, word: u64) -> Result<Seat<Option<X>, Seen<X::Tag>>, u64>
-        requires place { place < count_of self.now }
+    fn seize(&self, lock: usize, word: u64) -> Result<Seat<Option<X>, Seen<X::Tag>>, u64>
+        requires lock { lock < count_of self.now }
         requires held { FREE < word }
         ensures list { IfOk result (λ seat. seat.table_id ≡ self.now.table.shared.table_id) }
-        ensures value { IfOk result (λ seat. HasValue (X.fits (tag_of self.now)) place seat.me) }
+        ensures value { IfOk result (λ seat. HasValue (X.fits (tag_of self.now)) lock seat.me) }
         ensures left { IfOk result (λ seat. seat.me.0.left ≡ word) }
     {
-        let (found, seat) = self.table.shared.swap_new_seat::<Seize<X>>(place, word);
+        let (found, seat) = self.table.shared.swap_new_seat::<Seize<X>>(lock, word);
         if found == FREE { Ok(seat) } else { Err(found) }
     }
 
     // Looks for a while, as long as the lock is held and nobody sleeps.
-    fn look(&self, place: usize) -> u64
-        requires { place < count_of self.now }
+    fn look(&self, lock: usize) -> u64
+        requires { lock < count_of self.now }
     {
         for _ in 0..LOOKS {
-            let seen = self.table.shared.peek(place);
+            let seen = self.table.shared.peek(lock);
             if seen != HELD {
                 return seen;
             }
@@ -172,17 +172,17 @@ impl<X: Fits + Drop> Locks<X> {
 
     // Lays the value down and frees the lock. A lock whose slot is at home is free, by the rule.
     fn free(&self, value: X, loan: Loan<X, X::Tag>) -> Freed<X, X::Tag>
-        requires fits { X.fits (tag_of self.now) (place_of loan) value }
+        requires fits { X.fits (tag_of self.now) (lock_of loan) value }
         requires loan { IsLoanOf self.now loan }
         ensures list { result.seat.table_id ≡ self.now.table.shared.table_id }
-        ensures place { (result.place ≡ place_of loan) × (result.place < count_of self.now) }
+        ensures lock { (result.lock ≡ lock_of loan) × (result.lock < count_of self.now) }
     {
-        let Loan { place, mut seat } = loan;
+        let Loan { lock, mut seat } = loan;
         let shared = &self.table.shared;
-        drop(shared.exchange(&mut seat, place, Some(value)));
-        let found = shared.swap::<Release>(&mut seat, place, FREE);
+        drop(shared.exchange(&mut seat, lock, Some(value)));
+        let found = shared.swap::<Release>(&mut seat, lock, FREE);
         Freed {
-            place,
+            lock,
             awaited: found == AWAITED,
             seat,
         }
@@ -190,14 +190,14 @@ impl<X: Fits + Drop> Locks<X> {
 
     // Wakes one who sleeps on the lock.
     fn wake(&self, freed: Freed<X, X::Tag>)
-        requires place { freed.place < count_of self.now }
+        requires lock { freed.lock < count_of self.now }
         requires awaited { IsTrue freed.awaited }
     {
         let Freed {
-            place,
+            lock,
             awaited: _,
             seat: _,
         } = freed;
-        self.table.shared.wake_one(place);
+        self.table.shared.wake_one(lock);
     }
 }

@@ -16,7 +16,7 @@ use std::time::Duration;
 #[derive(Drop)]
 struct Till {
     list: u64,
-    place: usize,
+    lock: usize,
     sum: u64,
 }
 
@@ -25,19 +25,19 @@ impl Fits for Till {
 
     type Tag = Snapshot<u64>;
 
-    ghost fits = { λ tag k till. (till.list ≡ tag.value) × (till.place ≡ k) };
+    ghost fits = { λ tag k till. (till.list ≡ tag.value) × (till.lock ≡ k) };
 }
 
 type Tills = Locks<Till>;
 
 fn tills(alloc: Global, list: u64, count: usize) -> Result<Vec<Till>, AllocError>
-    ensures fits { IfOk result (λ tills. (k : ℕ) (till : _) → slice_get tills.items k ≡ Some till → (till.list ≡ list) × (till.place ≡ k)) }
+    ensures fits { IfOk result (λ tills. (k : ℕ) (till : _) → slice_get tills.items k ≡ Some till → (till.list ≡ list) × (till.lock ≡ k)) }
     ensures count { IfOk result (λ tills. length tills.items ≡ count) }
 {
     let mut tills = Vec::new(alloc);
-    for place in 0..count {
+    for lock in 0..count {
         let sum = 0;
-        tills.push(Till { list, place, sum })?;
+        tills.push(Till { list, lock, sum })?;
     }
     Ok(tills)
 }
@@ -49,13 +49,13 @@ fn open(alloc: Global, list: u64, count: usize) -> Result<Tills, Fail>
 }
 
 // Adds to the sum at this place, and answers it. The value says itself where it lies.
-fn add<R: Wait>(rt: &R, locks: &Tills, place: usize, amount: u64) -> (usize, u64)
-    requires { place < count_of locks.now }
-    ensures { result.0 ≡ place }
+fn add<R: Wait>(rt: &R, locks: &Tills, lock: usize, amount: u64) -> (usize, u64)
+    requires { lock < count_of locks.now }
+    ensures { result.0 ≡ lock }
 {
-    let (mut till, loan) = locks.take(rt, place);
+    let (mut till, loan) = locks.take(rt, lock);
     till.sum = till.sum.saturating_add(amount);
-    let found = (till.place, till.sum);
+    let found = (till.lock, till.sum);
     locks.give(till, loan);
     found
 }
@@ -68,18 +68,18 @@ fn each_value_lies_at_its_place(rt: HostRuntime) -> Result<(), Fail> {
     }
     let locks = open(rt.alloc(), 7, 3)?;
     // place, amount, sum
-    for (place, amount, sum) in [(0, 5, 5), (2, 1, 1), (0, 2, 7), (1, 0, 0), (2, 3, 4)] {
-        assert_eq!(rt; add(&rt, &locks, place, amount), (place, sum));
+    for (lock, amount, sum) in [(0, 5, 5), (2, 1, 1), (0, 2, 7), (1, 0, 0), (2, 3, 4)] {
+        assert_eq!(rt; add(&rt, &locks, lock, amount), (lock, sum));
     }
     Ok(())
 }
 
 // Adds 1 so many times.
-fn add_ones<R: Wait>(rt: &R, locks: &Tills, place: usize, times: u64)
-    requires { place < count_of locks.now }
+fn add_ones<R: Wait>(rt: &R, locks: &Tills, lock: usize, times: u64)
+    requires { lock < count_of locks.now }
 {
     for _ in 0..times {
-        add(rt, locks, place, 1);
+        add(rt, locks, lock, 1);
     }
 }
 
@@ -100,13 +100,13 @@ const TURNS: u64 = 10_000_000;
 fn hold_beside<R: Wait>(
     rt: &R,
     locks: &Tills,
-    place: usize,
+    lock: usize,
     mine: &AtomicU64,
     other: &AtomicU64,
 ) -> bool
-    requires { place < count_of locks.now }
+    requires { lock < count_of locks.now }
 {
-    let (till, loan) = locks.take(rt, place);
+    let (till, loan) = locks.take(rt, lock);
     mine.store(1, SeqCst);
     let mut seen = false;
     for _ in 0..TURNS {

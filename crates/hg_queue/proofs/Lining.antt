@@ -6,7 +6,7 @@ use lib.ListN.{get_elem?}
 use Rattle.crossbeam_queue.specs.Fifo.{Pushes, Pops, Forks}
 use Rattle.crossbeam_queue.proofs.Lists.{at_set, at_snoc}
 use Rattle.hg_rule.specs.Facts.{StartsWith}
-use Rattle.hg_rule.specs.Seats.{TableId}
+use Rattle.hg_rule.specs.Seats.{BoardId}
 use Rattle.hg_rule.proofs.Lists.{each_append, starts_same, starts_on}
 use Rattle.hg_queue.specs.declared.handed.Handed.{Handed}
 use Rattle.hg_queue.specs.declared.known.Known.{Known}
@@ -26,7 +26,7 @@ queued items views i v (inr h) at shut = h
 pub begins : Ordered [] (opening ∷ [])
 begins = inl (refl, refl)
 
-pub opens : (i : ℕ) (v : Known) (t : TableId) → v ≡ opening → Forks Ordered i v (leader t) (pusher t)
+pub opens : (i : ℕ) (v : Known) (t : BoardId) → v ≡ opening → Forks Ordered i v (leader t) (pusher t)
 opens i v t is items views (inl h) at = let e = only v i (ap (λ l. get_elem? l i) (sym h.1) ∙ at) in
     inr (subst (λ (l : List Known). Queued items (l ++ pusher t ∷ [])) (sym (ap (λ (l : List Known). set l i (leader t)) h.1 ∙ ap (λ n. set (opening ∷ []) n (leader t)) e.0))
     (subst (λ (l : List Handed). Queued l (leader t ∷ pusher t ∷ [])) (sym h.0) record { board = t; at = 0; out = []; good = tt; fits = two }))

@@ -8,7 +8,7 @@ use Rattle.hg_rule.specs.declared.view.SessionPart.{SessionPart}
 use Rattle.hg_rule.specs.declared.passes.TxSeat.{TxSeat}
 use Rattle.hg_rule.specs.Views.{session}
 use Rattle.hg_rule.specs.Steps.{loaded_in, tables_in}
-use Rattle.hg_rule.specs.Seats.{TableId, tx_view, IsTxOf}
+use Rattle.hg_rule.specs.Seats.{BoardId, tx_view, IsTxOf}
 use Rattle.hg_queue.specs.declared.open_tx.OpenTx.{OpenTx}
 use Rattle.hg_queue.specs.declared.handed.Handed.{Handed}
 
@@ -33,7 +33,7 @@ abbrev pub seat_part : TxSeat → SessionPart
 seat_part s = session (tx_view s)
 
 -- A transaction of this board with its session's part, which may be committed and has open writes.
-pub record IsHandedOf (t : TableId) (x : Handed) : Type 0 where
+pub record IsHandedOf (t : BoardId) (x : Handed) : Type 0 where
   pub seat : IsTxOf t x.seat
   pub tx : IsOpenTxOf (seat_number x.seat) (seat_part x.seat) x.tx
   pub some : 0 < length x.tx.records.list

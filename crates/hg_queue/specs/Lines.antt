@@ -4,7 +4,7 @@ use mathlib.Core.Option.{some}
 use lib.ListN.{get_elem?}
 use Rattle.hg_base.specs.Lists.{Each}
 use Rattle.hg_rule.specs.Facts.{StartsWith}
-use Rattle.hg_rule.specs.Seats.{TableId}
+use Rattle.hg_rule.specs.Seats.{BoardId}
 use Rattle.hg_queue.specs.declared.handed.Handed.{Handed}
 use Rattle.hg_queue.specs.declared.known.Known.{Known}
 use Rattle.hg_queue.specs.Handing.{IsHandedOf}
@@ -14,11 +14,11 @@ abbrev pub pair_of : Handed → ℕ × ℕ
 pair_of x = (x.tx.writer.session, x.tx.writer.transaction)
 
 -- whether it opens, whether it pops, its board and its pairs
-abbrev pub knows : Bool → Bool → TableId → List (ℕ × ℕ) → Known
+abbrev pub knows : Bool → Bool → BoardId → List (ℕ × ℕ) → Known
 knows opens leads t pairs = record { opens = opens; leads = leads; board = record { id = t }; pairs = pairs }
 
 -- in place of a board, until there is one
-abbrev pub no_board : TableId
+abbrev pub no_board : BoardId
 no_board = record { words = 0; slots = 0; views_name = 0; atom = 0; block = 0; offset = 0; slot_names = [] }
 
 -- the first pass of all, before there is a board
@@ -26,10 +26,10 @@ abbrev pub opening : Known
 opening = knows true true no_board []
 
 -- the pass that pops, and one that pushes, of a new queue
-abbrev pub leader : TableId → Known
+abbrev pub leader : BoardId → Known
 leader t = knows false true t []
 
-abbrev pub pusher : TableId → Known
+abbrev pub pusher : BoardId → Known
 pusher t = knows false false t []
 
 -- a pass may pop, or push
@@ -44,7 +44,7 @@ abbrev pub with_pairs : List (ℕ × ℕ) → Known → Known
 with_pairs pairs v = record v { pairs = pairs }
 
 -- what the pass with number i knows: the one that pops has number `at` and what was popped, any other a beginning of what was pushed
-pub record Fits (board : TableId) (at : ℕ) (out all : List (ℕ × ℕ)) (i : ℕ) (v : Known) : Type 0 where
+pub record Fits (board : BoardId) (at : ℕ) (out all : List (ℕ × ℕ)) (i : ℕ) (v : Known) : Type 0 where
   pub opened : v.opens ≡ false
   pub board_is : v.board.id ≡ board
   pub leads : v.leads ≡ true → (i ≡ at) × (v.pairs ≡ out)
@@ -52,7 +52,7 @@ pub record Fits (board : TableId) (at : ℕ) (out all : List (ℕ × ℕ)) (i : 
 
 -- A queue of one board. What was popped is `out`; what was pushed is that, and then what the queue holds.
 pub record Queued (items : List Handed) (views : List Known) : Type 0 where
-  pub board : TableId
+  pub board : BoardId
   pub at : ℕ
   pub out : List (ℕ × ℕ)
   pub good : Each (IsHandedOf board) items

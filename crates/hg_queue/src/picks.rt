@@ -1,13 +1,13 @@
 //! What a move is told besides. Each call picks it.
 
-ghost use Rattle.atomic_table.specs.Seated.{TableId};
+ghost use Rattle.atomic_table.specs.Seated.{TableId as BoardId};
 ghost use Rattle.std.specs.Prelude.{[]};
 
 use std::marker::Brand;
 
 /// A board.
 pub(crate) trait Boarded {
-    ghost board: { TableId };
+    ghost board: { BoardId };
 }
 
 impl Boarded for Brand {

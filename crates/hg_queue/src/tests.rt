@@ -25,7 +25,7 @@ fn first_of(
 ) -> Result<Handed, NoMemory>
     requires own { IsSessionOf (table_of board.now) (sizes_of board.now) pass.old }
     requires first { (session_view pass.old).parts ≡ session_part pass.old.number ∷ [] }
-    requires room { (0 < (sizes_of board.now).tables) × (0 < (sizes_of board.now).each) }
+    requires room { (0 < (sizes_of board.now).tables) × (0 < (sizes_of board.now).quota) }
     requires bucket { IsBucketOf (table_of board.now) bucket × (bucket.number ≡ key) }
     requires place { bucket_of (sizes_of board.now).buckets record { table = record { 0 = 0 }; key = key } ≡ key }
     requires empty { (bucket_view bucket).parts ≡ OfBucket bucket.number new_bucket ∷ [] }

@@ -205,10 +205,10 @@ abbrev pub IsFree : Open → Type 0
 IsFree opens.Nothing = ⊤
 IsFree (opens.Scan session place at columns left rows) = left ≡ 0
 IsFree (opens.Sweep session place sweep) = ⊤
-IsFree (opens.Totals told totals) = ⊥
+IsFree (opens.Totals index totals) = ⊥
 
 abbrev pub FitsFirst : Script → Piece → Type 0
-FitsFirst script (piece.Total told number) = (told ≡ 0) × Fits64 number
+FitsFirst script (piece.Total index number) = (index ≡ 0) × Fits64 number
 FitsFirst script next = FitsHead script next
 
 abbrev pub FitsTold : Told → Type 0
@@ -218,12 +218,12 @@ pub data FitsNext (script : Script) : Open → Piece → Type 0 where
   comes_first : (state : Open) (next : Piece) → IsFree state → FitsFirst script next → FitsNext script state next
   comes_row : (session place : ℕ) (at : Option ℕ) (columns left : ℕ) (rows : List (ℕ × List ℤ)) (key : ℕ) (values : List ℤ) → 0 < left → FitsKey columns (key, values) → FitsNext script (opens.Scan session place at columns left rows) (piece.Row session place key values)
   comes_held : (session place : ℕ) (sweep : Sweep) (told : Told) → FitsTold told → FitsNext script (opens.Sweep session place sweep) (piece.Held session place told)
-  comes_total : (told : ℕ) (totals : Totals) (number : ℕ) → told < 6 → Fits64 number → FitsNext script (opens.Totals told totals) (piece.Total told number)
+  comes_total : (index : ℕ) (totals : Totals) (number : ℕ) → index < 6 → Fits64 number → FitsNext script (opens.Totals index totals) (piece.Total index number)
 
 module _ (script : Script) (fields : List Field) where
   first_of_head : (state : Open) → IsFree state → (o : Option Piece) → IfSome o (FitsHead script) → IfSome o (FitsNext script state)
   first_of_head state free None h = tt
-  first_of_head state free (Some (piece.Total told number)) h = absurd h
+  first_of_head state free (Some (piece.Total index number)) h = absurd h
   first_of_head state free (Some next) h = comes_first state next free h
 
   first_fits : (state : Open) → IsFree state → IfSome (first_guess script fields) (FitsNext script state)
@@ -242,5 +242,5 @@ module _ (script : Script) (fields : List Field) where
       (λ e. first_fits (opens.Scan session place at columns left rows) (grind (arith, nat_tests, e)))
   guess_fits (opens.Sweep session place sweep) = cond_both (says fields 2 (codes "held")) (Some (held_guess session place fields)) (first_guess script fields) (λ (o : Option Piece). IfSome o (FitsNext script (opens.Sweep session place sweep)))
       (λ e. comes_held session place sweep _ (session_fits fields 3, number_fits fields 4)) (λ e. first_fits (opens.Sweep session place sweep) tt)
-  guess_fits (opens.Totals told totals) = cond_both (nat_lt told 6) (Some (piece.Total told (number_in fields 2))) None (λ (o : Option Piece). IfSome o (FitsNext script (opens.Totals told totals)))
-      (λ e. comes_total told totals (number_in fields 2) (ltb-true told 6 e) (number_fits fields 2)) (λ e. tt)
+  guess_fits (opens.Totals index totals) = cond_both (nat_lt index 6) (Some (piece.Total index (number_in fields 2))) None (λ (o : Option Piece). IfSome o (FitsNext script (opens.Totals index totals)))
+      (λ e. comes_total index totals (number_in fields 2) (ltb-true index 6 e) (number_fits fields 2)) (λ e. tt)

@@ -32,7 +32,7 @@ parted_piece tables h (piece.Scan session place at columns left) rest = let plai
 parted_piece tables h (piece.Sweep session place sweep) rest = let plain = plain_piece tables h (piece.Sweep session place sweep) in parted_record _ _ _ rest plain.0 plain.1
 parted_piece tables h (piece.Row session place key row) rest = let plain = plain_piece tables h (piece.Row session place key row) in parted_record _ _ _ rest plain.0 plain.1
 parted_piece tables h (piece.Held session place told) rest = let plain = plain_piece tables h (piece.Held session place told) in parted_record _ _ _ rest plain.0 plain.1
-parted_piece tables h (piece.Total told number) rest = let plain = plain_piece tables h (piece.Total told number) in parted_record _ _ _ rest plain.0 plain.1
+parted_piece tables h (piece.Total index number) rest = let plain = plain_piece tables h (piece.Total index number) in parted_record _ _ _ rest plain.0 plain.1
 
 some_many : (x y : Field) (more : List Field) → 0 < length (record_bytes (x ∷ y ∷ more))
 some_many x y more = rw record_is (simp length-append (omega arith))
@@ -43,7 +43,7 @@ some_bytes tables (piece.Scan session place at columns left) = some_many _ _ _
 some_bytes tables (piece.Sweep session place sweep) = some_many _ _ _
 some_bytes tables (piece.Row session place key row) = some_many _ _ _
 some_bytes tables (piece.Held session place told) = some_many _ _ _
-some_bytes tables (piece.Total told number) = some_many _ _ _
+some_bytes tables (piece.Total index number) = some_many _ _ _
 
 record Same (q r : List Field) (xs ys : List ℕ) : Type 0 where
   fields : q ≡ r

@@ -78,10 +78,10 @@ plain_kind kinds.Group = refl
 plain_kind kinds.Table = refl
 plain_kind kinds.Interval = refl
 
-plain_total : (told : ℕ) → IsPlain (total_word told)
-plain_total told =
-    cond_both (told == 0) _ _ IsPlain (λ e. refl) (λ e. cond_both (told == 1) _ _ IsPlain (λ e. refl) (λ e. cond_both (told == 2) _ _ IsPlain (λ e. refl)
-    (λ e. cond_both (told == 3) _ _ IsPlain (λ e. refl) (λ e. cond_both (told == 4) _ _ IsPlain (λ e. refl) (λ e. refl)))))
+plain_total : (index : ℕ) → IsPlain (total_word index)
+plain_total index =
+    cond_both (index == 0) _ _ IsPlain (λ e. refl) (λ e. cond_both (index == 1) _ _ IsPlain (λ e. refl) (λ e. cond_both (index == 2) _ _ IsPlain (λ e. refl)
+    (λ e. cond_both (index == 3) _ _ IsPlain (λ e. refl) (λ e. cond_both (index == 4) _ _ IsPlain (λ e. refl) (λ e. refl)))))
 
 -- ---- records
 
@@ -121,4 +121,4 @@ module _ (tables : List Declaration) (lawful : Each IsTable tables) where
   plain_piece (piece.Sweep session place sweep) = (plain_number session, (plain_number place, plain_answer (Swept sweep)))
   plain_piece (piece.Row session place key row) = (plain_number session, (plain_number place, (refl, (plain_number key, plain_values row))))
   plain_piece (piece.Held session place told) = (plain_number session, (plain_number place, (refl, (plain_number told.session, (plain_number told.number, (cond_both told.moved _ _ IsPlain (λ e. refl) (λ e. refl), tt))))))
-  plain_piece (piece.Total told number) = (refl, (plain_total told, (plain_number number, tt)))
+  plain_piece (piece.Total index number) = (refl, (plain_total index, (plain_number number, tt)))

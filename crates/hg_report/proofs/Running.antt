@@ -53,13 +53,13 @@ free_guess : (script : Script) (state : Open) (fields : List Field) → IsFree s
 free_guess script opens.Nothing fields free h = refl
 free_guess script (opens.Scan session place at columns left rows) fields free h = let none : nat_lt 0 left ≡ false = grind (arith, nat_tests, free) in rw none refl
 free_guess script (opens.Sweep session place sweep) fields free h = rw h refl
-free_guess script (opens.Totals told totals) fields free h = absurd free
+free_guess script (opens.Totals index totals) fields free h = absurd free
 
 free_totals : (state : Open) → IsFree state → totals_of state ≡ no_totals
 free_totals opens.Nothing free = refl
 free_totals (opens.Scan session place at columns left rows) free = refl
 free_totals (opens.Sweep session place sweep) free = refl
-free_totals (opens.Totals told totals) free = absurd free
+free_totals (opens.Totals index totals) free = absurd free
 
 -- ---- the totals
 
@@ -110,15 +110,15 @@ same_told s s' n n' m m' a b c = ap (λ x. make_told x n m) a ∙ ap (λ x. make
 
 module _ (script : Script) where
   abbrev telling : List Line → ℕ → Totals → Progress
-  telling lines told totals = record { lines = lines; last = opens.Totals told totals }
+  telling lines index totals = record { lines = lines; last = opens.Totals index totals }
 
-  total_step : (lines : List Line) (told number : ℕ) (t : Totals) (rest : List (List Field)) (end : Progress) → told < 6 → Fits64 number
-      → Runs script (telling lines (told + 1) (with_total told number t)) rest end → Runs script (telling lines told t) (total_fields (total_word told) number ∷ rest) end
-  total_step lines told number t rest end h k runs =
-      let fields = total_fields (total_word told) number in
-      let guess : guess_after script (opens.Totals told t) fields ≡ Some (piece.Total told number) =
-      rw (lt-ltb told 6 h) (ap (λ n. Some (piece.Total told n)) (number_read fields 2 number k refl)) in
-      (piece.Total told number, record { guess = guess; is = refl }, subst (λ (lines : List Line). Runs script (telling lines (told + 1) (with_total told number t)) rest end) (sym (append-nil lines)) runs)
+  total_step : (lines : List Line) (index number : ℕ) (t : Totals) (rest : List (List Field)) (end : Progress) → index < 6 → Fits64 number
+      → Runs script (telling lines (index + 1) (with_total index number t)) rest end → Runs script (telling lines index t) (total_fields (total_word index) number ∷ rest) end
+  total_step lines index number t rest end h k runs =
+      let fields = total_fields (total_word index) number in
+      let guess : guess_after script (opens.Totals index t) fields ≡ Some (piece.Total index number) =
+      rw (lt-ltb index 6 h) (ap (λ n. Some (piece.Total index n)) (number_read fields 2 number k refl)) in
+      (piece.Total index number, record { guess = guess; is = refl }, subst (λ (lines : List Line). Runs script (telling lines (index + 1) (with_total index number t)) rest end) (sym (append-nil lines)) runs)
 
   total_first : (progress : Progress) (number : ℕ) (rest : List (List Field)) (end : Progress) → IsFree progress.last → Fits64 number
       → Runs script (telling (lines_of progress) 1 (with_total 0 number no_totals)) rest end → Runs script progress (total_fields (codes "made") number ∷ rest) end

@@ -38,13 +38,13 @@ abbrev pub open_records : List Declaration → Open → Records
 open_records tables opens.Nothing = []
 open_records tables (opens.Scan session place at columns left rows) = behind session place (told_as (codes "at") at ++ codes "rows" ∷ decimal (length rows + left) ∷ []) ∷ row_records session place rows
 open_records tables (opens.Sweep session place sweep) = line_records tables (sweep_line session place sweep)
-open_records tables (opens.Totals told totals) = take told (totals_records totals)
+open_records tables (opens.Totals index totals) = take index (totals_records totals)
 
 abbrev pub FitsOpen : Script → Open → Type 0
 FitsOpen script opens.Nothing = ⊤
 FitsOpen script (opens.Scan session place at columns left rows) = (more : List (ℕ × List ℤ)) → length more ≡ left → Each (FitsKey columns) more → Fits script (scan_line session place at (rows ++ more))
 FitsOpen script (opens.Sweep session place sweep) = Fits script (sweep_line session place sweep)
-FitsOpen script (opens.Totals told totals) = FitTotals totals × (told ≤ 6)
+FitsOpen script (opens.Totals index totals) = FitTotals totals × (index ≤ 6)
 
 pub record Stands (script : Script) (progress : Progress) (records : Records) : Type 0 where
   pub lines : Each (Fits script) progress.lines
@@ -72,26 +72,26 @@ scan_records tables session place None rows = refl
 scan_records tables session place (Some s) rows = refl
 
 -- one more of the totals
-pub record TellsMore (told number : ℕ) (t : Totals) : Type 0 where
-  pub fit : FitTotals (with_total told number t)
-  pub most : told + 1 ≤ 6
-  pub is : take told (totals_records t) ++ total_fields (total_word told) number ∷ [] ≡ take (told + 1) (totals_records (with_total told number t))
+pub record TellsMore (index number : ℕ) (t : Totals) : Type 0 where
+  pub fit : FitTotals (with_total index number t)
+  pub most : index + 1 ≤ 6
+  pub is : take index (totals_records t) ++ total_fields (total_word index) number ∷ [] ≡ take (index + 1) (totals_records (with_total index number t))
 
-total_step : (told number : ℕ) (t : Totals) → told < 6 → FitTotals t → Fits64 number → TellsMore told number t
+total_step : (index number : ℕ) (t : Totals) → index < 6 → FitTotals t → Fits64 number → TellsMore index number t
 total_step zero number t h fit k = record { fit = record { made = k; undone = fit.undone; group = fit.group; table = fit.table; interval = fit.interval; left = fit.left }; most = omega arith; is = refl }
 total_step (suc zero) number t h fit k = record { fit = record { made = fit.made; undone = k; group = fit.group; table = fit.table; interval = fit.interval; left = fit.left }; most = omega arith; is = refl }
 total_step (suc (suc zero)) number t h fit k = record { fit = record { made = fit.made; undone = fit.undone; group = k; table = fit.table; interval = fit.interval; left = fit.left }; most = omega arith; is = refl }
 total_step (suc (suc (suc zero))) number t h fit k = record { fit = record { made = fit.made; undone = fit.undone; group = fit.group; table = k; interval = fit.interval; left = fit.left }; most = omega arith; is = refl }
 total_step (suc (suc (suc (suc zero)))) number t h fit k = record { fit = record { made = fit.made; undone = fit.undone; group = fit.group; table = fit.table; interval = k; left = fit.left }; most = omega arith; is = refl }
 total_step (suc (suc (suc (suc (suc zero))))) number t h fit k = record { fit = record { made = fit.made; undone = fit.undone; group = fit.group; table = fit.table; interval = fit.interval; left = k }; most = omega arith; is = refl }
-total_step (suc (suc (suc (suc (suc (suc told)))))) number t h fit k = absurd (omega arith)
+total_step (suc (suc (suc (suc (suc (suc index)))))) number t h fit k = absurd (omega arith)
 
 pub no_totals_fit : FitTotals no_totals
 no_totals_fit = record { made = omega arith; undone = omega arith; group = omega arith; table = omega arith; interval = omega arith; left = omega arith }
 
-take_none : (told : ℕ) (records : Records) → told ≡ 0 → take told records ≡ []
+take_none : (index : ℕ) (records : Records) → index ≡ 0 → take index records ≡ []
 take_none zero records e = refl
-take_none (suc told) records e = absurd (omega arith)
+take_none (suc index) records e = absurd (omega arith)
 
 abbrev with_told : Sweep → Told → Sweep
 with_told sweep told = record sweep { held = sweep.held ++ told ∷ [] }
@@ -131,13 +131,13 @@ module _ (script : Script) where
     fit = each-append (Fits script) lines (sweep_line session place sweep ∷ []) each (fits, tt);
     are = is ∙ sym (written_more lines (sweep_line session place sweep));
   }
-  closed lines (opens.Totals told totals) records free each fits is = absurd free
+  closed lines (opens.Totals index totals) records free each fits is = absurd free
 
   free_totals : (state : Open) → IsFree state → totals_of state ≡ no_totals
   free_totals opens.Nothing free = refl
   free_totals (opens.Scan session place at columns left rows) free = refl
   free_totals (opens.Sweep session place sweep) free = refl
-  free_totals (opens.Totals told totals) free = absurd free
+  free_totals (opens.Totals index totals) free = absurd free
 
   -- ---- the first record of a line, or of the totals
 
@@ -169,13 +169,13 @@ module _ (script : Script) where
   }
   first_stands lines state records (piece.Row session place key values) free whole h = absurd h
   first_stands lines state records (piece.Held session place told) free whole h = absurd h
-  first_stands lines state records (piece.Total told number) free whole h =
+  first_stands lines state records (piece.Total index number) free whole h =
       let fit : FitTotals (totals_of state) = subst FitTotals (sym (free_totals state free)) no_totals_fit in
-      let more = total_step told number (totals_of state) (omega (arith, h.0)) fit h.1 in record {
+      let more = total_step index number (totals_of state) (omega (arith, h.0)) fit h.1 in record {
         lines = whole.fit;
         last = (more.fit, more.most);
-        is = ap (λ all. all ++ total_fields (total_word told) number ∷ []) whole.are
-            ∙ ap (λ before. written (lines ++ open_lines state) ++ (before ++ total_fields (total_word told) number ∷ [])) (sym (take_none told (totals_records (totals_of state)) h.0))
+        is = ap (λ all. all ++ total_fields (total_word index) number ∷ []) whole.are
+            ∙ ap (λ before. written (lines ++ open_lines state) ++ (before ++ total_fields (total_word index) number ∷ [])) (sym (take_none index (totals_records (totals_of state)) h.0))
             ∙ ap (λ all. written (lines ++ open_lines state) ++ all) more.is;
       }
 
@@ -219,14 +219,14 @@ module _ (script : Script) where
         ∙ append_assoc (written lines) (line_records script.tables (sweep_line session place sweep)) (behind session place (held_fields told) ∷ [])
         ∙ ap (λ more. written lines ++ (behind session place (answer_fields script.tables (Swept sweep)) ∷ more)) (sym (held_more session place sweep.held told));
   }
-  stepped_from lines _ records _ each fits is (comes_total told totals number below h) =
-      let more = total_step told number totals below fits.0 h in record {
+  stepped_from lines _ records _ each fits is (comes_total index totals number below h) =
+      let more = total_step index number totals below fits.0 h in record {
         lines = rw append-nil each;
         last = (more.fit, more.most);
-        is = ap (λ all. all ++ total_fields (total_word told) number ∷ []) is
-            ∙ append_assoc (written lines) (take told (totals_records totals)) (total_fields (total_word told) number ∷ [])
+        is = ap (λ all. all ++ total_fields (total_word index) number ∷ []) is
+            ∙ append_assoc (written lines) (take index (totals_records totals)) (total_fields (total_word index) number ∷ [])
             ∙ ap (λ all. written lines ++ all) more.is
-            ∙ ap (λ all. written all ++ take (told + 1) (totals_records (with_total told number totals))) (sym (append-nil lines));
+            ∙ ap (λ all. written all ++ take (index + 1) (totals_records (with_total index number totals))) (sym (append-nil lines));
       }
 
   pub stepped : (progress : Progress) (records : Records) (next : Piece) → Stands script progress records → FitsNext script progress.last next → Stands script (after progress next) (records ++ piece_fields script.tables next ∷ [])
@@ -299,13 +299,13 @@ module _ (script : Script) where
             ∙ regroup (written lines) (open_records script.tables (opens.Scan session place at columns left rows)) (row_records session place (fill columns left)) (totals_records no_totals)
             ∙ ap (λ records. records ++ (row_records session place (fill columns left) ++ totals_records no_totals)) (sym h.is);
       }
-  stands_begin lines (opens.Totals told totals) records h = record {
+  stands_begin lines (opens.Totals index totals) records h = record {
     printed = record { lines = lines; totals = totals };
     fits = record { lines = h.lines; totals = h.last.0 };
-    more = drop told (totals_records totals);
-    are = ap (λ all. written lines ++ all) (sym (take-append-drop told (totals_records totals)))
-        ∙ sym (append_assoc (written lines) (take told (totals_records totals)) (drop told (totals_records totals)))
-        ∙ ap (λ records. records ++ drop told (totals_records totals)) (sym h.is);
+    more = drop index (totals_records totals);
+    are = ap (λ all. written lines ++ all) (sym (take-append-drop index (totals_records totals)))
+        ∙ sym (append_assoc (written lines) (take index (totals_records totals)) (drop index (totals_records totals)))
+        ∙ ap (λ records. records ++ drop index (totals_records totals)) (sym h.is);
   }
 
   pub runs_begin : (end : Progress) (records : Records) → Runs script at_start records end → Begins records

@@ -22,21 +22,21 @@ takes_none script old new fields bytes text guessed g w without next is rest e =
     without rest (e ∙ ap (λ (f : List Field). record_bytes f ++ rest) (sym is.is ∙ ap (piece_fields script.tables) (sym (same_piece guessed next same))) ∙ ap (λ (t : List ℕ). t ++ rest) (sym w))
 
 abbrev BelowSix : Piece → Type 0
-BelowSix (piece.Total told number) = told < 6
+BelowSix (piece.Total index number) = index < 6
 BelowSix _ = ⊤
 
 first_below : (script : Script) (next : Piece) → FitsFirst script next → BelowSix next
-first_below script (piece.Total told number) h = omega (arith, h.0)
+first_below script (piece.Total index number) h = omega (arith, h.0)
 first_below script next h = tt
 
 below : (script : Script) (state : Open) (next : Piece) → FitsNext script state next → BelowSix next
 below script _ _ (comes_first state next free h) = first_below script next h
 below script _ _ (comes_row session place at columns left rows key values some h) = tt
 below script _ _ (comes_held session place sweep told h) = tt
-below script _ _ (comes_total told totals number h k) = h
+below script _ _ (comes_total index totals number h k) = h
 
 -- at most six totals are told
-pub total_below : (script : Script) (state : Open) (fields : List Field) (next : Piece) → Some next ≡ guess_after script state fields → (told number : ℕ) → next ≡ piece.Total told number → told < 6
-total_below script state fields next g told number e =
+pub total_below : (script : Script) (state : Open) (fields : List Field) (next : Piece) → Some next ≡ guess_after script state fields → (index number : ℕ) → next ≡ piece.Total index number → index < 6
+total_below script state fields next g index number e =
     let fits : FitsNext script state next = subst (λ (o : Option Piece). IfSome o (FitsNext script state)) (sym g) (guess_fits script fields state) in
     subst BelowSix e (below script state next fits)

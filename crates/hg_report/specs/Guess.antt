@@ -26,9 +26,9 @@ behind session place fields = decimal session ∷ decimal place ∷ fields
 
 -- the word of each of the totals
 abbrev pub total_word : ℕ → Field
-total_word told =
-    if told == 0 then codes "made" else if told == 1 then codes "undone" else if told == 2 then codes "group"
-    else if told == 3 then codes "table" else if told == 4 then codes "interval" else codes "left"
+total_word index =
+    if index == 0 then codes "made" else if index == 1 then codes "undone" else if index == 2 then codes "group"
+    else if index == 3 then codes "table" else if index == 4 then codes "interval" else codes "left"
 
 -- the fields of a piece. A line stands here for its first record.
 abbrev pub piece_fields : List Declaration → Piece → List Field
@@ -37,7 +37,7 @@ piece_fields tables (piece.Scan session place at columns left) = behind session 
 piece_fields tables (piece.Sweep session place sweep) = behind session place (answer_fields tables (Swept sweep))
 piece_fields tables (piece.Row session place key row) = behind session place (row_fields (key, row))
 piece_fields tables (piece.Held session place told) = behind session place (held_fields told)
-piece_fields tables (piece.Total told number) = total_fields (total_word told) number
+piece_fields tables (piece.Total index number) = total_fields (total_word index) number
 
 -- ---- the guess of an answer, whose first field is field i
 

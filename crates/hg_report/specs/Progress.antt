@@ -22,7 +22,7 @@ abbrev pub guess_after : Script → Open → List Field → Option Piece
 guess_after script opens.Nothing fields = first_guess script fields
 guess_after script (opens.Scan session place at columns left rows) fields = if nat_lt 0 left then row_guess session place columns fields else first_guess script fields
 guess_after script (opens.Sweep session place sweep) fields = if says fields 2 (codes "held") then Some (held_guess session place fields) else first_guess script fields
-guess_after script (opens.Totals told totals) fields = if nat_lt told 6 then Some (piece.Total told (number_in fields 2)) else None
+guess_after script (opens.Totals index totals) fields = if nat_lt index 6 then Some (piece.Total index (number_in fields 2)) else None
 
 -- ---- what a piece adds
 
@@ -37,7 +37,7 @@ abbrev pub open_lines : Open → List Line
 open_lines opens.Nothing = []
 open_lines (opens.Scan session place at columns left rows) = scan_line session place at rows ∷ []
 open_lines (opens.Sweep session place sweep) = sweep_line session place sweep ∷ []
-open_lines (opens.Totals told totals) = []
+open_lines (opens.Totals index totals) = []
 
 -- all lines so far
 abbrev pub lines_of : Progress → List Line
@@ -47,14 +47,14 @@ abbrev pub no_totals : Totals
 no_totals = record { made = 0; undone = 0; group = 0; table = 0; interval = 0; left = 0 }
 
 abbrev pub totals_of : Open → Totals
-totals_of (opens.Totals told totals) = totals
+totals_of (opens.Totals index totals) = totals
 totals_of _ = no_totals
 
 -- the totals with one of them told
 abbrev pub with_total : ℕ → ℕ → Totals → Totals
-with_total told number totals =
-    if told == 0 then record totals { made = number } else if told == 1 then record totals { undone = number } else if told == 2 then record totals { group = number }
-    else if told == 3 then record totals { table = number } else if told == 4 then record totals { interval = number } else record totals { left = number }
+with_total index number totals =
+    if index == 0 then record totals { made = number } else if index == 1 then record totals { undone = number } else if index == 2 then record totals { group = number }
+    else if index == 3 then record totals { table = number } else if index == 4 then record totals { interval = number } else record totals { left = number }
 
 abbrev pub with_row : Open → ℕ × List ℤ → Open
 with_row (opens.Scan session place at columns left rows) p = opens.Scan session place at columns (left - 1) (rows ++ p ∷ [])
@@ -70,7 +70,7 @@ after progress (piece.Scan session place at columns left) = record { lines = lin
 after progress (piece.Sweep session place sweep) = record { lines = lines_of progress; last = opens.Sweep session place sweep }
 after progress (piece.Row session place key row) = record progress { last = with_row progress.last (key, row) }
 after progress (piece.Held session place told) = record progress { last = with_held progress.last told }
-after progress (piece.Total told number) = record { lines = lines_of progress; last = opens.Totals (told + 1) (with_total told number (totals_of progress.last)) }
+after progress (piece.Total index number) = record { lines = lines_of progress; last = opens.Totals (index + 1) (with_total index number (totals_of progress.last)) }
 
 -- the reader at the start
 abbrev pub at_start : Progress

@@ -329,7 +329,7 @@ pub(crate) fn first_guess(
 {
     if says(row, 0, b"total") {
         return Ok(Some(Piece::Total {
-            told: 0,
+            index: 0,
             number: number_in(row, 2),
         }));
     }

@@ -40,15 +40,15 @@ pub enum Piece {
     },
     /// One of the six totals, by how many stand before it.
     Total {
-        told: u8,
+        index: u8,
         number: u64,
     },
 }
 
-fn total_word(told: u8) -> &'static [u8]
-    ensures { result.now ≡ total_word told }
+fn total_word(index: u8) -> &'static [u8]
+    ensures { result.now ≡ total_word index }
 {
-    match told {
+    match index {
         0 => b"made",
         1 => b"undone",
         2 => b"group",
@@ -88,7 +88,7 @@ impl Piece {
                 place,
                 told,
             } => write_held(text, *session, *place, *told)?,
-            Piece::Total { told, number } => write_total(text, total_word(*told), *number)?,
+            Piece::Total { index, number } => write_total(text, total_word(*index), *number)?,
         }
         Ok(())
     }

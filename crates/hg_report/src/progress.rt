@@ -35,7 +35,7 @@ pub enum Open {
     },
     /// The totals, of which so many were told.
     Totals {
-        told: u8,
+        index: u8,
         totals: Totals,
     },
 }
@@ -47,10 +47,10 @@ pub struct Progress {
     pub(crate) last: Open,
 }
 
-fn with_total(told: u8, number: u64, totals: Totals) -> Totals
-    ensures { result ≡ with_total told number totals }
+fn with_total(index: u8, number: u64, totals: Totals) -> Totals
+    ensures { result ≡ with_total index number totals }
 {
-    match told {
+    match index {
         0 => Totals {
             made: number,
             ..totals
@@ -145,10 +145,10 @@ impl Open {
                     first_guess(alloc, script, row)
                 }
             }
-            Open::Totals { told, .. } => {
-                if *told < 6 {
+            Open::Totals { index, .. } => {
+                if *index < 6 {
                     Ok(Some(Piece::Total {
-                        told: *told,
+                        index: *index,
                         number: number_in(row, 2),
                     }))
                 } else {
@@ -212,7 +212,7 @@ impl Progress {
 
     /// Takes a record.
     pub(crate) fn take(&mut self, alloc: Global, piece: Piece) -> Result<(), NoMemory>
-        requires { (told number : ℕ) → piece ≡ pieces.Total told number → told < 6 }
+        requires { (index number : ℕ) → piece ≡ pieces.Total index number → index < 6 }
         ensures { OnOk result (self.new ≡ after self.old piece) }
     {
         match piece {
@@ -251,11 +251,11 @@ impl Progress {
             }
             Piece::Row { key, row, .. } => self.last.add_row(key, row)?,
             Piece::Held { told, .. } => self.last.add_held(told)?,
-            Piece::Total { told, number } => {
-                let totals = with_total(told, number, self.last.totals());
+            Piece::Total { index, number } => {
+                let totals = with_total(index, number, self.last.totals());
                 self.close()?;
                 self.last = Open::Totals {
-                    told: told + 1,
+                    index: index + 1,
                     totals,
                 };
             }

@@ -51,8 +51,8 @@ fn finish(progress: Progress, line: u64) -> Result<Printed, TextRefusal>
     ensures done { IfOk result (λ printed. progress ≡ finished printed.lines printed.totals) }
     ensures refused { IfErr result (λ e. (e ≡ refusal.At line) × ((lines : List Line) (totals : Totals) → progress ≡ finished lines totals → ⊥)) }
 {
-    if let Open::Totals { told, totals } = progress.last {
-        if told == 6 {
+    if let Open::Totals { index, totals } = progress.last {
+        if index == 6 {
             return Ok(Printed {
                 lines: progress.lines,
                 totals,

@@ -79,7 +79,7 @@ takes z slots id m room is held left t r deep at small =
       keep z t r id v (OfPass p (pass v) ∷ OfCommit h ∷ []) (OfPass p (pass v) ∷ OfCommit (taking h) ∷ []) (beyond v) (sights.Saw h.history ∷ sights.Took (suc h.taken) ∷ []) (events.Take p n) 0 n d at
           (is ∙ ap (λ (l : List Part). OfPass p (pass v) ∷ l) held) record {
             steady = take_kept c r.steady may;
-            sized = record { sessions = r.sized.sessions; tables = r.sized.tables; buckets = r.sized.buckets; each = r.sized.each };
+            sized = record { sessions = r.sized.sessions; tables = r.sized.tables; buckets = r.sized.buckets; quota = r.sized.quota };
             passes = refl;
             shows = record { count = w.count; mark = w.mark; registers = w.registers };
             grows = record { history = grows.history; logs = grows.logs; taken = omega arith };

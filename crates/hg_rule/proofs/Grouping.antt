@@ -192,7 +192,7 @@ may_stamp z slots id j rid m is both far among plain place mine t r deep at smal
               mine = subst (λ w. IsOpenBy w (versions c.buckets c.bucket rid)) (sym w) (subst (IsOpenBy (writer_at j ms)) (sym vs) mine);
               plain = subst (λ l. IsTrue (is_plain l)) (sym own.1.0) plain;
             };
-            sized = record { sessions = r.sized.sessions; tables = r.sized.tables; buckets = r.sized.buckets; each = r.sized.each };
+            sized = record { sessions = r.sized.sessions; tables = r.sized.tables; buckets = r.sized.buckets; quota = r.sized.quota };
             passes = refl;
             shows = record { count = words.count; mark = words.mark; registers = words.registers };
             grows = record { history = grows.history; logs = grows.logs; taken = grows.taken };
@@ -320,7 +320,7 @@ may_publish z slots id x m room is has_it far next may t r deep at small =
                   (each_two (λ m. Shown c (Lent m.0 m.1)) (λ m. (rid : Rid) → IsSome (open_in rid m.1.log) → IsTrue (is_stamped m.0 rid h.stamped)) (λ m. IsSome (open_in rid (c.log m.0)) → IsTrue (is_stamped m.0 rid h.stamped)) ms
                   (λ m s f o. f rid (subst (λ l. IsSome (open_in rid l)) s.1.0 o)) each may.every) among opened);
             };
-            sized = record { sessions = r.sized.sessions; tables = r.sized.tables; buckets = r.sized.buckets; each = r.sized.each };
+            sized = record { sessions = r.sized.sessions; tables = r.sized.tables; buckets = r.sized.buckets; quota = r.sized.quota };
             passes = refl;
             shows = marked_words z c d t.words x mark refl r.words;
             grows = record { history = (new_group c.log js ∷ [], refl); logs = λ k. log_grown c.log js (suc c.mark) k; taken = le_refl _ };

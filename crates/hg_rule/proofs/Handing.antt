@@ -25,7 +25,7 @@ use Rattle.hg_rule.specs.Holding.{beyond}
 use Rattle.hg_rule.specs.Handing.{next_lent, lends, retakes, Retakes, received, hands_back, resuming, IsBack}
 use Rattle.hg_rule.proofs.Counts.{count_append, shares_append}
 use Rattle.hg_rule.proofs.Lists.{starts_same, each_append}
-use Rattle.hg_rule.proofs.Keeps.{keep, turn, true_on, cut, glue}
+use Rattle.hg_rule.proofs.Keeps.{keep, turn, true_on, may_split, may_join}
 use Rattle.hg_rule.proofs.Registers.{loaded_words}
 use Rattle.hg_rule.proofs.Shifts.{second_count, second_shares, second_each}
 use Rattle.hg_rule.proofs.Playing.{own_session, history_at, log_stays}
@@ -107,7 +107,7 @@ may_retake z slots id m is next t r deep at small =
 -- ---- moves
 
 pub receives : (z : Sizes) (id : ℕ) (v : View) (other : ℕ) (w : View) → Joins (Rule z) id v other w (received v w) spent
-receives z id v other w = glue z id v other w (received v w) spent record {
+receives z id v other w = may_join z id v other w (received v w) spent record {
   counts = λ k. let a : ℕ = count k (v.parts ++ w.parts) in let b : ℕ = count k v.parts in let c : ℕ = count k w.parts in let h : a ≡ b + c = count_append k v.parts w.parts in omega arith;
   shared = let a : ℕ = shares (v.parts ++ w.parts) in let b : ℕ = shares v.parts in let c : ℕ = shares w.parts in let h : a ≡ b + c = shares_append v.parts w.parts in omega arith;
   left = λ s a b. record { parts = each_append (Shown s) v.parts w.parts a.parts b.parts; sights = each_append (Known s) v.sights w.sights a.sights b.sights; events = a.events };
@@ -115,7 +115,7 @@ receives z id v other w = glue z id v other w (received v w) spent record {
 }
 
 pub may_hand_back : (z : Sizes) (id : ℕ) (v : View) → Splits (Rule z) id v (hands_back v) (right_second v)
-may_hand_back z id v = cut z id v (hands_back v) (right_second v) record {
+may_hand_back z id v = may_split z id v (hands_back v) (right_second v) record {
   counts = λ k. second_count k v.parts;
   shared = second_shares v.parts;
   left = λ s h. record { parts = (second_each (Shown s) v.parts h.parts).0; sights = h.sights; events = each_append (Stands s) v.events _ h.events (tt, tt) };

@@ -1,6 +1,6 @@
 -- What a pass is still, with a bucket or the committer's part and without; and what a look says that refused nothing.
 use Rattle.std.proofs.Common.{◌≡◌, ℕ, List, [], ◌∷◌, sym, ap, ◌∙◌, subst}
-use Rattle.atomic_table.specs.Seated.{TableId}
+use Rattle.atomic_table.specs.Seated.{TableId as BoardId}
 use Rattle.hg_core.specs.Phases.{IsSession}
 use Rattle.hg_core.specs.Logs.{begans}
 use Rattle.hg_rule.specs.declared.passes.SessionPass.{SessionPass}
@@ -28,7 +28,7 @@ has_session v j s os e =
     (e ∙ (λ i. OfSession (sym n i) (sym p i) ∷ sym o i), n, p)
 
 -- a session's pass is still one where its view has the same part first
-pub still_session : (t : TableId) (z : Sizes) (p q : SessionPass) (os : List Part) → IsSessionOf t z p → IsSeatOf t q.seat → session_rest q ≡ session_rest p
+pub still_session : (t : BoardId) (z : Sizes) (p q : SessionPass) (os : List Part) → IsSessionOf t z p → IsSeatOf t q.seat → session_rest q ≡ session_rest p
     → (session_view q).parts ≡ OfSession (number (session_view p)) (session (session_view p)) ∷ os → IsSessionOf t z q
 still_session t z p q os own seat rest e =
     let h = has_session (session_view q) (number (session_view p)) (session (session_view p)) os e in (
@@ -64,7 +64,7 @@ has_away v j n s os e =
     let o : others v ≡ os = ap after_first e in
     (e ∙ (λ i. Away (sym a i) (sym p i) (sym m i) ∷ sym o i), a, p, m)
 
-pub still_away : (t : TableId) (z : Sizes) (p q : SessionPass) (os : List Part) → IsAwayOf t z p → IsSeatOf t q.seat → session_rest q ≡ session_rest p
+pub still_away : (t : BoardId) (z : Sizes) (p q : SessionPass) (os : List Part) → IsAwayOf t z p → IsSeatOf t q.seat → session_rest q ≡ session_rest p
     → (session_view q).parts ≡ Away (number (session_view p)) (session (session_view p)) (since (session_view p)) ∷ os → IsAwayOf t z q
 still_away t z p q os own seat rest e =
     let h = has_away (session_view q) (number (session_view p)) (since (session_view p)) (session (session_view p)) os e in (

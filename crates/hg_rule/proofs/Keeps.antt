@@ -134,15 +134,15 @@ keep z t r id v qs qs' ps more e i x d at is h = turn z t r id v (then_has v (qs
 
 -- ---- moves of seats
 
--- a view is cut in two
-pub record Cuts (v l o : View) : Type 0 where
+-- a view is split in two
+pub record SplitsInto (v l o : View) : Type 0 where
   pub counts : (k : Key) → count k l.parts + count k o.parts ≡ count k v.parts
   pub shared : shares l.parts + shares o.parts ≡ shares v.parts
   pub left : (s : CoreState) → IsTrueOf s v → IsTrueOf s l
   pub right : (s : CoreState) → IsTrueOf s v → IsTrueOf s o
 
-pub cut : (z : Sizes) (id : ℕ) (v l o : View) → Cuts v l o → Splits (Rule z) id v l o
-cut z id v l o h t r at = record {
+pub may_split : (z : Sizes) (id : ℕ) (v l o : View) → SplitsInto v l o → Splits (Rule z) id v l o
+may_split z id v l o h t r at = record {
   state = r.state;
   steady = r.steady;
   sized = r.sized;
@@ -162,14 +162,14 @@ cut z id v l o h t r at = record {
 }
 
 -- one view is made of two, and the other is left with nothing
-pub record Glues (v w b o : View) : Type 0 where
+pub record JoinsInto (v w b o : View) : Type 0 where
   pub counts : (k : Key) → count k b.parts + count k o.parts ≡ count k v.parts + count k w.parts
   pub shared : shares b.parts + shares o.parts ≡ shares v.parts + shares w.parts
   pub left : (s : CoreState) → IsTrueOf s v → IsTrueOf s w → IsTrueOf s b
   pub right : (s : CoreState) → IsTrueOf s v → IsTrueOf s w → IsTrueOf s o
 
-pub glue : (z : Sizes) (id : ℕ) (v : View) (other : ℕ) (w b o : View) → Glues v w b o → Joins (Rule z) id v other w b o
-glue z id v other w b o h t r at apart at2 = record {
+pub may_join : (z : Sizes) (id : ℕ) (v : View) (other : ℕ) (w b o : View) → JoinsInto v w b o → Joins (Rule z) id v other w b o
+may_join z id v other w b o h t r at apart at2 = record {
   state = r.state;
   steady = r.steady;
   sized = r.sized;

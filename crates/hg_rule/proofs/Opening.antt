@@ -17,7 +17,7 @@ use Rattle.hg_rule.specs.Facts.{Shown, new_part}
 use Rattle.hg_rule.specs.Rules.{IsTrueOf, Rule}
 use Rattle.hg_rule.specs.Views.{seeing, after_first}
 use Rattle.hg_rule.specs.Moves.{first_of, run, session_part, bucket_part, pass_part, first_view}
-use Rattle.hg_rule.specs.New.{Row}
+use Rattle.hg_rule.specs.New.{EachFrom}
 use Rattle.hg_rule.proofs.Counts.{count_append, shares_append}
 use Rattle.hg_rule.proofs.Lists.{each_append}
 
@@ -107,8 +107,8 @@ run_each P f h a (suc n) = (h a, run_each P f h (suc a) n)
 pub opens : (z : Sizes) → Rule z (opening (replicate (z.sessions + 1) 0) [] (first_view z))
 opens z = record {
   state = s;
-  steady = steady_after z.sessions z.tables z.buckets 3 z.each [] tt;
-  sized = record { sessions = refl; tables = refl; buckets = refl; each = refl };
+  steady = steady_after z.sessions z.tables z.buckets 3 z.quota [] tt;
+  sized = record { sessions = refl; tables = refl; buckets = refl; quota = refl };
   words = record { count = length-replicate (z.sessions + 1) 0; mark = get_or-replicate (z.sessions + 1) 0 0 0 (omega arith); registers = λ j inside. get_or-replicate (z.sessions + 1) j 0 0 (let l = inside.last in omega arith) };
   exact = λ k. let a : ℕ = count k (first_view z).parts in let b : ℕ = expected z 3 k in let e : a ≡ b = all_once z k in omega arith;
   shared = let a : ℕ = shares (first_view z).parts in let b : ℕ = whole_share in let e : a ≡ b = all_shared z in omega arith;
@@ -117,7 +117,7 @@ opens z = record {
 }
   where
     s : CoreState
-    s = opened z.sessions z.tables z.buckets 3 z.each
+    s = opened z.sessions z.tables z.buckets 3 z.quota
 
     new_shown : (k : Key) → Shown s (new_part k)
     new_shown (session_key j) = (refl, (refl, refl))
@@ -162,19 +162,19 @@ pub run_past : (f : ℕ → Part) (a n : ℕ) (r : List Part) → drop n (run f 
 run_past f a zero r = refl
 run_past f a (suc n) r = run_past f (suc a) n r
 
-pub row_snoc : {A : Type 0} (P : ℕ → A → Type 0) (i : ℕ) (xs : List A) (x : A) → Row P i xs → P (i + length xs) x → Row P i (xs ++ x ∷ [])
-row_snoc P i [] x h e = (subst (λ (m : ℕ). P m x) (plain i) e, tt)
+pub each_from_snoc : {A : Type 0} (P : ℕ → A → Type 0) (i : ℕ) (xs : List A) (x : A) → EachFrom P i xs → P (i + length xs) x → EachFrom P i (xs ++ x ∷ [])
+each_from_snoc P i [] x h e = (subst (λ (m : ℕ). P m x) (plain i) e, tt)
   where
     plain : (a : ℕ) → a + 0 ≡ a
     plain a = omega arith
-row_snoc P i (y ∷ xs) x h e = (h.0, row_snoc P (suc i) xs x h.1 (subst (λ (m : ℕ). P m x) (shift i (length xs)) e))
+each_from_snoc P i (y ∷ xs) x h e = (h.0, each_from_snoc P (suc i) xs x h.1 (subst (λ (m : ℕ). P m x) (shift i (length xs)) e))
   where
     shift : (a n : ℕ) → a + suc n ≡ suc a + n
     shift a n = omega arith
 
-pub row_map : {A : Type 0} (P Q : ℕ → A → Type 0) → ((i : ℕ) (x : A) → P i x → Q i x) → (i : ℕ) (xs : List A) → Row P i xs → Row Q i xs
-row_map P Q f i [] h = tt
-row_map P Q f i (x ∷ xs) h = (f i x h.0, row_map P Q f (suc i) xs h.1)
+pub each_from_map : {A : Type 0} (P Q : ℕ → A → Type 0) → ((i : ℕ) (x : A) → P i x → Q i x) → (i : ℕ) (xs : List A) → EachFrom P i xs → EachFrom Q i xs
+each_from_map P Q f i [] h = tt
+each_from_map P Q f i (x ∷ xs) h = (f i x h.0, each_from_map P Q f (suc i) xs h.1)
 
 -- what is left once sessions and buckets are dealt, and then the three passes
 abbrev pub passes_left : List Part

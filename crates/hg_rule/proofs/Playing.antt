@@ -136,7 +136,7 @@ log_stays c = record { history = starts_same c.history; logs = λ k. ends_same (
 pub log_grows : (c : CoreState) (j : ℕ) (e : LogEntry) (k : ℕ) → EndsWith (put c.log j (e ∷ c.log j) k) (c.log k)
 log_grows c j e = by_number j (λ k b. EndsWith (if b then e ∷ c.log j else c.log k) (c.log k)) (e ∷ [], refl) (λ k other. ends_same (c.log k))
 
-pub probes : (z : Sizes) (slots id : ℕ) (m : Seated) → HasRoom z → HasSession m.0 → IsSession z.sessions (number m.0) → (session m.0).phase ≡ Idle → begans (session m.0).log < z.each → Allows (Rule z) slots id m 0 (λ n. n) (probed (step slots 0 0 0 none) m)
+pub probes : (z : Sizes) (slots id : ℕ) (m : Seated) → HasRoom z → HasSession m.0 → IsSession z.sessions (number m.0) → (session m.0).phase ≡ Idle → begans (session m.0).log < z.quota → Allows (Rule z) slots id m 0 (λ n. n) (probed (step slots 0 0 0 none) m)
 probes z slots id m room is inside rests fewer t r deep at small =
     let v : View = m.0 in
     let c = r.state in
@@ -151,8 +151,8 @@ probes z slots id m room is inside rests fewer t r deep at small =
       keeps,
       tt,
       keep z t r id v (OfSession j (session v) ∷ []) (OfSession j new ∷ []) (others v) (sights.Saw (groups c.history) ∷ []) (events.Probe j n) 0 n d at is record {
-        steady = probe_kept c j r.steady record { session = at_board z c j r.sized inside; rests = own.0 ∙ rests; room = omega (arith, fewer, ap begans own.1.0, r.sized.each) };
-        sized = record { sessions = r.sized.sessions; tables = r.sized.tables; buckets = r.sized.buckets; each = r.sized.each };
+        steady = probe_kept c j r.steady record { session = at_board z c j r.sized inside; rests = own.0 ∙ rests; room = omega (arith, fewer, ap begans own.1.0, r.sized.quota) };
+        sized = record { sessions = r.sized.sessions; tables = r.sized.tables; buckets = r.sized.buckets; quota = r.sized.quota };
         passes = refl;
         shows = record { count = w.count; mark = w.mark; registers = w.registers };
         grows = record { history = grows.history; logs = grows.logs; taken = grows.taken };
@@ -184,7 +184,7 @@ fixes z slots id f m room is was t r deep at small =
       tt,
       keep z t r id v (OfSession j (session v) ∷ []) (OfSession j new ∷ []) (others v) (sights.Saw (groups c.history) ∷ []) (events.Fix j n) 0 n d at is record {
         steady = fix_kept c j f r.steady (own.0 ∙ was);
-        sized = record { sessions = r.sized.sessions; tables = r.sized.tables; buckets = r.sized.buckets; each = r.sized.each };
+        sized = record { sessions = r.sized.sessions; tables = r.sized.tables; buckets = r.sized.buckets; quota = r.sized.quota };
         passes = refl;
         shows = record { count = w.count; mark = w.mark; registers = w.registers };
         grows = record { history = grows.history; logs = grows.logs; taken = grows.taken };
@@ -216,7 +216,7 @@ enters z slots id f i x m is inside was there value t r deep at small =
       tt,
       keep z t r id v (OfSession j (session v) ∷ []) (OfSession j new ∷ []) (others v) [] (events.Enter j g) i x d at is record {
         steady = enter_kept c j f r.steady (own.0 ∙ was);
-        sized = record { sessions = r.sized.sessions; tables = r.sized.tables; buckets = r.sized.buckets; each = r.sized.each };
+        sized = record { sessions = r.sized.sessions; tables = r.sized.tables; buckets = r.sized.buckets; quota = r.sized.quota };
         passes = refl;
         shows = subst (λ i. ShowsWords z d (set t.words i x)) (sym there) (record { count = w.count; mark = w.mark; registers = w.registers });
         grows = record { history = grows.history; logs = grows.logs; taken = grows.taken };
@@ -256,7 +256,7 @@ goes_live z slots id f n i x scope m room is inside was few below there value t 
       tt,
       keep z t r id v (OfSession j (session v) ∷ []) (OfSession j new ∷ []) (others v) (sights.Heard j (Began g to ∷ (session v).log) ∷ []) (events.GoLive j g to) i x d at is record {
         steady = go_live_kept c j n scope r.steady record { fixed = (f, own.0 ∙ was); tables = subst (λ n. IsBelow n scope) (sym r.sized.tables) below };
-        sized = record { sessions = r.sized.sessions; tables = r.sized.tables; buckets = r.sized.buckets; each = r.sized.each };
+        sized = record { sessions = r.sized.sessions; tables = r.sized.tables; buckets = r.sized.buckets; quota = r.sized.quota };
         passes = refl;
         shows = subst (λ i. ShowsWords z d (set t.words i x)) (sym there) (record { count = w.count; mark = w.mark; registers = w.registers });
         grows = record { history = grows.history; logs = log_grows c j (Began n scope); taken = grows.taken };
@@ -287,7 +287,7 @@ ends z slots id i m is inside live none_open there t r deep at small =
       tt,
       keep z t r id v (OfSession j (session v) ∷ []) (OfSession j new ∷ []) (others v) (sights.Heard j (Over ∷ (session v).log) ∷ []) (events.End j) i 0 d at is record {
         steady = end_kept c j r.steady record { live = subst (λ p. IsSome (snapshot_in p)) (sym own.0) live; none = λ rid. ap (open_in rid) own.1.0 ∙ none_open rid };
-        sized = record { sessions = r.sized.sessions; tables = r.sized.tables; buckets = r.sized.buckets; each = r.sized.each };
+        sized = record { sessions = r.sized.sessions; tables = r.sized.tables; buckets = r.sized.buckets; quota = r.sized.quota };
         passes = refl;
         shows = subst (λ i. ShowsWords z d (set t.words i 0)) (sym there) (record { count = w.count; mark = w.mark; registers = w.registers });
         grows = record { history = grows.history; logs = log_grows c j Over; taken = grows.taken };
@@ -358,7 +358,7 @@ marks z slots id m room is t r deep at small =
       tt,
       keep z t r id v (OfPass p (pass v) ∷ []) (OfPass p new ∷ []) (others v) (sights.Saw (groups c.history) ∷ []) (events.Mark p n) 0 n d at is record {
         steady = mark_kept c p known r.steady (λ j. heard_most c j v.sights (r.shown id v at).sights);
-        sized = record { sessions = r.sized.sessions; tables = r.sized.tables; buckets = r.sized.buckets; each = r.sized.each };
+        sized = record { sessions = r.sized.sessions; tables = r.sized.tables; buckets = r.sized.buckets; quota = r.sized.quota };
         passes = refl;
         shows = record { count = w.count; mark = w.mark; registers = w.registers };
         grows = record { history = grows.history; logs = grows.logs; taken = grows.taken };
@@ -413,7 +413,7 @@ samples z slots id j m room is inside fresh t r deep at small =
       tt,
       keep z t r id v (OfPass p (pass v) ∷ []) (OfPass p new ∷ []) (others v) [] (events.Sample p j register) j n d at is record {
         steady = sample_kept c p j r.steady record { session = at_board z c j r.sized inside; fresh = subst IsNone (sym (ap (λ (x : PassRecord). found j x.loaded) own.0 ∙ fresh)) refl };
-        sized = record { sessions = r.sized.sessions; tables = r.sized.tables; buckets = r.sized.buckets; each = r.sized.each };
+        sized = record { sessions = r.sized.sessions; tables = r.sized.tables; buckets = r.sized.buckets; quota = r.sized.quota };
         passes = refl;
         shows = record { count = w.count; mark = w.mark; registers = w.registers };
         grows = record { history = grows.history; logs = grows.logs; taken = grows.taken };
@@ -447,7 +447,7 @@ tries z slots id j old new n mask m room is inside few has_it was becomes t r de
       subst (λ (b : Bool). Rule z record { words = set t.words j (either b new x); homes = t.homes; views = set t.views id after }) (sym (eq-eqb x old hit))
           (keep z t r id v (OfPass p (pass v) ∷ []) (OfPass p part ∷ []) (others v) [] (events.Move p j k true) j new d at is record {
             steady = move_kept c p j r.steady (n, mask, record { shown = shown; loaded = ap (λ (y : PassRecord). found j y.loaded) own.0 ∙ has_it });
-            sized = record { sessions = r.sized.sessions; tables = r.sized.tables; buckets = r.sized.buckets; each = r.sized.each };
+            sized = record { sessions = r.sized.sessions; tables = r.sized.tables; buckets = r.sized.buckets; quota = r.sized.quota };
             passes = refl;
             shows = record { count = w.count; mark = w.mark; registers = w.registers };
             grows = record { history = grows.history; logs = grows.logs; taken = grows.taken };

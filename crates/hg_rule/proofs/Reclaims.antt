@@ -83,7 +83,7 @@ reclaims z slots id rid kind m is whole bucketed place here t r deep at small =
               whole = subst (λ n. IsWhole n (c.pass p)) (sym r.sized.sessions) (subst (IsWhole z.sessions) (sym own.0) whole);
               here = subst (λ n. IsVisiting n (c.visits p)) (sym place') (subst (IsVisiting b) (sym own.1.0) here);
             };
-            sized = record { sessions = r.sized.sessions; tables = r.sized.tables; buckets = r.sized.buckets; each = r.sized.each };
+            sized = record { sessions = r.sized.sessions; tables = r.sized.tables; buckets = r.sized.buckets; quota = r.sized.quota };
             passes = refl;
             shows = record { count = words.count; mark = words.mark; registers = words.registers };
             grows = record { history = grows.history; logs = grows.logs; taken = grows.taken };

@@ -42,7 +42,7 @@ stored_words z s ws j x to inside is w = record {
 
 -- the mark, and each register, has room
 pub mark_small : (z : Sizes) (s : CoreState) → HasRoom z → IsSized z s → IsSteady s → s.mark < 2 ^ 44
-mark_small z s room sized h = let e : s.sessions * s.each ≡ z.sessions * z.each = λ i. sized.sessions i * sized.each i in omega (arith, mark_most s h, room.begins)
+mark_small z s room sized h = let e : s.sessions * s.quota ≡ z.sessions * z.quota = λ i. sized.sessions i * sized.quota i in omega (arith, mark_most s h, room.begins)
 
 pub register_small : (z : Sizes) (s : CoreState) (j : ℕ) → HasRoom z → IsSized z s → IsSteady s → IsRegister (s.register j)
-register_small z s j room sized h = let e : s.sessions * s.each ≡ z.sessions * z.each = λ i. sized.sessions i * sized.each i in has_word s j h (omega (arith, room.tables, sized.tables)) (omega (arith, room.begins))
+register_small z s j room sized h = let e : s.sessions * s.quota ≡ z.sessions * z.quota = λ i. sized.sessions i * sized.quota i in has_word s j h (omega (arith, room.tables, sized.tables)) (omega (arith, room.begins))

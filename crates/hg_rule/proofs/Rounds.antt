@@ -11,7 +11,7 @@ use Rattle.hg_rule.specs.declared.view.Event.{Event}
 use Rattle.hg_rule.specs.declared.view.Event.TheVariants as events
 use Rattle.hg_rule.specs.declared.view.Sight.{Sight}
 use Rattle.hg_rule.specs.declared.view.Sight.TheVariants.{Saw, Heard, Took, Did}
-use Rattle.hg_rule.specs.Rounds.{IsNoMark, IsWork, IsRound, mark_in, then_loaded, loaded_after, round_record, takes_in, removed_in, IsReportOf, round_told, seen_taken}
+use Rattle.hg_rule.specs.Rounds.{IsNoMark, IsWork, IsRound, mark_in, then_loaded, loaded_after, round_record, takes_in, gone_in, IsReportOf, round_told, seen_taken}
 
 work_no_mark : (e : Event) → IsWork e → IsNoMark e
 work_no_mark (events.Reclaim p kind rid n) h = tt
@@ -53,11 +53,11 @@ loaded_on es more w = loaded_append [] es more ∙ work_stays (loaded_after [] e
 
 -- ---- sums
 
-pub removed_on : (es more : List Event) → removed_in (es ++ more) ≡ removed_in es + removed_in more
-removed_on [] more = let e : removed_in more ≡ 0 + removed_in more = omega arith in e
-removed_on (e ∷ es) more = go e (removed_on es more)
+pub gone_on : (es more : List Event) → gone_in (es ++ more) ≡ gone_in es + gone_in more
+gone_on [] more = let e : gone_in more ≡ 0 + gone_in more = omega arith in e
+gone_on (e ∷ es) more = go e (gone_on es more)
   where
-    go : (e : Event) → removed_in (es ++ more) ≡ removed_in es + removed_in more → removed_in (e ∷ (es ++ more)) ≡ removed_in (e ∷ es) + removed_in more
+    go : (e : Event) → gone_in (es ++ more) ≡ gone_in es + gone_in more → gone_in (e ∷ (es ++ more)) ≡ gone_in (e ∷ es) + gone_in more
     go (events.Reclaim p kind rid n) ih = omega (arith, ih)
     go _ ih = ih
 

@@ -14,7 +14,7 @@ use Rattle.hg_rule.specs.Views.{seeing, after_first}
 use Rattle.hg_rule.specs.Moves.{put_in, joined, did, merged, spent, meeting, left_bare, right_given, first_of, second_of, but_second, left_but_second, right_second, left_tail, right_first}
 use Rattle.hg_rule.proofs.Counts.{count_append, shares_append}
 use Rattle.hg_rule.proofs.Lists.{each_append}
-use Rattle.hg_rule.proofs.Keeps.{cut, glue}
+use Rattle.hg_rule.proofs.Keeps.{may_split, may_join}
 
 -- ---- joins
 
@@ -34,7 +34,7 @@ nothing_true : (s : CoreState) → IsTrueOf s spent
 nothing_true s = record { parts = tt; sights = tt; events = tt }
 
 pub joins : (z : Sizes) (id : ℕ) (v : View) (other : ℕ) (w : View) → Joins (Rule z) id v other w (joined v w) spent
-joins z id v other w = glue z id v other w (joined v w) spent record {
+joins z id v other w = may_join z id v other w (joined v w) spent record {
   counts = λ k. put_in_count k v.parts w.parts;
   shared = put_in_shares v.parts w.parts;
   left = λ s a b. record { parts = put_in_each (Shown s) v.parts w.parts a.parts b.parts; sights = each_append (Known s) v.sights w.sights a.sights b.sights; events = a.events };
@@ -46,7 +46,7 @@ did_each s [] h = tt
 did_each s (e ∷ es) h = (h.0, did_each s es h.1)
 
 pub merges : (z : Sizes) (id : ℕ) (v : View) (other : ℕ) (w : View) → Joins (Rule z) id v other w (merged v w) spent
-merges z id v other w = glue z id v other w (merged v w) spent record {
+merges z id v other w = may_join z id v other w (merged v w) spent record {
   counts = λ k. put_in_count k v.parts w.parts;
   shared = put_in_shares v.parts w.parts;
   left = λ s a b. record {
@@ -60,7 +60,7 @@ merges z id v other w = glue z id v other w (merged v w) spent record {
 -- ---- splits
 
 pub gives_all : (z : Sizes) (id : ℕ) (v : View) → Splits (Rule z) id v (left_bare v) (right_given v)
-gives_all z id v = cut z id v (left_bare v) (right_given v) record {
+gives_all z id v = may_split z id v (left_bare v) (right_given v) record {
   counts = λ k. let a : ℕ = count k v.parts in omega arith;
   shared = let a : ℕ = shares v.parts in omega arith;
   left = λ s h. record { parts = tt; sights = h.sights; events = h.events };
@@ -80,7 +80,7 @@ first_each P [] e = (tt, tt)
 first_each P (p ∷ ps) e = (e.1, (e.0, tt))
 
 pub deals : (z : Sizes) (id : ℕ) (v : View) → Splits (Rule z) id v (left_tail v) (right_first v)
-deals z id v = cut z id v (left_tail v) (right_first v) record {
+deals z id v = may_split z id v (left_tail v) (right_first v) record {
   counts = λ k. first_count k v.parts;
   shared = first_shares v.parts;
   left = λ s h. record { parts = (first_each (Shown s) v.parts h.parts).0; sights = h.sights; events = h.events };
@@ -100,7 +100,7 @@ second_each P [] e = (tt, tt)
 second_each P (p ∷ ps) e = let r = first_each P ps e.1 in ((e.0, r.0), r.1)
 
 pub gives_second : (z : Sizes) (id : ℕ) (v : View) → Splits (Rule z) id v (left_but_second v) (right_second v)
-gives_second z id v = cut z id v (left_but_second v) (right_second v) record {
+gives_second z id v = may_split z id v (left_but_second v) (right_second v) record {
   counts = λ k. second_count k v.parts;
   shared = second_shares v.parts;
   left = λ s h. record { parts = (second_each (Shown s) v.parts h.parts).0; sights = h.sights; events = h.events };

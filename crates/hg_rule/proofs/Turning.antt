@@ -35,7 +35,7 @@ use Rattle.hg_rule.proofs.Counts.{another, count_self}
 use Rattle.hg_rule.proofs.Found.{ltb_less}
 use Rattle.hg_rule.proofs.Growing.{Grows}
 use Rattle.hg_rule.proofs.Lists.{starts_same, ends_same, each_append}
-use Rattle.hg_rule.proofs.Keeps.{Table, turn, true_on, cut, tally_one}
+use Rattle.hg_rule.proofs.Keeps.{Table, turn, true_on, may_split, tally_one}
 use Rattle.hg_rule.proofs.Shifts.{joins}
 
 -- ---- the parts that a view has are there
@@ -72,7 +72,7 @@ turned : (z : Sizes) (t : Table) (r : Rule z t) (id : ℕ) (v : View) (p : ℕ) 
 turned z t r id v p part ps visits at is steady = turn z t r id v (seeing (OfPass p new ∷ ps) v.sights v.events) (OfPass p part ∷ []) (OfPass p new ∷ []) ps t.words d at is refl
     record {
       steady = steady;
-      sized = record { sessions = r.sized.sessions; tables = r.sized.tables; buckets = r.sized.buckets; each = r.sized.each };
+      sized = record { sessions = r.sized.sessions; tables = r.sized.tables; buckets = r.sized.buckets; quota = r.sized.quota };
       passes = refl;
       shows = record { count = r.words.count; mark = r.words.mark; registers = r.words.registers };
       grows = grows;
@@ -173,7 +173,7 @@ departs z id v b holds t r at =
     alone = seeing (OfBucket b (bucket v) ∷ []) v.sights []
 
     parted : Splits (Rule z) id mid (without_bucket v) (bucket_alone v)
-    parted = subst (λ (n : ℕ). Splits (Rule z) id mid (without_bucket v) (seeing (OfBucket n (bucket v) ∷ []) v.sights [])) number (cut z id mid (without_bucket v) alone record {
+    parted = subst (λ (n : ℕ). Splits (Rule z) id mid (without_bucket v) (seeing (OfBucket n (bucket v) ∷ []) v.sights [])) number (may_split z id mid (without_bucket v) alone record {
       counts = λ k. let x : ℕ = one (has k (depart (bucket v).content (first_in v.parts))) in let y : ℕ = one (has k (OfBucket b (bucket v))) in let n : ℕ = count k (beyond v) in omega arith;
       shared = let x : ℕ = share_of (depart (bucket v).content (first_in v.parts)) in let n : ℕ = shares (beyond v) in omega arith;
       left = λ s h. record { parts = (h.parts.0, h.parts.1.1); sights = h.sights; events = h.events };
@@ -181,7 +181,7 @@ departs z id v b holds t r at =
     })
 
 pub resigns : (z : Sizes) (id : ℕ) (v : View) → HoldsCommit v → Splits (Rule z) id v (without_commit v) (commit_alone v)
-resigns z id v holds = cut z id v (without_commit v) (commit_alone v) record {
+resigns z id v holds = may_split z id v (without_commit v) (commit_alone v) record {
   counts = λ k. let a : ℕ = count k v.parts in let x : ℕ = one (has k (first_in v.parts)) in let y : ℕ = one (has k (OfCommit (commit v))) in let n : ℕ = count k (beyond v) in let e : a ≡ x + (y + n) = ap (count k) is in omega arith;
   shared = let a : ℕ = shares v.parts in let x : ℕ = share_of (first_in v.parts) in let n : ℕ = shares (beyond v) in let e : a ≡ x + (0 + n) = ap shares is in omega arith;
   left = λ s h. let ps = subst (Each (Shown s)) is h.parts in record {

@@ -102,7 +102,7 @@ pub counters_else : (counters : ℕ → Counters) (at b k : ℕ) (new : Counters
 counters_else counters at b k new e other = put_else counters at k new (λ (s : k ≡ at). other (s ∙ e))
 
 pub installs : (z : Sizes) (slots id : ℕ) (rid : Rid) (image : Image) (m : Seated) → HasSession m.0 → IsSome (snapshot_in (session m.0).phase) → IsTrue (is_plain (session m.0).log) → (session m.0).stamped ≡ false
-    → HasBucket m.0 → bucket_of z.buckets rid ≡ bucket_number m.0 → IsTrue (has (tables m.0) rid.table) → rid.table.0 < z.tables → wrotes (session m.0).log < z.each → Each (IsOwnOrSeen (writer m.0) (snapshot m.0)) (held m.0 rid)
+    → HasBucket m.0 → bucket_of z.buckets rid ≡ bucket_number m.0 → IsTrue (has (tables m.0) rid.table) → rid.table.0 < z.tables → wrotes (session m.0).log < z.quota → Each (IsOwnOrSeen (writer m.0) (snapshot m.0)) (held m.0 rid)
     → Allows (Rule z) slots id m 0 (λ n. n) (wrote rid image (step slots 0 0 0 none) m)
 installs z slots id rid image m is live plain unstamped bucketed place table low room free t r deep at small =
     let v : View = m.0 in
@@ -137,12 +137,12 @@ installs z slots id rid image m is live plain unstamped bucketed place table low
             there = subst (λ n. rid.table.0 < n) (sym r.sized.tables) low;
             plain = subst (λ l. IsTrue (is_plain l)) (sym own.1.0) plain;
             unstamped = own.1.1 ∙ unstamped;
-            room = omega (arith, room, ap wrotes own.1.0, r.sized.each);
+            room = omega (arith, room, ap wrotes own.1.0, r.sized.quota);
             free = subst (λ w. IsFreeFor c.mark w (versions c.buckets c.bucket rid)) (sym w) (subst (IsFreeFor c.mark (writer v)) (sym vs) (free_for c.mark (snapshot v) (writer v) (held v rid) snap free));
             newest = subst (λ l. IfSome (newest_at c.mark l) (λ pair. pair.0 ≤ snapshot v)) (sym vs) (newest_seen c.mark (snapshot v) (writer v) (held v rid) free);
           },
         );
-        sized = record { sessions = r.sized.sessions; tables = r.sized.tables; buckets = r.sized.buckets; each = r.sized.each };
+        sized = record { sessions = r.sized.sessions; tables = r.sized.tables; buckets = r.sized.buckets; quota = r.sized.quota };
         passes = refl;
         shows = record { count = words.count; mark = words.mark; registers = words.registers };
         grows = record { history = starts_same c.history; logs = log_put c j _ (entries.Wrote rid image ∷ [], refl); taken = omega arith };
@@ -184,7 +184,7 @@ undoes z slots id rid m is unstamped bucketed place mine t r deep at small =
           mine = subst (λ w. IsOpenBy w (versions c.buckets c.bucket rid)) (sym w) (subst (IsOpenBy (writer v)) (sym vs) mine);
           unstamped = own.1.1 ∙ unstamped;
         };
-        sized = record { sessions = r.sized.sessions; tables = r.sized.tables; buckets = r.sized.buckets; each = r.sized.each };
+        sized = record { sessions = r.sized.sessions; tables = r.sized.tables; buckets = r.sized.buckets; quota = r.sized.quota };
         passes = refl;
         shows = record { count = words.count; mark = words.mark; registers = words.registers };
         grows = record { history = starts_same c.history; logs = log_put c j _ (entries.Undid rid ∷ [], refl); taken = omega arith };

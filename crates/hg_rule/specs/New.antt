@@ -1,6 +1,6 @@
 -- Seats of a new board.
 use Rattle.std.specs.Prelude.{◌≡◌, ℕ, suc, List, [], ◌∷◌, ⊤}
-use Rattle.atomic_table.specs.Seated.{TableId}
+use Rattle.atomic_table.specs.Seated.{TableId as BoardId}
 use Rattle.atomic_table.specs.declared.shared.Seat.{Seat}
 use Rattle.hg_rule.specs.declared.passes.SessionPass.{SessionPass}
 use Rattle.hg_rule.specs.declared.passes.CollectorPass.{CollectorPass}
@@ -14,29 +14,29 @@ use Rattle.hg_rule.specs.Views.{seeing}
 use Rattle.hg_rule.specs.Moves.{first_of, session_part, bucket_part, pass_part}
 
 -- P of each with its number, from i on
-abbrev pub Row : {A : Type 0} → (ℕ → A → Type 0) → ℕ → List A → Type 0
-Row P i [] = ⊤
-Row P i (x ∷ xs) = P i x × Row P (suc i) xs
+abbrev pub EachFrom : {A : Type 0} → (ℕ → A → Type 0) → ℕ → List A → Type 0
+EachFrom P i [] = ⊤
+EachFrom P i (x ∷ xs) = P i x × EachFrom P (suc i) xs
 
 -- a seat of the table that has these parts, and has seen and done nothing
-abbrev pub HasNew : TableId → List Part → Seat ℕ View → Type 0
+abbrev pub HasNew : BoardId → List Part → Seat ℕ View → Type 0
 HasNew t parts s = (s.table_id ≡ t) × (s.me ≡ (seeing parts [] [], []))
 
-abbrev pub IsNew : TableId → Part → Seat ℕ View → Type 0
+abbrev pub IsNew : BoardId → Part → Seat ℕ View → Type 0
 IsNew t part s = HasNew t (part ∷ []) s
 
 -- the first of these parts
-abbrev pub IsNewFirst : TableId → List Part → Seat ℕ View → Type 0
+abbrev pub IsNewFirst : BoardId → List Part → Seat ℕ View → Type 0
 IsNewFirst t parts s = HasNew t (first_of parts) s
 
-abbrev pub IsNewSession : TableId → ℕ → SessionPass → Type 0
+abbrev pub IsNewSession : BoardId → ℕ → SessionPass → Type 0
 IsNewSession t j p = (p.number ≡ j) × (p.begun ≡ 0) × IsNew t (session_part j) p.seat
 
-abbrev pub IsNewBucket : TableId → ℕ → BucketSeat → Type 0
+abbrev pub IsNewBucket : BoardId → ℕ → BucketSeat → Type 0
 IsNewBucket t b p = (p.number ≡ b) × IsNew t (bucket_part b) p.seat
 
-abbrev pub IsNewPass : TableId → ℕ → CollectorPass → Type 0
+abbrev pub IsNewPass : BoardId → ℕ → CollectorPass → Type 0
 IsNewPass t n p = IsNew t (pass_part n) p.seat
 
-abbrev pub IsNewCommit : TableId → CommitSeat → Type 0
+abbrev pub IsNewCommit : BoardId → CommitSeat → Type 0
 IsNewCommit t p = IsNew t (new_part commit_key) p.seat

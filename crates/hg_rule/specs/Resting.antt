@@ -11,7 +11,7 @@ use Rattle.hg_rule.specs.declared.view.BucketPart.{BucketPart}
 use Rattle.hg_rule.specs.declared.view.CommitPart.{CommitPart}
 use Rattle.hg_rule.specs.declared.view.Sizes.{Sizes}
 use Rattle.hg_rule.specs.Views.{session, bucket_there, commit_there, first_in, HasOnlySession}
-use Rattle.hg_rule.specs.Seats.{TableId, session_view, bucket_view, commit_view, IsSessionOf}
+use Rattle.hg_rule.specs.Seats.{BoardId, session_view, bucket_view, commit_view, IsSessionOf}
 
 -- the part of a pass's session, of a bucket's seat, and of the committer's
 abbrev pub own_session : SessionPass → SessionPart
@@ -24,7 +24,7 @@ abbrev pub own_commit : CommitSeat → CommitPart
 own_commit p = commit_there (first_in (commit_view p).parts)
 
 -- a session that has nothing else
-abbrev pub IsAlone : TableId → Sizes → SessionPass → Type 0
+abbrev pub IsAlone : BoardId → Sizes → SessionPass → Type 0
 IsAlone t z p = IsSessionOf t z p × HasOnlySession (session_view p)
 
 -- a session that is at rest, of whose writes none has the next number

@@ -78,10 +78,10 @@ takes_in (Take p mark ∷ events) = suc (takes_in events)
 takes_in (_ ∷ events) = takes_in events
 
 -- how many versions it removed
-abbrev pub removed_in : List Event → ℕ
-removed_in [] = 0
-removed_in (Reclaim p kind rid n ∷ events) = n + removed_in events
-removed_in (_ ∷ events) = removed_in events
+abbrev pub gone_in : List Event → ℕ
+gone_in [] = 0
+gone_in (Reclaim p kind rid n ∷ events) = n + gone_in events
+gone_in (_ ∷ events) = gone_in events
 
 -- ---- its report
 
@@ -101,12 +101,12 @@ pub record IsReportOf (kind : Kind) (events : List Event) (report : Report) : Ty
   pub kind_is : report.kind ≡ kind
   pub mark_is : report.mark ≡ mark_in events
   pub horizon_is : report.horizon ≡ horizon (round_record events)
-  pub removed_is : report.removed ≡ removed_in events
+  pub removed_is : report.removed ≡ gone_in events
   pub entries_are : report.entries.list ≡ entries_of (round_record events).loaded
 
 -- and as it is printed
 abbrev pub round_told : Kind → List Event → Sweep
-round_told kind events = record { kind = kind; mark = mark_in events; horizon = horizon (round_record events); removed = removed_in events; held = map told_of (entries_of (round_record events).loaded) }
+round_told kind events = record { kind = kind; mark = mark_in events; horizon = horizon (round_record events); removed = gone_in events; held = map told_of (entries_of (round_record events).loaded) }
 
 -- ---- groups
 

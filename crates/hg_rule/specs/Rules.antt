@@ -18,12 +18,12 @@ pub record IsSized (z : Sizes) (s : CoreState) : Type 0 where
   pub sessions : s.sessions ≡ z.sessions
   pub tables : s.tables ≡ z.tables
   pub buckets : s.buckets ≡ z.buckets
-  pub each : s.each ≡ z.each
+  pub quota : s.quota ≡ z.quota
 
 -- each register and the mark have a word
 pub record HasRoom (z : Sizes) : Type 0 where
   pub tables : z.tables ≤ 16
-  pub begins : z.sessions * z.each ≤ 2 ^ 40
+  pub begins : z.sessions * z.quota ≤ 2 ^ 40
 
 -- word 0 is the mark, and word j the register of session j
 pub record ShowsWords (z : Sizes) (s : CoreState) (words : List ℕ) : Type 0 where

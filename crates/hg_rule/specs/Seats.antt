@@ -1,6 +1,6 @@
 -- Whose seats they are, and what they have.
 use Rattle.std.specs.Prelude.{◌≡◌, ℕ, [], ◌∷◌}
-pub use Rattle.atomic_table.specs.Seated.{TableId}
+pub use Rattle.atomic_table.specs.Seated.{TableId as BoardId}
 use Rattle.atomic_table.specs.declared.shared.Seat.{Seat}
 use Rattle.hg_core.specs.Logs.{begans}
 use Rattle.hg_core.specs.Phases.{IsSession}
@@ -16,7 +16,7 @@ use Rattle.hg_rule.specs.declared.view.Sizes.{Sizes}
 use Rattle.hg_rule.specs.Views.{number, session, first_in, bucket_there, commit_there, HasSession, HasPass, HasAway}
 
 -- a board's identity and its sizes
-abbrev pub table_of : Board → TableId
+abbrev pub table_of : Board → BoardId
 table_of b = b.table.shared.table_id
 
 abbrev pub sizes_of : Board → Sizes
@@ -74,7 +74,7 @@ abbrev pub tx_view : TxSeat → View
 tx_view p = view p.seat
 
 -- the seat is one of the table
-abbrev pub IsSeatOf : TableId → Seat ℕ View → Type 0
+abbrev pub IsSeatOf : BoardId → Seat ℕ View → Type 0
 IsSeatOf t s = (s.table_id ≡ t) × (s.me.1 ≡ [])
 
 -- what a session's pass says of itself is so in its view
@@ -82,25 +82,25 @@ abbrev pub IsTied : SessionPass → Type 0
 IsTied p = (number (session_view p) ≡ p.number) × (p.begun ≡ begans (session (session_view p)).log)
 
 -- a bucket's seat at a board, which has that bucket's part alone
-abbrev pub IsBucketOf : TableId → BucketSeat → Type 0
+abbrev pub IsBucketOf : BoardId → BucketSeat → Type 0
 IsBucketOf t p = IsSeatOf t p.seat × ((bucket_view p).parts ≡ OfBucket p.number (bucket_there (first_in (bucket_view p).parts)) ∷ [])
 
 -- the committer's seat at a board, which has its part alone
-abbrev pub IsCommitOf : TableId → CommitSeat → Type 0
+abbrev pub IsCommitOf : BoardId → CommitSeat → Type 0
 IsCommitOf t p = IsSeatOf t p.seat × ((commit_view p).parts ≡ OfCommit (commit_there (first_in (commit_view p).parts)) ∷ [])
 
 -- a session's pass at a board, whose view begins with its session's part
-abbrev pub IsSessionOf : TableId → Sizes → SessionPass → Type 0
+abbrev pub IsSessionOf : BoardId → Sizes → SessionPass → Type 0
 IsSessionOf t z p = IsSeatOf t p.seat × IsTied p × IsSession z.sessions (number (session_view p)) × HasSession (session_view p)
 
 -- a collector's pass at a board, whose view begins with its part
-abbrev pub IsPassOf : TableId → CollectorPass → Type 0
+abbrev pub IsPassOf : BoardId → CollectorPass → Type 0
 IsPassOf t p = IsSeatOf t p.seat × HasPass (pass_view p)
 
 -- a session's pass at a board whose own part was handed over
-abbrev pub IsAwayOf : TableId → Sizes → SessionPass → Type 0
+abbrev pub IsAwayOf : BoardId → Sizes → SessionPass → Type 0
 IsAwayOf t z p = IsSeatOf t p.seat × IsTied p × IsSession z.sessions (number (session_view p)) × HasAway (session_view p)
 
 -- a seat at a board, which has a session's part that was handed over, and nothing else
-abbrev pub IsTxOf : TableId → TxSeat → Type 0
+abbrev pub IsTxOf : BoardId → TxSeat → Type 0
 IsTxOf t p = IsSeatOf t p.seat × ((tx_view p).parts ≡ Lent p.number (session (tx_view p)) ∷ [])

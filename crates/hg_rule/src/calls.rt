@@ -36,7 +36,7 @@ impl Board {
     pub fn probe(&self, pass: &mut SessionPass) -> u64
         requires own { IsSessionOf (table_of self.now) (sizes_of self.now) pass.old }
         requires rests { (session (session_view pass.old)).phase ≡ Idle }
-        requires room { begans (session (session_view pass.old)).log < (sizes_of self.now).each }
+        requires room { begans (session (session_view pass.old)).log < (sizes_of self.now).quota }
         ensures step { Probes (session_view pass.old) result (session_view pass.new) }
         ensures own { IsSessionOf (table_of self.now) (sizes_of self.now) pass.new }
     {
@@ -73,7 +73,7 @@ impl Board {
         requires own { IsSessionOf (table_of self.now) (sizes_of self.now) pass.old }
         requires fixed { ((session (session_view pass.old)).phase ≡ Fixed (entered_in (session (session_view pass.old)).phase) m) × IsNumber m }
         requires tables { IsBelow (sizes_of self.now).tables scope }
-        requires room { begans (session (session_view pass.old)).log < (sizes_of self.now).each }
+        requires room { begans (session (session_view pass.old)).log < (sizes_of self.now).quota }
         ensures step { GoesLive (session_view pass.old) m scope (session_view pass.new) }
         ensures own { IsSessionOf (table_of self.now) (sizes_of self.now) pass.new }
     {

@@ -35,7 +35,7 @@ impl Board {
         requires own { IsSeatOf (table_of self.now) (P.seat_of pass.old) }
         requires tx { IsTxOf (table_of self.now) seat }
         ensures view { view (P.seat_of pass.new) ≡ received (view (P.seat_of pass.old)) (tx_view seat) }
-        ensures told { IsBacked (sizes_of self.now) result (view (P.seat_of pass.new)) }
+        ensures backed { IsBacked (sizes_of self.now) result (view (P.seat_of pass.new)) }
         ensures own { IsSeatOf (table_of self.now) (P.seat_of pass.new) × (P.rest_of pass.new ≡ P.rest_of pass.old) }
     {
         let TxSeat { seat, .. } = seat;
@@ -65,7 +65,7 @@ impl Board {
         requires own { IsAwayOf (table_of self.now) (sizes_of self.now) pass.old }
         requires tx { IsTxOf (table_of self.now) seat × (seat.number ≡ pass.old.number) }
         ensures step { session_view pass.new ≡ resuming (session_view pass.old) (tx_view seat) }
-        ensures told { IsBack (since (session_view pass.old)) (session (session_view pass.old)) (session (tx_view seat)) }
+        ensures back { IsBack (since (session_view pass.old)) (session (session_view pass.old)) (session (tx_view seat)) }
         ensures own { IsSessionOf (table_of self.now) (sizes_of self.now) pass.new × (pass.new.number ≡ pass.old.number) }
     {
         let TxSeat { seat, .. } = seat;

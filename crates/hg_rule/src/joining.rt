@@ -21,7 +21,7 @@ impl Board {
         requires bucket { IsBucketOf (table_of self.now) bucket }
         ensures view { view (P.seat_of pass.new) ≡ with_bucket (view (P.seat_of pass.old)) (bucket_view bucket) }
         ensures holds { HoldsBucket bucket.number (view (P.seat_of pass.new)) }
-        ensures told { IsBacked (sizes_of self.now) result (view (P.seat_of pass.new)) }
+        ensures backed { IsBacked (sizes_of self.now) result (view (P.seat_of pass.new)) }
         ensures own { IsSeatOf (table_of self.now) (P.seat_of pass.new) × (P.rest_of pass.new ≡ P.rest_of pass.old) }
     {
         let BucketSeat { seat, .. } = bucket;
@@ -50,7 +50,7 @@ impl Board {
         ensures view { view (P.seat_of pass.new) ≡ joined (view (P.seat_of pass.old)) (commit_view seat) }
         ensures holds { HoldsCommit (view (P.seat_of pass.new)) }
         ensures mark { IsHistoryAt (view (P.seat_of pass.new)) result (commit (view (P.seat_of pass.new))).history.list }
-        ensures told { IsBacked (sizes_of self.now) result (view (P.seat_of pass.new)) }
+        ensures backed { IsBacked (sizes_of self.now) result (view (P.seat_of pass.new)) }
         ensures own { IsSeatOf (table_of self.now) (P.seat_of pass.new) × (P.rest_of pass.new ≡ P.rest_of pass.old) }
     {
         let CommitSeat { seat } = seat;

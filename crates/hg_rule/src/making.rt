@@ -7,7 +7,7 @@ ghost use Rattle.hg_rule.specs.Facts.{new_part};
 ghost use Rattle.hg_rule.specs.Views.{seeing};
 ghost use Rattle.hg_rule.specs.Moves.{run, session_part, bucket_part};
 ghost use Rattle.hg_rule.specs.Seats.{table_of, sizes_of, view, IsSeatOf};
-ghost use Rattle.hg_rule.specs.New.{Row, IsNew, IsNewFirst, IsNewSession, IsNewBucket, IsNewPass, IsNewCommit};
+ghost use Rattle.hg_rule.specs.New.{EachFrom, IsNew, IsNewFirst, IsNewSession, IsNewBucket, IsNewPass, IsNewCommit};
 
 use crate::board::Board;
 use crate::dealt::Dealt;
@@ -31,7 +31,7 @@ impl Board {
         requires own { IsSeatOf (table_of self.now) maker.old × ((view maker.old).sights ≡ []) }
         requires parts { (r : List Part) × ((view maker.old).parts ≡ run T.part first count ++ r) }
         requires small { first + count ≤ 2 ^ 32 }
-        ensures dealt { IfOk result (λ v. (length v.items ≡ count) × Row (λ i x. (T.rest_is x ≡ T.rest_for i) × IsNew (table_of self.now) (T.part i) (T.seat_is x)) first v.items) }
+        ensures dealt { IfOk result (λ v. (length v.items ≡ count) × EachFrom (λ i x. (T.rest_is x ≡ T.rest_for i) × IsNew (table_of self.now) (T.part i) (T.seat_is x)) first v.items) }
         ensures left { IfOk result (λ v. IsSeatOf (table_of self.now) maker.new × (view maker.new ≡ seeing (drop count (view maker.old).parts) [] (view maker.old).events)) }
     {
         let mut seats = Vec::new(alloc);
@@ -60,12 +60,12 @@ impl Board {
         sessions: u32,
         tables: u32,
         buckets: u32,
-        each: u64,
+        quota: u64,
     ) -> Result<(Board, Seats), NoMemory>
-        requires room { (tables ≤ 16) × (sessions * each ≤ 2 ^ 40) }
-        ensures sizes { IfOk result (λ b. sizes_of b.0 ≡ record { sessions = sessions; tables = tables; buckets = buckets; each = each }) }
-        ensures sessions { IfOk result (λ b. (length b.1.sessions ≡ sessions) × Row (IsNewSession (table_of b.0)) 1 b.1.sessions) }
-        ensures buckets { IfOk result (λ b. (length b.1.buckets ≡ buckets) × Row (IsNewBucket (table_of b.0)) 0 b.1.buckets) }
+        requires room { (tables ≤ 16) × (sessions * quota ≤ 2 ^ 40) }
+        ensures sizes { IfOk result (λ b. sizes_of b.0 ≡ record { sessions = sessions; tables = tables; buckets = buckets; quota = quota }) }
+        ensures sessions { IfOk result (λ b. (length b.1.sessions ≡ sessions) × EachFrom (IsNewSession (table_of b.0)) 1 b.1.sessions) }
+        ensures buckets { IfOk result (λ b. (length b.1.buckets ≡ buckets) × EachFrom (IsNewBucket (table_of b.0)) 0 b.1.buckets) }
         ensures commit { IfOk result (λ b. IsNewCommit (table_of b.0) b.1.commit) }
         ensures passes { IfOk result (λ b. IsNewPass (table_of b.0) 0 b.1.group × IsNewPass (table_of b.0) 1 b.1.table × IsNewPass (table_of b.0) 2 b.1.interval) }
     {
@@ -73,7 +73,7 @@ impl Board {
             sessions,
             tables,
             buckets,
-            each,
+            quota,
         };
         let words = vec![in alloc; 0u64; sessions as usize + 1]?;
         let (table, mut maker) = Table::of_words(alloc, words.as_slice(), &sizes)?;

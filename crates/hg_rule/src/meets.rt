@@ -38,7 +38,7 @@ impl SessionPass {
     pub fn meet(&mut self, board: &Board, other: &mut SessionPass)
         requires own { IsSessionOf (table_of board.now) (sizes_of board.now) self.old × IsSessionOf (table_of board.now) (sizes_of board.now) other.old }
         requires only { HasOnlySession (session_view other.old) }
-        ensures told { IsMet (sizes_of board.now) (joined (session_view self.old) (session_view other.old)) }
+        ensures backed { IsMet (sizes_of board.now) (joined (session_view self.old) (session_view other.old)) }
         ensures view { session_view self.new ≡ meeting (session_view self.old) (session_view other.old) }
         ensures other { session_view other.new ≡ meeting (session_view other.old) (session_view self.new) }
         ensures own { IsSessionOf (table_of board.now) (sizes_of board.now) self.new × IsSessionOf (table_of board.now) (sizes_of board.now) other.new }
@@ -50,7 +50,7 @@ impl SessionPass {
     pub fn finish(self, board: &Board, pass: &mut CollectorPass)
         requires own { IsSessionOf (table_of board.now) (sizes_of board.now) self × IsPassOf (table_of board.now) pass.old }
         requires rests { (session (session_view self)).phase ≡ Idle }
-        ensures told { IsMet (sizes_of board.now) (pass_view pass.new) }
+        ensures backed { IsMet (sizes_of board.now) (pass_view pass.new) }
         ensures view { pass_view pass.new ≡ merged (pass_view pass.old) (session_view self) }
         ensures own { IsPassOf (table_of board.now) pass.new }
     {
@@ -64,7 +64,7 @@ impl CollectorPass {
     pub fn meet(&mut self, board: &Board, other: &mut SessionPass)
         requires own { IsPassOf (table_of board.now) self.old × IsSessionOf (table_of board.now) (sizes_of board.now) other.old }
         requires only { HasOnlySession (session_view other.old) }
-        ensures told { IsMet (sizes_of board.now) (joined (pass_view self.old) (session_view other.old)) }
+        ensures backed { IsMet (sizes_of board.now) (joined (pass_view self.old) (session_view other.old)) }
         ensures agrees { AgreesWith (pass_view self.old) (number (session_view other.old)) (session (session_view other.old)) }
         ensures view { pass_view self.new ≡ meeting (pass_view self.old) (session_view other.old) }
         ensures other { session_view other.new ≡ meeting (session_view other.old) (pass_view self.new) }
@@ -76,7 +76,7 @@ impl CollectorPass {
     /// The other's parts go to this pass, which then knows what that had seen and done. Its own record stays.
     pub fn join(&mut self, board: &Board, other: CollectorPass)
         requires own { IsPassOf (table_of board.now) self.old × IsPassOf (table_of board.now) other }
-        ensures told { IsMet (sizes_of board.now) (pass_view self.new) }
+        ensures backed { IsMet (sizes_of board.now) (pass_view self.new) }
         ensures view { pass_view self.new ≡ merged (pass_view self.old) (pass_view other) }
         ensures own { IsPassOf (table_of board.now) self.new }
     {

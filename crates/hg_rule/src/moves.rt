@@ -17,7 +17,7 @@ impl Board {
     fn look_as<P: Pass, A: Sized>(&self, pass: &mut P) -> u64
         requires own { IsSeatOf (table_of self.now) (P.seat_of pass.old) }
         requires sizes { A.sizes ≡ sizes_of self.now }
-        ensures told { IsBacked (sizes_of self.now) result (view (P.seat_of pass.new)) }
+        ensures backed { IsBacked (sizes_of self.now) result (view (P.seat_of pass.new)) }
         ensures stays { view (P.seat_of pass.new) ≡ view (P.seat_of pass.old) }
         ensures own { IsSeatOf (table_of self.now) (P.seat_of pass.new) × (P.rest_of pass.new ≡ P.rest_of pass.old) }
     {
@@ -27,7 +27,7 @@ impl Board {
     /// Loads the mark, and leaves the view. All that the rule says of the view is known then.
     pub fn look_at<P: Pass>(&self, pass: &mut P) -> u64
         requires own { IsSeatOf (table_of self.now) (P.seat_of pass.old) }
-        ensures told { IsBacked (sizes_of self.now) result (view (P.seat_of pass.new)) }
+        ensures backed { IsBacked (sizes_of self.now) result (view (P.seat_of pass.new)) }
         ensures stays { view (P.seat_of pass.new) ≡ view (P.seat_of pass.old) }
         ensures own { IsSeatOf (table_of self.now) (P.seat_of pass.new) × (P.rest_of pass.new ≡ P.rest_of pass.old) }
     {
@@ -38,7 +38,7 @@ impl Board {
     pub fn meet<P: Pass, Q: Pass>(&self, pass: &mut P, other: &mut Q) -> u64
         requires own { IsSeatOf (table_of self.now) (P.seat_of pass.old) × IsSeatOf (table_of self.now) (Q.seat_of other.old) }
         requires parts { (0 < length (view (P.seat_of pass.old)).parts) × (length (view (Q.seat_of other.old)).parts ≡ 1) }
-        ensures told { IsBacked (sizes_of self.now) result (joined (view (P.seat_of pass.old)) (view (Q.seat_of other.old))) }
+        ensures backed { IsBacked (sizes_of self.now) result (joined (view (P.seat_of pass.old)) (view (Q.seat_of other.old))) }
         ensures pass { view (P.seat_of pass.new) ≡ meeting (view (P.seat_of pass.old)) (view (Q.seat_of other.old)) }
         ensures other { view (Q.seat_of other.new) ≡ meeting (view (Q.seat_of other.old)) (view (P.seat_of pass.new)) }
         ensures own { IsSeatOf (table_of self.now) (P.seat_of pass.new) × (P.rest_of pass.new ≡ P.rest_of pass.old) }
@@ -55,7 +55,7 @@ impl Board {
     /// The other's parts come behind the first, and what it had seen and done is known.
     pub(crate) fn take_in<P: Pass>(&self, pass: &mut P, other: Seat<u8, View>) -> u64
         requires own { IsSeatOf (table_of self.now) (P.seat_of pass.old) × IsSeatOf (table_of self.now) other }
-        ensures told { IsBacked (sizes_of self.now) result (view (P.seat_of pass.new)) }
+        ensures backed { IsBacked (sizes_of self.now) result (view (P.seat_of pass.new)) }
         ensures pass { view (P.seat_of pass.new) ≡ merged (view (P.seat_of pass.old)) (view other) }
         ensures own { IsSeatOf (table_of self.now) (P.seat_of pass.new) × (P.rest_of pass.new ≡ P.rest_of pass.old) }
     {

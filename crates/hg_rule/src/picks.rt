@@ -17,7 +17,7 @@ pub(crate) trait Sized {
 }
 
 impl Sized for Brand {
-    ghost sizes = { record { sessions = 0; tables = 0; buckets = 0; each = 0 } };
+    ghost sizes = { record { sessions = 0; tables = 0; buckets = 0; quota = 0 } };
 }
 
 /// What a look asks.
@@ -28,7 +28,7 @@ pub(crate) trait Asked {
 }
 
 impl Asked for Brand {
-    ghost asked_at = { record { sessions = 0; tables = 0; buckets = 0; each = 0 } };
+    ghost asked_at = { record { sessions = 0; tables = 0; buckets = 0; quota = 0 } };
 
     ghost ask = { Outside (record { 0 = 0 }) };
 }

@@ -27,7 +27,7 @@ use std::test::Fail;
 fn begin(board: &Board, pass: &mut SessionPass) -> u64
     requires own { IsAlone (table_of board.now) (sizes_of board.now) pass.old }
     requires rests { Rests pass.old }
-    requires room { begans (own_session pass.old).log < (sizes_of board.now).each }
+    requires room { begans (own_session pass.old).log < (sizes_of board.now).quota }
     ensures parts { (session_view pass.new).parts ≡ OfSession (number (session_view pass.old)) (logging (entries.Began result All) (Live result All) (own_session pass.old)) ∷ [] }
     ensures own { IsAlone (table_of board.now) (sizes_of board.now) pass.new }
 {
@@ -49,7 +49,7 @@ fn write(
     requires own { IsAlone (table_of board.now) (sizes_of board.now) pass.old }
     requires live { IsSome (snapshot_in (own_session pass.old).phase) × (tables (session_view pass.old) ≡ All) }
     requires open { IsTrue (is_plain (own_session pass.old).log) × ((own_session pass.old).stamped ≡ false) }
-    requires room { wrotes (own_session pass.old).log < (sizes_of board.now).each }
+    requires room { wrotes (own_session pass.old).log < (sizes_of board.now).quota }
     requires bucket { IsBucketOf (table_of board.now) bucket × (bucket_of (sizes_of board.now).buckets rid ≡ bucket.number) }
     requires table { rid.table.0 < (sizes_of board.now).tables }
     requires free { look rid (own_bucket bucket).content ≡ [] }
@@ -110,7 +110,7 @@ fn commit_one(
     key: u64,
 ) -> (BucketSeat, CommitSeat)
     requires own { IsAlone (table_of board.now) (sizes_of board.now) pass.old × Rests pass.old }
-    requires room { (begans (own_session pass.old).log < (sizes_of board.now).each) × (wrotes (own_session pass.old).log < (sizes_of board.now).each) }
+    requires room { (begans (own_session pass.old).log < (sizes_of board.now).quota) × (wrotes (own_session pass.old).log < (sizes_of board.now).quota) }
     requires sizes { (0 < (sizes_of board.now).tables) × ((sizes_of board.now).buckets ≡ 1) }
     requires bucket { IsBucketOf (table_of board.now) bucket × (bucket.number ≡ 0) }
     requires free { IsFreeFrom key (own_bucket bucket).content }
@@ -142,7 +142,7 @@ fn commit_some(
     count: u64,
 ) -> (BucketSeat, CommitSeat)
     requires own { IsAlone (table_of board.now) (sizes_of board.now) pass.old × Rests pass.old }
-    requires room { (begans (own_session pass.old).log + count ≤ (sizes_of board.now).each) × (wrotes (own_session pass.old).log + count ≤ (sizes_of board.now).each) }
+    requires room { (begans (own_session pass.old).log + count ≤ (sizes_of board.now).quota) × (wrotes (own_session pass.old).log + count ≤ (sizes_of board.now).quota) }
     requires sizes { (0 < (sizes_of board.now).tables) × ((sizes_of board.now).buckets ≡ 1) }
     requires keys { first + count < 2 ^ 64 }
     requires bucket { IsBucketOf (table_of board.now) bucket × (bucket.number ≡ 0) }

@@ -153,5 +153,5 @@ pub struct Sizes {
     pub sessions: u32,
     pub tables: u32,
     pub buckets: u32,
-    pub each: u64,
+    pub quota: u64,
 }

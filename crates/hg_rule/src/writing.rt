@@ -32,7 +32,7 @@ impl Board {
         requires asks { MayAsk (sizes_of self.now).buckets (session_view pass.old) A.ask }
         requires picked { A.asked_at ≡ sizes_of self.now }
         ensures step { Looks (session_view pass.old) A.ask result (session_view pass.new) }
-        ensures told { IsBacked (sizes_of self.now) result (session_view pass.new) }
+        ensures backed { IsBacked (sizes_of self.now) result (session_view pass.new) }
         ensures own { IsSessionOf (table_of self.now) (sizes_of self.now) pass.new }
     {
         self.table.shared.load::<Asking<A>>(&mut pass.seat, 0)
@@ -47,7 +47,7 @@ impl Board {
         requires unstamped { (session (session_view pass.old)).stamped ≡ false }
         requires asks { MayAsk (sizes_of self.now).buckets (session_view pass.old) ask.now }
         ensures step { Looks (session_view pass.old) ask.now result (session_view pass.new) }
-        ensures told { IsBacked (sizes_of self.now) result (session_view pass.new) }
+        ensures backed { IsBacked (sizes_of self.now) result (session_view pass.new) }
         ensures own { IsSessionOf (table_of self.now) (sizes_of self.now) pass.new }
     {
         self.look_as_asked::<Brand>(pass, ask)
@@ -60,7 +60,7 @@ impl Board {
         requires unstamped { (session (session_view pass.old)).stamped ≡ false }
         requires held { HasBucket (session_view pass.old) × (bucket_of (sizes_of self.now).buckets A.written_rid ≡ bucket_number (session_view pass.old)) }
         requires table { IsTrue (has (tables (session_view pass.old)) A.written_rid.table) × (A.written_rid.table.0 < (sizes_of self.now).tables) }
-        requires room { wrotes (session (session_view pass.old)).log < (sizes_of self.now).each }
+        requires room { wrotes (session (session_view pass.old)).log < (sizes_of self.now).quota }
         requires free { Each (IsOwnOrSeen (writer (session_view pass.old)) (snapshot (session_view pass.old))) (held (session_view pass.old) A.written_rid) }
         ensures step { Installs (session_view pass.old) A.written_rid A.image (session_view pass.new) }
         ensures own { IsSessionOf (table_of self.now) (sizes_of self.now) pass.new }
@@ -77,7 +77,7 @@ impl Board {
         requires unstamped { (session (session_view pass.old)).stamped ≡ false }
         requires held { HasBucket (session_view pass.old) × (bucket_of (sizes_of self.now).buckets rid ≡ bucket_number (session_view pass.old)) }
         requires table { IsTrue (has (tables (session_view pass.old)) rid.table) × (rid.table.0 < (sizes_of self.now).tables) }
-        requires room { wrotes (session (session_view pass.old)).log < (sizes_of self.now).each }
+        requires room { wrotes (session (session_view pass.old)).log < (sizes_of self.now).quota }
         requires free { Each (IsOwnOrSeen (writer (session_view pass.old)) (snapshot (session_view pass.old))) (held (session_view pass.old) rid) }
         ensures step { Installs (session_view pass.old) rid image.value (session_view pass.new) }
         ensures own { IsSessionOf (table_of self.now) (sizes_of self.now) pass.new }

@@ -14,7 +14,7 @@ use Rattle.hg_core.specs.Sums.{sum_below}
 use Rattle.hg_core.proofs.Sums.{below_none, below_same}
 use Rattle.hg_rule.specs.declared.view.View.{View}
 use Rattle.hg_rule.specs.declared.view.Sizes.{Sizes}
-use Rattle.hg_rule.specs.New.{Row}
+use Rattle.hg_rule.specs.New.{EachFrom}
 use Rattle.hg_rule.specs.Reading.{passes_in}
 use Rattle.hg_rule.specs.Views.{session}
 use Rattle.hg_headline.specs.Counted.{Closes, removed_all}
@@ -37,14 +37,14 @@ use Rattle.hg_run.proofs.OpenAfter.{open_after}
 
 -- ---- a row, place by place
 
-pub row_at : {A : Type 0} (P : ℕ → A → Type 0) (d : A) (i : ℕ) (xs : List A) → Row P i xs → (k n : ℕ) → n ≡ i + k → k < length xs → P n (get_or xs k d)
-row_at P d i [] r k n e h = absurd (omega (arith, h))
-row_at P d i (x ∷ xs) r zero n e h = let same : i ≡ n = omega (arith, e) in subst (λ m. P m x) same r.0
-row_at P d i (x ∷ xs) r (suc k) n e h = row_at P d (suc i) xs r.1 k n (omega (arith, e)) (omega (arith, h))
+pub each_from_at : {A : Type 0} (P : ℕ → A → Type 0) (d : A) (i : ℕ) (xs : List A) → EachFrom P i xs → (k n : ℕ) → n ≡ i + k → k < length xs → P n (get_or xs k d)
+each_from_at P d i [] r k n e h = absurd (omega (arith, h))
+each_from_at P d i (x ∷ xs) r zero n e h = let same : i ≡ n = omega (arith, e) in subst (λ m. P m x) same r.0
+each_from_at P d i (x ∷ xs) r (suc k) n e h = each_from_at P d (suc i) xs r.1 k n (omega (arith, e)) (omega (arith, h))
 
-pub row_of : {A : Type 0} (P : ℕ → A → Type 0) (i : ℕ) (xs : List A) → ((d : A) (k n : ℕ) → n ≡ i + k → k < length xs → P n (get_or xs k d)) → Row P i xs
-row_of P i [] f = tt
-row_of P i (x ∷ xs) f = (f x zero i (omega arith) (omega arith), row_of P (suc i) xs (λ d k n e h. f d (suc k) n (omega (arith, e)) (omega (arith, h))))
+pub each_from_of : {A : Type 0} (P : ℕ → A → Type 0) (i : ℕ) (xs : List A) → ((d : A) (k n : ℕ) → n ≡ i + k → k < length xs → P n (get_or xs k d)) → EachFrom P i xs
+each_from_of P i [] f = tt
+each_from_of P i (x ∷ xs) f = (f x zero i (omega arith) (omega arith), each_from_of P (suc i) xs (λ d k n e h. f d (suc k) n (omega (arith, e)) (omega (arith, h))))
 
 -- what holds of each session's log holds of all logs
 pub by_place : (P : ℕ → Type 0) (xs : List Session) → P zero → ((k : ℕ) → k < length xs → P (suc k)) → ((k : ℕ) → (k < length xs → ⊥) → P (suc k)) → (j : ℕ) → P j
@@ -57,23 +57,23 @@ by_place P xs none within beyond (suc k) = go (nat_lt k (length xs)) refl
 
 -- ---- the first
 
-pub new_logs : (e : Engine) (each : ℕ) (list : List Session) → Row (IsNewOf e each) 1 list → (j : ℕ) → logs_of list j ≡ []
-new_logs e each list row = by_place (λ j. logs_of list j ≡ []) list refl
+pub new_logs : (e : Engine) (quota : ℕ) (list : List Session) → EachFrom (IsNewOf e quota) 1 list → (j : ℕ) → logs_of list j ≡ []
+new_logs e quota list row = by_place (λ j. logs_of list j ≡ []) list refl
     (λ k h. from 1 list row k)
     (λ k over. map_over log_of list k over)
   where
-    from : (i : ℕ) (ys : List Session) → Row (IsNewOf e each) i ys → (k : ℕ) → get_or (map log_of ys) k [] ≡ []
+    from : (i : ℕ) (ys : List Session) → EachFrom (IsNewOf e quota) i ys → (k : ℕ) → get_or (map log_of ys) k [] ≡ []
     from i [] r k = refl
     from i (y ∷ ys) r zero = r.0.log
     from i (y ∷ ys) r (suc k) = from (suc i) ys r.1 k
 
-pub new_ready : (e : Engine) (each : ℕ) (list : List Session) → length list ≡ (engine_sizes e).sessions → 0 < length list → Row (IsNewOf e each) 1 list → AreReady e 0 each list
-new_ready e each list many some row = record {
+pub new_ready : (e : Engine) (quota : ℕ) (list : List Session) → length list ≡ (engine_sizes e).sessions → 0 < length list → EachFrom (IsNewOf e quota) 1 list → AreReady e 0 quota list
+new_ready e quota list many some row = record {
   many = many;
   within = some;
-  placed = λ d k h. let n = row_at (IsNewOf e each) d 1 list row k (suc k) (omega arith) h in record { own = n.own; number_is = n.number_is };
-  left_is = λ d k h. let n = row_at (IsNewOf e each) d 1 list row k (suc k) (omega arith) h in (let left = n.left in omega (arith, left));
-  heard = λ d. heard_none (logs_of list) (view_of (get_or list 0 d)) (new_logs e each list row);
+  placed = λ d k h. let n = each_from_at (IsNewOf e quota) d 1 list row k (suc k) (omega arith) h in record { own = n.own; number_is = n.number_is };
+  left_is = λ d k h. let n = each_from_at (IsNewOf e quota) d 1 list row k (suc k) (omega arith) h in (let left = n.left in omega (arith, left));
+  heard = λ d. heard_none (logs_of list) (view_of (get_or list 0 d)) (new_logs e quota list row);
 }
 
 -- ---- rolling back
@@ -121,8 +121,8 @@ partly_more e i n old now new is within placed c p = record {
       subst (λ s. Closes (log_of s) (log_of (get_or new i d))) (was d) (c.closes d),
     )
 
-pub partly_row : (e : Engine) (old now : List Session) (n : ℕ) → length old ≤ n → ArePartlyClosed e old now n → Row (IsClosed e) 1 now
-partly_row e old now n most p = row_of (IsClosed e) 1 now (λ d k m is within.
+pub partly_row : (e : Engine) (old now : List Session) (n : ℕ) → length old ≤ n → ArePartlyClosed e old now n → EachFrom (IsClosed e) 1 now
+partly_row e old now n most p = each_from_of (IsClosed e) 1 now (λ d k m is within.
     let many = p.many in
     let inside : k < length old = omega (arith, within, many) in
     let less : k < n = omega (arith, inside, most) in

@@ -6,7 +6,7 @@
 //!     count        each bucket
 
 ghost use Rattle.std.specs.Prelude.{◌≡◌, ℕ, ◌<◌, ◌≢◌, length, get_or, None};
-ghost use Rattle.hg_rule.specs.New.{Row, IsNewPass};
+ghost use Rattle.hg_rule.specs.New.{EachFrom, IsNewPass};
 ghost use Rattle.hg_tracker.specs.Gathers.{IsMadeFor};
 ghost use Rattle.hg_headline.specs.Counted.{Closes};
 ghost use Rattle.hg_session.specs.declared.session.Session.{Session};
@@ -52,7 +52,7 @@ fn close_at<R: Wait>(rt: &R, engine: &Engine, list: &mut Vec<Session>, i: usize)
 fn close_all<R: Wait>(rt: &R, engine: &Engine, list: &mut Vec<Session>)
     requires { (d : Session) (k : ℕ) → k < length list.old.items → IsPlaced engine.now k (get_or list.old.items k d) }
     ensures many { length list.new.items ≡ length list.old.items }
-    ensures closed { Row (IsClosed engine.now) 1 list.new.items }
+    ensures closed { EachFrom (IsClosed engine.now) 1 list.new.items }
     ensures closes { (j : ℕ) → Closes (logs_of list.old.items j) (logs_of list.new.items j) }
 {
     for i in 0..list.len() {

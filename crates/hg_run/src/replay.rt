@@ -35,9 +35,9 @@ pub(crate) fn replay<R: Wait>(rt: &R, alloc: Global, script: &Script) -> Result<
     let tables = declared(alloc, script)?;
     let sessions = script.sessions();
     // A session has at most all records, and each begins one transaction and stores one write at most.
-    let each = (script.record_count() as u64).max(1);
+    let quota = (script.record_count() as u64).max(1);
     let mut gathered = Gathered::new(alloc, sessions, tables.len() as u32)?;
-    let (engine, list, passes) = Engine::open(alloc, sessions, &tables, DEFAULT_BUCKETS, each)?;
+    let (engine, list, passes) = Engine::open(alloc, sessions, &tables, DEFAULT_BUCKETS, quota)?;
     let mut list = list.into_vec();
     let transcript = play(rt, alloc, &engine, &mut list, script)?;
     let totals = close(rt, &engine, list, passes, &mut gathered);

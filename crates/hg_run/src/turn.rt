@@ -31,7 +31,7 @@ fn meet_two(engine: &Engine, list: &mut Vec<Session>, i: usize, j: usize)
     requires apart { i ≢ j }
     requires own { (d : Session) → IsOf engine.now (get_or list.old.items i d) × IsOf engine.now (get_or list.old.items j d) }
     ensures many { length list.new.items ≡ length list.old.items }
-    ensures told { (d : Session) → IsMet (engine_sizes engine.now) (joined (view_of (get_or list.old.items i d)) (view_of (get_or list.old.items j d))) }
+    ensures backed { (d : Session) → IsMet (engine_sizes engine.now) (joined (view_of (get_or list.old.items i d)) (view_of (get_or list.old.items j d))) }
     ensures this { (d : Session) → view_of (get_or list.new.items i d) ≡ meeting (view_of (get_or list.old.items i d)) (view_of (get_or list.old.items j d)) }
     ensures other { (d : Session) → view_of (get_or list.new.items j d) ≡ meeting (view_of (get_or list.old.items j d)) (meeting (view_of (get_or list.old.items i d)) (view_of (get_or list.old.items j d))) }
     ensures left { (d : Session) → (left_of (get_or list.new.items i d) ≡ left_of (get_or list.old.items i d)) × (left_of (get_or list.new.items j d) ≡ left_of (get_or list.old.items j d)) }
@@ -85,7 +85,7 @@ fn ask_at<R: Wait>(
 fn show(engine: &Engine, list: &mut Vec<Session>, i: usize, answer: &Answer)
     requires ready { AreReady engine.now i 0 list.old.items }
     requires other { (writer : Writer) → answer.now ≡ Answer.OpenBy writer → IsSession (engine_sizes engine.now).sessions writer.session × (writer.session ≢ suc i) }
-    ensures told { (d : Session) (writer : Writer) → answer.now ≡ Answer.OpenBy writer → IsMet (engine_sizes engine.now) (joined (view_of (get_or list.old.items i d)) (view_of (get_or list.old.items (writer.session - 1) d))) }
+    ensures backed { (d : Session) (writer : Writer) → answer.now ≡ Answer.OpenBy writer → IsMet (engine_sizes engine.now) (joined (view_of (get_or list.old.items i d)) (view_of (get_or list.old.items (writer.session - 1) d))) }
     ensures logs { logs_of list.new.items ≡ logs_of list.old.items }
     ensures ready { (left : ℕ) → AreReady engine.now i left list.old.items → AreReady engine.now i left list.new.items }
 {

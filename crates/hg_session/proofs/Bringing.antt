@@ -11,14 +11,14 @@ use Rattle.hg_rule.specs.declared.view.Sight.{Sight}
 use Rattle.hg_rule.specs.declared.view.View.{View}
 use Rattle.hg_rule.specs.Keys.{session_key, pass_key, has, one, count, shares}
 use Rattle.hg_rule.specs.Facts.{StartsWith, IsAmong, new_part}
-use Rattle.hg_rule.specs.New.{Row}
+use Rattle.hg_rule.specs.New.{EachFrom}
 use Rattle.hg_rule.specs.Views.{number, session, pass, others, session_there, pass_there, HasPass}
 use Rattle.hg_rule.specs.Moves.{put_in, did, merged}
 use Rattle.hg_rule.specs.Reading.{chosen, seek, passes_in}
 use Rattle.hg_rule.proofs.Counts.{count_append}
 use Rattle.hg_rule.proofs.Growing.{among_later}
 use Rattle.hg_rule.proofs.Lists.{starts_on, each_map, each_append}
-use Rattle.hg_store.proofs.Filling.{row_at}
+use Rattle.hg_store.proofs.Filling.{each_from_at}
 use Rattle.hg_session.specs.declared.engine.Engine.{Engine}
 use Rattle.hg_session.specs.declared.session.Session.{Session}
 use Rattle.hg_session.specs.Engines.{engine_sizes}
@@ -71,7 +71,7 @@ behind : (e : Engine) (j : ℕ) (s : Session) (sessions : List Session) (rest : 
 behind e j s sessions rest h = append_assoc (parts_of sessions) (view_of s).parts rest ∙ ap (λ (l : List Part). parts_of sessions ++ (l ++ rest)) (part_is e j s h)
 
 -- what passes over sessions' parts
-passed : {X : Type 0} (e : Engine) (f : List Part → X) → ((j : ℕ) (part : SessionPart) (ps : List Part) → f (OfSession j part ∷ ps) ≡ f ps) → (i : ℕ) (sessions : List Session) → Row (IsClosed e) i sessions → (rest : List Part) → f (parts_of sessions ++ rest) ≡ f rest
+passed : {X : Type 0} (e : Engine) (f : List Part → X) → ((j : ℕ) (part : SessionPart) (ps : List Part) → f (OfSession j part ∷ ps) ≡ f ps) → (i : ℕ) (sessions : List Session) → EachFrom (IsClosed e) i sessions → (rest : List Part) → f (parts_of sessions ++ rest) ≡ f rest
 passed e f over i [] row rest = refl
 passed e f over i (s ∷ sessions) row rest = ap f (behind e i s sessions rest row.0) ∙ (passed e f over (suc i) sessions row.1 _ ∙ over i (session (view_of s)) rest)
 
@@ -79,12 +79,12 @@ other_key : (i j : ℕ) (part : SessionPart) (rest : List Part) → (i ≡ j →
 other_key i j part rest no_same = ap (λ b. chosen b (OfSession i part) (seek (session_key j) rest)) (ne_eqb i j no_same)
 
 -- the parts of those that come later are of other sessions
-lower : (e : Engine) (j i : ℕ) (sessions : List Session) (rest : List Part) → j < i → Row (IsClosed e) i sessions → seek (session_key j) (parts_of sessions ++ rest) ≡ seek (session_key j) rest
+lower : (e : Engine) (j i : ℕ) (sessions : List Session) (rest : List Part) → j < i → EachFrom (IsClosed e) i sessions → seek (session_key j) (parts_of sessions ++ rest) ≡ seek (session_key j) rest
 lower e j i [] rest l row = refl
 lower e j i (s ∷ sessions) rest l row = ap (seek (session_key j)) (behind e i s sessions rest row.0) ∙ (lower e j (suc i) sessions _ (omega (arith, l)) row.1 ∙ other_key i j (session (view_of s)) rest (λ t. absurd (omega (arith, l, t))))
 
 -- session j's part, where i is the first one's number
-own_part : (e : Engine) (j i k : ℕ) (sessions : List Session) (rest : List Part) → j ≡ i + k → Row (IsClosed e) i sessions → seek (session_key j) (parts_of sessions ++ rest) ≡ get_or (map part_of sessions) k (seek (session_key j) rest)
+own_part : (e : Engine) (j i k : ℕ) (sessions : List Session) (rest : List Part) → j ≡ i + k → EachFrom (IsClosed e) i sessions → seek (session_key j) (parts_of sessions ++ rest) ≡ get_or (map part_of sessions) k (seek (session_key j) rest)
 own_part e j i k [] rest is row = refl
 own_part e j i zero (s ∷ sessions) rest is row =
     let same : i ≡ j = omega (arith, is) in
@@ -116,12 +116,12 @@ log_at j (suc k) (s ∷ sessions) = log_at j k sessions
 rests : (e : Engine) (j : ℕ) (s : Session) → IsClosed e j s → (session (view_of s)).phase ≡ phases.Idle
 rests e j s h = h.own.ties.phase ∙ ap phase_at (sym h.own.ties.opens ∙ h.closed)
 
-phase_there : (e : Engine) (j i k : ℕ) (sessions : List Session) → Row (IsClosed e) i sessions → (session_there (get_or (map part_of sessions) k (new_part (session_key j)))).phase ≡ phases.Idle
+phase_there : (e : Engine) (j i k : ℕ) (sessions : List Session) → EachFrom (IsClosed e) i sessions → (session_there (get_or (map part_of sessions) k (new_part (session_key j)))).phase ≡ phases.Idle
 phase_there e j i k [] row = refl
 phase_there e j i zero (s ∷ sessions) row = rests e i s row.0
 phase_there e j i (suc k) (s ∷ sessions) row = phase_there e j (suc i) k sessions row.1
 
-there : (e : Engine) (j i k : ℕ) (sessions : List Session) (rest : List Part) → j ≡ i + k → k < length sessions → Row (IsClosed e) i sessions → 0 < count (session_key j) (parts_of sessions ++ rest)
+there : (e : Engine) (j i k : ℕ) (sessions : List Session) (rest : List Part) → j ≡ i + k → k < length sessions → EachFrom (IsClosed e) i sessions → 0 < count (session_key j) (parts_of sessions ++ rest)
 there e j i k [] rest is l row = absurd (omega (arith, l))
 there e j i zero (s ∷ sessions) rest is l row = subst (λ ps. 0 < count (session_key j) ps) (sym (behind e i s sessions rest row.0)) (
     let b : ℕ = count (session_key j) (parts_of sessions) in
@@ -133,7 +133,7 @@ there e j i zero (s ∷ sessions) rest is l row = subst (λ ps. 0 < count (sessi
     omega (arith, x_is, sum))
 there e j i (suc k) (s ∷ sessions) rest is l row = subst (λ ps. 0 < count (session_key j) ps) (sym (behind e i s sessions rest row.0)) (there e j (suc i) k sessions _ (omega (arith, is)) (omega (arith, l)) row.1)
 
-heard_at : (e : Engine) (j i k : ℕ) (sights : List Sight) (sessions : List Session) → j ≡ i + k → Row (IsClosed e) i sessions → Each (λ s. AreAmong (seen_by s) sights) sessions → IsHeard j (get_or (map log_of sessions) k []) sights
+heard_at : (e : Engine) (j i k : ℕ) (sights : List Sight) (sessions : List Session) → j ≡ i + k → EachFrom (IsClosed e) i sessions → Each (λ s. AreAmong (seen_by s) sights) sessions → IsHeard j (get_or (map log_of sessions) k []) sights
 heard_at e j i k sights [] is row seen = inl refl
 heard_at e j i zero sights (s ∷ sessions) is row seen = subst (λ n. IsHeard n (log_of s) sights) (row.0.number_is ∙ same) (go row.0.own.heard)
   where
@@ -145,7 +145,7 @@ heard_at e j i zero sights (s ∷ sessions) is row seen = subst (λ n. IsHeard n
     go (inr among) = inr (seen.0 _ among)
 heard_at e j i (suc k) sights (s ∷ sessions) is row seen = heard_at e j (suc i) k sights sessions (omega (arith, is)) row.1 seen.1
 
-module _ (e : Engine) (v w : View) (sessions : List Session) (own : HasPass v) (row : Row (IsClosed e) 1 sessions) (none : HasNoSession v) (h : Finishes v sessions w) where
+module _ (e : Engine) (v w : View) (sessions : List Session) (own : HasPass v) (row : EachFrom (IsClosed e) 1 sessions) (none : HasNoSession v) (h : Finishes v sessions w) where
   others_none : (j : ℕ) → count (session_key j) (others v) ≡ 0
   others_none j = less _ (sym (ap (count (session_key j)) own) ∙ none j)
     where
@@ -206,8 +206,8 @@ module _ (e : Engine) (v w : View) (sessions : List Session) (own : HasPass v) (
 
 -- ---- on the way
 
-pub closed_here : (e : Engine) (all before rest more : List Session) (s : Session) → all ≡ before ++ rest → rest ≡ s ∷ more → Row (IsClosed e) 1 all → IsClosed e (1 + length before) s
-closed_here e all before rest more s is next row = row_at (IsClosed e) 1 before more s (subst (Row (IsClosed e) 1) (is ∙ ap (λ r. before ++ r) next) row)
+pub closed_here : (e : Engine) (all before rest more : List Session) (s : Session) → all ≡ before ++ rest → rest ≡ s ∷ more → EachFrom (IsClosed e) 1 all → IsClosed e (1 + length before) s
+closed_here e all before rest more s is next row = each_from_at (IsClosed e) 1 before more s (subst (EachFrom (IsClosed e) 1) (is ∙ ap (λ r. before ++ r) next) row)
 
 pub one_less : (all before rest more : List Session) (s : Session) → all ≡ before ++ rest → rest ≡ s ∷ more → all ≡ (before ++ s ∷ []) ++ more
 one_less all before rest more s is next = is ∙ (ap (λ r. before ++ r) next ∙ sym (append_assoc before (s ∷ []) more))

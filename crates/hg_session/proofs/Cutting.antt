@@ -16,7 +16,7 @@ use Rattle.hg_core.specs.Contents.{Content, look}
 use Rattle.hg_core.specs.Counters.{none_removed, removed_more}
 use Rattle.hg_core.specs.Passes.{table_bound}
 use Rattle.hg_core.specs.Visits.{removing}
-use Rattle.hg_bucket.specs.Held.{record_at}
+use Rattle.hg_bucket.specs.BucketModel.{record_at}
 use Rattle.hg_rule.specs.declared.view.Part.TheVariants.{OfBucket, OfPass}
 use Rattle.hg_rule.specs.declared.view.View.{View}
 use Rattle.hg_rule.specs.declared.view.Sizes.{Sizes}
@@ -89,17 +89,17 @@ module _ (v x : View) (b : ℕ) (own : HasPass v) (takes : Takes v b x) where
   pub same_taken : record_of (pass x) ≡ record_of (pass v)
   same_taken = ap record_of pass_taken
 
-  module _ (z : Sizes) (mark : ℕ) (y w : View) (told : IsBacked z mark x) (owns : HasPass y) (c : CutsTables x z.tables y) (left : w ≡ without_bucket y) where
+  module _ (z : Sizes) (mark : ℕ) (y w : View) (backed : IsBacked z mark x) (owns : HasPass y) (c : CutsTables x z.tables y) (left : w ≡ without_bucket y) where
     abbrev content : Content
     content = (bucket y).content
 
     -- no record of another table is there
     none_other : (r : Rid) → z.tables ≤ r.table.0 → held x r ≡ []
     none_other r l =
-        let s = told.state in
-        let there = subst (Each (Shown s)) parts_taken told.true_of.parts in
+        let s = backed.state in
+        let there = subst (Each (Shown s)) parts_taken backed.true_of.parts in
         let same : (bucket x).content ≡ s.bucket b = ap (λ ps. (bucket (record x { parts = ps })).content) parts_taken ∙ sym there.1.0.0 in
-        ap (look r) same ∙ none_placed z.tables r (s.bucket b) (subst (λ n. Each (λ e. e.0.table.0 < n) (s.bucket b)) told.sized.tables (told.steady.contents_are_placed b).table) l
+        ap (look r) same ∙ none_placed z.tables r (s.bucket b) (subst (λ n. Each (λ e. e.0.table.0 < n) (s.bucket b)) backed.sized.tables (backed.steady.contents_are_placed b).table) l
 
     cut : (r : Rid) → Dec (r.table.0 < z.tables) → IsCutAt (table_bound r.table (record_of (pass v))) (look r content)
     cut r (yes l) = subst (λ q. IsCutAt (table_bound r.table q) (look r content)) same_taken (c.cut r l)
@@ -110,7 +110,7 @@ module _ (v x : View) (b : ℕ) (own : HasPass v) (takes : Takes v b x) where
       taken = x;
       takes = takes;
       mark = mark;
-      told = told;
+      backed = backed;
       removed = removed_more Table c.gone none_removed;
       only = record { group = refl; interval = refl };
       given = content;

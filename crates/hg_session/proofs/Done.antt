@@ -106,14 +106,14 @@ after v u receipt at h e = record {
 pub back_gains : (v w : View) → IsBackAgain v w → Gains v [] w
 back_gains v w b = gained v w (session v) [] (record { parts = b.parts; kept = b.kept }) refl
 
-pub back_in : (e : Engine) (v : View) (s : Session) → IsSessionOf (engine_table e) (engine_sizes e) (pass_of s) → IsBackAgain v (view_of s) → Ties (engine_sizes e).each (opened_of s) (written_of s) (left_of s) 0 0 (session v) → IsHeard (number v) (session v).log v.sights → IsIn e 0 0 s
+pub back_in : (e : Engine) (v : View) (s : Session) → IsSessionOf (engine_table e) (engine_sizes e) (pass_of s) → IsBackAgain v (view_of s) → Ties (engine_sizes e).quota (opened_of s) (written_of s) (left_of s) 0 0 (session v) → IsHeard (number v) (session v).log v.sights → IsIn e 0 0 s
 back_in e v s own b ties heard =
     let a : Alone (number v) (session v) v.sights (view_of s) = record { parts = b.parts; kept = b.kept } in
     let n = first_number (view_of s) (number v) (session v) [] b.parts in
     let p = first_session (view_of s) (number v) (session v) [] b.parts in record {
       pass = own;
       only = alone_only (view_of s) (number v) (session v) v.sights a;
-      ties = subst (Ties (engine_sizes e).each (opened_of s) (written_of s) (left_of s) 0 0) (sym p) ties;
+      ties = subst (Ties (engine_sizes e).quota (opened_of s) (written_of s) (left_of s) 0 0) (sym p) ties;
       heard = subst (λ (q : ℕ × SessionPart). IsHeard q.0 q.1.log (seen_by s)) (λ i. (sym n i, sym p i)) (later heard);
     }
   where
@@ -122,8 +122,8 @@ back_in e v s own b ties heard =
     later (inr m) = inr (subst (IsAmong (Heard (number v) (session v).log)) (sym b.kept.1) (among_first (Heard (number v) (session v).log) v.sights b.kept.0 m))
 
 -- what it lists is what it wrote
-pub ties_back : (each left : ℕ) (opened : Snapshot) (old new : List Rid) (j : ℕ) (part : SessionPart) (tx : OpenTx) → new ≡ tx.records.list → IsOpenTxOf j part tx → Ties each (Some opened) old left 0 0 part → Ties each (Some opened) new left 0 0 part
-ties_back each left opened old new j part tx same o t = record {
+pub ties_back : (quota left : ℕ) (opened : Snapshot) (old new : List Rid) (j : ℕ) (part : SessionPart) (tx : OpenTx) → new ≡ tx.records.list → IsOpenTxOf j part tx → Ties quota (Some opened) old left 0 0 part → Ties quota (Some opened) new left 0 0 part
+ties_back quota left opened old new j part tx same o t = record {
   phase = t.phase;
   unstamped = t.unstamped;
   opens = t.opens;

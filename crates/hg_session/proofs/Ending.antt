@@ -207,8 +207,8 @@ module _ (z : Sizes) (n : ℕ) (v : View) (k : IsBacked z n v) (ended : IsEnded 
   pub logged : 0 < z.buckets → Logged z.buckets (history_in v) (logs_in v)
   logged some = subst (λ h. Logged z.buckets h (logs_in v)) history_is (subst (λ l. Logged z.buckets s.history l) logs_are (subst (λ b. Logged b s.history s.log) k.sized.buckets (state_logged s k.steady (subst (λ b. 0 < b) (sym k.sized.buckets) some))))
 
-  pub few : (j : ℕ) → wrotes (logs_in v j) ≤ z.each
-  few j = subst (λ l. wrotes (l j) ≤ z.each) logs_are (subst (λ e. wrotes (s.log j) ≤ e) k.sized.each (k.steady.logs_answer.written j))
+  pub few : (j : ℕ) → wrotes (logs_in v j) ≤ z.quota
+  few j = subst (λ l. wrotes (l j) ≤ z.quota) logs_are (subst (λ e. wrotes (s.log j) ≤ e) k.sized.quota (k.steady.logs_answer.written j))
 
   pub within : (p : ℕ) → Each (λ (x : Visit). x.bucket < z.buckets) (visits_in v p)
   within p = subst (λ f. Each (λ (x : Visit). x.bucket < z.buckets) (f p)) visits_are (subst (λ b. Each (λ (x : Visit). x.bucket < b) (s.visits p)) k.sized.buckets (each_keeps _ (λ (x : Visit). x.bucket < s.buckets) (λ x i. i.bucket) (s.visits p) (k.steady.visits_stay.each p)))

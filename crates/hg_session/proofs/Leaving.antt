@@ -118,10 +118,10 @@ module _ (z : Sizes) (g u w : View) (n : ℕ) (own : HasPass g) (q : IsQuiet z g
   logs_there = logs_now g c.taken (number g) n (pass g) there c.takes.part (others g) own parts_now
 
   mark_is : (pass g).mark ≡ newest
-  mark_is = mark_newest z c.mark c.taken c.told ended_there (number g) (record (pass g) { visits = there }) (OfBucket n c.takes.part ∷ others g) parts_now (λ j is. subst (λ (l : ℕ → List _). UpTo (pass g).mark (l j)) (sym logs_there) (q.most j is)) ∙ ap (newest_of z.sessions) logs_there
+  mark_is = mark_newest z c.mark c.taken c.backed ended_there (number g) (record (pass g) { visits = there }) (OfBucket n c.takes.part ∷ others g) parts_now (λ j is. subst (λ (l : ℕ → List _). UpTo (pass g).mark (l j)) (sym logs_there) (q.most j is)) ∙ ap (newest_of z.sessions) logs_there
 
   bound_is : (r : Rid) → table_bound r.table (record_of (pass g)) ≡ newest
-  bound_is r = idle_table (record_of (pass g)) r.table (found_idle z c.mark c.taken c.told ended_there (number g) (record (pass g) { visits = there }) (OfBucket n c.takes.part ∷ others g) parts_now q.keys (λ j is. subst (λ (l : ℕ → List _). length (l j) ≤ heard j (pass g).seen) (sym logs_there) (q.known j is))) ∙ mark_is
+  bound_is r = idle_table (record_of (pass g)) r.table (found_idle z c.mark c.taken c.backed ended_there (number g) (record (pass g) { visits = there }) (OfBucket n c.takes.part ∷ others g) parts_now q.keys (λ j is. subst (λ (l : ℕ → List _). length (l j) ≤ heard j (pass g).seen) (sym logs_there) (q.known j is))) ∙ mark_is
 
   same_pass : pass u ≡ record (pass g) { visits = h.visits ++ (pass g).visits }
   same_pass = ap (λ ps. pass_there (first_in ps)) h.parts

@@ -28,9 +28,9 @@ pub met : (e : Engine) (begins writes : ℕ) (s t : Session) (w : View) → IsIn
 met e begins writes s t w is own view opened written left = record {
   pass = own;
   only = subst HasOnlySession (sym view) is.only;
-  ties = subst (λ v. Ties (engine_sizes e).each (opened_of t) (written_of t) (left_of t) begins writes (session v)) (sym view)
-      (subst (λ o. Ties (engine_sizes e).each o (written_of t) (left_of t) begins writes (session (view_of s))) (sym opened)
-      (subst (λ l. Ties (engine_sizes e).each (opened_of s) l (left_of t) begins writes (session (view_of s))) (sym written)
-      (subst (λ n. Ties (engine_sizes e).each (opened_of s) (written_of s) n begins writes (session (view_of s))) (sym left) is.ties)));
+  ties = subst (λ v. Ties (engine_sizes e).quota (opened_of t) (written_of t) (left_of t) begins writes (session v)) (sym view)
+      (subst (λ o. Ties (engine_sizes e).quota o (written_of t) (left_of t) begins writes (session (view_of s))) (sym opened)
+      (subst (λ l. Ties (engine_sizes e).quota (opened_of s) l (left_of t) begins writes (session (view_of s))) (sym written)
+      (subst (λ n. Ties (engine_sizes e).quota (opened_of s) (written_of s) n begins writes (session (view_of s))) (sym left) is.ties)));
   heard = subst (λ (v : View). IsHeard (number v) (session v).log v.sights) (sym view) (heard_still (number (view_of s)) (session (view_of s)).log (view_of s).sights w.sights is.heard);
 }

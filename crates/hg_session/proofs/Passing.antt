@@ -9,7 +9,7 @@ use Rattle.hg_rule.specs.New.{IsNewPass}
 use Rattle.hg_rule.specs.Views.{seeing, pass_there}
 use Rattle.hg_rule.specs.Moves.{merged}
 use Rattle.hg_rule.specs.Reading.{chosen, passes_in}
-use Rattle.hg_rule.specs.Seats.{TableId, pass_view}
+use Rattle.hg_rule.specs.Seats.{BoardId, pass_view}
 use Rattle.hg_session.specs.Ended.{visits_in, HasAllPasses}
 use Rattle.hg_session.specs.Finished.{HasNoSession}
 
@@ -17,7 +17,7 @@ use Rattle.hg_session.specs.Finished.{HasNoSession}
 abbrev pub three : View
 three = seeing (OfPass 1 new_pass ∷ OfPass 2 new_pass ∷ OfPass 0 new_pass ∷ []) [] []
 
-pub three_is : (t : TableId) (group table interval : CollectorPass) (u w : View) → IsNewPass t 0 group → IsNewPass t 1 table → IsNewPass t 2 interval → u ≡ merged (pass_view table) (pass_view group) → w ≡ merged u (pass_view interval) → w ≡ three
+pub three_is : (t : BoardId) (group table interval : CollectorPass) (u w : View) → IsNewPass t 0 group → IsNewPass t 1 table → IsNewPass t 2 interval → u ≡ merged (pass_view table) (pass_view group) → w ≡ merged u (pass_view interval) → w ≡ three
 three_is t group table interval u w g a b first second = second ∙ (λ i. merged (first i) (pass_view interval)) ∙ (λ i. merged (merged ((a.1 i).0) ((g.1 i).0)) ((b.1 i).0))
 
 module _ (w : View) (is : w ≡ three) where

@@ -81,8 +81,8 @@ known_sight P x (y ∷ xs) each (inl e) = subst P e each.0
 known_sight P x (y ∷ xs) each (inr among) = known_sight P x xs each.1 among
 
 pub sessions_apart : (z : Sizes) (mark : ℕ) (v a b c d : View) (p q : Receipt) → IsBacked z mark v → AreAmong b.sights v.sights → AreAmong d.sights v.sights → HasPlace a b p → HasPlace c d q → p.place ≡ q.place → (number a ≡ number c) × (begans (session a).log ≡ begans (session c).log)
-sessions_apart z mark v a b c d p q told first second s t same =
-    let g : StartsWith told.state.history s.history = known_sight (Known told.state) (Saw (groups s.history)) v.sights told.true_of.sights (first _ s.saw) in
-    let k : StartsWith told.state.history t.history = known_sight (Known told.state) (Saw (groups t.history)) v.sights told.true_of.sights (second _ t.saw) in
-    let one = places_apart told.state.history s.history t.history p q _ _ g k s.stands t.stands same in
+sessions_apart z mark v a b c d p q backed first second s t same =
+    let g : StartsWith backed.state.history s.history = known_sight (Known backed.state) (Saw (groups s.history)) v.sights backed.true_of.sights (first _ s.saw) in
+    let k : StartsWith backed.state.history t.history = known_sight (Known backed.state) (Saw (groups t.history)) v.sights backed.true_of.sights (second _ t.saw) in
+    let one = places_apart backed.state.history s.history t.history p q _ _ g k s.stands t.stands same in
     (ap (λ (x : Commit). x.session) one, ap (λ (x : Commit). x.transaction) one)

@@ -37,13 +37,13 @@ heard_ends s j log sights known (inr among) = known_sight (Known s) (Heard j log
 
 pub is_right : (z : Sizes) (mark : ℕ) (v old new : View) (statement : Statement) (reply : Reply) (now : Said) → 0 < z.buckets → IsBacked z mark v → (a : Answers z old statement reply new) → IsHeard (number new) (session new).log v.sights → now.statement ≡ statement → now.reply ≡ reply → StandsAt (number old) (session old).log now
     → IsRight z.buckets v (number old) a.u (session old).log now
-is_right z mark v old new statement reply now some told a heard said replied stands =
-    let s = told.state in
+is_right z mark v old new statement reply now some backed a heard said replied stands =
+    let s = backed.state in
     let j = number old in
     let before = (session old).log in
-    let same : s.buckets ≡ z.buckets = told.sized.buckets in
+    let same : s.buckets ≡ z.buckets = backed.sized.buckets in
     let positive : 0 < s.buckets = subst (λ n. 0 < n) (sym same) some in
-    let ends = heard_ends s (number new) (session new).log v.sights told.true_of.sights heard in
+    let ends = heard_ends s (number new) (session new).log v.sights backed.true_of.sights heard in
     let log : s.log j ≡ ends.0 ++ log_after z.buckets a.u statement reply before = ap s.log (sym a.number_is) ∙ (ends.1 ∙ ap (λ l. ends.0 ++ l) a.log) in
     let grown : s.log j ≡ ends.0 ++ log_after s.buckets a.u now.statement now.reply before = log ∙ (λ i. ends.0 ++ log_after (sym same i) a.u (sym said i) (sym replied i) before) in
     let fits : Fits s.buckets a.u before now.statement now.reply = subst (λ (q : ℕ × (Statement × Reply)). Fits q.0 a.u before q.1.0 q.1.1) (λ i. (sym same i, (sym said i, sym replied i))) a.fits in
@@ -51,8 +51,8 @@ is_right z mark v old new statement reply now some told a heard said replied sta
       history = s.history;
       logs = s.log;
       known = record {
-        logged = subst (λ b. Logged b s.history s.log) same (state_logged s told.steady positive);
-        seen = each_keeps (Known s) (GoesOnFrom s.history s.log) (goes_on s) v.sights told.true_of.sights;
+        logged = subst (λ b. Logged b s.history s.log) same (state_logged s backed.steady positive);
+        seen = each_keeps (Known s) (GoesOnFrom s.history s.log) (goes_on s) v.sights backed.true_of.sights;
       };
-      answered = subst (λ b. IsAnswered b s.history s.log j a.u before now) same (answered s told.steady positive j ends.0 before a.u now grown fits stands);
+      answered = subst (λ b. IsAnswered b s.history s.log j a.u before now) same (answered s backed.steady positive j ends.0 before a.u now grown fits stands);
     }

@@ -12,7 +12,7 @@ use Rattle.hg_core.specs.declared.version.Version.{Version}
 use Rattle.hg_core.specs.Contents.{Content, bucket_of, has_own, look}
 use Rattle.hg_core.proofs.OwnKeys.{reached, reaching}
 use Rattle.hg_core.specs.Replies.{read_by}
-use Rattle.hg_bucket.specs.Held.{record_at}
+use Rattle.hg_bucket.specs.BucketModel.{record_at}
 use Rattle.hg_rule.specs.declared.view.Part.TheVariants.{OfBucket}
 use Rattle.hg_rule.specs.declared.view.View.{View}
 use Rattle.hg_rule.specs.declared.view.Sizes.{Sizes}

@@ -9,7 +9,7 @@ use Rattle.hg_base.proofs.ListFacts.{cases, none_some, each_keeps}
 use Rattle.hg_core.specs.declared.ask.Ask.TheVariants.{Read}
 use Rattle.hg_core.specs.declared.log.LogEntry.TheVariants.{Saw}
 use Rattle.hg_core.specs.Contents.{Content, look}
-use Rattle.hg_bucket.specs.Held.{record_at}
+use Rattle.hg_bucket.specs.BucketModel.{record_at}
 use Rattle.hg_rule.specs.declared.view.SessionPart.{SessionPart}
 use Rattle.hg_rule.specs.declared.view.Part.{Part}
 use Rattle.hg_rule.specs.declared.view.Sight.{Sight}

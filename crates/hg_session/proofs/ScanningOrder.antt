@@ -14,7 +14,7 @@ use Rattle.hg_base.proofs.ListFacts.{cases, each_append, each_keeps, append_nil}
 use Rattle.hg_core.specs.declared.log.LogEntry.TheVariants.{Saw}
 use Rattle.hg_core.specs.Contents.{bucket_of, has_own}
 use Rattle.hg_core.specs.Reading.{IsReached, saws}
-use Rattle.hg_bucket.specs.Held.{record_at}
+use Rattle.hg_bucket.specs.BucketModel.{record_at}
 use Rattle.hg_rule.specs.declared.view.View.{View}
 use Rattle.hg_session.specs.Gains.{Gains}
 use Rattle.hg_session.specs.Scans.{Rows, IsOwnKey, Sees, ScansAll, ScansSome}

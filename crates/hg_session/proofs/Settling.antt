@@ -10,7 +10,7 @@ use Rattle.hg_rule.specs.declared.view.View.{View}
 use Rattle.hg_rule.specs.declared.view.Sizes.{Sizes}
 use Rattle.hg_rule.specs.Facts.{IsAmong}
 use Rattle.hg_rule.specs.Views.{number, session}
-use Rattle.hg_rule.specs.Seats.{TableId, session_view, session_rest, IsSeatOf, IsSessionOf}
+use Rattle.hg_rule.specs.Seats.{BoardId, session_view, session_rest, IsSeatOf, IsSessionOf}
 use Rattle.hg_rule.proofs.Holders.{still_session}
 use Rattle.hg_rule.proofs.Lists.{starts_on, each_left}
 use Rattle.hg_session.specs.declared.engine.Engine.{Engine}
@@ -29,7 +29,7 @@ use Rattle.hg_rule.specs.Places.{without_bucket}
 use Rattle.hg_session.proofs.Trips.{Beside, first_number, first_session, alone_only, departed}
 
 -- a pass that gave the bucket back is one of the board still
-pub left_pass : (t : TableId) (z : Sizes) (p q : SessionPass) (j b : ℕ) (part : SessionPart) (old : List Sight) → IsSessionOf t z p → Beside j part b old (session_view p) → IsSeatOf t q.seat → session_rest q ≡ session_rest p → Alone j part old (session_view q) → IsSessionOf t z q
+pub left_pass : (t : BoardId) (z : Sizes) (p q : SessionPass) (j b : ℕ) (part : SessionPart) (old : List Sight) → IsSessionOf t z p → Beside j part b old (session_view p) → IsSeatOf t q.seat → session_rest q ≡ session_rest p → Alone j part old (session_view q) → IsSessionOf t z q
 left_pass t z p q j b part old own h seat rest a =
     let n = first_number (session_view p) j part _ h.parts in
     let s = first_session (session_view p) j part _ h.parts in
@@ -44,13 +44,13 @@ pub record Trip (j : ℕ) (part : SessionPart) (b : ℕ) (old : List Sight) (u w
 pub trip : (j b : ℕ) (part : SessionPart) (old : List Sight) (u w : View) → Beside j part b old u → IsAmong (Heard j part.log) u.sights → w ≡ without_bucket u → Trip j part b old u w
 trip j b part old u w h among e = record { beside = h; alone = departed j part b old u w h e; heard = subst (IsAmong (Heard j part.log)) (sym (ap (λ (x : View). x.sights) e)) among }
 
-pub settled : (e : Engine) (begins writes : ℕ) (v : View) (s : Session) (part : SessionPart) (old : List Sight) → IsSessionOf (engine_table e) (engine_sizes e) (pass_of s) → Alone (number v) part old (view_of s) → Ties (engine_sizes e).each (opened_of s) (written_of s) (left_of s) begins writes part → IsAmong (Heard (number v) part.log) (seen_by s) → IsIn e begins writes s
+pub settled : (e : Engine) (begins writes : ℕ) (v : View) (s : Session) (part : SessionPart) (old : List Sight) → IsSessionOf (engine_table e) (engine_sizes e) (pass_of s) → Alone (number v) part old (view_of s) → Ties (engine_sizes e).quota (opened_of s) (written_of s) (left_of s) begins writes part → IsAmong (Heard (number v) part.log) (seen_by s) → IsIn e begins writes s
 settled e begins writes v s part old own a ties among =
     let n = first_number (view_of s) (number v) part [] a.parts in
     let p = first_session (view_of s) (number v) part [] a.parts in record {
       pass = own;
       only = alone_only (view_of s) (number v) part old a;
-      ties = subst (Ties (engine_sizes e).each (opened_of s) (written_of s) (left_of s) begins writes) (sym p) ties;
+      ties = subst (Ties (engine_sizes e).quota (opened_of s) (written_of s) (left_of s) begins writes) (sym p) ties;
       heard = subst (λ j. IsHeard j (log_of s) (seen_by s)) (sym n) (subst (λ l. IsHeard (number v) l (seen_by s)) (sym (ap (λ (x : SessionPart). x.log) p)) (inr among));
     }
 
@@ -63,7 +63,7 @@ gained v w part es a e = record {
 
 -- the session after a trip
 pub trip_settled : (e : Engine) (begins writes b : ℕ) (v : View) (p : SessionPass) (s : Session) (part : SessionPart) → Trip (number v) part b v.sights (session_view p) (view_of s) → IsSessionOf (engine_table e) (engine_sizes e) p → IsSeatOf (engine_table e) (pass_of s).seat → session_rest (pass_of s) ≡ session_rest p
-    → Ties (engine_sizes e).each (opened_of s) (written_of s) (left_of s) begins writes part → IsIn e begins writes s
+    → Ties (engine_sizes e).quota (opened_of s) (written_of s) (left_of s) begins writes part → IsIn e begins writes s
 trip_settled e begins writes b v p s part t own seat rest ties = settled e begins writes v s part v.sights (left_pass (engine_table e) (engine_sizes e) p (pass_of s) (number v) b part v.sights own t.beside seat rest t.alone) t.alone ties t.heard
 
 -- two calls, one after the other

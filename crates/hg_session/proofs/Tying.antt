@@ -21,25 +21,25 @@ use Rattle.hg_rule.specs.Writes.{with_log, with_entry, with_published}
 use Rattle.hg_session.specs.Gains.{entries_of}
 use Rattle.hg_session.specs.Ties.{AreWritten, Ties}
 
-module _ (each : ℕ) (opened : Option Snapshot) (written : List Rid) (part : SessionPart) where
+module _ (quota : ℕ) (opened : Option Snapshot) (written : List Rid) (part : SessionPart) where
   -- one statement of those that are left
-  pub ties_spent : (left less : ℕ) → left ≡ less + 1 → Ties each opened written left 0 0 part → Ties each opened written less 1 1 part
+  pub ties_spent : (left less : ℕ) → left ≡ less + 1 → Ties quota opened written left 0 0 part → Ties quota opened written less 1 1 part
   ties_spent left less e t =
       let b = t.begun in
       let w = t.wrote in
       record { phase = t.phase; unstamped = t.unstamped; opens = t.opens; plain = t.plain; written_is = t.written_is; rests = t.rests; begun = omega (arith, e, b); wrote = omega (arith, e, w) }
 
-  ties_less : (left begins writes b w : ℕ) → b ≤ begins → w ≤ writes → Ties each opened written left begins writes part → Ties each opened written left b w part
+  ties_less : (left begins writes b w : ℕ) → b ≤ begins → w ≤ writes → Ties quota opened written left begins writes part → Ties quota opened written left b w part
   ties_less left begins writes b w f g t =
       let x = t.begun in
       let y = t.wrote in
       record { phase = t.phase; unstamped = t.unstamped; opens = t.opens; plain = t.plain; written_is = t.written_is; rests = t.rests; begun = omega (arith, f, x); wrote = omega (arith, g, y) }
 
   -- one that neither begins nor writes
-  pub ties_unbegun : (left : ℕ) → Ties each opened written left 1 1 part → Ties each opened written left 0 1 part
+  pub ties_unbegun : (left : ℕ) → Ties quota opened written left 1 1 part → Ties quota opened written left 0 1 part
   ties_unbegun left t = ties_less left 1 1 0 1 (omega arith) (omega arith) t
 
-  pub ties_unwritten : (left : ℕ) → Ties each opened written left 0 1 part → Ties each opened written left 0 0 part
+  pub ties_unwritten : (left : ℕ) → Ties quota opened written left 0 1 part → Ties quota opened written left 0 0 part
   ties_unwritten left t = ties_less left 0 1 0 0 (omega arith) (omega arith) t
 
 -- ---- entries that change nothing of this
@@ -50,15 +50,15 @@ IsQuiet (Refused r answer) = ⊤
 IsQuiet (Outside table) = ⊤
 IsQuiet _ = ⊥
 
-pub ties_quiet : (each left begins writes : ℕ) (opened : Option Snapshot) (written : List Rid) (part : SessionPart) (e : LogEntry) → IsQuiet e → Ties each opened written left begins writes part → Ties each opened written left begins writes (with_entry e part)
-ties_quiet each left begins writes opened written part (Saw table low high b rows) q t = record { phase = t.phase; unstamped = t.unstamped; opens = t.opens; plain = t.plain; written_is = record { once = t.written_is.once; each = t.written_is.each }; rests = t.rests; begun = t.begun; wrote = t.wrote }
-ties_quiet each left begins writes opened written part (Refused r answer) q t = record { phase = t.phase; unstamped = t.unstamped; opens = t.opens; plain = t.plain; written_is = record { once = t.written_is.once; each = t.written_is.each }; rests = t.rests; begun = t.begun; wrote = t.wrote }
-ties_quiet each left begins writes opened written part (Outside table) q t = record { phase = t.phase; unstamped = t.unstamped; opens = t.opens; plain = t.plain; written_is = record { once = t.written_is.once; each = t.written_is.each }; rests = t.rests; begun = t.begun; wrote = t.wrote }
-ties_quiet each left begins writes opened written part (Began at scope) q t = absurd q
-ties_quiet each left begins writes opened written part (Wrote r image) q t = absurd q
-ties_quiet each left begins writes opened written part (Undid r) q t = absurd q
-ties_quiet each left begins writes opened written part (Published n) q t = absurd q
-ties_quiet each left begins writes opened written part Over q t = absurd q
+pub ties_quiet : (quota left begins writes : ℕ) (opened : Option Snapshot) (written : List Rid) (part : SessionPart) (e : LogEntry) → IsQuiet e → Ties quota opened written left begins writes part → Ties quota opened written left begins writes (with_entry e part)
+ties_quiet quota left begins writes opened written part (Saw table low high b rows) q t = record { phase = t.phase; unstamped = t.unstamped; opens = t.opens; plain = t.plain; written_is = record { once = t.written_is.once; each = t.written_is.each }; rests = t.rests; begun = t.begun; wrote = t.wrote }
+ties_quiet quota left begins writes opened written part (Refused r answer) q t = record { phase = t.phase; unstamped = t.unstamped; opens = t.opens; plain = t.plain; written_is = record { once = t.written_is.once; each = t.written_is.each }; rests = t.rests; begun = t.begun; wrote = t.wrote }
+ties_quiet quota left begins writes opened written part (Outside table) q t = record { phase = t.phase; unstamped = t.unstamped; opens = t.opens; plain = t.plain; written_is = record { once = t.written_is.once; each = t.written_is.each }; rests = t.rests; begun = t.begun; wrote = t.wrote }
+ties_quiet quota left begins writes opened written part (Began at scope) q t = absurd q
+ties_quiet quota left begins writes opened written part (Wrote r image) q t = absurd q
+ties_quiet quota left begins writes opened written part (Undid r) q t = absurd q
+ties_quiet quota left begins writes opened written part (Published n) q t = absurd q
+ties_quiet quota left begins writes opened written part Over q t = absurd q
 
 -- ---- lists of records
 
@@ -124,8 +124,8 @@ written_more r image written log false e a = record {
     go q false f = ap (λ x. is_some (cond x (Some image) (open_in q log))) (sym f)
     go q true f = ap (λ x. is_some (open_in x log)) (sym (same_rid_equal r q f)) ∙ (not_true (is_some (open_in r log)) (sym e) ∙ ap (λ x. is_some (cond x (Some image) (open_in q log))) (sym f))
 
-pub ties_wrote : (each left writes : ℕ) (opened : Snapshot) (written : List Rid) (part : SessionPart) (r : Rid) (image : Image) (new : Bool) → new ≡ not (is_some (open_in r part.log)) → Ties each (Some opened) written left 0 (suc writes) part → Ties each (Some opened) (with_written new r written) left 0 writes (with_entry (Wrote r image) part)
-ties_wrote each left writes opened written part r image new e t =
+pub ties_wrote : (quota left writes : ℕ) (opened : Snapshot) (written : List Rid) (part : SessionPart) (r : Rid) (image : Image) (new : Bool) → new ≡ not (is_some (open_in r part.log)) → Ties quota (Some opened) written left 0 (suc writes) part → Ties quota (Some opened) (with_written new r written) left 0 writes (with_entry (Wrote r image) part)
+ties_wrote quota left writes opened written part r image new e t =
     let w = t.wrote in record {
       phase = t.phase;
       unstamped = t.unstamped;
@@ -138,16 +138,16 @@ ties_wrote each left writes opened written part r image new e t =
     }
 
 -- a refusal, which leaves one entry or none
-pub ties_refused : (each left begins writes : ℕ) (opened : Option Snapshot) (written : List Rid) (part : SessionPart) (r : Rid) (image : Image) (e : WriteRefusal) → Ties each opened written left begins writes part → Ties each opened written left begins writes (with_log (entries_of {T = Bool} r image (Err e) ++ part.log) part)
-ties_refused each left begins writes opened written part r image (Open j x) t = ties_quiet each left begins writes opened written part (Refused r (answers.OpenBy (record { session = j; transaction = x }))) tt t
-ties_refused each left begins writes opened written part r image (Newer n) t = ties_quiet each left begins writes opened written part (Refused r (answers.Newer n)) tt t
-ties_refused each left begins writes opened written part r image NoMemory t = t
+pub ties_refused : (quota left begins writes : ℕ) (opened : Option Snapshot) (written : List Rid) (part : SessionPart) (r : Rid) (image : Image) (e : WriteRefusal) → Ties quota opened written left begins writes part → Ties quota opened written left begins writes (with_log (entries_of {T = Bool} r image (Err e) ++ part.log) part)
+ties_refused quota left begins writes opened written part r image (Open j x) t = ties_quiet quota left begins writes opened written part (Refused r (answers.OpenBy (record { session = j; transaction = x }))) tt t
+ties_refused quota left begins writes opened written part r image (Newer n) t = ties_quiet quota left begins writes opened written part (Refused r (answers.Newer n)) tt t
+ties_refused quota left begins writes opened written part r image NoMemory t = t
 
 -- ---- the end of a transaction
 
 -- one that has no open write is over
-pub ties_over : (each left begins writes : ℕ) (opened : Option Snapshot) (written : List Rid) (part : SessionPart) → written ≡ [] → Ties each opened written left begins writes part → Ties each None written left begins writes (logging Over Idle part)
-ties_over each left begins writes opened written part none t = record {
+pub ties_over : (quota left begins writes : ℕ) (opened : Option Snapshot) (written : List Rid) (part : SessionPart) → written ≡ [] → Ties quota opened written left begins writes part → Ties quota None written left begins writes (logging Over Idle part)
+ties_over quota left begins writes opened written part none t = record {
   phase = refl;
   unstamped = t.unstamped;
   opens = refl;
@@ -159,8 +159,8 @@ ties_over each left begins writes opened written part none t = record {
 }
 
 -- one that was published is over
-pub ties_committed : (each left begins writes n : ℕ) (opened : Option Snapshot) (written : List Rid) (part : SessionPart) → Ties each opened written left begins writes part → Ties each None [] left begins writes (logging Over Idle (with_published n part))
-ties_committed each left begins writes n opened written part t = record {
+pub ties_committed : (quota left begins writes n : ℕ) (opened : Option Snapshot) (written : List Rid) (part : SessionPart) → Ties quota opened written left begins writes part → Ties quota None [] left begins writes (logging Over Idle (with_published n part))
+ties_committed quota left begins writes n opened written part t = record {
   phase = refl;
   unstamped = refl;
   opens = refl;

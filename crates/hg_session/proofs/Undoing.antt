@@ -121,8 +121,8 @@ rolled_back v u w rids a k =
       heard = subst (λ x. IsAmong x w.sights) (λ i. Heard (n i) (Over ∷ (s i).log)) e.1;
     }
 
-pub ties_rolled : (each left begins writes : ℕ) (opened : Option Snapshot) (written rids : List Rid) (part : SessionPart) → Ties each opened written left begins writes part → Ties each None [] left begins writes (logging Over Idle (with_log (map Undid rids ++ part.log) part))
-ties_rolled each left begins writes opened written rids part t =
+pub ties_rolled : (quota left begins writes : ℕ) (opened : Option Snapshot) (written rids : List Rid) (part : SessionPart) → Ties quota opened written left begins writes part → Ties quota None [] left begins writes (logging Over Idle (with_log (map Undid rids ++ part.log) part))
+ties_rolled quota left begins writes opened written rids part t =
     let b = t.begun in
     let w = t.wrote in
     let nb = begans_undone rids part.log in

@@ -136,12 +136,12 @@ module _ (v u x : View) (n : ℕ) (own : HasPass v) (h : HasVisited v n u) (take
 
   -- the counts tell what they would with the visits from before
   pub taken_tells : (z : Sizes) (counts : Totals) (mark : ℕ) → IsEnded z v → 0 < count commit_key v.parts → IsBacked z mark x → AreCountsOf (bucket x).counters counts → BucketTells z.sessions z.buckets (passes_in v.parts) (logs_in v) (visits_in v) (history_in v) n counts
-  taken_tells z counts mark ended committed told are =
+  taken_tells z counts mark ended committed backed are =
       tells_same z.sessions z.buckets (passes_in v.parts) (logs_in v) (visits_in x) (visits_in v) (history_in v) n counts
       (subst (λ k. BucketTells z.sessions z.buckets (passes_in v.parts) (logs_in v) (visits_in x) k n counts) (history_now v x (number v) n (pass v) visits part (others v) own parts_now)
       (subst (λ l. BucketTells z.sessions z.buckets (passes_in v.parts) l (visits_in x) (history_in x) n counts) (logs_now v x (number v) n (pass v) visits part (others v) own parts_now)
       (subst (λ k. BucketTells z.sessions z.buckets k (logs_in x) (visits_in x) (history_in x) n counts) (passes_now v x (number v) n (pass v) visits part (others v) own parts_now)
-      (bucket_told z mark x told (ended_now v x (number v) n (pass v) visits part (others v) own parts_now z ended) (committed_now v x (number v) n (pass v) visits part (others v) own parts_now committed) n counts (counters_are told.state counts told.true_of.parts are)))))
+      (bucket_told z mark x backed (ended_now v x (number v) n (pass v) visits part (others v) own parts_now z ended) (committed_now v x (number v) n (pass v) visits part (others v) own parts_now committed) n counts (counters_are backed.state counts backed.true_of.parts are)))))
       (λ kind. below_same (passes_in v.parts) (λ p. removed_in kind n (visits_in v p)) (λ p. removed_in kind n (visits_in x p)) (λ p le. each_visit v x (number v) n (pass v) visits part (others v) own parts_now (λ before now. removed_in kind n now ≡ removed_in kind n before) (removed_now kind) (λ vs. refl) p))
       (λ cut. (
         cut.0,
@@ -219,7 +219,7 @@ module _ (z : Sizes) (v : View) (own : HasPass v) (holds : HoldsCommit v) where
   -- one bucket's counts more
   module _ (u w : View) (n mark : ℕ) (sums counts : Totals) (ended : IsEnded z v) (h : HasVisited v n u) (s : SumsTell z v n sums) (c : Counts z u n counts w) where
     tells : BucketTells z.sessions z.buckets (passes_in v.parts) (logs_in v) (visits_in v) (history_in v) n counts
-    tells = taken_tells v u c.held n own h c.takes z counts c.mark ended committed c.told c.counts_are
+    tells = taken_tells v u c.held n own h c.takes z counts c.mark ended committed c.backed c.counts_are
 
     pub sums_more : SumsTell z v (suc n) (plus sums counts)
     sums_more = more_tells z.sessions z.buckets (passes_in v.parts) (logs_in v) (visits_in v) (history_in v) n sums counts s tells
@@ -228,13 +228,13 @@ module _ (z : Sizes) (v : View) (own : HasPass v) (holds : HoldsCommit v) where
     visited_next = visited_more v u c.held n own h c.takes w c.after
 
     pub sums_fit : HasRoom z → n < z.buckets → IsBacked z mark v → Fits (2 ^ 40) sums counts
-    sums_fit room less told = fits z.sessions z.buckets (passes_in v.parts) (logs_in v) (visits_in v) (history_in v) n sums counts (2 ^ 40) less (omega (arith, made_few z.sessions z.each (logs_in v) (few z mark v told ended committed), room.begins)) s tells
+    sums_fit room less backed = fits z.sessions z.buckets (passes_in v.parts) (logs_in v) (visits_in v) (history_in v) n sums counts (2 ^ 40) less (omega (arith, made_few z.sessions z.quota (logs_in v) (few z mark v backed ended committed), room.begins)) s tells
 
   pub sums_all : (mark : ℕ) (sums : Totals) → 0 < z.buckets → IsEnded z v → IsBacked z mark v → SumsTell z v z.buckets sums → TotalsTell z.sessions z.buckets (passes_in v.parts) (logs_in v) (visits_in v) (commit v).history.list sums
-  sums_all mark sums some ended told s = subst (λ k. TotalsTell z.sessions z.buckets (passes_in v.parts) (logs_in v) (visits_in v) k sums) history_there (totals_tell z.sessions z.buckets (passes_in v.parts) (logs_in v) (visits_in v) (history_in v) sums some (within z mark v told ended committed) s)
+  sums_all mark sums some ended backed s = subst (λ k. TotalsTell z.sessions z.buckets (passes_in v.parts) (logs_in v) (visits_in v) k sums) history_there (totals_tell z.sessions z.buckets (passes_in v.parts) (logs_in v) (visits_in v) (history_in v) sums some (within z mark v backed ended committed) s)
 
   pub logs_told : (mark : ℕ) → 0 < z.buckets → IsEnded z v → IsBacked z mark v → Logged z.buckets (commit v).history.list (logs_in v)
-  logs_told mark some ended told = subst (λ k. Logged z.buckets k (logs_in v)) history_there (logged z mark v told ended committed some)
+  logs_told mark some ended backed = subst (λ k. Logged z.buckets k (logs_in v)) history_there (logged z mark v backed ended committed some)
 
   pub newest_told : (mark : ℕ) → IsEnded z v → IsBacked z mark v → length (commit v).history.list ≡ newest_of z.sessions (logs_in v)
-  newest_told mark ended told = sym (ap length history_there) ∙ newest_is z mark v told ended committed
+  newest_told mark ended backed = sym (ap length history_there) ∙ newest_is z mark v backed ended committed

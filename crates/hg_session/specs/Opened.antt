@@ -9,13 +9,13 @@ use Rattle.hg_session.specs.Sessions.{IsOf, number_of, log_of, seen_by, left_of,
 
 -- a session on a pass, which may run so many statements
 abbrev pub seated : Global → ℕ → SessionPass → Session
-seated alloc each pass = record { pass = pass; opened = None; written = no_rids; left = each; retries = 0; alloc = alloc }
+seated alloc quota pass = record { pass = pass; opened = None; written = no_rids; left = quota; retries = 0; alloc = alloc }
 
 -- session j of an engine, which ran and saw nothing so far, and may run so many statements
-pub record IsNewOf (e : Engine) (each j : ℕ) (s : Session) : Type 0 where
+pub record IsNewOf (e : Engine) (quota j : ℕ) (s : Session) : Type 0 where
   pub own : IsOf e s
   pub number_is : number_of s ≡ j
   pub log : log_of s ≡ []
   pub seen : seen_by s ≡ []
-  pub left : left_of s ≡ each
+  pub left : left_of s ≡ quota
   pub retries : retries_of s ≡ 0

@@ -10,7 +10,7 @@ use Rattle.hg_core.specs.declared.log.LogEntry.TheVariants.{Saw}
 use Rattle.hg_core.specs.Contents.{Content, bucket_of, look}
 use Rattle.hg_core.specs.Replies.{read_by}
 use Rattle.hg_core.specs.Reading.{IsReached, Joins, saws}
-use Rattle.hg_bucket.specs.Held.{record_at}
+use Rattle.hg_bucket.specs.BucketModel.{record_at}
 use Rattle.hg_rule.specs.declared.view.View.{View}
 use Rattle.hg_session.specs.Gains.{Gains}
 

@@ -55,7 +55,7 @@ written_of s = s.written.list
 pub record IsIn (e : Engine) (begins writes : ℕ) (s : Session) : Type 0 where
   pub pass : IsSessionOf (engine_table e) (engine_sizes e) (pass_of s)
   pub only : HasOnlySession (view_of s)
-  pub ties : Ties (engine_sizes e).each (opened_of s) (written_of s) (left_of s) begins writes (session (view_of s))
+  pub ties : Ties (engine_sizes e).quota (opened_of s) (written_of s) (left_of s) begins writes (session (view_of s))
   pub heard : IsHeard (number_of s) (log_of s) (seen_by s)
 
 abbrev pub IsOf : Engine → Session → Type 0

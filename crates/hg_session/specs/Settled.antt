@@ -67,7 +67,7 @@ pub record Cuts (z : Sizes) (v : View) (b : ℕ) (w : View) : Type 0 where
   pub taken : View
   pub takes : Takes v b taken
   pub mark : ℕ
-  pub told : IsBacked z mark taken
+  pub backed : IsBacked z mark taken
   pub removed : Removed
   pub only : IsForTables removed
   pub given : Content

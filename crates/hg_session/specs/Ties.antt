@@ -24,15 +24,15 @@ pub record AreWritten (rids : List Rid) (log : List LogEntry) : Type 0 where
 
 -- The session shows the snapshot of its open transaction, of which nothing was undone or published, and lists what it wrote.
 -- It may begin `begins` transactions, and write `writes` records, beyond those that it counts in `left`.
-pub record Ties (each : ℕ) (opened : Option Snapshot) (written : List Rid) (left : ℕ) (begins writes : ℕ) (part : SessionPart) : Type 0 where
+pub record Ties (quota : ℕ) (opened : Option Snapshot) (written : List Rid) (left : ℕ) (begins writes : ℕ) (part : SessionPart) : Type 0 where
   pub phase : part.phase ≡ phase_at opened
   pub unstamped : part.stamped ≡ false
   pub opens : current part.log ≡ opened
   pub plain : IsTrue (is_plain part.log)
   pub written_is : AreWritten written part.log
   pub rests : opened ≡ None → written ≡ []
-  pub begun : begans part.log + left + begins ≤ each
-  pub wrote : wrotes part.log + left + writes ≤ each
+  pub begun : begans part.log + left + begins ≤ quota
+  pub wrote : wrotes part.log + left + writes ≤ quota
 
 -- the whole log of session j was heard
 abbrev pub IsHeard : ℕ → List LogEntry → List Sight → Type 0

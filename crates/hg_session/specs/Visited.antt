@@ -27,7 +27,7 @@ pub record Counts (z : Sizes) (v : View) (b : ℕ) (counts : Totals) (w : View) 
   pub held : View
   pub takes : Takes v b held
   pub mark : ℕ
-  pub told : IsBacked z mark held
+  pub backed : IsBacked z mark held
   pub counts_are : AreCountsOf (bucket held).counters counts
   pub after : w ≡ without_bucket held
 

@@ -3,7 +3,7 @@
 ghost use Rattle.std.specs.Prelude.{◌≡◌, ℕ, [], length};
 ghost use Rattle.hg_base.specs.Lists.{Each};
 ghost use Rattle.hg_rule.specs.Facts.{StartsWith};
-ghost use Rattle.hg_rule.specs.New.{Row, IsNewPass};
+ghost use Rattle.hg_rule.specs.New.{EachFrom, IsNewPass};
 ghost use Rattle.hg_rule.specs.Reading.{passes_in};
 ghost use Rattle.hg_rule.specs.Seats.{pass_view, IsPassOf};
 ghost use Rattle.hg_session.specs.Engines.{engine_table, engine_sizes};
@@ -42,7 +42,7 @@ impl Passes {
 
 /// All sessions of an engine go to a pass that all other passes were joined to, which then knows what they had seen and done.
 pub fn finish_all(engine: &Engine, sessions: Vec<Session>, pass: &mut CollectorPass)
-    requires sessions { Row (IsClosed engine.now) 1 sessions.items }
+    requires sessions { EachFrom (IsClosed engine.now) 1 sessions.items }
     requires all { length sessions.items ≡ (engine_sizes engine.now).sessions }
     requires own { IsPassOf (engine_table engine.now) pass.old }
     requires passes { HasAllPasses (pass_view pass.old) }

@@ -16,7 +16,7 @@ impl Session {
     /// Afterwards each has seen what either had seen.
     pub fn meet(&mut self, engine: &Engine, other: &mut Session)
         requires own { IsOf engine.now self.old × IsOf engine.now other.old }
-        ensures told { IsMet (engine_sizes engine.now) (joined (view_of self.old) (view_of other.old)) }
+        ensures backed { IsMet (engine_sizes engine.now) (joined (view_of self.old) (view_of other.old)) }
         ensures view { view_of self.new ≡ meeting (view_of self.old) (view_of other.old) }
         ensures other { view_of other.new ≡ meeting (view_of other.old) (view_of self.new) }
         ensures kept { (left_of self.new ≡ left_of self.old) × (left_of other.new ≡ left_of other.old) }
@@ -29,7 +29,7 @@ impl Session {
     /// Afterwards each has seen what either had seen. What the pass did and loaded agrees with the session's log and phase.
     pub fn meet_pass(&mut self, engine: &Engine, pass: &mut CollectorPass)
         requires own { IsOf engine.now self.old × IsPassOf (engine_table engine.now) pass.old }
-        ensures told { IsMet (engine_sizes engine.now) (joined (pass_view pass.old) (view_of self.old)) }
+        ensures backed { IsMet (engine_sizes engine.now) (joined (pass_view pass.old) (view_of self.old)) }
         ensures agrees { AgreesWith (pass_view pass.old) (number_of self.old) (session (view_of self.old)) }
         ensures pass { pass_view pass.new ≡ meeting (pass_view pass.old) (view_of self.old) }
         ensures view { view_of self.new ≡ meeting (view_of self.old) (pass_view pass.new) }
@@ -44,7 +44,7 @@ impl Session {
     pub fn finish(self, engine: &Engine, pass: &mut CollectorPass)
         requires own { IsOf engine.now self × IsPassOf (engine_table engine.now) pass.old }
         requires closed { open_of self ≡ None }
-        ensures told { IsMet (engine_sizes engine.now) (pass_view pass.new) }
+        ensures backed { IsMet (engine_sizes engine.now) (pass_view pass.new) }
         ensures view { pass_view pass.new ≡ merged (pass_view pass.old) (view_of self) }
         ensures own { IsPassOf (engine_table engine.now) pass.new }
     {

@@ -1,7 +1,7 @@
 //! A new engine.
 
 ghost use Rattle.std.specs.Prelude.{◌≡◌, ◌*◌, ◌^◌, ◌<◌, ◌≤◌, length, map, IfOk};
-ghost use Rattle.hg_rule.specs.New.{Row, IsNewPass};
+ghost use Rattle.hg_rule.specs.New.{EachFrom, IsNewPass};
 ghost use Rattle.hg_session.specs.Engines.{engine_table, engine_sizes};
 ghost use Rattle.hg_session.specs.Opened.{seated, IsNewOf};
 
@@ -30,8 +30,8 @@ pub struct Passes {
 }
 
 // A session in each place.
-fn seat_all(alloc: Global, passes: Vec<SessionPass>, each: u64) -> Result<Vec<Session>, NoMemory>
-    ensures { IfOk result (λ sessions. sessions.items ≡ map (seated alloc each) passes.items) }
+fn seat_all(alloc: Global, passes: Vec<SessionPass>, quota: u64) -> Result<Vec<Session>, NoMemory>
+    ensures { IfOk result (λ sessions. sessions.items ≡ map (seated alloc quota) passes.items) }
 {
     let mut sessions = Vec::new(alloc);
     for pass in passes {
@@ -40,7 +40,7 @@ fn seat_all(alloc: Global, passes: Vec<SessionPass>, each: u64) -> Result<Vec<Se
             pass,
             opened: None,
             written,
-            left: each,
+            left: quota,
             retries: 0,
             alloc,
         })?;
@@ -50,23 +50,23 @@ fn seat_all(alloc: Global, passes: Vec<SessionPass>, each: u64) -> Result<Vec<Se
 
 impl Engine {
     /// An engine with empty buckets, each of its sessions, and the collectors' passes. A session may run so many statements
-    /// as `each` says.
+    /// as `quota` says.
     pub fn open(
         alloc: Global,
         sessions: u32,
         tables: &[TableDecl],
         buckets: u32,
-        each: u64,
+        quota: u64,
     ) -> Result<(Engine, SessionList, Passes), NoMemory>
         requires tables { length tables.now ≤ 16 }
         requires buckets { 0 < buckets }
-        requires room { sessions * each ≤ 2 ^ 40 }
-        ensures sizes { IfOk result (λ o. engine_sizes o.0 ≡ record { sessions = sessions; tables = length tables.now; buckets = buckets; each = each }) }
+        requires room { sessions * quota ≤ 2 ^ 40 }
+        ensures sizes { IfOk result (λ o. engine_sizes o.0 ≡ record { sessions = sessions; tables = length tables.now; buckets = buckets; quota = quota }) }
         ensures count { IfOk result (λ o. length o.1 ≡ sessions) }
-        ensures sessions { IfOk result (λ o. Row (IsNewOf o.0 each) 1 o.1) }
+        ensures sessions { IfOk result (λ o. EachFrom (IsNewOf o.0 quota) 1 o.1) }
         ensures passes { IfOk result (λ o. IsNewPass (engine_table o.0) 0 o.2.group × IsNewPass (engine_table o.0) 1 o.2.table × IsNewPass (engine_table o.0) 2 o.2.interval) }
     {
-        let (board, seats) = Board::new(alloc, sessions, tables.len() as u32, buckets, each)?;
+        let (board, seats) = Board::new(alloc, sessions, tables.len() as u32, buckets, quota)?;
         let Seats {
             sessions: places,
             buckets: seats,
@@ -77,7 +77,7 @@ impl Engine {
         } = seats;
         let store = Store::new(alloc, seats)?;
         let groups = GroupList::new(alloc, commit, sessions)?;
-        let sessions = seat_all(alloc, places.into_vec(), each)?;
+        let sessions = seat_all(alloc, places.into_vec(), quota)?;
         let engine = Engine {
             trackers: Trackers::new(board),
             store,

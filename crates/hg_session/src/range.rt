@@ -1,7 +1,7 @@
 //! The keys that a scan asks for.
 
 ghost use Rattle.std.specs.Prelude.{◌≡◌, ◌+◌, ◌<◌, nat_le};
-ghost use Rattle.hg_bucket.specs.Held.{record_at};
+ghost use Rattle.hg_bucket.specs.BucketModel.{record_at};
 
 use hg_base::{Rid, TableId};
 

@@ -83,7 +83,7 @@ pub(crate) fn counted<R: Wait>(
     requires own { IsPassOf (table_of board.now) pass.old }
     requires commit { HoldsCommit (pass_view pass.old) }
     requires ended { IsEnded (sizes_of board.now) (pass_view pass.old) }
-    requires told { (mark : ℕ) × IsBacked (sizes_of board.now) mark (pass_view pass.old) }
+    requires backed { (mark : ℕ) × IsBacked (sizes_of board.now) mark (pass_view pass.old) }
     ensures totals { TotalsTell (sizes_of board.now).sessions (sizes_of board.now).buckets (passes_in (pass_view pass.old).parts) (logs_in (pass_view pass.old)) (visits_in (pass_view pass.old)) (commit (pass_view pass.old)).history.list result }
     ensures logged { Logged (sizes_of board.now).buckets (commit (pass_view pass.old)).history.list (logs_in (pass_view pass.old)) }
     ensures mark { length (commit (pass_view pass.old)).history.list ≡ newest_of (sizes_of board.now).sessions (logs_in (pass_view pass.old)) }

@@ -45,19 +45,19 @@ firsts_most test (Published m ∷ log) = firsts_most test log
 firsts_most test (Over ∷ log) = firsts_most test log
 
 -- where a session may still write, a bucket may still count
-pub made_below : (s : CoreState) → IsSteady s → (j b : ℕ) → IsSession s.sessions j → wrotes (s.log j) < s.each → (s.counters b).made < s.sessions * s.each
+pub made_below : (s : CoreState) → IsSteady s → (j b : ℕ) → IsSession s.sessions j → wrotes (s.log j) < s.quota → (s.counters b).made < s.sessions * s.quota
 made_below s h j b is room =
     let all = h.counters_balance.made b in
-    let most : (k : ℕ) → first_writes (is_of s.buckets b) (s.log k) ≤ s.each = λ k. omega (arith, firsts_most (is_of s.buckets b) (s.log k), h.logs_answer.written k) in
-    let more = sum_more s.sessions (λ k. first_writes (is_of s.buckets b) (s.log k)) (λ k. s.each) j is.first is.last most (omega (arith, firsts_most (is_of s.buckets b) (s.log j), room)) in
-    omega (arith, all, more, sum_most s.sessions s.each (λ k. s.each) (λ k. omega arith))
+    let most : (k : ℕ) → first_writes (is_of s.buckets b) (s.log k) ≤ s.quota = λ k. omega (arith, firsts_most (is_of s.buckets b) (s.log k), h.logs_answer.written k) in
+    let more = sum_more s.sessions (λ k. first_writes (is_of s.buckets b) (s.log k)) (λ k. s.quota) j is.first is.last most (omega (arith, firsts_most (is_of s.buckets b) (s.log j), room)) in
+    omega (arith, all, more, sum_most s.sessions s.quota (λ k. s.quota) (λ k. omega arith))
 
 -- and what it holds is at most as much
-pub total_most : (s : CoreState) → IsSteady s → (b : ℕ) → total (s.bucket b) ≤ s.sessions * s.each
+pub total_most : (s : CoreState) → IsSteady s → (b : ℕ) → total (s.bucket b) ≤ s.sessions * s.quota
 total_most s h b =
     let all = h.counters_balance.made b in
-    let most : (k : ℕ) → first_writes (is_of s.buckets b) (s.log k) ≤ s.each = λ k. omega (arith, firsts_most (is_of s.buckets b) (s.log k), h.logs_answer.written k) in
-    omega (arith, all, h.counters_balance.balance b, sum_most s.sessions s.each (λ k. first_writes (is_of s.buckets b) (s.log k)) most)
+    let most : (k : ℕ) → first_writes (is_of s.buckets b) (s.log k) ≤ s.quota = λ k. omega (arith, firsts_most (is_of s.buckets b) (s.log k), h.logs_answer.written k) in
+    omega (arith, all, h.counters_balance.balance b, sum_most s.sessions s.quota (λ k. first_writes (is_of s.buckets b) (s.log k)) most)
 
 -- ---- an own open write
 

@@ -134,8 +134,8 @@ long_there z n b v r placed long = go (bucket_of z.buckets r == b) refl
 
 -- ---- what it leaves, and how many go
 
-pub gone_fits : (z : Sizes) (n : ℕ) (kind : Kind) (v w x : View) (h : Held) (r : Rid) (gone : ℕ) → IsBacked z n v → Holds v h → Counts v kind gone w → Reclaims w r kind x → gone + removed_of w r kind ≤ z.sessions * z.each
-gone_fits z n kind v w x h r gone told hold c step = omega (arith, (counts_more v w x kind gone r c step).versions, total_at z n (held_number h) v told hold.has)
+pub gone_fits : (z : Sizes) (n : ℕ) (kind : Kind) (v w x : View) (h : Held) (r : Rid) (gone : ℕ) → IsBacked z n v → Holds v h → Counts v kind gone w → Reclaims w r kind x → gone + removed_of w r kind ≤ z.sessions * z.quota
+gone_fits z n kind v w x h r gone backed hold c step = omega (arith, (counts_more v w x kind gone r c step).versions, total_at z n (held_number h) v backed hold.has)
 
 pub cut_left : (v : View) (r : Rid) (bound : ℕ) → bound ≡ table_bound r.table (record_of (pass v)) → IsCutAt bound (left_of v r Table)
 cut_left v r bound is = subst (λ b. IsCutAt b (left_of v r Table)) (sym is) (cut_is_cut (table_bound r.table (record_of (pass v))) (held v r))

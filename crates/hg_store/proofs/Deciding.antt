@@ -31,7 +31,7 @@ use Rattle.hg_bucket.specs.declared.refusal.WriteRefusal.{WriteRefusal}
 use Rattle.hg_bucket.specs.declared.refusal.WriteRefusal.TheVariants.{Open, Newer, NoMemory}
 use Rattle.hg_bucket.specs.Conflicts.{holder, newer, conflict, open_by}
 use Rattle.hg_bucket.specs.Conflicts as bucket_words
-use Rattle.hg_bucket.specs.Held.{Kept, versions_of, begins_open}
+use Rattle.hg_bucket.specs.BucketModel.{Kept, versions_of, begins_open}
 use Rattle.hg_rule.specs.declared.view.View.{View}
 use Rattle.hg_rule.specs.declared.view.Sizes.{Sizes}
 use Rattle.hg_rule.specs.Facts.{Shown}
@@ -77,11 +77,11 @@ pub record Decided (z : Sizes) (n : ℕ) (v : View) (r : Rid) : Type 0 where
   pub unstamped : IsUnstamped n (writer v) (held v r)
   pub goes : (o : Writer) (image : Image) → unpublished n (held v r) ≡ Some (o, image) → Each (HasNoEnd o) v.sights
   pub newest : (image : Image) → unpublished n (held v r) ≡ Some (writer v, image) → IfSome (newest_at n (held v r)) (λ pair. pair.0 ≤ snapshot v)
-  pub made : IsSession z.sessions (number v) → wrotes (session v).log < z.each → (bucket v).counters.made < z.sessions * z.each
+  pub made : IsSession z.sessions (number v) → wrotes (session v).log < z.quota → (bucket v).counters.made < z.sessions * z.quota
 
 pub decided : (z : Sizes) (n : ℕ) (v w : View) (h : Held) (r : Rid) → Holds v h → Looks v (Write r) n w → IsBacked z n w → bucket_of z.buckets r ≡ held_number h → (session v).stamped ≡ false → IsSome (snapshot_in (session v).phase) → Decided z n v r
-decided z n v w h r hold k told here unstamped live =
-    let b = subst (IsBacked z n) k.after told in
+decided z n v w h r hold k backed here unstamped live =
+    let b = subst (IsBacked z n) k.after backed in
     let s = b.state in
     let has = (subst (λ x. Holds x h) k.after (look_holds v w h (Write r) n hold k)).has in
     let same : versions s.buckets s.bucket r ≡ held v r = held_is z n (held_number h) _ b has r here in
@@ -100,9 +100,9 @@ decided z n v w h r hold k told here unstamped live =
           let counted = (subst (Each (Shown s)) hold.has.1.0 b.true_of.parts.1).0.1 in
           let is_there = subst (λ m. IsSession m (number v)) (sym b.sized.sessions) is in
           let same_wrotes = ap wrotes mine.1.0 ∙ wrotes_same r _ (session v).log in
-          let same_each = b.sized.each in
-          let may : wrotes (s.log (number v)) < s.each = omega (arith, same_wrotes, same_each, room) in
-          subst (λ x. x < z.sessions * z.each) (ap (λ (c : Counters). c.made) counted) (subst (λ x. (s.counters (held_number h)).made < x) (λ i. b.sized.sessions i * b.sized.each i) (made_below s b.steady (number v) (held_number h) is_there may));
+          let same_each = b.sized.quota in
+          let may : wrotes (s.log (number v)) < s.quota = omega (arith, same_wrotes, same_each, room) in
+          subst (λ x. x < z.sessions * z.quota) (ap (λ (c : Counters). c.made) counted) (subst (λ x. (s.counters (held_number h)).made < x) (λ i. b.sized.sessions i * b.sized.quota i) (made_below s b.steady (number v) (held_number h) is_there may));
     }
 
 -- ---- a write that isn't refused

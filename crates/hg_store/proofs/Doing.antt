@@ -16,7 +16,7 @@ use Rattle.hg_core.specs.Removal as core
 use Rattle.hg_core.specs.Removal.{reclaimed}
 use Rattle.hg_base.specs.Lifetimes.{is_within, goes}
 use Rattle.hg_core.specs.Ordered.{IsOrdered}
-use Rattle.hg_bucket.specs.Held.{Kept, cut_at}
+use Rattle.hg_bucket.specs.BucketModel.{Kept, cut_at}
 use Rattle.hg_bucket.specs.Sweeping.{swept}
 use Rattle.hg_bucket.specs.Long.{IsShort}
 use Rattle.hg_bucket.proofs.Sweeps.{swept_from, first_goes, first_stays}

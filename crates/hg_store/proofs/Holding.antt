@@ -68,10 +68,10 @@ placed_at z n b v k h =
     let shown : Shown k.state (OfBucket b (bucket v)) = second_shown (Shown k.state) v.parts (beyond v) (first_in v.parts) (OfBucket b (bucket v)) (parts_are b v h) k.true_of.parts in
     subst (λ m. Each (λ e. bucket_of m e.0 ≡ b) (bucket v).content) k.sized.buckets (subst (λ es. Each (λ e. bucket_of k.state.buckets e.0 ≡ b) es) shown.0 (k.steady.contents_are_placed b).bucket)
 
-pub total_at : (z : Sizes) (n b : ℕ) (v : View) → IsBacked z n v → HoldsBucket b v → total (bucket v).content ≤ z.sessions * z.each
+pub total_at : (z : Sizes) (n b : ℕ) (v : View) → IsBacked z n v → HoldsBucket b v → total (bucket v).content ≤ z.sessions * z.quota
 total_at z n b v k h =
     let shown : Shown k.state (OfBucket b (bucket v)) = second_shown (Shown k.state) v.parts (beyond v) (first_in v.parts) (OfBucket b (bucket v)) (parts_are b v h) k.true_of.parts in
-    subst (λ es. total es ≤ z.sessions * z.each) shown.0 (subst (λ x. total (k.state.bucket b) ≤ x) (λ i. k.sized.sessions i * k.sized.each i) (total_most k.state k.steady b))
+    subst (λ es. total es ≤ z.sessions * z.quota) shown.0 (subst (λ x. total (k.state.bucket b) ≤ x) (λ i. k.sized.sessions i * k.sized.quota i) (total_most k.state k.steady b))
 
 pub all_ordered : (z : Sizes) (n b : ℕ) (v : View) → IsBacked z n v → HoldsBucket b v → AreOrdered (bucket v).content
 all_ordered z n b v k h r = go (bucket_of z.buckets r == b) refl
@@ -86,10 +86,10 @@ bucket_joined : (v w : View) (b : ℕ) (part : BucketPart) → HasFirst v → w.
 bucket_joined v w b part e f = λ i. bucket_there (first_in (after_first (put_in (arrive_first (number_in (f i)) (e i)) (f i))))
 
 pub taken_holds : (z : Sizes) (n : ℕ) (v w x : View) (b : ℕ) (part : BucketPart) (h : Held) → HasFirst v → w.parts ≡ OfBucket b part ∷ [] → x ≡ with_bucket v w → HoldsBucket b x → IsBacked z n x → held_number h ≡ b → Keeps (held_records h) part → Holds x h
-taken_holds z n v w x b part h first only is has told same keeps = record {
+taken_holds z n v w x b part h first only is has backed same keeps = record {
   has = subst (λ m. HoldsBucket m x) (sym same) has;
   keeps = subst (Keeps (held_records h)) (sym (ap bucket is ∙ bucket_joined v w b part first only)) keeps;
-  ordered = all_ordered z n b x told has;
+  ordered = all_ordered z n b x backed has;
 }
 
 -- ---- a step leaves it

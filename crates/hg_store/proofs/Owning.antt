@@ -25,7 +25,7 @@ use Rattle.hg_bucket.specs.declared.refusal.WriteRefusal.{WriteRefusal}
 use Rattle.hg_bucket.specs.declared.refusal.WriteRefusal.TheVariants.{Open, Newer, NoMemory}
 use Rattle.hg_bucket.specs.Conflicts as bucket_words
 use Rattle.hg_bucket.specs.Conflicts.{open_by}
-use Rattle.hg_bucket.specs.Held.{versions_of, begins_open}
+use Rattle.hg_bucket.specs.BucketModel.{versions_of, begins_open}
 use Rattle.hg_base.specs.Lists.{Each}
 use Rattle.hg_rule.specs.declared.view.Part.TheVariants.{OfSession, OfBucket}
 use Rattle.hg_rule.specs.declared.view.View.{View}
@@ -64,7 +64,7 @@ open_after : (r : Rid) (o : Option Answer) (log : List LogEntry) → open_in r (
 open_after r None log = refl
 open_after r (Some a) log = refl
 
-module _ (z : Sizes) (n : ℕ) (v w : View) (h : Held) (r : Rid) (hold : Holds v h) (k : Looks v (Write r) n w) (told : IsBacked z n w) (own : HasSession w) (here : bucket_of z.buckets r ≡ held_number h) where
+module _ (z : Sizes) (n : ℕ) (v w : View) (h : Held) (r : Rid) (hold : Holds v h) (k : Looks v (Write r) n w) (backed : IsBacked z n w) (own : HasSession w) (here : bucket_of z.buckets r ≡ held_number h) where
   now : Holds w h
   now = look_holds v w h (Write r) n hold k
 
@@ -89,11 +89,11 @@ module _ (z : Sizes) (n : ℕ) (v w : View) (h : Held) (r : Rid) (hold : Holds v
       go None true e f =
           let mine = open_back (writer v) (held v r) f in
           let there : IsOpenBy (writer w) (held w r) = subst (λ x. IsOpenBy x (held w r)) (sym (writer_same_after n v w r k)) (subst (IsOpenBy (writer v)) (sym (content_after n v w r k)) mine) in
-          let some = mine_logged z n w told own has r at there in
+          let some = mine_logged z n w backed own has r at there in
           absurd (let q = ap is_some (sym (same_log ∙ e)) ∙ some in cc)
       go (Some image) b e f =
           let some : IsSome (open_in r (session w).log) = ap is_some (same_log ∙ e) in
-          let there = mine_unstamped z n w told own has r at some bare in
+          let there = mine_unstamped z n w backed own has r at some bare in
           let mine = subst (λ x. IsOpenBy x (held v r)) (writer_same_after n v w r k) (subst (IsOpenBy (writer w)) (content_after n v w r k) there) in
           ap (begins_open (writer v)) (hold.keeps.versions r) ∙ (open_kept (writer v) (held v r) mine ∙ ap is_some (sym e))
 
@@ -129,14 +129,14 @@ module _ (z : Sizes) (n : ℕ) (v w : View) (h : Held) (r : Rid) (hold : Holds v
       out : (image : Image) × (unpublished n (held v r) ≡ Some (o, image))
       out = opened_by n (writer v) o (snapshot v) (held v r) c
 
-      same : versions told.state.buckets told.state.bucket r ≡ held v r
-      same = held_is z n (held_number h) w told now.has r here ∙ content_after n v w r k
+      same : versions backed.state.buckets backed.state.bucket r ≡ held v r
+      same = held_is z n (held_number h) w backed now.has r here ∙ content_after n v w r k
 
-      owned : (o ≡ writer_of (begun_in told.state.log) o.session) × (open_in r (told.state.log o.session) ≡ Some out.0)
-      owned = told.steady.open_writes_stand.owned r o out.0 ((λ i. unpublished (told.mark_is i) (same i)) ∙ out.1)
+      owned : (o ≡ writer_of (begun_in backed.state.log) o.session) × (open_in r (backed.state.log o.session) ≡ Some out.0)
+      owned = backed.steady.open_writes_stand.owned r o out.0 ((λ i. unpublished (backed.mark_is i) (same i)) ∙ out.1)
 
-      none : expected z told.state.passes (session_key o.session) ≡ 0 → ⊥
-      none e = none-some out.0 (sym (ap (open_in r) (told.outside (session_key o.session) e).1.0) ∙ owned.1)
+      none : expected z backed.state.passes (session_key o.session) ≡ 0 → ⊥
+      none e = none-some out.0 (sym (ap (open_in r) (backed.outside (session_key o.session) e).1.0) ∙ owned.1)
 
       is_there : (x y : Bool) → ltb 0 o.session ≡ x → ltb o.session (suc z.sessions) ≡ y → IsSession z.sessions o.session
       is_there true true p q =
@@ -150,8 +150,8 @@ module _ (z : Sizes) (n : ℕ) (v w : View) (h : Held) (r : Rid) (hold : Holds v
       is_other false e = e
       is_other true e =
           let j : o.session ≡ number v = grind (arith, nat_tests, e) in
-          let f : ℕ → Writer = writer_of (begun_in told.state.log) in
-          let shown : Shown told.state (OfSession (number w) (session w)) = (subst (Each (Shown told.state)) own told.true_of.parts).0 in
+          let f : ℕ → Writer = writer_of (begun_in backed.state.log) in
+          let shown : Shown backed.state (OfSession (number w) (session w)) = (subst (Each (Shown backed.state)) own backed.true_of.parts).0 in
           let there : f (number w) ≡ writer w = (λ i. record { session = number w; transaction = begans (shown.1.0 i) }) in
           let mine : o ≡ writer v = owned.0 ∙ (ap f (j ∙ sym (ap number k.after)) ∙ (there ∙ writer_same_after n v w r k)) in
           let wrong : true ≡ false = sym (writer_itself (writer v)) ∙ (ap (λ x. same_writer x (writer v)) (sym mine) ∙ apart o c) in

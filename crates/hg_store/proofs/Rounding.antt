@@ -10,7 +10,7 @@ use Rattle.hg_base.specs.Lists.{Each}
 use Rattle.hg_base.specs.History.{same_rid, NoneTwice}
 use Rattle.hg_core.specs.Contents.{bucket_of}
 use Rattle.hg_core.specs.Removal.{reclaimed}
-use Rattle.hg_bucket.specs.Held.{Kept, versions_of, record_at}
+use Rattle.hg_bucket.specs.BucketModel.{Kept, versions_of, record_at}
 use Rattle.hg_bucket.specs.Sweeping.{is_long}
 use Rattle.hg_bucket.specs.Long.{IsShort, AreLong}
 use Rattle.hg_bucket.proofs.Walking.{keys_apart, tables_apart}
@@ -71,7 +71,7 @@ long_seen table keys v h at k hold long there = ap is_long (sym (hold.keeps.vers
 
 -- a key of the list is that of a record of the bucket
 pub key_here : (z : Sizes) (n : ℕ) (table : TableId) (keys : List ℕ) (v : View) (h : Held) (at k : ℕ) → IsBacked z n v → Holds v h → AreLong keys table (held_records h).records → slice_get keys at ≡ Some k → bucket_of z.buckets (record_at table k) ≡ held_number h
-key_here z n table keys v h at k told hold long there = long_there z n (held_number h) v (record_at table k) (placed_at z n (held_number h) v told hold.has) (long_seen table keys v h at k hold long there)
+key_here z n table keys v h at k backed hold long there = long_there z n (held_number h) v (record_at table k) (placed_at z n (held_number h) v backed hold.has) (long_seen table keys v h at k hold long there)
 
 -- the record of the key at l, which is the last of those to come, is reclaimed
 pub round_goes : (kind : Kind) (table : TableId) (keys : List ℕ) (v w x : View) (h : Held) (many l k gone : ℕ) → many ≡ l + 1 → Holds v h → AreLong keys table (held_records h).records → slice_get keys l ≡ Some k

@@ -12,7 +12,7 @@ use Rattle.hg_core.specs.Versions.{stamp_number, is_up_to, first_at, paired, pai
 use Rattle.hg_core.specs.Covered.{image_of}
 use Rattle.hg_core.specs.Replies.{same_writer, read_by}
 use Rattle.hg_core.specs.Ordered.{Falls, IsOrdered}
-use Rattle.hg_bucket.specs.Held.{Kept, is_at_most, is_open_by, read_at}
+use Rattle.hg_bucket.specs.BucketModel.{Kept, is_at_most, is_open_by, read_at}
 use Rattle.hg_store.specs.Kept.{kept_as, kept}
 
 pub at_most_kept : (n : ℕ) (x : Stamp) (image : Image) → is_at_most n (kept_as x image) ≡ is_up_to n (stamp_number x)

@@ -17,9 +17,9 @@ use Rattle.hg_core.specs.Removal.{cut, reclaimed}
 use Rattle.hg_core.specs.Ordered.{IsOrdered}
 use Rattle.hg_core.proofs.Versions.{opened_is, falls_more}
 use Rattle.hg_core.proofs.Sweep.{ordered_cut, ordered_swept}
-use Rattle.hg_bucket.specs.Held as bucket_words
-use Rattle.hg_bucket.specs.Held.{Kept, versions_of, OthersStay, IsBelow, IsThere, IsNextKey}
-use Rattle.hg_bucket.specs.Held.{Held as Records}
+use Rattle.hg_bucket.specs.BucketModel as bucket_words
+use Rattle.hg_bucket.specs.BucketModel.{Kept, versions_of, OthersStay, IsBelow, IsThere, IsNextKey}
+use Rattle.hg_bucket.specs.BucketModel.{BucketModel}
 use Rattle.hg_rule.specs.declared.view.Part.TheVariants.{OfSession, OfBucket, OfCommit, OfPass, Away}
 use Rattle.hg_rule.specs.declared.view.Sight.TheVariants.{Saw, Heard}
 use Rattle.hg_rule.specs.declared.view.Event.TheVariants.{Look as LookEvent, Stamp as StampEvent}
@@ -120,7 +120,7 @@ reclaimed_in_order Group table p m vs o = cut_in_order m (group_bound p) vs o
 reclaimed_in_order Table table p m vs o = cut_in_order m (table_bound table p) vs o
 reclaimed_in_order Interval table p m vs o = (m, ordered_swept m (horizon p) (recorded table p) vs o)
 
-pub reclaim_gone : (kind : Kind) (does : List Kept → List Kept) (v : View) (h : Held) (new : Records) (r : Rid) (gone : ℕ) → Holds v h → Does kind r.table (record_of (pass v)) does → versions_of new.records r ≡ does (versions_of (held_records h).records r) → length (versions_of new.records r) + gone ≡ length (versions_of (held_records h).records r) → gone ≡ removed_of v r kind
+pub reclaim_gone : (kind : Kind) (does : List Kept → List Kept) (v : View) (h : Held) (new : BucketModel) (r : Rid) (gone : ℕ) → Holds v h → Does kind r.table (record_of (pass v)) does → versions_of new.records r ≡ does (versions_of (held_records h).records r) → length (versions_of new.records r) + gone ≡ length (versions_of (held_records h).records r) → gone ≡ removed_of v r kind
 reclaim_gone kind does v h new r gone hold d here sum = gone_is kind (record_of (pass v)) does (hold.ordered r).0 gone (held_records h) new (bucket v) r d (hold.ordered r).1 hold.keeps here sum
 
 pub reclaim_holds : (kind : Kind) (does : List Kept → List Kept) (v w : View) (h h' : Held) (r : Rid) (gone : ℕ) → Holds v h → HasPass v → held_number h' ≡ held_number h → Does kind r.table (record_of (pass v)) does → Reclaims v r kind w

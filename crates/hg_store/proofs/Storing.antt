@@ -18,8 +18,8 @@ use Rattle.hg_bucket.specs.declared.refusal.WriteRefusal.{WriteRefusal}
 use Rattle.hg_bucket.specs.declared.refusal.WriteRefusal.TheVariants.{Newer}
 use Rattle.hg_bucket.specs.Conflicts.{holder, newer, conflict, open_by}
 use Rattle.hg_bucket.specs.Conflicts as bucket_words
-use Rattle.hg_bucket.specs.Held as held_words
-use Rattle.hg_bucket.specs.Held.{Kept, versions_of, OthersStay, begins_open, is_open_by, is_at_most, read_at}
+use Rattle.hg_bucket.specs.BucketModel as held_words
+use Rattle.hg_bucket.specs.BucketModel.{Kept, versions_of, OthersStay, begins_open, is_open_by, is_at_most, read_at}
 use Rattle.hg_bucket.proofs.Refusing.{told_on}
 use Rattle.hg_rule.specs.declared.view.View.{View}
 use Rattle.hg_rule.specs.declared.view.Sizes.{Sizes}

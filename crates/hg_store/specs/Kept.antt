@@ -12,7 +12,7 @@ use Rattle.hg_core.specs.declared.version.Version.{Version}
 use Rattle.hg_core.specs.declared.visit.Counters.{Counters}
 use Rattle.hg_core.specs.Contents.{Content, look}
 use Rattle.hg_core.specs.Ordered.{IsOrdered}
-use Rattle.hg_bucket.specs.Held.{Kept, Held, versions_of, record_at}
+use Rattle.hg_bucket.specs.BucketModel.{Kept, BucketModel, versions_of, record_at}
 use Rattle.hg_bucket.specs.declared.refusal.WriteRefusal.{WriteRefusal}
 use Rattle.hg_bucket.specs.declared.refusal.WriteRefusal.TheVariants.{Open, Newer}
 use Rattle.hg_rule.specs.declared.view.BucketPart.{BucketPart}
@@ -27,7 +27,7 @@ abbrev pub kept : Version → Kept
 kept v = kept_as v.stamp v.image
 
 -- a bucket keeps of each record the versions that the content has, and counts what the counters say
-pub record Keeps (bucket : Held) (part : BucketPart) : Type 0 where
+pub record Keeps (bucket : BucketModel) (part : BucketPart) : Type 0 where
   pub versions : (r : Rid) → versions_of bucket.records r ≡ map kept (look r part.content)
   pub made : bucket.made ≡ part.counters.made
   pub undone : bucket.undone ≡ part.counters.undone

@@ -3,12 +3,12 @@ use Rattle.std.specs.Prelude.{◌≡◌, ℕ}
 use Rattle.std.specs.declared.snapshot.Snapshot.{Snapshot}
 use Rattle.hg_rule.specs.declared.passes.BucketSeat.{BucketSeat}
 use Rattle.hg_rule.specs.Views.{bucket_there, first_in}
-use Rattle.hg_rule.specs.Seats.{TableId, bucket_seat, bucket_rest, bucket_view, IsBucketOf}
+use Rattle.hg_rule.specs.Seats.{BoardId, bucket_seat, bucket_rest, bucket_view, IsBucketOf}
 use Rattle.hg_store.specs.declared.store.Place.{Place}
 use Rattle.hg_store.specs.Kept.{Keeps}
 
 -- the board of a bucket's seat
-abbrev pub seat_table : BucketSeat → TableId
+abbrev pub seat_table : BucketSeat → BoardId
 seat_table s = (bucket_seat s).table_id
 
 -- the seat is of the tag's board and of bucket k, and the bucket keeps the content that the seat shows

@@ -1,7 +1,7 @@
 -- What a clause says of a store, and of a bucket that is held.
 use Rattle.std.specs.Prelude.{◌≡◌, ℕ, List, [], ◌∷◌}
 use Rattle.hg_lock.specs.Locks.{tag_of, count_of}
-use Rattle.hg_bucket.specs.Held.{Held as Records}
+use Rattle.hg_bucket.specs.BucketModel.{BucketModel}
 use Rattle.hg_rule.specs.declared.view.BucketPart.{BucketPart}
 use Rattle.hg_rule.specs.declared.view.Part.TheVariants.{OfBucket}
 use Rattle.hg_rule.specs.declared.view.Sight.{Sight}
@@ -9,27 +9,27 @@ use Rattle.hg_rule.specs.declared.view.View.{View}
 use Rattle.hg_rule.specs.Views.{seeing}
 use Rattle.hg_rule.specs.Holding.{bucket}
 use Rattle.hg_rule.specs.Places.{HoldsBucket, with_bucket}
-use Rattle.hg_rule.specs.Seats.{TableId}
+use Rattle.hg_rule.specs.Seats.{BoardId}
 use Rattle.hg_store.specs.declared.store.Store.{Store}
 use Rattle.hg_store.specs.declared.held.Held.{Held}
 use Rattle.hg_store.specs.Kept.{Keeps, AreOrdered}
 use Rattle.hg_store.specs.Places.{seat_table}
 
 -- the board of a store, and how many buckets it has
-abbrev pub store_table : Store → TableId
+abbrev pub store_table : Store → BoardId
 store_table s = seat_table (tag_of s.locks).value
 
 abbrev pub store_buckets : Store → ℕ
 store_buckets s = count_of s.locks
 
 -- the board of a bucket that is held, its number, and what it keeps
-abbrev pub held_table : Held → TableId
+abbrev pub held_table : Held → BoardId
 held_table h = seat_table (tag_of h.locks.now).value
 
 abbrev pub held_number : Held → ℕ
 held_number h = h.number
 
-abbrev pub held_records : Held → Records
+abbrev pub held_records : Held → BucketModel
 held_records h = h.bucket.value
 
 -- The view has this bucket, joined last, whose versions are in order; and the bucket keeps what the view shows.

@@ -6,7 +6,7 @@ ghost use Rattle.hg_base.specs.declared.report.Kind.TheVariants.{Group, Table};
 ghost use Rattle.hg_core.specs.Passes.{IsWhole, group_bound, table_bound};
 ghost use Rattle.hg_core.specs.Contents.{bucket_of};
 ghost use Rattle.hg_core.specs.Clean.{IsCutAt};
-ghost use Rattle.hg_bucket.specs.Held.{long_keys, record_at};
+ghost use Rattle.hg_bucket.specs.BucketModel.{long_keys, record_at};
 ghost use Rattle.hg_rule.specs.Holding.{held};
 ghost use Rattle.hg_rule.specs.Facts.{record_of};
 ghost use Rattle.hg_rule.specs.Views.{pass as own_pass};

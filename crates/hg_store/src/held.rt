@@ -1,7 +1,7 @@
 //! A bucket that is held.
 
 ghost use Rattle.std.specs.Prelude.{◌≡◌};
-ghost use Rattle.hg_lock.specs.Locks.{IsLoanOf, place_of};
+ghost use Rattle.hg_lock.specs.Locks.{IsLoanOf, lock_of};
 
 use crate::store::Place;
 use hg_bucket::Bucket;
@@ -16,7 +16,7 @@ pub struct Held<'a> {
     pub(crate) bucket: Box<Bucket>,
     pub(crate) number: u32,
     ghost lent: { IsLoanOf locks.now loan },
-    ghost place: { place_of loan ≡ number },
+    ghost lock: { lock_of loan ≡ number },
 }
 
 impl<'a> Held<'a> {

@@ -5,7 +5,7 @@ ghost use Rattle.std.specs.Option.{option_copied};
 ghost use Rattle.hg_base.specs.History.{nothing};
 ghost use Rattle.hg_core.specs.Contents.{look};
 ghost use Rattle.hg_core.specs.Replies.{read_by};
-ghost use Rattle.hg_bucket.specs.Held.{record_at, read_at, versions_of, IsNextKey};
+ghost use Rattle.hg_bucket.specs.BucketModel.{record_at, read_at, versions_of, IsNextKey};
 ghost use Rattle.hg_rule.specs.declared.view.View.{View};
 ghost use Rattle.hg_rule.specs.Holding.{bucket, held};
 ghost use Rattle.hg_store.specs.Kept.{AreCountsOf, NoneBetween};

@@ -52,16 +52,16 @@ pub struct Store {
 
 impl Store {
     ghost use Rattle.hg_rule.specs.Rules.{IsBacked};
-    ghost use Rattle.hg_rule.specs.New.{Row, IsNewBucket};
+    ghost use Rattle.hg_rule.specs.New.{EachFrom, IsNewBucket};
     ghost use Rattle.hg_rule.specs.Places.{HasFirst};
-    ghost use Rattle.hg_rule.specs.Seats.{TableId, table_of, sizes_of, view, IsSeatOf};
+    ghost use Rattle.hg_rule.specs.Seats.{BoardId, table_of, sizes_of, view, IsSeatOf};
     ghost use Rattle.hg_store.specs.Stores.{store_table, store_buckets, held_table, held_number, Holds, Takes};
 
     /// An empty bucket for each seat. The seats are all those of one new board, in order.
     pub fn new(alloc: Global, seats: BucketSeatList) -> Result<Store, NoMemory>
         requires some { (0 < length seats) × (length seats < 2 ^ 32) }
-        requires seats { (t : TableId) × Row (IsNewBucket t) 0 seats }
-        ensures table { (t : TableId) → Row (IsNewBucket t) 0 seats → IfOk result (λ store. store_table store ≡ t) }
+        requires seats { (t : BoardId) × EachFrom (IsNewBucket t) 0 seats }
+        ensures table { (t : BoardId) → EachFrom (IsNewBucket t) 0 seats → IfOk result (λ store. store_table store ≡ t) }
         ensures count { IfOk result (λ store. store_buckets store ≡ length seats) }
     {
         let seats = seats.into_vec();
@@ -105,7 +105,7 @@ impl Store {
         ensures held { (held_table result ≡ table_of board.now) × (held_number result ≡ bucket) }
         ensures view { Takes (view (P.seat_of pass.old)) bucket (view (P.seat_of pass.new)) }
         ensures holds { Holds (view (P.seat_of pass.new)) result }
-        ensures told { (mark : ℕ) × IsBacked (sizes_of board.now) mark (view (P.seat_of pass.new)) }
+        ensures backed { (mark : ℕ) × IsBacked (sizes_of board.now) mark (view (P.seat_of pass.new)) }
         ensures own { IsSeatOf (table_of board.now) (P.seat_of pass.new) × (P.rest_of pass.new ≡ P.rest_of pass.old) }
     {
         let (place, loan) = self.locks.take(rt, bucket as usize);

@@ -7,7 +7,7 @@ ghost use Rattle.hg_base.specs.declared.report.Kind.TheVariants.{Interval};
 ghost use Rattle.hg_core.specs.Passes.{IsWhole, recorded, horizon as own_horizon};
 ghost use Rattle.hg_core.specs.Contents.{bucket_of};
 ghost use Rattle.hg_core.specs.Clean.{IsClean};
-ghost use Rattle.hg_bucket.specs.Held.{long_keys, record_at, versions_of};
+ghost use Rattle.hg_bucket.specs.BucketModel.{long_keys, record_at, versions_of};
 ghost use Rattle.hg_bucket.specs.Sweeping.{record_steps, sweep_steps};
 ghost use Rattle.hg_rule.specs.Holding.{held};
 ghost use Rattle.hg_rule.specs.Facts.{record_of};

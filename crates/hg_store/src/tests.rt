@@ -73,7 +73,7 @@ fn two_buckets_are_held_at_once(rt: HostRuntime) -> Result<(), Fail> {
 fn begin(board: &Board, pass: &mut SessionPass) -> u64
     requires own { IsSessionOf (table_of board.now) (sizes_of board.now) pass.old }
     requires rests { (session (session_view pass.old)).phase ≡ Idle }
-    requires room { begans (session (session_view pass.old)).log < (sizes_of board.now).each }
+    requires room { begans (session (session_view pass.old)).log < (sizes_of board.now).quota }
     ensures own { IsSessionOf (table_of board.now) (sizes_of board.now) pass.new }
     ensures live { (session (session_view pass.new)).phase ≡ Live result All }
     ensures log { (session (session_view pass.new)).log ≡ Began result All ∷ (session (session_view pass.old)).log }
@@ -117,7 +117,7 @@ fn write_in<R: Wait>(
     requires unstamped { (session (session_view pass.old)).stamped ≡ false }
     requires here { bucket_of (sizes_of board.now).buckets rid ≡ bucket }
     requires known { rid.table.0 < (sizes_of board.now).tables }
-    requires room { 0 < (sizes_of board.now).each }
+    requires room { 0 < (sizes_of board.now).quota }
 {
     let by = pass.writer();
     let mut held = store.take(rt, board, bucket, pass);

@@ -101,7 +101,7 @@ impl<'a> Held<'a> {
         requires holds { Holds (session_view pass.old) self.old }
         requires here { bucket_of (sizes_of board.now).buckets rid ≡ held_number self.old }
         requires table { IsTrue (has (tables (session_view pass.old)) rid.table) × (rid.table.0 < (sizes_of board.now).tables) }
-        requires room { wrotes (session (session_view pass.old)).log < (sizes_of board.now).each }
+        requires room { wrotes (session (session_view pass.old)).log < (sizes_of board.now).quota }
         requires by { by ≡ writer_of (session_view pass.old) }
         requires snapshot { snapshot ≡ snapshot_of (session_view pass.old) }
         ensures step { Writes (session_view pass.old) rid image result (session_view pass.new) }

@@ -7,11 +7,11 @@ use Rattle.hg_rule.specs.declared.view.View.{View}
 use Rattle.hg_rule.specs.declared.view.Sizes.{Sizes}
 use Rattle.hg_rule.specs.Views.{number, session, seeing, HasSession, HasOnlySession}
 use Rattle.hg_rule.specs.Moves.{session_part}
-use Rattle.hg_rule.specs.Seats.{TableId, session_view}
-use Rattle.hg_rule.specs.New.{Row, IsNewSession}
+use Rattle.hg_rule.specs.Seats.{BoardId, session_view}
+use Rattle.hg_rule.specs.New.{EachFrom, IsNewSession}
 use Rattle.hg_tracker.specs.Ready.{IsReady}
 
-pub new_ready : (t : TableId) (z : Sizes) (times j : ℕ) (p : SessionPass) → IsNewSession t j p → 0 < j → j ≤ z.sessions → times ≤ z.each → IsReady t z times p
+pub new_ready : (t : BoardId) (z : Sizes) (times j : ℕ) (p : SessionPass) → IsNewSession t j p → 0 < j → j ≤ z.sessions → times ≤ z.quota → IsReady t z times p
 new_ready t z times j p h low high few = (
   (
     (h.2.0, ap (λ m. m.1) h.2.1),
@@ -26,15 +26,15 @@ new_ready t z times j p h low high few = (
     see : session_view p ≡ seeing (session_part j ∷ []) [] []
     see = ap (λ m. m.0) h.2.1
 
-pub all_ready : (t : TableId) (z : Sizes) (times j : ℕ) (ps : List SessionPass) → Row (IsNewSession t) j ps → 0 < j → j + length ps ≤ z.sessions + 1 → times ≤ z.each → All (IsReady t z times) ps
+pub all_ready : (t : BoardId) (z : Sizes) (times j : ℕ) (ps : List SessionPass) → EachFrom (IsNewSession t) j ps → 0 < j → j + length ps ≤ z.sessions + 1 → times ≤ z.quota → All (IsReady t z times) ps
 all_ready t z times j [] h low high few k d l = absurd (omega arith)
 all_ready t z times j (p ∷ ps) h low high few zero d l = new_ready t z times j p h.0 low (omega arith) few
 all_ready t z times j (p ∷ ps) h low high few (suc k) d l = all_ready t z times (suc j) ps h.1 (omega arith) (omega arith) few k d (omega arith)
 
-pub only_session : (t : TableId) (j : ℕ) (p : SessionPass) → IsNewSession t j p → HasOnlySession (session_view p)
+pub only_session : (t : BoardId) (j : ℕ) (p : SessionPass) → IsNewSession t j p → HasOnlySession (session_view p)
 only_session t j p h = subst HasOnlySession (sym (ap (λ m. m.0) h.2.1)) refl
 
-pub all_alone : (t : TableId) (j : ℕ) (ps : List SessionPass) → Row (IsNewSession t) j ps → All (λ p. HasOnlySession (session_view p)) ps
+pub all_alone : (t : BoardId) (j : ℕ) (ps : List SessionPass) → EachFrom (IsNewSession t) j ps → All (λ p. HasOnlySession (session_view p)) ps
 all_alone t j [] h k d l = absurd (omega arith)
 all_alone t j (p ∷ ps) h zero d l = only_session t j p h.0
 all_alone t j (p ∷ ps) h (suc k) d l = all_alone t (suc j) ps h.1 k d (omega arith)

@@ -7,8 +7,8 @@ use Rattle.hg_rule.specs.declared.view.Event.{Event}
 use Rattle.hg_rule.specs.declared.view.Event.TheVariants.{Mark, Sample}
 use Rattle.hg_rule.specs.declared.view.View.{View}
 use Rattle.hg_rule.specs.Views.{number, pass}
-use Rattle.hg_rule.specs.Rounds.{IsNoMark, IsRoundOf, loaded_after, moves_in, takes_in, removed_in}
-use Rattle.hg_rule.proofs.Rounds.{loaded_append, removed_on, takes_on}
+use Rattle.hg_rule.specs.Rounds.{IsNoMark, IsRoundOf, loaded_after, moves_in, takes_in, gone_in}
+use Rattle.hg_rule.proofs.Rounds.{loaded_append, gone_on, takes_on}
 use Rattle.hg_tracker.specs.Begun.{samples_of, HasGathered}
 
 each_append : (es more : List Event) → Each IsNoMark es → Each IsNoMark more → Each IsNoMark (es ++ more)
@@ -23,9 +23,9 @@ samples_loaded : (p : ℕ) (loaded : List (ℕ × Register)) → loaded_after []
 samples_loaded p [] = refl
 samples_loaded p (e ∷ loaded) = loaded_append [] (samples_of p loaded) (Sample p e.0 e.1 ∷ []) ∙ ap (λ l. (e.0, e.1) ∷ l) (samples_loaded p loaded)
 
-samples_remove : (p : ℕ) (loaded : List (ℕ × Register)) → removed_in (samples_of p loaded) ≡ 0
+samples_remove : (p : ℕ) (loaded : List (ℕ × Register)) → gone_in (samples_of p loaded) ≡ 0
 samples_remove p [] = refl
-samples_remove p (e ∷ loaded) = let o = removed_on (samples_of p loaded) (Sample p e.0 e.1 ∷ []) in omega (arith, o, samples_remove p loaded)
+samples_remove p (e ∷ loaded) = let o = gone_on (samples_of p loaded) (Sample p e.0 e.1 ∷ []) in omega (arith, o, samples_remove p loaded)
 
 samples_take : (p : ℕ) (loaded : List (ℕ × Register)) → takes_in (samples_of p loaded) ≡ 0
 samples_take p [] = refl
@@ -41,7 +41,7 @@ gather_round v w sessions h = record { round = (refl, no_marks (number v) (pass 
 pub gather_gains : (v w : View) (sessions : ℕ) → HasGathered v sessions w → w.events ≡ v.events ++ gather_events v w
 gather_gains v w sessions h = h.events ∙ append_assoc v.events (Mark (number v) (pass w).mark ∷ []) (samples_of (number v) (pass w).loaded)
 
-pub gather_removes_none : (v w : View) → removed_in (gather_events v w) ≡ 0
+pub gather_removes_none : (v w : View) → gone_in (gather_events v w) ≡ 0
 gather_removes_none v w = samples_remove (number v) (pass w).loaded
 
 pub gather_takes_none : (v w : View) → takes_in (gather_events v w) ≡ 0

@@ -165,14 +165,14 @@ movable_of n (Declared mask) false d e = tt
 pub moved_pass : (v w : View) (j n : ℕ) → Moves v j n true w → ((pass w).loaded ≡ moved_in j (pass v).loaded) × ((pass w).mark ≡ (pass v).mark)
 moved_pass v w j n is = (ap (λ (u : View). (pass u).loaded) is, ap (λ (u : View). (pass u).mark) is)
 
-pub noted_moved : (n : ℕ) (v w : View) (g : Gathered) (place : ℕ) (e x : Entry) → x ≡ e → IsNotedOf (pass v).mark (pass v).loaded g → map (λ e. e.0) (pass v).loaded ≡ down_from n → StandsAt place e g.entries.items → Moves v e.session e.number true w
-    → (g.mark ≡ (pass w).mark) × (g.horizon ≡ least_entering (pass w).mark (pass w).loaded) × (set g.entries.items place (record x { moved = true }) ≡ entries_of (pass w).loaded)
-noted_moved n v w g place e x same noted keys at is =
+pub noted_moved : (n : ℕ) (v w : View) (g : Gathered) (position : ℕ) (e x : Entry) → x ≡ e → IsNotedOf (pass v).mark (pass v).loaded g → map (λ e. e.0) (pass v).loaded ≡ down_from n → StandsAt position e g.entries.items → Moves v e.session e.number true w
+    → (g.mark ≡ (pass w).mark) × (g.horizon ≡ least_entering (pass w).mark (pass w).loaded) × (set g.entries.items position (record x { moved = true }) ≡ entries_of (pass w).loaded)
+noted_moved n v w g position e x same noted keys at is =
     let after = moved_pass v w e.session e.number is in
-    let at' : StandsAt place e (entries_of (pass v).loaded) = subst (StandsAt place e) noted.2 at in (
+    let at' : StandsAt position e (entries_of (pass v).loaded) = subst (StandsAt position e) noted.2 at in (
       noted.0 ∙ sym after.1,
       noted.1 ∙ (sym (horizon_moved (pass v).mark e.session (pass v).loaded) ∙ (λ i. least_entering (sym after.1 i) (sym after.0 i))),
-      (λ i. set (noted.2 i) place (record (same i) { moved = true })) ∙ (sym (entries_moved n (pass v).loaded place e keys at') ∙ ap entries_of (sym after.0)),
+      (λ i. set (noted.2 i) position (record (same i) { moved = true })) ∙ (sym (entries_moved n (pass v).loaded position e keys at') ∙ ap entries_of (sym after.0)),
     )
 
 pub loaded_moved : (n : ℕ) (v w : View) (j k : ℕ) → IsLoaded n (pass v).loaded → Moves v j k true w → IsLoaded n (pass w).loaded

@@ -32,7 +32,7 @@ IsLoaded sessions loaded = (map (λ e. e.0) loaded ≡ down_from sessions) × Ea
 
 -- the entry stands at that place of a list
 abbrev pub StandsAt : ℕ → Entry → List Entry → Type 0
-StandsAt place e entries = (place < length entries) × ((other : Entry) → slice_index_or entries place other ≡ e)
+StandsAt position e entries = (position < length entries) × ((other : Entry) → slice_index_or entries position other ≡ e)
 
 -- each is the list of its table, from number t on
 abbrev pub AreListsOf : ℕ → List Entry → List (Vec ℕ Global) → Type 0

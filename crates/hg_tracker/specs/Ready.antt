@@ -5,7 +5,7 @@ use Rattle.hg_core.specs.Logs.{begans}
 use Rattle.hg_rule.specs.declared.passes.SessionPass.{SessionPass}
 use Rattle.hg_rule.specs.declared.view.Sizes.{Sizes}
 use Rattle.hg_rule.specs.Views.{session}
-use Rattle.hg_rule.specs.Seats.{TableId, session_view, IsSessionOf}
+use Rattle.hg_rule.specs.Seats.{BoardId, session_view, IsSessionOf}
 
-abbrev pub IsReady : TableId → Sizes → ℕ → SessionPass → Type 0
-IsReady t z times p = IsSessionOf t z p × ((session (session_view p)).phase ≡ Idle) × (begans (session (session_view p)).log + times ≤ z.each)
+abbrev pub IsReady : BoardId → Sizes → ℕ → SessionPass → Type 0
+IsReady t z times p = IsSessionOf t z p × ((session (session_view p)).phase ≡ Idle) × (begans (session (session_view p)).log + times ≤ z.quota)

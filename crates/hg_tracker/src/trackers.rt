@@ -47,7 +47,7 @@ impl Trackers {
     pub fn begin(&self, pass: &mut SessionPass, scope: Scope) -> Snapshot
         requires own { IsSessionOf (board_table self.now) (board_sizes self.now) pass.old }
         requires rests { (session (session_view pass.old)).phase ≡ Idle }
-        requires room { begans (session (session_view pass.old)).log < (board_sizes self.now).each }
+        requires room { begans (session (session_view pass.old)).log < (board_sizes self.now).quota }
         requires tables { IsBelow (board_sizes self.now).tables scope }
         ensures begun { HasBegun (session_view pass.old) result.at scope (session_view pass.new) }
         ensures scope { result.scope ≡ scope }
@@ -109,23 +109,23 @@ fn is_long_in_use(entry: &Entry, mark: u64, long: u64) -> bool
 impl Trackers {
     ghost use Rattle.hg_tracker.specs.Boards.{board_table, board_sizes};
 
-    // Tries to move the entry that stands at a place.
+    // Tries to move the entry that stands at a position.
     fn try_move(
         &self,
         pass: &mut CollectorPass,
         gathered: &mut Gathered,
-        place: usize,
+        position: usize,
         entry: Entry,
     ) -> bool
         requires own { IsPassOf (board_table self.now) pass.old }
         requires noted { IsNotedOf (own_pass (pass_view pass.old)).mark (own_pass (pass_view pass.old)).loaded gathered.old }
         requires loaded { IsLoaded (board_sizes self.now).sessions (own_pass (pass_view pass.old)).loaded }
-        requires place { StandsAt place entry gathered.old.entries.items }
+        requires position { StandsAt position entry gathered.old.entries.items }
         requires movable { IsTrue (is_declared entry.scope) × (entry.moved ≡ false) }
         ensures step { Moves (pass_view pass.old) entry.session entry.number result (pass_view pass.new) }
         ensures noted { IsNotedOf (own_pass (pass_view pass.new)).mark (own_pass (pass_view pass.new)).loaded gathered.new }
         ensures loaded { IsLoaded (board_sizes self.now).sessions (own_pass (pass_view pass.new)).loaded }
-        ensures later { (drop (place + 1) gathered.new.entries.items ≡ drop (place + 1) gathered.old.entries.items) × (length gathered.new.entries.items ≡ length gathered.old.entries.items) }
+        ensures later { (drop (position + 1) gathered.new.entries.items ≡ drop (position + 1) gathered.old.entries.items) × (length gathered.new.entries.items ≡ length gathered.old.entries.items) }
         ensures made { (sessions tables : ℕ) → IsMadeFor sessions tables gathered.old → IsMadeFor sessions tables gathered.new }
         ensures own { IsPassOf (board_table self.now) pass.new }
     {
@@ -136,7 +136,7 @@ impl Trackers {
         };
         let moved = self.board.move_one(pass, entry.session, register);
         if moved {
-            gathered.entries[place].moved = true;
+            gathered.entries[position].moved = true;
         }
         moved
     }
@@ -158,10 +158,10 @@ impl Trackers {
         ensures own { IsPassOf (board_table self.now) pass.new }
     {
         let mut count = 0;
-        for place in 0..gathered.entries.len() {
-            let entry = gathered.entries[place];
+        for position in 0..gathered.entries.len() {
+            let entry = gathered.entries[position];
             if is_long_in_use(&entry, gathered.mark, long) {
-                let moved = self.try_move(pass, gathered, place, entry);
+                let moved = self.try_move(pass, gathered, position, entry);
                 if moved {
                     count += 1;
                 }

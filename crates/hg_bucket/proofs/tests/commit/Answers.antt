@@ -1,6 +1,6 @@
 use Rattle.std.proofs.Common.{◌+◌, sym, ap, ◌∙◌, subst, arith}
 use Rattle.hg_base.specs.Lists.{Each}
-use Rattle.hg_bucket.specs.Held.{IsBelow, versions_of, stamped}
+use Rattle.hg_bucket.specs.BucketModel.{IsBelow, versions_of, stamped}
 use Rattle.hg_bucket.proofs.Stamping.{others_then}
 use Rattle.hg_bucket.proofs.Numbers.{one_more, each_stamped}
 use Rattle.hg_bucket.proofs.tests.commit.Goals as goal

@@ -1,4 +1,4 @@
-use Rattle.hg_bucket.specs.Held.{cut_at}
+use Rattle.hg_bucket.specs.BucketModel.{cut_at}
 use Rattle.hg_bucket.proofs.Numbers.{table_more, table_apart, each_cut}
 use Rattle.hg_bucket.proofs.tests.cut_table.Goals as goal
 

@@ -1,6 +1,6 @@
 use Rattle.std.proofs.Common.{sym, ap, ◌∙◌, subst, drop, arith}
 use Rattle.hg_base.specs.Lists.{Each}
-use Rattle.hg_bucket.specs.Held.{IsBelow, versions_of}
+use Rattle.hg_bucket.specs.BucketModel.{IsBelow, versions_of}
 use Rattle.hg_bucket.proofs.Stamping.{others_then}
 use Rattle.hg_bucket.proofs.Numbers.{one_more, each_taken_back}
 use Rattle.hg_bucket.proofs.tests.roll_back.Goals as goal

@@ -1,6 +1,6 @@
 use Rattle.std.proofs.Common.{sym, subst, arith}
 use Rattle.hg_base.specs.Lists.{Each}
-use Rattle.hg_bucket.specs.Held.{IsBelow, versions_of}
+use Rattle.hg_bucket.specs.BucketModel.{IsBelow, versions_of}
 use Rattle.hg_bucket.proofs.Numbers.{one_more, each_swept}
 use Rattle.hg_bucket.proofs.tests.sweep_record.Goals as goal
 

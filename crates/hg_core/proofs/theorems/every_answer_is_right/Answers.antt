@@ -3,4 +3,4 @@ use Rattle.hg_core.proofs.Answering.{answered}
 use Rattle.hg_core.proofs.theorems.every_answer_is_right.Goals as goal
 
 pub returns : goal.returns
-returns c sessions tables buckets passes each steps r = answered _ (steady_after sessions tables buckets passes each steps r)
+returns c sessions tables buckets passes quota steps r = answered _ (steady_after sessions tables buckets passes quota steps r)

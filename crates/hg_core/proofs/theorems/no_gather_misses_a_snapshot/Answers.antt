@@ -3,13 +3,13 @@ use Rattle.hg_core.proofs.Fences.{misses_none, fixed_fenced, table_below, group_
 use Rattle.hg_core.proofs.theorems.no_gather_misses_a_snapshot.Goals as goal
 
 pub returns-clause-live : goal.returns-clause-live
-returns-clause-live c sessions tables buckets passes each steps r p = misses_none _ p (steady_after sessions tables buckets passes each steps r)
+returns-clause-live c sessions tables buckets passes quota steps r p = misses_none _ p (steady_after sessions tables buckets passes quota steps r)
 
 pub returns-clause-fixed : goal.returns-clause-fixed
-returns-clause-fixed c sessions tables buckets passes each steps r p j f m = fixed_fenced _ p j f m (steady_after sessions tables buckets passes each steps r)
+returns-clause-fixed c sessions tables buckets passes quota steps r p j f m = fixed_fenced _ p j f m (steady_after sessions tables buckets passes quota steps r)
 
 pub returns-clause-table : goal.returns-clause-table
-returns-clause-table c sessions tables buckets passes each steps r p j at scope t = table_below _ p j at scope t (steady_after sessions tables buckets passes each steps r)
+returns-clause-table c sessions tables buckets passes quota steps r p j at scope t = table_below _ p j at scope t (steady_after sessions tables buckets passes quota steps r)
 
 pub returns-clause-group : goal.returns-clause-group
-returns-clause-group c sessions tables buckets passes each steps r p j at scope = group_below _ p j at scope (steady_after sessions tables buckets passes each steps r)
+returns-clause-group c sessions tables buckets passes quota steps r p j at scope = group_below _ p j at scope (steady_after sessions tables buckets passes quota steps r)

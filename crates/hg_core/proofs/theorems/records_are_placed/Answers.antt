@@ -2,4 +2,4 @@ use Rattle.hg_core.proofs.Runs.{steady_after}
 use Rattle.hg_core.proofs.theorems.records_are_placed.Goals as goal
 
 pub returns : goal.returns
-returns c sessions tables buckets passes each steps r = (steady_after sessions tables buckets passes each steps r).contents_are_placed
+returns c sessions tables buckets passes quota steps r = (steady_after sessions tables buckets passes quota steps r).contents_are_placed

@@ -14,13 +14,13 @@ pub returns-clause-group : goal.returns-clause-group
 returns-clause-group c = idle_group
 
 pub returns-clause-idle : goal.returns-clause-idle
-returns-clause-idle c sessions tables buckets passes each steps r j rests = let s = run (opened sessions tables buckets passes each) steps in subst (λ p. Shows s.tables p (s.register j)) rests ((steady_after sessions tables buckets passes each steps r).registers_agree.shows j)
+returns-clause-idle c sessions tables buckets passes quota steps r j rests = let s = run (opened sessions tables buckets passes quota) steps in subst (λ p. Shows s.tables p (s.register j)) rests ((steady_after sessions tables buckets passes quota steps r).registers_agree.shows j)
 
 pub returns-clause-rest : goal.returns-clause-rest
-returns-clause-rest c sessions tables buckets passes each steps r = none_unpublished _ (steady_after sessions tables buckets passes each steps r)
+returns-clause-rest c sessions tables buckets passes quota steps r = none_unpublished _ (steady_after sessions tables buckets passes quota steps r)
 
 pub returns-clause-left : goal.returns-clause-left
-returns-clause-left c sessions tables buckets passes each steps r = live_left _ (steady_after sessions tables buckets passes each steps r)
+returns-clause-left c sessions tables buckets passes quota steps r = live_left _ (steady_after sessions tables buckets passes quota steps r)
 
 pub returns-clause-bucket : goal.returns-clause-bucket
-returns-clause-bucket c sessions tables buckets passes each steps r = rows_left _ (steady_after sessions tables buckets passes each steps r)
+returns-clause-bucket c sessions tables buckets passes quota steps r = rows_left _ (steady_after sessions tables buckets passes quota steps r)

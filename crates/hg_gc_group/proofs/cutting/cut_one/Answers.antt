@@ -23,5 +23,5 @@ returns-clause-few g c =
     let v = pass_view c.args.pass.now in
     let t = c.take-held.ensures.view in
     let is = in_hand c.bucket_of.result v (pass_view c.take-held.new.pass) c.requires.own.1 t in
-    few_after (sizes_of c.args.board.now).buckets c.bucket_of.result c.args.bound v c.args.rid t.part t.seen (sizes_of c.args.board.now) c.take-held.ensures.told.0 (pass_view c.give.new.pass) c.cut_record-gone.result c.args.board.now.room
-    (subst (IsBacked (sizes_of c.args.board.now) c.take-held.ensures.told.0) is c.take-held.ensures.told.1) (c.cut_record-gone.ensures.gone ∙ ap (λ (x : View). removed_of x c.args.rid Group) is) (returns-clause-cuts g c)
+    few_after (sizes_of c.args.board.now).buckets c.bucket_of.result c.args.bound v c.args.rid t.part t.seen (sizes_of c.args.board.now) c.take-held.ensures.backed.0 (pass_view c.give.new.pass) c.cut_record-gone.result c.args.board.now.room
+    (subst (IsBacked (sizes_of c.args.board.now) c.take-held.ensures.backed.0) is c.take-held.ensures.backed.1) (c.cut_record-gone.ensures.gone ∙ ap (λ (x : View). removed_of x c.args.rid Group) is) (returns-clause-cuts g c)

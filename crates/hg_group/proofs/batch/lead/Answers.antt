@@ -50,7 +50,7 @@ stamp_batch-requires-clause-taken g c =
     let w = session_view c.join_commit-number.new.pass in
     let o = in_hand v (session_view c.gather.new.pass) (commit_view c.args.kept.seat) w part h.ms h.parts c.requires.kept.0.seat.1 c.join_commit-number.ensures.view in (
       subst (λ l. AreTaken l (members (beyond w))) (sym c.as_slice.ensures.value) (subst (AreTaken c.make_room.new.popped.items) (sym o.members_are) (roomy c.make_room.new.popped.items c.gather.new.popped.items h.ms c.make_room.ensures.whole h.taken)),
-      subst (λ ms. NoNumberTwice (who ms)) (sym o.members_are) (once (sizes_of c.args.board.now) c.join_commit-number.result w c.join_commit-number.ensures.told (Away (number v) (session v) (since v)) part h.ms o.parts),
+      subst (λ ms. NoNumberTwice (who ms)) (sym o.members_are) (once (sizes_of c.args.board.now) c.join_commit-number.result w c.join_commit-number.ensures.backed (Away (number v) (session v) (since v)) part h.ms o.parts),
     )
 
 pub publish-requires-clause-received : goal.publish-requires-clause-received
@@ -80,7 +80,7 @@ lay-requires-clause-group g c =
     let taken : AreTaken c.as_slice.result.now h.ms = subst (λ l. AreTaken l h.ms) (sym c.as_slice.ensures.value) (roomy c.make_room.new.popped.items c.gather.new.popped.items h.ms c.make_room.ensures.whole h.taken) in
     subst (λ l. HasGroup (sizes_of c.args.board.now).sessions (session_view c.split_commit-seat-2.new.pass) l n c.args.kept.count) (c.as_slice.ensures.value ∙ sym c.as_slice-2.ensures.value)
     (has_group v w (session_view c.stamp_batch.new.pass) (session_view c.publish.new.pass) (session_view c.split_commit-seat-2.new.pass) part h.ms c.as_slice.result.now n o c.stamp_batch.ensures.stamped c.publish.ensures.step c.split_commit-seat-2.ensures.view
-    (sizes_of c.args.board.now) mark c.args.kept.count c.join_commit-number.ensures.told taken next c.requires.kept.0.count_is)
+    (sizes_of c.args.board.now) mark c.args.kept.count c.join_commit-number.ensures.backed taken next c.requires.kept.0.count_is)
 
 low : (a h b k : ℕ) → a ≤ h → b ≡ a → k ≡ suc h → b ≤ k
 low a h b k le e f = omega (arith, le, e, f)
@@ -108,12 +108,12 @@ returns-clause-kept g c =
     let many : length (group_of h.ms) ≡ length txs = group_length h.ms ∙ whose_length txs h.ms (taken_whose txs h.ms taken) in
     let more : c.args.kept.count + length txs ≡ commits_in (part.history.list ++ group_of h.ms ∷ []) = (λ i. kept.count_is i + sym many i) ∙ sym (commits_more part.history.list (group_of h.ms)) in
     let pairs : (known c.gather.new.line).pairs ≡ (known c.args.kept.line).pairs ++ map pair_in txs = h.pairs ∙ ap (λ l. (known c.args.kept.line).pairs ++ l) (sym (pairs_room c.make_room.ensures.whole.0 c.gather.new.popped.items) ∙ ap (map pair_in) (sym c.make_room.ensures.whole.1 ∙ sym c.as_slice.ensures.value)) in
-    let follows = follows_group (sizes_of c.args.board.now) c.join_commit-number.result w c.join_commit-number.ensures.told (Away (number v) (session v) (since v)) part h.ms o.parts txs taken (known c.args.kept.line).pairs kept.follows in (
+    let follows = follows_group (sizes_of c.args.board.now) c.join_commit-number.result w c.join_commit-number.ensures.backed (Away (number v) (session v) (since v)) part h.ms o.parts txs taken (known c.args.kept.line).pairs kept.follows in (
       record {
         seat = c.split_commit-seat-2.ensures.commit;
         unstamped = ap (λ (q : CommitPart). q.stamped) part_is ∙ none_after v w (session_view c.stamp_batch.new.pass) y u part h.ms txs n o c.stamp_batch.ensures.stamped c.publish.ensures.step c.split_commit-seat-2.ensures.view;
         taken = low part.taken (length part.history.list) (part_in c.split_commit-seat-2.result).taken (length (part_in c.split_commit-seat-2.result).history.list) kept.taken taken_is (ap length history ∙ length_more part.history.list (group_of h.ms));
-        contexts_are = subst (λ (x : History × (ℕ × List GroupContext)). AreContexts x.0 x.1.0 x.1.1) (λ i. (sym history i, (sym taken_is i, sym listed i))) (contexts_more part.history.list part.taken c.args.kept.contexts.items (group_of h.ms) context kept.taken kept.contexts_are (group_context (sizes_of c.args.board.now) c.join_commit-number.result w c.join_commit-number.ensures.told (Away (number v) (session v) (since v)) part h.ms o.parts c.gather.new.popped.items h.taken (suc (length part.history.list)) context next (c.join_records-records.ensures.records ∙ (ap all_records c.make_room.ensures.whole.1 ∙ records_room c.make_room.ensures.whole.0 c.gather.new.popped.items))));
+        contexts_are = subst (λ (x : History × (ℕ × List GroupContext)). AreContexts x.0 x.1.0 x.1.1) (λ i. (sym history i, (sym taken_is i, sym listed i))) (contexts_more part.history.list part.taken c.args.kept.contexts.items (group_of h.ms) context kept.taken kept.contexts_are (group_context (sizes_of c.args.board.now) c.join_commit-number.result w c.join_commit-number.ensures.backed (Away (number v) (session v) (since v)) part h.ms o.parts c.gather.new.popped.items h.taken (suc (length part.history.list)) context next (c.join_records-records.ensures.records ∙ (ap all_records c.make_room.ensures.whole.1 ∙ records_room c.make_room.ensures.whole.0 c.gather.new.popped.items))));
         count_is = search rules;
         follows = subst (λ (hs : History). FollowsQueue hs (known c.gather.new.line).pairs) (sym history) (subst (FollowsQueue (part.history.list ++ group_of h.ms ∷ [])) (sym pairs) follows);
         line = (c.gather.ensures.line.1, (c.gather.ensures.line.2, c.gather.ensures.line.3));
@@ -124,7 +124,7 @@ returns-clause-kept g c =
     )
 
 few : (z : Sizes) (mark count long sessions : ℕ) (w : View) (first : Part) (part : CommitPart) (os : List Part) → IsBacked z mark w → w.parts ≡ first ∷ OfCommit part ∷ os → HasRoom z → count ≡ commits_in part.history.list → long ≤ sessions → sessions < 2 ^ 32 → count + long < 2 ^ 64
-few z mark count long sessions w first part os told is room same le small = let a = count_most z mark w first part os told is room.begins in omega (arith, a, same, le, small)
+few z mark count long sessions w first part os backed is room same le small = let a = count_most z mark w first part os backed is room.begins in omega (arith, a, same, le, small)
 
 pub lay-requires-clause-small : goal.lay-requires-clause-small
 lay-requires-clause-small g c =
@@ -133,7 +133,7 @@ lay-requires-clause-small g c =
     let part = part_in c.args.kept.seat in
     let w = session_view c.join_commit-number.new.pass in
     let o = in_hand v (session_view c.gather.new.pass) (commit_view c.args.kept.seat) w part h.ms h.parts c.requires.kept.0.seat.1 c.join_commit-number.ensures.view in
-    few (sizes_of c.args.board.now) c.join_commit-number.result c.args.kept.count (length c.as_slice-2.result.now) c.args.sessions w (Away (number v) (session v) (since v)) part (lent h.ms) c.join_commit-number.ensures.told o.parts c.args.board.now.room c.requires.kept.0.count_is (search rules) (search rules)
+    few (sizes_of c.args.board.now) c.join_commit-number.result c.args.kept.count (length c.as_slice-2.result.now) c.args.sessions w (Away (number v) (session v) (since v)) part (lent h.ms) c.join_commit-number.ensures.backed o.parts c.args.board.now.room c.requires.kept.0.count_is (search rules) (search rules)
 
 pub overflow_add-count : goal.overflow_add-count
 overflow_add-count g c =
@@ -142,7 +142,7 @@ overflow_add-count g c =
     let part = part_in c.args.kept.seat in
     let w = session_view c.join_commit-number.new.pass in
     let o = in_hand v (session_view c.gather.new.pass) (commit_view c.args.kept.seat) w part h.ms h.parts c.requires.kept.0.seat.1 c.join_commit-number.ensures.view in
-    record { fits = few (sizes_of c.args.board.now) c.join_commit-number.result c.args.kept.count c.len.result c.args.sessions w (Away (number v) (session v) (since v)) part (lent h.ms) c.join_commit-number.ensures.told o.parts c.args.board.now.room c.requires.kept.0.count_is (search rules) (search rules) }
+    record { fits = few (sizes_of c.args.board.now) c.join_commit-number.result c.args.kept.count c.len.result c.args.sessions w (Away (number v) (session v) (since v)) part (lent h.ms) c.join_commit-number.ensures.backed o.parts c.args.board.now.room c.requires.kept.0.count_is (search rules) (search rules) }
 
 pub lay_back-requires-clause-batch : goal.lay_back-requires-clause-batch
 lay_back-requires-clause-batch g c =
@@ -151,7 +151,7 @@ lay_back-requires-clause-batch g c =
     let part = part_in c.args.kept.seat in
     let w = session_view c.join_commit-number.new.pass in
     let o = in_hand v (session_view c.gather.new.pass) (commit_view c.args.kept.seat) w part h.ms h.parts c.requires.kept.0.seat.1 c.join_commit-number.ensures.view in
-    has_batch v w (session_view c.split_commit-seat.new.pass) part h.ms c.make_room.new.popped.items (sizes_of c.args.board.now) c.join_commit-number.result o c.split_commit-seat.ensures.view c.join_commit-number.ensures.told (roomy c.make_room.new.popped.items c.gather.new.popped.items h.ms c.make_room.ensures.whole h.taken)
+    has_batch v w (session_view c.split_commit-seat.new.pass) part h.ms c.make_room.new.popped.items (sizes_of c.args.board.now) c.join_commit-number.result o c.split_commit-seat.ensures.view c.join_commit-number.ensures.backed (roomy c.make_room.new.popped.items c.gather.new.popped.items h.ms c.make_room.ensures.whole h.taken)
 
 pub returns-in_default-clause-kept : goal.returns-in_default-clause-kept
 returns-in_default-clause-kept g c =
@@ -162,7 +162,7 @@ returns-in_default-clause-kept g c =
     let w = session_view c.join_commit-number.new.pass in
     let o = in_hand v (session_view c.gather.new.pass) (commit_view c.args.kept.seat) w part h.ms h.parts kept.seat.1 c.join_commit-number.ensures.view in
     let same : part_in c.split_commit-seat.result ≡ part = ap (λ (t : View). commit_there (first_in t.parts)) c.split_commit-seat.ensures.seat ∙ o.commit_is in
-    let follows = follows_still (sizes_of c.args.board.now) c.join_commit-number.result w c.join_commit-number.ensures.told (Away (number v) (session v) (since v)) part h.ms o.parts c.gather.new.popped.items h.taken (known c.args.kept.line).pairs kept.follows in (
+    let follows = follows_still (sizes_of c.args.board.now) c.join_commit-number.result w c.join_commit-number.ensures.backed (Away (number v) (session v) (since v)) part h.ms o.parts c.gather.new.popped.items h.taken (known c.args.kept.line).pairs kept.follows in (
       record {
         seat = c.split_commit-seat.ensures.commit;
         unstamped = ap (λ (q : CommitPart). q.stamped) same ∙ kept.unstamped;

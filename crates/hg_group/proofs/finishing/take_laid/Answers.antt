@@ -7,7 +7,7 @@ use Rattle.hg_group.proofs.finishing.take_laid.Goals as goal
 pub returns-clause-taken : goal.returns-clause-taken
 returns-clause-taken c t sessions k =
     let xs = c.args.kept.now.laid.items in
-    let i : ℕ = c.args.place in
+    let i : ℕ = c.args.index in
     let up : 1 + i ≡ suc i = omega arith in (
       record {
         seat = k.seat;
@@ -20,5 +20,5 @@ returns-clause-taken c t sessions k =
         room = k.room;
         laid = (subst (λ x. AreLaid t 1 (set xs i x)) (sym c.take.ensures.after) (laid_none t 1 i xs k.laid.0), length-set xs i c.take.new.self ∙ k.laid.1);
       },
-      subst (λ o. IfSome o (IsLaid t (suc i))) (sym (c.take.ensures.value ∙ c.index_mut.ensures.value)) (subst (λ n. IfSome (get_or xs i c.index_mut.result.now) (IsLaid t n)) up (laid_at t 1 i xs c.index_mut.result.now c.requires.place k.laid.0)),
+      subst (λ o. IfSome o (IsLaid t (suc i))) (sym (c.take.ensures.value ∙ c.index_mut.ensures.value)) (subst (λ n. IfSome (get_or xs i c.index_mut.result.now) (IsLaid t n)) up (laid_at t 1 i xs c.index_mut.result.now c.requires.index k.laid.0)),
     )

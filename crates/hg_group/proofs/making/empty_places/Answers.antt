@@ -1,10 +1,10 @@
 use Rattle.std.proofs.Common.{rules, ℕ, suc, List, [], ◌∷◌, ◌++◌, Option, None, sym, subst}
-use Rattle.hg_rule.specs.Seats.{TableId}
+use Rattle.hg_rule.specs.Seats.{BoardId}
 use Rattle.hg_group.specs.declared.laid.Laid.{Laid}
 use Rattle.hg_group.specs.Batch.{AreLaid}
 use Rattle.hg_group.proofs.making.empty_places.Goals as goal
 
-one_more : (t : TableId) (k : ℕ) (xs : List (Option Laid)) → AreLaid t k xs → AreLaid t k (xs ++ None ∷ [])
+one_more : (t : BoardId) (k : ℕ) (xs : List (Option Laid)) → AreLaid t k xs → AreLaid t k (xs ++ None ∷ [])
 one_more t k [] h = (tt, tt)
 one_more t k (x ∷ xs) h = (h.0, one_more t (suc k) xs h.1)
 

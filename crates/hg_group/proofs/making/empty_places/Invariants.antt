@@ -1,10 +1,10 @@
 use Rattle.std.specs.Prelude.{◌≡◌, ℕ, length}
-use Rattle.hg_rule.specs.Seats.{TableId}
+use Rattle.hg_rule.specs.Seats.{BoardId}
 use Rattle.hg_group.specs.Batch.{AreLaid}
 use Rattle.hg_group.proofs.making.empty_places.Given as goal
 
 abbrev pub invariant-loop-turn : goal.invariant-loop-turn
 invariant-loop-turn l = record {
-  laid : (t : TableId) (k : ℕ) → AreLaid t k l.places.items;
+  laid : (t : BoardId) (k : ℕ) → AreLaid t k l.places.items;
   count : length l.places.items ≡ l.turn;
 }

@@ -17,9 +17,9 @@ stamp-requires-clause-mine g c =
     let v = session_view c.args.pass.now in
     let u = session_view c.take-held.new.pass in
     let j = c.args.by.session in
-    let told = c.take-held.ensures.told in
+    let backed = c.take-held.ensures.backed in
     let t = away_taken v u c.bucket_of.result c.requires.own.3 c.requires.commit c.take-held.ensures.view in
-    let open_ = lent_open (sizes_of c.args.board.now) told.0 j c.bucket_of.result u c.args.rid told.1 t.own t.both (subst (λ b. HoldsBucket b u) c.take-held.ensures.held.1 c.take-held.ensures.holds.has)
+    let open_ = lent_open (sizes_of c.args.board.now) backed.0 j c.bucket_of.result u c.args.rid backed.1 t.own t.both (subst (λ b. HoldsBucket b u) c.take-held.ensures.held.1 c.take-held.ensures.holds.has)
     (subst (λ l. l ≡ lent (members l)) (sym t.farther_is) c.requires.received.0) (subst (λ l. IsTrue (is_in (who (members l)) j)) (sym t.farther_is) c.requires.received.1)
     (sym (c.bucket_of.ensures.own ∙ here c.requires.buckets.1))
     (subst (λ l. IsSome (open_in c.args.rid (part_of j (members l)).log)) (sym t.farther_is) c.requires.mine)

@@ -3,7 +3,7 @@ use Rattle.hg_headline.proofs.Totalling.{state_tells, more_tells, totals_tell, h
 use Rattle.hg_headline.proofs.totals.buckets_tell.Goals as goal
 
 pub returns-clause-bucket : goal.returns-clause-bucket
-returns-clause-bucket c sessions tables buckets passes each steps r rest b counts are = state_tells _ b counts (steady_after sessions tables buckets passes each steps r) rest are
+returns-clause-bucket c sessions tables buckets passes quota steps r rest b counts are = state_tells _ b counts (steady_after sessions tables buckets passes quota steps r) rest are
 
 pub returns-clause-more : goal.returns-clause-more
 returns-clause-more c = more_tells
@@ -12,4 +12,4 @@ pub returns-clause-all : goal.returns-clause-all
 returns-clause-all c = totals_tell
 
 pub returns-clause-mark : goal.returns-clause-mark
-returns-clause-mark c sessions tables buckets passes each steps r = history_is_newest _ (steady_after sessions tables buckets passes each steps r)
+returns-clause-mark c sessions tables buckets passes quota steps r = history_is_newest _ (steady_after sessions tables buckets passes quota steps r)

@@ -3,7 +3,7 @@ use Rattle.std.proofs.lemmas.Nat.{mul-le}
 use Rattle.hg_base.specs.declared.line.Printed.{Printed}
 use Rattle.hg_base.specs.Script.{replay}
 use Rattle.hg_base.specs.Sound.{IsSound}
-use Rattle.hg_rule.specs.New.{Row}
+use Rattle.hg_rule.specs.New.{EachFrom}
 use Rattle.hg_headline.proofs.Closing.{following_last}
 use Rattle.hg_session.specs.declared.session.Session.{Session}
 use Rattle.hg_session.specs.Engines.{engine_sizes}
@@ -18,29 +18,29 @@ pub open-requires-clause-room : goal.open-requires-clause-room
 open-requires-clause-room g c =
     let most = sessions_within c.args.script.now c.requires in
     let sessions : c.sessions-sessions.result ≤ 64 = omega (arith, most, c.sessions-sessions.ensures) in
-    let each : c.max-each.result ≤ 1048576 = search rules in
-    let product = mul-le c.sessions-sessions.result c.max-each.result 64 1048576 sessions each in
+    let quota : c.max-quota.result ≤ 1048576 = search rules in
+    let product = mul-le c.sessions-sessions.result c.max-quota.result 64 1048576 sessions quota in
     omega (arith, product)
 
 pub play-requires-clause-ready : goal.play-requires-clause-ready
 play-requires-clause-ready g c =
     let e = c.in_ok-engine.engine in
     let list : List Session = c.into_vec-list.result.items in
-    let each : ℕ = c.max-each.result in
+    let quota : ℕ = c.max-quota.result in
     let is : list ≡ c.in_ok-engine.list = search rules in
-    let row : Row (IsNewOf e each) 1 list = subst (Row (IsNewOf e each) 1) (sym is) c.in_ok-engine.ensures.sessions in
+    let row : EachFrom (IsNewOf e quota) 1 list = subst (EachFrom (IsNewOf e quota) 1) (sym is) c.in_ok-engine.ensures.sessions in
     let many : length list ≡ (engine_sizes e).sessions = search rules in
     let some : 0 < length list = search rules in
-    let less : length c.args.script.now.records ≤ each = search rules in
-    ready_less e 0 (length c.args.script.now.records) each list less (new_ready e each list many some row)
+    let less : length c.args.script.now.records ≤ quota = search rules in
+    ready_less e 0 (length c.args.script.now.records) quota list less (new_ready e quota list many some row)
 
 pub play-requires-clause-none : goal.play-requires-clause-none
 play-requires-clause-none g c =
     let e = c.in_ok-engine.engine in
     let list : List Session = c.into_vec-list.result.items in
-    let each : ℕ = c.max-each.result in
+    let quota : ℕ = c.max-quota.result in
     let is : list ≡ c.in_ok-engine.list = search rules in
-    new_logs e each list (subst (Row (IsNewOf e each) 1) (sym is) c.in_ok-engine.ensures.sessions)
+    new_logs e quota list (subst (EachFrom (IsNewOf e quota) 1) (sym is) c.in_ok-engine.ensures.sessions)
 
 pub returns : goal.returns
 returns g c =

@@ -49,7 +49,7 @@ returns-clause-replied g c =
     let r : AreReady c.args.engine.now c.args.i 1 c.turn.new.list.items = c.turn.ensures.ready 1 c.requires.ready in
     let d = some_of c.turn.new.list.items c.args.i r.within in
     let may : MayStand (is_some (current (logs_of c.turn.new.list.items (suc c.args.i)))) c.args.statement.now = subst (λ logs. MayStand (is_some (current (logs (suc c.args.i)))) c.args.statement.now) (sym c.turn.ensures.logs) c.requires.may in
-    let told = replied c.args.engine.now c.args.i 0 c.args.statement.now c.in_ok-reply.reply c.turn.new.list.items c.ask_at.new.list.items d c.requires.some may h r (λ w is. c.show.ensures.told d w is) in
+    let told = replied c.args.engine.now c.args.i 0 c.args.statement.now c.in_ok-reply.reply c.turn.new.list.items c.ask_at.new.list.items d c.requires.some may h r (λ w is. c.show.ensures.backed d w is) in
     subst (λ old. IsReplied z.buckets z.sessions old (suc c.args.i) c.args.statement.now c.in_ok-reply.reply (logs_of c.show.new.list.items)) c.turn.ensures.logs
     (subst (λ new. IsReplied z.buckets z.sessions (logs_of c.turn.new.list.items) (suc c.args.i) c.args.statement.now c.in_ok-reply.reply new) (sym c.show.ensures.logs) told)
 

@@ -4,6 +4,6 @@ use Rattle.hg_session.proofs.opening.seat_all.Given as goal
 
 abbrev pub invariant-loop-pass : goal.invariant-loop-pass
 invariant-loop-pass l = record {
-  seated : l.sessions.items ≡ map (seated l.fn.alloc l.fn.each) l.yielded;
+  seated : l.sessions.items ≡ map (seated l.fn.alloc l.fn.quota) l.yielded;
   passes : l.fn.passes.items ≡ l.yielded ++ l.pass-iterator.rest.items;
 }

@@ -27,7 +27,7 @@ undo-requires-clause-mine g c =
     let here : bucket_of (sizes_of c.board-board.result.now).buckets c.args.rid ≡ bucket_number u = search rules in
     let some : IsSome (open_in c.args.rid (session u).log) = subst (λ (p : SessionPart). IsSome (open_in c.args.rid p.log)) (sym s) c.requires.mine in
     let bare : (session u).stamped ≡ false = ap (λ (p : SessionPart). p.stamped) s ∙ c.requires.unstamped in
-    mine_unstamped (sizes_of c.board-board.result.now) c.take-held.ensures.told.0 u c.take-held.ensures.told.1 own has c.args.rid here some bare
+    mine_unstamped (sizes_of c.board-board.result.now) c.take-held.ensures.backed.0 u c.take-held.ensures.backed.1 own has c.args.rid here some bare
 
 pub returns-clause-undone : goal.returns-clause-undone
 returns-clause-undone g c = undid_once (session_view c.args.pass.now) (session_view c.take-held.new.pass) (session_view c.undo.new.pass) (session_view c.give.new.pass) c.bucket_of-bucket.result c.args.rid c.requires.only c.take-held.ensures.view c.undo.ensures.step c.give.ensures.view

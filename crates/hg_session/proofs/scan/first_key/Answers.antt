@@ -1,7 +1,7 @@
 use Rattle.std.proofs.Common.{◌≡◌, ◌+◌, false, sym, ◌∙◌, arith}
 use Rattle.std.specs.Prelude.{nat_le}
 use Rattle.std.proofs.lemmas.Bool.Decides.{nat_tests}
-use Rattle.hg_bucket.specs.Held.{record_at}
+use Rattle.hg_bucket.specs.BucketModel.{record_at}
 use Rattle.hg_session.proofs.ScanningKeys.{least_own, own_within}
 use Rattle.hg_session.proofs.scan.first_key.Goals as goal
 

@@ -29,6 +29,6 @@ pub returns-clause-cuts : goal.returns-clause-cuts
 returns-clause-cuts g c =
     let x = pass_view c.take-held.new.pass in
     let y = pass_view c.cut_tables.new.pass in
-    let told = subst (λ (b : Board). IsBacked (sizes_of b) c.take-held.ensures.told.0 x) c.board-board.ensures c.take-held.ensures.told.1 in
+    let backed = subst (λ (b : Board). IsBacked (sizes_of b) c.take-held.ensures.backed.0 x) c.board-board.ensures c.take-held.ensures.backed.1 in
     let cuts = subst (λ (b : Board). CutsTables x (sizes_of b).tables y) c.board-board.ensures c.cut_tables.ensures.cuts in
-    bucket_cut (pass_view c.args.pass.now) x c.args.bucket c.requires.own.1 c.take-held.ensures.view (engine_sizes c.args.engine.now) c.take-held.ensures.told.0 y (pass_view c.give.new.pass) told c.cut_tables.ensures.own.1 cuts c.give.ensures.view
+    bucket_cut (pass_view c.args.pass.now) x c.args.bucket c.requires.own.1 c.take-held.ensures.view (engine_sizes c.args.engine.now) c.take-held.ensures.backed.0 y (pass_view c.give.new.pass) backed c.cut_tables.ensures.own.1 cuts c.give.ensures.view

@@ -8,7 +8,7 @@ use Rattle.hg_session.proofs.settlement_tests.a_new_engine_is_settled.Goals as g
 pub invariant_of-engine : goal.invariant_of-engine
 invariant_of-engine g c =
     let same : board_of c.new-trackers.result ≡ c.in_ok-board.board = c.new-trackers.ensures in
-    let sizes : sizes_of (board_of c.new-trackers.result) ≡ record { sessions = 1; tables = 2; buckets = 2; each = 1 } = ap sizes_of same ∙ c.in_ok-board.ensures.sizes in
+    let sizes : sizes_of (board_of c.new-trackers.result) ≡ record { sessions = 1; tables = 2; buckets = 2; quota = 1 } = ap sizes_of same ∙ c.in_ok-board.ensures.sizes in
     let count : store_buckets c.in_ok-store.store ≡ 2 = c.in_ok-store.ensures.count ∙ c.in_ok-board.ensures.buckets.0 in record {
       store_is = c.in_ok-store.ensures.table _ c.in_ok-board.ensures.buckets.1 ∙ sym (ap table_of same);
       groups_are = c.in_ok-groups.ensures.table _ c.in_ok-board.ensures.commit ∙ sym (ap table_of same);

@@ -12,9 +12,9 @@ run_beside-requires-clause-sessions g c κs =
     let list = c.in_ok-board.seats.sessions in
     let items : c.as_mut_slice.result.now ≡ list = search rules in
     let same : board_of c.new-trackers.result ≡ board = search rules in
-    let sizes : sizes_of board ≡ record { sessions = 4; tables = 1; buckets = 1; each = 100 } = c.in_ok-board.ensures.sizes in
+    let sizes : sizes_of board ≡ record { sessions = 4; tables = 1; buckets = 1; quota = 100 } = c.in_ok-board.ensures.sizes in
     let sessions : (sizes_of board).sessions ≡ 4 = ap (λ (z : Sizes). z.sessions) sizes in
-    let each : (sizes_of board).each ≡ 100 = ap (λ (z : Sizes). z.each) sizes in
+    let quota : (sizes_of board).quota ≡ 100 = ap (λ (z : Sizes). z.quota) sizes in
     let count : length list ≡ 4 = c.in_ok-board.ensures.sessions.0 in
     let ready : All (IsReady (table_of board) (sizes_of board) 100) list = all_ready (table_of board) (sizes_of board) 100 1 list c.in_ok-board.ensures.sessions.1 (omega arith) (omega arith) (omega arith) in
     subst (λ b. All (IsReady (table_of b) (sizes_of b) 100) c.as_mut_slice.result.now) (sym same) (subst (All (IsReady (table_of board) (sizes_of board) 100)) (sym items) ready)

@@ -13,9 +13,9 @@ finish_all-requires-clause-sessions g c =
     let list = c.in_ok-board.seats.sessions in
     let items : c.into_vec.result.items ≡ list = search rules in
     let same : board_of c.new-trackers.result ≡ board = search rules in
-    let sizes : sizes_of board ≡ record { sessions = 3; tables = 1; buckets = 1; each = 1 } = c.in_ok-board.ensures.sizes in
+    let sizes : sizes_of board ≡ record { sessions = 3; tables = 1; buckets = 1; quota = 1 } = c.in_ok-board.ensures.sizes in
     let sessions : (sizes_of board).sessions ≡ 3 = ap (λ (z : Sizes). z.sessions) sizes in
-    let each : (sizes_of board).each ≡ 1 = ap (λ (z : Sizes). z.each) sizes in
+    let quota : (sizes_of board).quota ≡ 1 = ap (λ (z : Sizes). z.quota) sizes in
     let count : length list ≡ 3 = c.in_ok-board.ensures.sessions.0 in
     let ready = all_ready (table_of board) (sizes_of board) 1 1 list c.in_ok-board.ensures.sessions.1 (omega arith) (omega arith) (omega arith) in
     let alone = all_alone (table_of board) 1 list c.in_ok-board.ensures.sessions.1 in

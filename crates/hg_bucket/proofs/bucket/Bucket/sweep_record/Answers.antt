@@ -1,5 +1,5 @@
 use Rattle.std.proofs.Common.{ap, ◌∙◌}
-use Rattle.hg_bucket.specs.Held.{versions_of, read_at}
+use Rattle.hg_bucket.specs.BucketModel.{versions_of, read_at}
 use Rattle.hg_bucket.proofs.Sweeps.{read_same}
 use Rattle.hg_bucket.proofs.bucket.Bucket.sweep_record.Goals as goal
 

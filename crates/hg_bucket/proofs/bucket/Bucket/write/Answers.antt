@@ -1,7 +1,7 @@
 use Rattle.std.proofs.Common.{◌≡◌, ℕ, ◌+◌, sym, ap, ◌∙◌, subst}
 use Rattle.std.specs.Prelude.{Err, Ok, if◌then◌else◌, IsTrue}
 use Rattle.std.proofs.lemmas.Result.{err_from_is_err_and}
-use Rattle.hg_bucket.specs.Held.{Held, versions_of, begins_open, IsSound}
+use Rattle.hg_bucket.specs.BucketModel.{BucketModel, versions_of, begins_open, IsSound}
 use Rattle.hg_bucket.specs.Conflicts.{conflict}
 use Rattle.hg_bucket.specs.Writes.{Writes}
 use Rattle.hg_bucket.specs.Parts.{Recorded}
@@ -52,7 +52,7 @@ returns-clause-made c =
       | then-added w ↦ w.self-is ∙ one_more c.in_ok-added.added own (subst (λ a. Writes c.args.by c.args.image c.args.snapshot c.args.mark c.self.inside.records.records c.write.new.self.records c.args.rid a) c.in_ok-added.was c.write.ensures.writes).added w.if-added.true
       | else-added w ↦ w.self-is ∙ none_more c.in_ok-added.added own (subst (λ a. Writes c.args.by c.args.image c.args.snapshot c.args.mark c.self.inside.records.records c.write.new.self.records c.args.rid a) c.in_ok-added.was c.write.ensures.writes).added w.if-added.false
     ] in
-    let counted : Held = record { records = c.write.new.self.records; long = c.write.new.self.long; made = c.self.inside.made + c.if-added.self; undone = c.self.inside.undone; group = c.self.inside.group; table = c.self.inside.table; interval = c.self.inside.interval } in
-    let add : ℕ → Held = λ n. record counted { made = c.self.inside.made + n } in
-    let seen : Held → Held = λ h. record h { records = c.write.new.self.records; long = c.write.new.self.long; made = h.made + (if begins_open c.args.by (versions_of h.records c.args.rid) then 0 else 1) } in
+    let counted : BucketModel = record { records = c.write.new.self.records; long = c.write.new.self.long; made = c.self.inside.made + c.if-added.self; undone = c.self.inside.undone; group = c.self.inside.group; table = c.self.inside.table; interval = c.self.inside.interval } in
+    let add : ℕ → BucketModel = λ n. record counted { made = c.self.inside.made + n } in
+    let seen : BucketModel → BucketModel = λ h. record h { records = c.write.new.self.records; long = c.write.new.self.long; made = h.made + (if begins_open c.args.by (versions_of h.records c.args.rid) then 0 else 1) } in
     ap add count ∙ ap seen c.self.view_is

@@ -2,7 +2,7 @@ use Rattle.std.proofs.Common.{◌≡◌, ◌+◌, None, sym, ap, ◌∙◌, subs
 use Rattle.hg_chain.specs.Places.{list_at}
 use Rattle.hg_chain.specs.Versions as chain
 use Rattle.hg_space.specs.Index.{place_of}
-use Rattle.hg_bucket.specs.Held.{versions_of, OthersStay, left}
+use Rattle.hg_bucket.specs.BucketModel.{versions_of, OthersStay, left}
 use Rattle.hg_bucket.specs.Parts.{records_of, longs_of, AreKept, AreListed, ListsAlike}
 use Rattle.hg_bucket.proofs.Seating.{given_taken, given_back}
 use Rattle.hg_bucket.proofs.Naming.{Comes, bare_free, taken_back, come_whole, come_here, come_others, come_left, records_stay, stays_whole}

@@ -3,7 +3,7 @@ use Rattle.std.specs.Prelude.{◌^◌}
 use Rattle.hg_chain.specs.Places.{list_at}
 use Rattle.hg_chain.specs.Versions.{left_by}
 use Rattle.hg_space.specs.Places.{image_at}
-use Rattle.hg_bucket.specs.Held.{Kept, keys_in, versions_of, cut_at, OthersStay, left}
+use Rattle.hg_bucket.specs.BucketModel.{Kept, keys_in, versions_of, cut_at, OthersStay, left}
 use Rattle.hg_bucket.specs.Parts.{records_of, settled}
 use Rattle.hg_bucket.proofs.Reading.{no_versions}
 use Rattle.hg_bucket.proofs.Stamping.{others_then}

@@ -1,5 +1,5 @@
 use Rattle.std.proofs.Common.{◌≡◌, ◌-◌, sym, subst, arith}
-use Rattle.hg_bucket.specs.Held.{keys_in}
+use Rattle.hg_bucket.specs.BucketModel.{keys_in}
 use Rattle.hg_bucket.proofs.Walking.{Cut, cut_keeps}
 use Rattle.hg_bucket.proofs.Rounds.{Rounds, Leads, round_begins, round_goes, round_ends, leads_first, leads_within, leads_key, leads_on}
 use Rattle.hg_bucket.proofs.records.Records.cut_table.Goals as goal

@@ -1,4 +1,4 @@
-use Rattle.hg_bucket.specs.Held.{keys_in}
+use Rattle.hg_bucket.specs.BucketModel.{keys_in}
 use Rattle.hg_bucket.proofs.Walking.{Cut}
 use Rattle.hg_bucket.proofs.Rounds.{Rounds, Leads}
 use Rattle.hg_bucket.proofs.records.Records.cut_table.Given as goal

@@ -1,7 +1,7 @@
 use Rattle.std.proofs.Common.{length, sym, ap, ◌∙◌, subst}
 use Rattle.std.proofs.lemmas.List.{length-map}
 use Rattle.hg_space.specs.Rosters.{list_of}
-use Rattle.hg_bucket.specs.Held.{keys_in}
+use Rattle.hg_bucket.specs.BucketModel.{keys_in}
 use Rattle.hg_bucket.specs.Long.{AreLong}
 use Rattle.hg_bucket.specs.Parts.{Recorded}
 use Rattle.hg_bucket.proofs.Listing.{keys_seen, all_long}

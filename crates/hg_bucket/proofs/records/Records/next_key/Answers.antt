@@ -1,6 +1,6 @@
 use Rattle.std.proofs.Common.{ap, ◌<◌, length, subst}
 use Rattle.std.specs.Prelude.{IfSome}
-use Rattle.hg_bucket.specs.Held.{versions_of, record_at, IsNextKey}
+use Rattle.hg_bucket.specs.BucketModel.{versions_of, record_at, IsNextKey}
 use Rattle.hg_bucket.proofs.Reading.{next_of_records}
 use Rattle.hg_bucket.proofs.Settling.{some_at}
 use Rattle.hg_bucket.specs.Parts.{Recorded}

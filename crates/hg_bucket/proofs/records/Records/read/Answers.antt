@@ -1,7 +1,7 @@
 use Rattle.std.proofs.Common.{◌≡◌, sym, ap, ◌∙◌, subst, None}
 use Rattle.std.specs.Option.{option_copied, option_or}
 use Rattle.hg_space.specs.Places.{image_at}
-use Rattle.hg_bucket.specs.Held.{read_at, versions_of}
+use Rattle.hg_bucket.specs.BucketModel.{read_at, versions_of}
 use Rattle.hg_bucket.specs.Parts.{oldest_by}
 use Rattle.hg_bucket.proofs.Reading.{read_there, read_absent}
 use Rattle.hg_bucket.specs.Parts.{Recorded}

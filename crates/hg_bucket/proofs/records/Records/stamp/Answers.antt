@@ -3,7 +3,7 @@ use Rattle.std.specs.Prelude.{IsTrue}
 use Rattle.hg_base.specs.Lists.{Each}
 use Rattle.hg_chain.specs.Places.{list_at}
 use Rattle.hg_space.specs.Places.{image_at}
-use Rattle.hg_bucket.specs.Held.{begins_open, versions_of, IsBelow, stamped, OthersStay, left}
+use Rattle.hg_bucket.specs.BucketModel.{begins_open, versions_of, IsBelow, stamped, OthersStay, left}
 use Rattle.hg_bucket.specs.Parts.{records_of}
 use Rattle.hg_bucket.proofs.Changing.{below_behind}
 use Rattle.hg_bucket.proofs.Stamping.{open_at, open_placed, stamps}

@@ -6,7 +6,7 @@ use Rattle.hg_chain.specs.Sweeps as chain
 use Rattle.hg_chain.specs.Sweeps.{last_number}
 use Rattle.hg_base.specs.Lifetimes.{MayStay}
 use Rattle.hg_space.specs.Places.{image_at}
-use Rattle.hg_bucket.specs.Held.{versions_of, OthersStay, left}
+use Rattle.hg_bucket.specs.BucketModel.{versions_of, OthersStay, left}
 use Rattle.hg_bucket.specs.Sweeping.{swept, IsClean}
 use Rattle.hg_bucket.specs.Parts.{records_of}
 use Rattle.hg_bucket.proofs.Reading.{versions_there, no_versions}

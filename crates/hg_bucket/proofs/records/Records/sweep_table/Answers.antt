@@ -1,6 +1,6 @@
 use Rattle.std.proofs.Common.{◌≡◌, ◌-◌, ◌+◌, ◌<◌, ◌≤◌, length, take, slice_get, refl, sym, ap, ◌∙◌, subst, arith}
 use Rattle.std.proofs.lemmas.List.{take_all}
-use Rattle.hg_bucket.specs.Held.{keys_in}
+use Rattle.hg_bucket.specs.BucketModel.{keys_in}
 use Rattle.hg_bucket.proofs.Walking.{Swept, swept_keeps}
 use Rattle.hg_bucket.proofs.Rounds.{Rounds, round_begins, round_goes, round_ends}
 use Rattle.hg_bucket.proofs.Costing.{cost_of}

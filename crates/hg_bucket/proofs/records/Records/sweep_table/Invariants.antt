@@ -1,5 +1,5 @@
 use Rattle.std.proofs.Common.{◌+◌, ◌≤◌, length, take, ◌≡◌}
-use Rattle.hg_bucket.specs.Held.{keys_in}
+use Rattle.hg_bucket.specs.BucketModel.{keys_in}
 use Rattle.hg_bucket.specs.Sweeping.{sweep_steps}
 use Rattle.hg_bucket.proofs.Walking.{Swept}
 use Rattle.hg_bucket.proofs.Rounds.{Rounds}

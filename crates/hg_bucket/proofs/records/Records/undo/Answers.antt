@@ -1,6 +1,6 @@
 use Rattle.std.proofs.Common.{◌+◌, sym, ap, ◌∙◌, subst, drop}
 use Rattle.std.specs.Prelude.{IsTrue}
-use Rattle.hg_bucket.specs.Held.{begins_open, versions_of, OthersStay, left}
+use Rattle.hg_bucket.specs.BucketModel.{begins_open, versions_of, OthersStay, left}
 use Rattle.hg_bucket.specs.Parts.{records_of}
 use Rattle.hg_bucket.proofs.Stamping.{open_at, open_placed, undoes, others_then}
 use Rattle.hg_bucket.specs.Parts.{Recorded}

@@ -18,7 +18,7 @@ pub take_all-removed-requires-clause-few : goal.take_all-removed-requires-clause
 take_all-removed-requires-clause-few g c =
     let x = pass_view c.look_at-self.new.pass in
     let own : HasPass x = subst HasPass (sym c.look_at-self.ensures.stays) c.gather.ensures.own.1 in
-    let least = few (sizes_of c.board-board.result.now) c.look_at-self.result x c.board-board.result.now.room c.look_at-self.ensures.told own in
+    let least = few (sizes_of c.board-board.result.now) c.look_at-self.result x c.board-board.result.now.room c.look_at-self.ensures.backed own in
     omega (arith, least)
 
 pub refill-requires : goal.refill-requires

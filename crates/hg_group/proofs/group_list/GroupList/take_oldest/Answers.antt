@@ -16,5 +16,5 @@ returns-clause-taken g c =
     let seat = c.take-held.result.1 in
     let is = in_hand z c.join_commit-mark.result v (commit_view seat) (part_in seat) u c.requires.own.1 c.take-held.ensures.seat.1 c.join_commit-mark.ensures.view in
     oldest z c.join_commit-mark.result v (commit_view seat) (part_in seat)
-    (subst (IsBacked z c.join_commit-mark.result) is c.join_commit-mark.ensures.told) c.requires.own.1 c.args.bound c.pop_below-context.result w (pass_view c.split_commit-seat.new.pass)
+    (subst (IsBacked z c.join_commit-mark.result) is c.join_commit-mark.ensures.backed) c.requires.own.1 c.args.bound c.pop_below-context.result w (pass_view c.split_commit-seat.new.pass)
     (subst (λ (x : View). PopsBelow x c.args.bound c.pop_below-context.result w) is c.pop_below-context.ensures.popped) c.split_commit-seat.ensures.view

@@ -3,9 +3,9 @@ use Rattle.hg_rule.specs.declared.view.Part.{Part}
 use Rattle.hg_rule.specs.Views.{seeing}
 use Rattle.hg_rule.specs.Seats.{table_of, view}
 use Rattle.hg_rule.specs.Moves.{run, first_of, left_tail, right_first}
-use Rattle.hg_rule.specs.New.{IsNew, Row}
+use Rattle.hg_rule.specs.New.{IsNew, EachFrom}
 use Rattle.hg_rule.proofs.Shifts.{deals}
-use Rattle.hg_rule.proofs.Opening.{drop_next, run_at, row_snoc}
+use Rattle.hg_rule.proofs.Opening.{drop_next, run_at, each_from_snoc}
 use Rattle.hg_rule.proofs.board.Board.deal.Goals as goal
 
 pub split_seat-seat-requires : goal.split_seat-seat-requires
@@ -34,7 +34,7 @@ loop-i-preserved g c =
       search rules,
       ap (λ z. z.0) did.2 ∙ (ap left_tail vi ∙ ap (λ (q : List Part). seeing q [] v.events) (drop_next i ps ∙ ap (λ (n : ℕ). drop n ps) up)),
       search rules,
-      subst (Row (λ i x. (g.T.Dealt.rest_is x ≡ g.T.Dealt.rest_for i) × IsNew t (g.T.Dealt.part i) (g.T.Dealt.seat_is x)) a) (sym pushed)
-          (row_snoc (λ i x. (g.T.Dealt.rest_is x ≡ g.T.Dealt.rest_for i) × IsNew t (g.T.Dealt.part i) (g.T.Dealt.seat_is x)) a c.loop-i.seats.items c.of.result c.loop-i.invariant.3
+      subst (EachFrom (λ i x. (g.T.Dealt.rest_is x ≡ g.T.Dealt.rest_for i) × IsNew t (g.T.Dealt.part i) (g.T.Dealt.seat_is x)) a) (sym pushed)
+          (each_from_snoc (λ i x. (g.T.Dealt.rest_is x ≡ g.T.Dealt.rest_for i) × IsNew t (g.T.Dealt.part i) (g.T.Dealt.seat_is x)) a c.loop-i.seats.items c.of.result c.loop-i.invariant.3
           (c.of.ensures.0 ∙ ap g.T.Dealt.rest_for (sym len), subst (λ n. IsNew t (g.T.Dealt.part n) (g.T.Dealt.seat_is c.of.result)) (sym len) at_last)),
     )

@@ -17,4 +17,4 @@ returns-clause-holds g c =
     holds_commit v (view c.args.seat.seat) u _ c.requires.own.1 c.requires.commit.1 is
 
 pub returns-clause-mark : goal.returns-clause-mark
-returns-clause-mark g c = history_held (sizes_of c.args.self.now) c.look_at.result (view (g.P.Pass.seat_of c.look_at.new.pass)) c.args.self.now.room c.look_at.ensures.told (returns-clause-holds g c)
+returns-clause-mark g c = history_held (sizes_of c.args.self.now) c.look_at.result (view (g.P.Pass.seat_of c.look_at.new.pass)) c.args.self.now.room c.look_at.ensures.backed (returns-clause-holds g c)

@@ -7,11 +7,11 @@ use Rattle.hg_rule.proofs.board.Board.know_all.Goals as goal
 pub returns-clause-steady : goal.returns-clause-steady
 returns-clause-steady g c =
     let v = view (g.P.Pass.seat_of c.args.pass.now) in
-    let b : IsBacked (sizes_of c.args.self.now) c.look_at.result v = subst (IsBacked (sizes_of c.args.self.now) c.look_at.result) c.look_at.ensures.stays c.look_at.ensures.told in
+    let b : IsBacked (sizes_of c.args.self.now) c.look_at.result v = subst (IsBacked (sizes_of c.args.self.now) c.look_at.result) c.look_at.ensures.stays c.look_at.ensures.backed in
     (owned (sizes_of c.args.self.now) c.look_at.result v b c.requires.all c.requires.rest).0
 
 pub returns-clause-mark : goal.returns-clause-mark
 returns-clause-mark g c =
     let v = view (g.P.Pass.seat_of c.args.pass.now) in
-    let b : IsBacked (sizes_of c.args.self.now) c.look_at.result v = subst (IsBacked (sizes_of c.args.self.now) c.look_at.result) c.look_at.ensures.stays c.look_at.ensures.told in
+    let b : IsBacked (sizes_of c.args.self.now) c.look_at.result v = subst (IsBacked (sizes_of c.args.self.now) c.look_at.result) c.look_at.ensures.stays c.look_at.ensures.backed in
     (owned (sizes_of c.args.self.now) c.look_at.result v b c.requires.all c.requires.rest).1

@@ -12,13 +12,13 @@ use Rattle.hg_rule.specs.Moves.{first_of, run, session_part, bucket_part, pass_p
 use Rattle.hg_rule.specs.Seats.{view}
 use Rattle.hg_rule.specs.declared.passes.SessionPass.{SessionPass}
 use Rattle.hg_rule.specs.declared.passes.BucketSeat.{BucketSeat}
-use Rattle.hg_rule.specs.New.{Row, IsNew, IsNewSession, IsNewBucket}
-use Rattle.hg_rule.proofs.Opening.{opens, run_past, row_map, passes_left, passes_dealt}
+use Rattle.hg_rule.specs.New.{EachFrom, IsNew, IsNewSession, IsNewBucket}
+use Rattle.hg_rule.proofs.Opening.{opens, run_past, each_from_map, passes_left, passes_dealt}
 use Rattle.hg_rule.proofs.board.Board.new.Goals as goal
 
 pub of_words-requires : goal.of_words-requires
 of_words-requires c =
-    let z : Sizes = record { sessions = c.args.sessions; tables = c.args.tables; buckets = c.args.buckets; each = c.args.each } in
+    let z : Sizes = record { sessions = c.args.sessions; tables = c.args.tables; buckets = c.args.buckets; quota = c.args.quota } in
     let e : c.as_slice.result.now ≡ replicate (c.args.sessions + 1) 0 = search rules in
     subst (λ (ws : List ℕ). Rule z (opening ws [] (first_view z))) (sym e) (opens z)
 
@@ -45,17 +45,17 @@ pub returns-clause-sessions : goal.returns-clause-sessions
 returns-clause-sessions c =
     let t = c.in_ok-table.table.shared.table_id in
     let e : c.from.result ≡ c.in_ok-passes.passes.items = search rules in
-    let all : Row (λ i (x : SessionPass). ((x.number, x.begun) ≡ (i, 0)) × IsNew t (session_part i) x.seat) 1 c.in_ok-passes.passes.items = c.in_ok-passes.ensures.dealt.1 in
-    subst (λ l. (length l ≡ c.args.sessions) × Row (IsNewSession t) 1 l) (sym e)
-    (c.in_ok-passes.ensures.dealt.0, row_map _ (IsNewSession t) (λ i x h. (ap (λ y. y.0) h.0, ap (λ y. y.1) h.0, h.1)) 1 c.in_ok-passes.passes.items all)
+    let all : EachFrom (λ i (x : SessionPass). ((x.number, x.begun) ≡ (i, 0)) × IsNew t (session_part i) x.seat) 1 c.in_ok-passes.passes.items = c.in_ok-passes.ensures.dealt.1 in
+    subst (λ l. (length l ≡ c.args.sessions) × EachFrom (IsNewSession t) 1 l) (sym e)
+    (c.in_ok-passes.ensures.dealt.0, each_from_map _ (IsNewSession t) (λ i x h. (ap (λ y. y.0) h.0, ap (λ y. y.1) h.0, h.1)) 1 c.in_ok-passes.passes.items all)
 
 pub returns-clause-buckets : goal.returns-clause-buckets
 returns-clause-buckets c =
     let t = c.in_ok-table.table.shared.table_id in
     let e : c.from-2.result ≡ c.in_ok-seats.seats.items = search rules in
-    let all : Row (λ i (x : BucketSeat). ((x.number, 0) ≡ (i, 0)) × IsNew t (bucket_part i) x.seat) 0 c.in_ok-seats.seats.items = c.in_ok-seats.ensures.dealt.1 in
-    subst (λ l. (length l ≡ c.args.buckets) × Row (IsNewBucket t) 0 l) (sym e)
-    (c.in_ok-seats.ensures.dealt.0, row_map _ (IsNewBucket t) (λ i x h. (ap (λ y. y.0) h.0, h.1)) 0 c.in_ok-seats.seats.items all)
+    let all : EachFrom (λ i (x : BucketSeat). ((x.number, 0) ≡ (i, 0)) × IsNew t (bucket_part i) x.seat) 0 c.in_ok-seats.seats.items = c.in_ok-seats.ensures.dealt.1 in
+    subst (λ l. (length l ≡ c.args.buckets) × EachFrom (IsNewBucket t) 0 l) (sym e)
+    (c.in_ok-seats.ensures.dealt.0, each_from_map _ (IsNewBucket t) (λ i x h. (ap (λ y. y.0) h.0, h.1)) 0 c.in_ok-seats.seats.items all)
 
 pub returns-clause-commit : goal.returns-clause-commit
 returns-clause-commit c =

@@ -22,8 +22,8 @@ returns-clause-step c =
     let a = awaits (session_view c.args.pass.now) (tx_view c.args.seat) (view c.join_seat.new.seat) c.args.seat.number c.requires.own.3 c.requires.tx.0.1 (c.requires.tx.1 ∙ sym c.requires.own.1.0) (search rules) in
     (resumed (session_view c.args.pass.now) (tx_view c.args.seat) (view c.join_seat.new.seat) (view c.load.new.seat) a (search rules)).0
 
-pub returns-clause-told : goal.returns-clause-told
-returns-clause-told c =
+pub returns-clause-back : goal.returns-clause-back
+returns-clause-back c =
     let a = awaits (session_view c.args.pass.now) (tx_view c.args.seat) (view c.join_seat.new.seat) c.args.seat.number c.requires.own.3 c.requires.tx.0.1 (c.requires.tx.1 ∙ sym c.requires.own.1.0) (search rules) in
     (resumed (session_view c.args.pass.now) (tx_view c.args.seat) (view c.join_seat.new.seat) (view c.load.new.seat) a (search rules)).1
 
@@ -33,7 +33,7 @@ returns-clause-own c =
     let w = tx_view c.args.seat in
     let x = view c.load.new.seat in
     let is : x ≡ resuming v w = returns-clause-step c in
-    let back = returns-clause-told c in
+    let back = returns-clause-back c in
     let n : number x ≡ number v = ap number is in
     let part : session x ≡ session w = ap session is in (
       (

@@ -3,8 +3,8 @@ use Rattle.hg_rule.specs.Moves.{joined}
 use Rattle.hg_rule.proofs.Agreements.{met, met_session}
 use Rattle.hg_rule.proofs.passes.CollectorPass.meet.Goals as goal
 
-pub returns-clause-told : goal.returns-clause-told
-returns-clause-told c = met (sizes_of c.args.board.now) c.meet.result (joined (pass_view c.args.self.now) (session_view c.args.other.now)) c.meet.ensures.told
+pub returns-clause-backed : goal.returns-clause-backed
+returns-clause-backed c = met (sizes_of c.args.board.now) c.meet.result (joined (pass_view c.args.self.now) (session_view c.args.other.now)) c.meet.ensures.backed
 
 pub returns-clause-agrees : goal.returns-clause-agrees
-returns-clause-agrees c = met_session (sizes_of c.args.board.now) (pass_view c.args.self.now) (session_view c.args.other.now) (returns-clause-told c) c.requires.only
+returns-clause-agrees c = met_session (sizes_of c.args.board.now) (pass_view c.args.self.now) (session_view c.args.other.now) (returns-clause-backed c) c.requires.only

@@ -2,5 +2,5 @@ use Rattle.hg_rule.specs.Seats.{sizes_of, pass_view}
 use Rattle.hg_rule.proofs.Agreements.{met}
 use Rattle.hg_rule.proofs.passes.SessionPass.finish.Goals as goal
 
-pub returns-clause-told : goal.returns-clause-told
-returns-clause-told c = met (sizes_of c.args.board.now) c.take_in.result (pass_view c.take_in.new.pass) c.take_in.ensures.told
+pub returns-clause-backed : goal.returns-clause-backed
+returns-clause-backed c = met (sizes_of c.args.board.now) c.take_in.result (pass_view c.take_in.new.pass) c.take_in.ensures.backed

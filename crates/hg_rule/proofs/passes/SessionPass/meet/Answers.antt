@@ -3,5 +3,5 @@ use Rattle.hg_rule.specs.Moves.{joined}
 use Rattle.hg_rule.proofs.Agreements.{met}
 use Rattle.hg_rule.proofs.passes.SessionPass.meet.Goals as goal
 
-pub returns-clause-told : goal.returns-clause-told
-returns-clause-told c = met (sizes_of c.args.board.now) c.meet.result (joined (session_view c.args.self.now) (session_view c.args.other.now)) c.meet.ensures.told
+pub returns-clause-backed : goal.returns-clause-backed
+returns-clause-backed c = met (sizes_of c.args.board.now) c.meet.result (joined (session_view c.args.self.now) (session_view c.args.other.now)) c.meet.ensures.backed

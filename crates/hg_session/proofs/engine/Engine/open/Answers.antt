@@ -1,7 +1,7 @@
 use Rattle.std.proofs.Common.{◌≡◌, length, sym, ap, ◌∙◌, subst, arith}
 use Rattle.hg_rule.specs.declared.board.Board.{Board}
 use Rattle.hg_rule.specs.declared.view.Sizes.{Sizes}
-use Rattle.hg_rule.specs.New.{Row, IsNewSession}
+use Rattle.hg_rule.specs.New.{EachFrom, IsNewSession}
 use Rattle.hg_rule.specs.Seats.{table_of, sizes_of}
 use Rattle.hg_tracker.specs.Boards.{board_of}
 use Rattle.hg_session.proofs.Seating.{opened_row}
@@ -12,9 +12,9 @@ returns-clause-sessions c =
     let board = c.in_ok-board.board in
     let ps = c.into_vec.result.items in
     let same : board_of c.new-4.result ≡ board = c.new-4.ensures in
-    let sizes : sizes_of (board_of c.new-4.result) ≡ record { sessions = c.args.sessions; tables = length c.args.tables.now; buckets = c.args.buckets; each = c.args.each } = ap sizes_of same ∙ c.in_ok-board.ensures.sizes in
-    let row : Row (IsNewSession (table_of (board_of c.new-4.result))) 1 ps = subst (λ (b : Board). Row (IsNewSession (table_of b)) 1 ps) (sym same) (subst (Row (IsNewSession (table_of board)) 1) (sym c.into_vec.ensures) c.in_ok-board.ensures.sessions.1) in
+    let sizes : sizes_of (board_of c.new-4.result) ≡ record { sessions = c.args.sessions; tables = length c.args.tables.now; buckets = c.args.buckets; quota = c.args.quota } = ap sizes_of same ∙ c.in_ok-board.ensures.sizes in
+    let row : EachFrom (IsNewSession (table_of (board_of c.new-4.result))) 1 ps = subst (λ (b : Board). EachFrom (IsNewSession (table_of b)) 1 ps) (sym same) (subst (EachFrom (IsNewSession (table_of board)) 1) (sym c.into_vec.ensures) c.in_ok-board.ensures.sessions.1) in
     let count : length ps ≡ c.args.sessions = ap length c.into_vec.ensures ∙ c.in_ok-board.ensures.sessions.0 in
-    let each : (sizes_of (board_of c.new-4.result)).each ≡ c.args.each = ap (λ (z : Sizes). z.each) sizes in
+    let quota : (sizes_of (board_of c.new-4.result)).quota ≡ c.args.quota = ap (λ (z : Sizes). z.quota) sizes in
     let sessions : (sizes_of (board_of c.new-4.result)).sessions ≡ c.args.sessions = ap (λ (z : Sizes). z.sessions) sizes in
-    opened_row _ c.args.alloc c.args.each ps _ (c.from.ensures ∙ c.in_ok-sessions.ensures) (omega (arith, each)) (omega (arith, count, sessions)) row
+    opened_row _ c.args.alloc c.args.quota ps _ (c.from.ensures ∙ c.in_ok-sessions.ensures) (omega (arith, quota)) (omega (arith, count, sessions)) row

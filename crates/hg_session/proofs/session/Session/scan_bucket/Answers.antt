@@ -27,8 +27,8 @@ returns-clause-sees g c =
     let by = writer_beside (number v) b (session v) v.sights u c.writer-by.result h c.writer-by.ensures.session c.writer-by.ensures.transaction in
     let live : c.args.snapshot.at ≡ loaded_in (session v).phase = search rules in
     let at = live ∙ sym (snapshot_beside (number v) b (session v) v.sights u h) in
-    let told = subst (λ e. IsBacked (sizes_of e) c.take-held.ensures.told.0 u) c.board-board.ensures c.take-held.ensures.told.1 in
-    let own = held_own z c.take-held.ensures.told.0 b u told (subst (λ m. HoldsBucket m u) c.take-held.ensures.held.1 c.take-held.ensures.holds.has) in
+    let backed = subst (λ e. IsBacked (sizes_of e) c.take-held.ensures.backed.0 u) c.board-board.ensures c.take-held.ensures.backed.1 in
+    let own = held_own z c.take-held.ensures.backed.0 b u backed (subst (λ m. HoldsBucket m u) c.take-held.ensures.held.1 c.take-held.ensures.holds.has) in
     let t = trip_saw z.buckets (number v) b c.see.ensures.step.0 (session v) v.sights c.args.range.table c.args.range.low c.args.range.high u w h k x c.give.ensures.view in
     sees z.buckets (number v) b c.see.ensures.step.0 (session v) v.sights c.args.range.table c.args.range.low c.args.range.high u w h k v x c.writer-by.result c.args.snapshot.at c.args.rows.now.items c.push_rows-pushed.new.rows.items c.push_rows-pushed.result own by at
     (c.push_rows-pushed.ensures u c.take-held.ensures.holds own)

@@ -1,6 +1,6 @@
 use Rattle.std.proofs.Common.{refl}
 use Rattle.hg_base.specs.declared.report.Kind.TheVariants.{Table}
-use Rattle.hg_bucket.specs.Held.{cut_at}
+use Rattle.hg_bucket.specs.BucketModel.{cut_at}
 use Rattle.hg_rule.specs.Facts.{record_of}
 use Rattle.hg_rule.specs.Views.{pass}
 use Rattle.hg_rule.specs.Seats.{pass_view}

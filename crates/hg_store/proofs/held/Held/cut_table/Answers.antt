@@ -2,9 +2,9 @@ use Rattle.std.proofs.Common.{◌≡◌, ◌+◌, ◌-◌, ◌<◌, ◌≤◌, l
 use Rattle.hg_base.specs.declared.report.Kind.TheVariants.{Table}
 use Rattle.hg_core.specs.Clean.{IsCutAt}
 use Rattle.hg_core.specs.Passes.{IsWhole, table_bound}
-use Rattle.hg_bucket.specs.Held.{cut_at, record_at, Held as Records}
+use Rattle.hg_bucket.specs.BucketModel.{cut_at, record_at, BucketModel}
 use Rattle.hg_bucket.specs.Long.{AreLong}
-use Rattle.hg_bucket.specs.Held.{long_keys}
+use Rattle.hg_bucket.specs.BucketModel.{long_keys}
 use Rattle.hg_bucket.proofs.Rounds.{Leads, leads_first, leads_within, leads_key, leads_on}
 use Rattle.hg_rule.specs.Facts.{record_of}
 use Rattle.hg_rule.specs.Rules.{IsBacked}
@@ -23,8 +23,8 @@ loop-left-init c =
     let keys = long_keys (held_records h) t in
     let v = pass_view c.args.pass.now in
     let d = does_table t (record_of (pass v)) c.args.bound c.requires.bound in
-    let long = subst (λ (b : Records). AreLong (long_keys b t) t b.records) c.deref.ensures c.long_count-left.ensures.whole in
-    let many = subst (λ (b : Records). c.long_count-left.result ≡ length (long_keys b t)) c.deref.ensures c.long_count-left.ensures.count in
+    let long = subst (λ (b : BucketModel). AreLong (long_keys b t) t b.records) c.deref.ensures c.long_count-left.ensures.whole in
+    let many = subst (λ (b : BucketModel). c.long_count-left.result ≡ length (long_keys b t)) c.deref.ensures c.long_count-left.ensures.count in
     let round = round_begins Table (cut_at c.args.bound) t keys v h c.requires.holds d long in (
       subst (λ n. Rounds Table t keys v (pass_view c.look_at.new.pass) n 0) (sym many) (subst (λ w. Rounds Table t keys v w (length keys) 0) (sym c.look_at.ensures.stays) round),
       subst (λ w. Holds w h) (sym c.look_at.ensures.stays) c.requires.holds,
@@ -38,7 +38,7 @@ pub long_key-key-requires : goal.long_key-key-requires
 long_key-key-requires c =
     let left = c.loop-left.left in
     let within = leads_within left (left - 1) (long_keys (held_records c.loop-left.self) c.args.table) (long_keys (held_records c.args.self.now) c.args.table) c.loop-left.invariant.5 (omega arith) in
-    subst (λ (b : Records). left - 1 < length (long_keys b c.args.table)) (sym c.deref-in-loop-left.ensures) within
+    subst (λ (b : BucketModel). left - 1 < length (long_keys b c.args.table)) (sym c.deref-in-loop-left.ensures) within
 
 pub cut_one-gone-requires-clause-whole : goal.cut_one-gone-requires-clause-whole
 cut_one-gone-requires-clause-whole c =
@@ -55,11 +55,11 @@ cut_one-gone-requires-clause-here c =
     let left = c.loop-left.left in
     let l = left - 1 in
     let k = c.long_key-key.result in
-    let told = subst (IsBacked z c.look_at.result) c.look_at.ensures.stays c.look_at.ensures.told in
-    let long = subst (λ (b : Records). AreLong (long_keys b t) t b.records) c.deref.ensures c.long_count-left.ensures.whole in
-    let stands = subst (λ (b : Records). slice_get (long_keys b t) l ≡ Some k) c.deref-in-loop-left.ensures c.long_key-key.ensures in
+    let backed = subst (IsBacked z c.look_at.result) c.look_at.ensures.stays c.look_at.ensures.backed in
+    let long = subst (λ (b : BucketModel). AreLong (long_keys b t) t b.records) c.deref.ensures c.long_count-left.ensures.whole in
+    let stands = subst (λ (b : BucketModel). slice_get (long_keys b t) l ≡ Some k) c.deref-in-loop-left.ensures c.long_key-key.ensures in
     let there = leads_key left l k (long_keys (held_records c.loop-left.self) t) keys c.loop-left.invariant.5 (omega arith) stands in
-    key_here z c.look_at.result t keys v h l k told c.requires.holds long there ∙ sym c.loop-left.invariant.4
+    key_here z c.look_at.result t keys v h l k backed c.requires.holds long there ∙ sym c.loop-left.invariant.4
 
 pub cut_one-gone-requires-clause-bound : goal.cut_one-gone-requires-clause-bound
 cut_one-gone-requires-clause-bound c =
@@ -70,8 +70,8 @@ pub overflow_add-gone : goal.overflow_add-gone
 overflow_add-gone c =
     let z = sizes_of c.args.board.now in
     let v = pass_view c.args.pass.now in
-    let told = subst (IsBacked z c.look_at.result) c.look_at.ensures.stays c.look_at.ensures.told in
-    let most = gone_fits z c.look_at.result Table v (pass_view c.loop-left.pass) (pass_view c.cut_one-gone.new.pass) c.args.self.now (record_at c.args.table c.long_key-key.result) c.loop-left.gone told c.requires.holds c.loop-left.invariant.0.counts c.cut_one-gone.ensures.step in
+    let backed = subst (IsBacked z c.look_at.result) c.look_at.ensures.stays c.look_at.ensures.backed in
+    let most = gone_fits z c.look_at.result Table v (pass_view c.loop-left.pass) (pass_view c.cut_one-gone.new.pass) c.args.self.now (record_at c.args.table c.long_key-key.result) c.loop-left.gone backed c.requires.holds c.loop-left.invariant.0.counts c.cut_one-gone.ensures.step in
     omega (arith, most, c.cut_one-gone.ensures.gone, c.args.board.now.room.begins)
 
 pub loop-left-preserved : goal.loop-left-preserved
@@ -83,8 +83,8 @@ loop-left-preserved c =
     let left = c.loop-left.left in
     let l = left - 1 in
     let k = c.long_key-key.result in
-    let long = subst (λ (b : Records). AreLong (long_keys b t) t b.records) c.deref.ensures c.long_count-left.ensures.whole in
-    let stands = subst (λ (b : Records). slice_get (long_keys b t) l ≡ Some k) c.deref-in-loop-left.ensures c.long_key-key.ensures in
+    let long = subst (λ (b : BucketModel). AreLong (long_keys b t) t b.records) c.deref.ensures c.long_count-left.ensures.whole in
+    let stands = subst (λ (b : BucketModel). slice_get (long_keys b t) l ≡ Some k) c.deref-in-loop-left.ensures c.long_key-key.ensures in
     let there = leads_key left l k (long_keys (held_records c.loop-left.self) t) keys c.loop-left.invariant.5 (omega arith) stands in
     let w = pass_view c.loop-left.pass in
     let x = pass_view c.cut_one-gone.new.pass in

@@ -1,6 +1,6 @@
 use Rattle.std.proofs.Common.{◌≡◌}
 use Rattle.hg_base.specs.declared.report.Kind.TheVariants.{Table}
-use Rattle.hg_bucket.specs.Held.{long_keys}
+use Rattle.hg_bucket.specs.BucketModel.{long_keys}
 use Rattle.hg_bucket.proofs.Rounds.{Leads}
 use Rattle.hg_rule.specs.Seats.{table_of, pass_view, IsPassOf}
 use Rattle.hg_store.specs.Stores.{held_table, held_number, held_records, Holds}

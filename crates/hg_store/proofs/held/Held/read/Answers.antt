@@ -1,7 +1,7 @@
 use Rattle.std.proofs.Common.{ap, ◌∙◌}
 use Rattle.std.specs.Prelude.{unwrap_or}
 use Rattle.hg_base.specs.History.{nothing}
-use Rattle.hg_bucket.specs.Held.{read_at}
+use Rattle.hg_bucket.specs.BucketModel.{read_at}
 use Rattle.hg_rule.specs.Holding.{held}
 use Rattle.hg_store.proofs.Seeing.{read_kept}
 use Rattle.hg_store.proofs.Boxing.{boxed_holds}

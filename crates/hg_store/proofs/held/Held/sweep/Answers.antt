@@ -3,9 +3,9 @@ use Rattle.std.proofs.Math.Seq.{take-length}
 use Rattle.hg_base.specs.declared.report.Kind.TheVariants.{Interval}
 use Rattle.hg_core.specs.Clean.{IsClean}
 use Rattle.hg_core.specs.Passes.{IsWhole, horizon, recorded}
-use Rattle.hg_bucket.specs.Held.{record_at, versions_of, Held as Records}
+use Rattle.hg_bucket.specs.BucketModel.{record_at, versions_of, BucketModel}
 use Rattle.hg_bucket.specs.Long.{AreLong}
-use Rattle.hg_bucket.specs.Held.{long_keys}
+use Rattle.hg_bucket.specs.BucketModel.{long_keys}
 use Rattle.hg_bucket.specs.Sweeping.{swept, sweep_steps}
 use Rattle.hg_bucket.proofs.Costing.{cost_of}
 use Rattle.hg_bucket.proofs.Paying.{keys_cost, all_keys_paid, key_paid}
@@ -28,8 +28,8 @@ loop-left-init g c =
     let keys = long_keys (held_records h) t in
     let v = pass_view c.args.pass.now in
     let d = does_interval t (record_of (pass v)) c.args.horizon c.args.snapshots.now c.requires.horizon c.requires.snapshots in
-    let long = subst (λ (b : Records). AreLong (long_keys b t) t b.records) c.deref.ensures c.long_count-left.ensures.whole in
-    let many = subst (λ (b : Records). c.long_count-left.result ≡ length (long_keys b t)) c.deref.ensures c.long_count-left.ensures.count in
+    let long = subst (λ (b : BucketModel). AreLong (long_keys b t) t b.records) c.deref.ensures c.long_count-left.ensures.whole in
+    let many = subst (λ (b : BucketModel). c.long_count-left.result ≡ length (long_keys b t)) c.deref.ensures c.long_count-left.ensures.count in
     let round = round_begins Interval (swept c.args.horizon c.args.snapshots.now) t keys v h c.requires.holds d long in (
       subst (λ n. Rounds Interval t keys v (pass_view c.look_at.new.pass) n 0) (sym many) (subst (λ w. Rounds Interval t keys v w (length keys) 0) (sym c.look_at.ensures.stays) round),
       subst (λ w. Holds w h) (sym c.look_at.ensures.stays) c.requires.holds,
@@ -44,7 +44,7 @@ pub long_key-key-requires : goal.long_key-key-requires
 long_key-key-requires g c =
     let left = c.loop-left.left in
     let within = leads_within left (left - 1) (long_keys (held_records c.loop-left.self) c.args.table) (long_keys (held_records c.args.self.now) c.args.table) c.loop-left.invariant.5 (omega arith) in
-    subst (λ (b : Records). left - 1 < length (long_keys b c.args.table)) (sym c.deref-in-loop-left.ensures) within
+    subst (λ (b : BucketModel). left - 1 < length (long_keys b c.args.table)) (sym c.deref-in-loop-left.ensures) within
 
 pub sweep_one-gone-requires-clause-whole : goal.sweep_one-gone-requires-clause-whole
 sweep_one-gone-requires-clause-whole g c =
@@ -61,11 +61,11 @@ sweep_one-gone-requires-clause-here g c =
     let left = c.loop-left.left in
     let l = left - 1 in
     let k = c.long_key-key.result in
-    let told = subst (IsBacked z c.look_at.result) c.look_at.ensures.stays c.look_at.ensures.told in
-    let long = subst (λ (b : Records). AreLong (long_keys b t) t b.records) c.deref.ensures c.long_count-left.ensures.whole in
-    let stands = subst (λ (b : Records). slice_get (long_keys b t) l ≡ Some k) c.deref-in-loop-left.ensures c.long_key-key.ensures in
+    let backed = subst (IsBacked z c.look_at.result) c.look_at.ensures.stays c.look_at.ensures.backed in
+    let long = subst (λ (b : BucketModel). AreLong (long_keys b t) t b.records) c.deref.ensures c.long_count-left.ensures.whole in
+    let stands = subst (λ (b : BucketModel). slice_get (long_keys b t) l ≡ Some k) c.deref-in-loop-left.ensures c.long_key-key.ensures in
     let there = leads_key left l k (long_keys (held_records c.loop-left.self) t) keys c.loop-left.invariant.5 (omega arith) stands in
-    key_here z c.look_at.result t keys v h l k told c.requires.holds long there ∙ sym c.loop-left.invariant.4
+    key_here z c.look_at.result t keys v h l k backed c.requires.holds long there ∙ sym c.loop-left.invariant.4
 
 pub sweep_one-gone-requires-clause-horizon : goal.sweep_one-gone-requires-clause-horizon
 sweep_one-gone-requires-clause-horizon g c =
@@ -81,8 +81,8 @@ pub overflow_add-gone : goal.overflow_add-gone
 overflow_add-gone g c =
     let z = sizes_of c.args.board.now in
     let v = pass_view c.args.pass.now in
-    let told = subst (IsBacked z c.look_at.result) c.look_at.ensures.stays c.look_at.ensures.told in
-    let most = gone_fits z c.look_at.result Interval v (pass_view c.loop-left.pass) (pass_view c.sweep_one-gone.new.pass) c.args.self.now (record_at c.args.table c.long_key-key.result) c.loop-left.gone told c.requires.holds c.loop-left.invariant.0.counts c.sweep_one-gone.ensures.step in
+    let backed = subst (IsBacked z c.look_at.result) c.look_at.ensures.stays c.look_at.ensures.backed in
+    let most = gone_fits z c.look_at.result Interval v (pass_view c.loop-left.pass) (pass_view c.sweep_one-gone.new.pass) c.args.self.now (record_at c.args.table c.long_key-key.result) c.loop-left.gone backed c.requires.holds c.loop-left.invariant.0.counts c.sweep_one-gone.ensures.step in
     omega (arith, most, c.sweep_one-gone.ensures.gone, c.args.board.now.room.begins)
 
 pub loop-left-preserved : goal.loop-left-preserved
@@ -94,8 +94,8 @@ loop-left-preserved g c =
     let left = c.loop-left.left in
     let l = left - 1 in
     let k = c.long_key-key.result in
-    let long = subst (λ (b : Records). AreLong (long_keys b t) t b.records) c.deref.ensures c.long_count-left.ensures.whole in
-    let stands = subst (λ (b : Records). slice_get (long_keys b t) l ≡ Some k) c.deref-in-loop-left.ensures c.long_key-key.ensures in
+    let long = subst (λ (b : BucketModel). AreLong (long_keys b t) t b.records) c.deref.ensures c.long_count-left.ensures.whole in
+    let stands = subst (λ (b : BucketModel). slice_get (long_keys b t) l ≡ Some k) c.deref-in-loop-left.ensures c.long_key-key.ensures in
     let there = leads_key left l k (long_keys (held_records c.loop-left.self) t) keys c.loop-left.invariant.5 (omega arith) stands in
     let w = pass_view c.loop-left.pass in
     let x = pass_view c.sweep_one-gone.new.pass in

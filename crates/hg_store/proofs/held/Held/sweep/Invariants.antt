@@ -1,6 +1,6 @@
 use Rattle.std.proofs.Common.{◌≡◌, ◌+◌, ◌≤◌, length, take}
 use Rattle.hg_base.specs.declared.report.Kind.TheVariants.{Interval}
-use Rattle.hg_bucket.specs.Held.{long_keys}
+use Rattle.hg_bucket.specs.BucketModel.{long_keys}
 use Rattle.hg_bucket.specs.Sweeping.{sweep_steps}
 use Rattle.hg_bucket.proofs.Paying.{keys_cost}
 use Rattle.hg_bucket.proofs.Rounds.{Leads}

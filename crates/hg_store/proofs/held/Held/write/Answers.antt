@@ -3,7 +3,7 @@ use Rattle.std.specs.Prelude.{not, IfOk, IfErr, IfSome, OnOk, OnErr, if◌then�
 use Rattle.hg_base.specs.declared.writer.Writer.{Writer}
 use Rattle.hg_bucket.specs.declared.refusal.WriteRefusal.TheVariants.{Newer}
 use Rattle.hg_bucket.specs.Conflicts.{holder, newer, IsCause, open_by}
-use Rattle.hg_bucket.specs.Held.{Held as Records, versions_of, installed, begins_open}
+use Rattle.hg_bucket.specs.BucketModel.{BucketModel, versions_of, installed, begins_open}
 use Rattle.hg_rule.specs.Seats.{session_view, sizes_of}
 use Rattle.hg_rule.specs.Holding.{writer, snapshot, held}
 use Rattle.hg_rule.specs.Writes.{Installs}
@@ -19,8 +19,8 @@ use Rattle.hg_store.proofs.held.Held.write.Goals as goal
 
 pub write-requires : goal.write-requires
 write-requires c =
-    let d = decided (sizes_of c.args.board.now) c.look-mark.result (session_view c.args.pass.now) (session_view c.look-mark.new.pass) c.args.self.now c.args.rid c.requires.holds c.look-mark.ensures.step c.look-mark.ensures.told c.requires.here c.requires.unstamped c.requires.live in
-    omega (arith, ap (λ (b : Records). b.made) c.deref_mut.ensures.value, d.made c.requires.own.2 c.requires.room, c.requires.holds.keeps.made, c.args.board.now.room.begins)
+    let d = decided (sizes_of c.args.board.now) c.look-mark.result (session_view c.args.pass.now) (session_view c.look-mark.new.pass) c.args.self.now c.args.rid c.requires.holds c.look-mark.ensures.step c.look-mark.ensures.backed c.requires.here c.requires.unstamped c.requires.live in
+    omega (arith, ap (λ (b : BucketModel). b.made) c.deref_mut.ensures.value, d.made c.requires.own.2 c.requires.room, c.requires.holds.keeps.made, c.args.board.now.room.begins)
 
 pub returns-in_err-added-clause-step : goal.returns-in_err-added-clause-step
 returns-in_err-added-clause-step c =
@@ -29,7 +29,7 @@ returns-in_err-added-clause-step c =
     let w = session_view c.look-mark.new.pass in
     let r = c.args.rid in
     let ks = versions_of c.deref_mut.result.now.records r in
-    let d = decided (sizes_of c.args.board.now) n v w (boxed c.args.self.now c.deref_mut.result.now) r (boxed_holds c.args.self.now c.deref_mut.result.now c.deref_mut.ensures.value c.requires.holds) c.look-mark.ensures.step c.look-mark.ensures.told c.requires.here c.requires.unstamped c.requires.live in
+    let d = decided (sizes_of c.args.board.now) n v w (boxed c.args.self.now c.deref_mut.result.now) r (boxed_holds c.args.self.now c.deref_mut.result.now c.deref_mut.ensures.value c.requires.holds) c.look-mark.ensures.step c.look-mark.ensures.backed c.requires.here c.requires.unstamped c.requires.live in
     let same : c.from_residual.result ≡ Err c.in_err-added.field-0.0 = search rules in
     let told = refusal_told (sizes_of c.args.board.now) n v (boxed c.args.self.now c.deref_mut.result.now) r c.write.result (boxed_holds c.args.self.now c.deref_mut.result.now c.deref_mut.ensures.value c.requires.holds) d
     (subst (λ (b : Writer). IfSome (holder b n ks) (λ x. c.write.result ≡ Err (open_by x))) c.requires.by c.write.ensures.open)
@@ -50,7 +50,7 @@ install-requires-clause-free c =
     let w = session_view c.look-mark.new.pass in
     let r = c.args.rid in
     let ks = versions_of c.deref_mut.result.now.records r in
-    let d = decided (sizes_of c.args.board.now) n v w (boxed c.args.self.now c.deref_mut.result.now) r (boxed_holds c.args.self.now c.deref_mut.result.now c.deref_mut.ensures.value c.requires.holds) c.look-mark.ensures.step c.look-mark.ensures.told c.requires.here c.requires.unstamped c.requires.live in
+    let d = decided (sizes_of c.args.board.now) n v w (boxed c.args.self.now c.deref_mut.result.now) r (boxed_holds c.args.self.now c.deref_mut.result.now c.deref_mut.ensures.value c.requires.holds) c.look-mark.ensures.step c.look-mark.ensures.backed c.requires.here c.requires.unstamped c.requires.live in
     let told = refusal_told (sizes_of c.args.board.now) n v (boxed c.args.self.now c.deref_mut.result.now) r c.write.result (boxed_holds c.args.self.now c.deref_mut.result.now c.deref_mut.ensures.value c.requires.holds) d
     (subst (λ (b : Writer). IfSome (holder b n ks) (λ x. c.write.result ≡ Err (open_by x))) c.requires.by c.write.ensures.open)
     (subst (λ (b : Writer). holder b n ks ≡ None → IfSome (newer (snapshot v) ks) (λ m. c.write.result ≡ Err (Newer m))) c.requires.by (subst (λ s. holder c.args.by n ks ≡ None → IfSome (newer s ks) (λ m. c.write.result ≡ Err (Newer m))) c.requires.snapshot c.write.ensures.newer)) in
@@ -65,7 +65,7 @@ returns-clause-holds c =
     let old = c.deref_mut.result.now in
     let new = c.write.new.self in
     let ks = versions_of old.records r in
-    let d = decided (sizes_of c.args.board.now) n v w (boxed c.args.self.now c.deref_mut.result.now) r (boxed_holds c.args.self.now c.deref_mut.result.now c.deref_mut.ensures.value c.requires.holds) c.look-mark.ensures.step c.look-mark.ensures.told c.requires.here c.requires.unstamped c.requires.live in
+    let d = decided (sizes_of c.args.board.now) n v w (boxed c.args.self.now c.deref_mut.result.now) r (boxed_holds c.args.self.now c.deref_mut.result.now c.deref_mut.ensures.value c.requires.holds) c.look-mark.ensures.step c.look-mark.ensures.backed c.requires.here c.requires.unstamped c.requires.live in
     let told = refusal_told (sizes_of c.args.board.now) n v (boxed c.args.self.now c.deref_mut.result.now) r c.write.result (boxed_holds c.args.self.now c.deref_mut.result.now c.deref_mut.ensures.value c.requires.holds) d
     (subst (λ (b : Writer). IfSome (holder b n ks) (λ x. c.write.result ≡ Err (open_by x))) c.requires.by c.write.ensures.open)
     (subst (λ (b : Writer). holder b n ks ≡ None → IfSome (newer (snapshot v) ks) (λ m. c.write.result ≡ Err (Newer m))) c.requires.by (subst (λ s. holder c.args.by n ks ≡ None → IfSome (newer s ks) (λ m. c.write.result ≡ Err (Newer m))) c.requires.snapshot c.write.ensures.newer)) in
@@ -89,9 +89,9 @@ returns-in_err-added-clause-owner c =
     let w = session_view c.look-mark.new.pass in
     let r = c.args.rid in
     let ks = versions_of c.deref_mut.result.now.records r in
-    let d = decided (sizes_of c.args.board.now) n v w (boxed c.args.self.now c.deref_mut.result.now) r (boxed_holds c.args.self.now c.deref_mut.result.now c.deref_mut.ensures.value c.requires.holds) c.look-mark.ensures.step c.look-mark.ensures.told c.requires.here c.requires.unstamped c.requires.live in
+    let d = decided (sizes_of c.args.board.now) n v w (boxed c.args.self.now c.deref_mut.result.now) r (boxed_holds c.args.self.now c.deref_mut.result.now c.deref_mut.ensures.value c.requires.holds) c.look-mark.ensures.step c.look-mark.ensures.backed c.requires.here c.requires.unstamped c.requires.live in
     let same : c.from_residual.result ≡ Err c.in_err-added.field-0.0 = search rules in
-    owner_told (sizes_of c.args.board.now) n v w (boxed c.args.self.now c.deref_mut.result.now) r (boxed_holds c.args.self.now c.deref_mut.result.now c.deref_mut.ensures.value c.requires.holds) c.look-mark.ensures.step c.look-mark.ensures.told c.look-mark.ensures.own.3 c.requires.here c.write.result c.from_residual.result c.in_err-added.field-0.0 d c.in_err-added.was same
+    owner_told (sizes_of c.args.board.now) n v w (boxed c.args.self.now c.deref_mut.result.now) r (boxed_holds c.args.self.now c.deref_mut.result.now c.deref_mut.ensures.value c.requires.holds) c.look-mark.ensures.step c.look-mark.ensures.backed c.look-mark.ensures.own.3 c.requires.here c.write.result c.from_residual.result c.in_err-added.field-0.0 d c.in_err-added.was same
     (subst (λ (b : Writer). IfErr c.write.result (IsCause b (snapshot v) n ks)) c.requires.by (subst (λ s. IfErr c.write.result (IsCause c.args.by s n ks)) c.requires.snapshot c.write.ensures.cause))
 
 pub returns-clause-added : goal.returns-clause-added
@@ -101,4 +101,4 @@ returns-clause-added c =
     let r = c.args.rid in
     let ks = versions_of c.deref_mut.result.now.records r in
     let told = subst (λ o. IfOk o (λ added. added ≡ not (begins_open c.args.by ks))) c.in_ok-added.was c.write.ensures.added in
-    told ∙ ap not (ap (λ b. begins_open b ks) c.requires.by ∙ open_logged (sizes_of c.args.board.now) c.look-mark.result v w (boxed c.args.self.now c.deref_mut.result.now) r (boxed_holds c.args.self.now c.deref_mut.result.now c.deref_mut.ensures.value c.requires.holds) c.look-mark.ensures.step c.look-mark.ensures.told c.look-mark.ensures.own.3 c.requires.here c.requires.unstamped)
+    told ∙ ap not (ap (λ b. begins_open b ks) c.requires.by ∙ open_logged (sizes_of c.args.board.now) c.look-mark.result v w (boxed c.args.self.now c.deref_mut.result.now) r (boxed_holds c.args.self.now c.deref_mut.result.now c.deref_mut.ensures.value c.requires.holds) c.look-mark.ensures.step c.look-mark.ensures.backed c.look-mark.ensures.own.3 c.requires.here c.requires.unstamped)

@@ -17,57 +17,57 @@ overflow_add-count c =
     let l = entries_most loaded in
     let k = keys_length loaded (board_sizes c.args.self.now).sessions c.requires.shown.loaded.0 in
     let e : length c.args.gathered.now.entries.items ≡ length (entries_of loaded) = ap length c.requires.shown.noted.2 in
-    let inside : c.loop-place.place < length c.args.gathered.now.entries.items = search rules in
-    omega (arith, c.loop-place.invariant.7, c.args.self.now.board.sessions)
+    let inside : c.loop-position.position < length c.args.gathered.now.entries.items = search rules in
+    omega (arith, c.loop-position.invariant.7, c.args.self.now.board.sessions)
 
 pub sum_up-requires-clause-room : goal.sum_up-requires-clause-room
 sum_up-requires-clause-room c =
-    let loaded = (pass (pass_view c.loop-place.pass)).loaded in
+    let loaded = (pass (pass_view c.loop-position.pass)).loaded in
     let l = entries_most loaded in
-    let k = keys_length loaded (board_sizes c.args.self.now).sessions c.loop-place.invariant.2.0 in
-    let e : length c.loop-place.gathered.entries.items ≡ length (entries_of loaded) = ap length c.loop-place.invariant.1.2 in
-    omega (arith, c.loop-place.invariant.5.0)
+    let k = keys_length loaded (board_sizes c.args.self.now).sessions c.loop-position.invariant.2.0 in
+    let e : length c.loop-position.gathered.entries.items ≡ length (entries_of loaded) = ap length c.loop-position.invariant.1.2 in
+    omega (arith, c.loop-position.invariant.5.0)
 
-pub loop-place-preserved : goal.loop-place-preserved
-loop-place-preserved c =
+pub loop-position-preserved : goal.loop-position-preserved
+loop-position-preserved c =
     let v = pass_view c.args.pass.now in
-    let w = pass_view c.loop-place.pass in
+    let w = pass_view c.loop-position.pass in
     let es = c.args.gathered.now.entries.items in
-    let k : ℕ = c.loop-place.place in
+    let k : ℕ = c.loop-position.position in
     let e = c.index.result.now in
-    let h = c.loop-place.invariant in
+    let h = c.loop-position.invariant in
     let inside : k < length es = search rules in
-    let now : get_or c.loop-place.gathered.entries.items k e ≡ e = search rules in
-    let at : get_or es k e ≡ e = sym (drop_at k c.loop-place.gathered.entries.items es e h.3) ∙ now in
-    let says : c.is_long_in_use.result ≡ is_long c.loop-place.gathered.mark c.args.long e = search rules in
+    let now : get_or c.loop-position.gathered.entries.items k e ≡ e = search rules in
+    let at : get_or es k e ≡ e = sym (drop_at k c.loop-position.gathered.entries.items es e h.3) ∙ now in
+    let says : c.is_long_in_use.result ≡ is_long c.loop-position.gathered.mark c.args.long e = search rules in
     elim c.if-is_long_in_use.branch [
       | then-is_long_in_use+then-moved b ↦ rw (b.pass-is, b.gathered-is, b.count-is) (
-        next_tried v w (pass_view b.try_move-moved.new.pass) c.loop-place.gathered.mark c.args.long k c.loop-place.count _ es e true h.1.0 inside at h.0 (sym says ∙ b.if-is_long_in_use.true)
+        next_tried v w (pass_view b.try_move-moved.new.pass) c.loop-position.gathered.mark c.args.long k c.loop-position.count _ es e true h.1.0 inside at h.0 (sym says ∙ b.if-is_long_in_use.true)
             (subst (λ x. Moves w e.session e.number x (pass_view b.try_move-moved.new.pass)) b.if-moved.true b.try_move-moved.ensures.step) (omega arith),
         b.try_move-moved.ensures.noted,
         b.try_move-moved.ensures.loaded,
-        b.try_move-moved.ensures.later.0 ∙ drop_more k c.loop-place.gathered.entries.items es h.3,
+        b.try_move-moved.ensures.later.0 ∙ drop_more k c.loop-position.gathered.entries.items es h.3,
         b.try_move-moved.ensures.later.1 ∙ h.4,
         b.try_move-moved.ensures.made _ _ h.5,
         b.try_move-moved.ensures.own,
         omega (arith, h.7),
       )
       | then-is_long_in_use+else-moved b ↦ rw (b.pass-is, b.gathered-is, b.count-is) (
-        next_tried v w (pass_view b.try_move-moved.new.pass) c.loop-place.gathered.mark c.args.long k c.loop-place.count _ es e false h.1.0 inside at h.0 (sym says ∙ b.if-is_long_in_use.true)
-            (subst (λ x. Moves w e.session e.number x (pass_view b.try_move-moved.new.pass)) b.if-moved.false b.try_move-moved.ensures.step) (λ i. c.loop-place.count),
+        next_tried v w (pass_view b.try_move-moved.new.pass) c.loop-position.gathered.mark c.args.long k c.loop-position.count _ es e false h.1.0 inside at h.0 (sym says ∙ b.if-is_long_in_use.true)
+            (subst (λ x. Moves w e.session e.number x (pass_view b.try_move-moved.new.pass)) b.if-moved.false b.try_move-moved.ensures.step) (λ i. c.loop-position.count),
         b.try_move-moved.ensures.noted,
         b.try_move-moved.ensures.loaded,
-        b.try_move-moved.ensures.later.0 ∙ drop_more k c.loop-place.gathered.entries.items es h.3,
+        b.try_move-moved.ensures.later.0 ∙ drop_more k c.loop-position.gathered.entries.items es h.3,
         b.try_move-moved.ensures.later.1 ∙ h.4,
         b.try_move-moved.ensures.made _ _ h.5,
         b.try_move-moved.ensures.own,
         omega (arith, h.7),
       )
       | else-is_long_in_use b ↦ rw (b.pass-is, b.gathered-is, b.count-is) (
-        skip_tried v w c.loop-place.gathered.mark c.args.long k c.loop-place.count es e h.1.0 inside at h.0 (sym says ∙ b.if-is_long_in_use.false),
+        skip_tried v w c.loop-position.gathered.mark c.args.long k c.loop-position.count es e h.1.0 inside at h.0 (sym says ∙ b.if-is_long_in_use.false),
         h.1,
         h.2,
-        drop_more k c.loop-place.gathered.entries.items es h.3,
+        drop_more k c.loop-position.gathered.entries.items es h.3,
         h.4,
         h.5,
         h.6,

@@ -6,13 +6,13 @@ use Rattle.hg_tracker.specs.Tries.{is_long, HasTried}
 use Rattle.hg_tracker.specs.Boards.{board_table, board_sizes}
 use Rattle.hg_tracker.proofs.trackers.Trackers.move_long.Given as goal
 
-abbrev pub invariant-loop-place : goal.invariant-loop-place
-invariant-loop-place l =
-    HasTried (pass_view l.fn.pass) (filter (is_long (pass (pass_view l.fn.pass)).mark l.fn.long) (take l.place l.fn.gathered.entries.items)) l.count (pass_view l.pass)
+abbrev pub invariant-loop-position : goal.invariant-loop-position
+invariant-loop-position l =
+    HasTried (pass_view l.fn.pass) (filter (is_long (pass (pass_view l.fn.pass)).mark l.fn.long) (take l.position l.fn.gathered.entries.items)) l.count (pass_view l.pass)
     × IsNotedOf (pass (pass_view l.pass)).mark (pass (pass_view l.pass)).loaded l.gathered
     × IsLoaded (board_sizes l.fn.self).sessions (pass (pass_view l.pass)).loaded
-    × (drop l.place l.gathered.entries.items ≡ drop l.place l.fn.gathered.entries.items)
+    × (drop l.position l.gathered.entries.items ≡ drop l.position l.fn.gathered.entries.items)
     × (length l.gathered.entries.items ≡ length l.fn.gathered.entries.items)
     × IsMadeFor (board_sizes l.fn.self).sessions (board_sizes l.fn.self).tables l.gathered
     × IsPassOf (board_table l.fn.self) l.pass
-    × (l.count ≤ l.place)
+    × (l.count ≤ l.position)

@@ -10,7 +10,7 @@ use Rattle.hg_tracker.proofs.trackers.Trackers.try_move.Goals as goal
 pub move_one-moved-requires-clause-loaded : goal.move_one-moved-requires-clause-loaded
 move_one-moved-requires-clause-loaded c =
     let loaded = (pass (pass_view c.args.pass.now)).loaded in
-    entry_found (board_sizes c.args.self.now).sessions loaded c.args.place c.args.entry c.requires.loaded.0 (subst (StandsAt c.args.place c.args.entry) c.requires.noted.2 c.requires.place)
+    entry_found (board_sizes c.args.self.now).sessions loaded c.args.position c.args.entry c.requires.loaded.0 (subst (StandsAt c.args.position c.args.entry) c.requires.noted.2 c.requires.position)
 
 pub move_one-moved-requires-clause-session : goal.move_one-moved-requires-clause-session
 move_one-moved-requires-clause-session c = found_session (board_sizes c.args.self.now).sessions c.args.entry.session _ (pass (pass_view c.args.pass.now)).loaded c.requires.loaded.0 (move_one-moved-requires-clause-loaded c)
@@ -28,7 +28,7 @@ returns-then-moved-clause-noted c =
     let e = c.args.entry in
     let is : Moves v e.session e.number _ w = subst (λ b. Moves v e.session e.number b w) c.if-moved.true c.move_one-moved.ensures.step in
     let same : c.index_mut.result.now ≡ e = search rules in
-    noted_moved (board_sizes c.args.self.now).sessions v w c.args.gathered.now c.args.place e c.index_mut.result.now same c.requires.noted c.requires.loaded.0 c.requires.place is
+    noted_moved (board_sizes c.args.self.now).sessions v w c.args.gathered.now c.args.position e c.index_mut.result.now same c.requires.noted c.requires.loaded.0 c.requires.position is
 
 pub returns-then-moved-clause-loaded : goal.returns-then-moved-clause-loaded
 returns-then-moved-clause-loaded c =

@@ -18,7 +18,7 @@ pub record Kept : Type 0 where
 
 -- the records with their versions, newest first; for each table, in the order of the tables, the keys of the records that can be
 -- shortened; and how many versions were made, undone and removed
-pub record Held : Type 0 where
+pub record BucketModel : Type 0 where
   pub records : List (Rid × List Kept)
   pub long : List (List ℕ)
   pub made : ℕ
@@ -35,7 +35,7 @@ versions_of records r = unwrap_or (lookup (same_rid r) records) []
 abbrev pub keys_in : List (List ℕ) → TableId → List ℕ
 keys_in long table = list_of long table.0
 
-abbrev pub long_keys : Held → TableId → List ℕ
+abbrev pub long_keys : BucketModel → TableId → List ℕ
 long_keys h table = keys_in h.long table
 
 -- how many versions are held
@@ -43,15 +43,15 @@ abbrev pub left : List (Rid × List Kept) → ℕ
 left records = sum_by (λ e. length e.1) records
 
 -- each version that was made is undone, removed or held
-abbrev pub IsBalanced : Held → Type 0
+abbrev pub IsBalanced : BucketModel → Type 0
 IsBalanced h = h.made ≡ h.undone + h.group + h.table + h.interval + left h.records
 
 -- what is always so
-pub record IsSound (h : Held) : Type 0 where
+pub record IsSound (h : BucketModel) : Type 0 where
   pub balance : IsBalanced h
   pub small : h.made ≤ 2 ^ 40
 
-abbrev pub counts_of : Held → Totals
+abbrev pub counts_of : BucketModel → Totals
 counts_of h = record { made = h.made; undone = h.undone; group = h.group; table = h.table; interval = h.interval; left = left h.records }
 
 -- ---- reading
