@@ -1,10 +1,10 @@
 //! The collector.
 
 ghost use Rattle.std.specs.Prelude.{◌≡◌, ◌<◌, ◌≤◌, IfOk, IfErr};
-ghost use Rattle.hg_rule.specs.Seats.{BoardId, table_of, sizes_of, IsPassOf};
-ghost use Rattle.hg_store.specs.Stores.{store_table, store_buckets};
-ghost use Rattle.hg_group.specs.Lists.{groups_table};
-ghost use Rattle.hg_tracker.specs.Boards.{board_table, board_sizes};
+ghost use Rattle.hg_rule.specs.Seats.{BoardId, board_id, sizes_of, IsPassOf};
+ghost use Rattle.hg_store.specs.Stores.{store_board_id, store_buckets};
+ghost use Rattle.hg_group.specs.Lists.{groups_board_id};
+ghost use Rattle.hg_tracker.specs.Boards.{trackers_board_id, board_sizes};
 
 use crate::taking::take_all;
 use hg_base::{EntryList, Kind, NoMemory, Report};
@@ -97,11 +97,11 @@ impl GroupCollector {
         store: &Store,
         groups: &GroupList,
     )
-        requires own { IsCollectorOf (board_table trackers.now) (board_sizes trackers.now) self.old }
-        requires tables { (store_table store.now ≡ board_table trackers.now) × (groups_table groups.now ≡ board_table trackers.now) }
+        requires own { IsCollectorOf (trackers_board_id trackers.now) (board_sizes trackers.now) self.old }
+        requires boards { (store_board_id store.now ≡ trackers_board_id trackers.now) × (groups_board_id groups.now ≡ trackers_board_id trackers.now) }
         requires buckets { (0 < store_buckets store.now) × (store_buckets store.now ≡ (board_sizes trackers.now).buckets) }
         ensures collects { Collects (board_sizes trackers.now) (view_of self.old) (report_in self.new) (view_of self.new) }
-        ensures own { IsCollectorOf (board_table trackers.now) (board_sizes trackers.now) self.new }
+        ensures own { IsCollectorOf (trackers_board_id trackers.now) (board_sizes trackers.now) self.new }
     {
         let board = trackers.board();
         trackers.gather(&mut self.pass, &mut self.gathered);
@@ -123,10 +123,10 @@ impl GroupCollector {
         store: &Store,
         groups: &GroupList,
     ) -> &Report
-        requires own { IsCollectorOf (board_table trackers.now) (board_sizes trackers.now) self.old }
-        requires tables { (store_table store.now ≡ board_table trackers.now) × (groups_table groups.now ≡ board_table trackers.now) }
+        requires own { IsCollectorOf (trackers_board_id trackers.now) (board_sizes trackers.now) self.old }
+        requires boards { (store_board_id store.now ≡ trackers_board_id trackers.now) × (groups_board_id groups.now ≡ trackers_board_id trackers.now) }
         requires buckets { (0 < store_buckets store.now) × (store_buckets store.now ≡ (board_sizes trackers.now).buckets) }
-        ensures* ends { sem 𝓛 (EndsAs self.entry (λ c. Collects (board_sizes trackers.now) (view_of self.old) result.now (view_of c) × IsCollectorOf (board_table trackers.now) (board_sizes trackers.now) c)) }
+        ensures* ends { sem 𝓛 (EndsAs self.entry (λ c. Collects (board_sizes trackers.now) (view_of self.old) result.now (view_of c) × IsCollectorOf (trackers_board_id trackers.now) (board_sizes trackers.now) c)) }
     {
         self.collect(rt, trackers, store, groups);
         &self.report

@@ -4,9 +4,9 @@ ghost use Rattle.std.specs.Prelude.{◌≡◌, ◌<◌, ◌≤◌, ◌^◌};
 ghost use Rattle.hg_core.specs.Passes.{IsWhole, group_bound};
 ghost use Rattle.hg_rule.specs.Facts.{record_of};
 ghost use Rattle.hg_rule.specs.Views.{pass as own_pass};
-ghost use Rattle.hg_rule.specs.Seats.{table_of, sizes_of, pass_view, IsPassOf};
-ghost use Rattle.hg_store.specs.Stores.{store_table, store_buckets};
-ghost use Rattle.hg_group.specs.Lists.{groups_table};
+ghost use Rattle.hg_rule.specs.Seats.{board_id, sizes_of, pass_view, IsPassOf};
+ghost use Rattle.hg_store.specs.Stores.{store_board_id, store_buckets};
+ghost use Rattle.hg_group.specs.Lists.{groups_board_id};
 ghost use Rattle.hg_gc_group.specs.Cutting.{removed_all};
 ghost use Rattle.hg_gc_group.specs.Taking.{TakesAll};
 
@@ -25,14 +25,14 @@ pub(crate) fn take_all<R: Wait>(
     pass: &mut CollectorPass,
     bound: u64,
 ) -> u64
-    requires tables { (store_table store.now ≡ table_of board.now) × (groups_table groups.now ≡ table_of board.now) }
+    requires boards { (store_board_id store.now ≡ board_id board.now) × (groups_board_id groups.now ≡ board_id board.now) }
     requires buckets { (0 < store_buckets store.now) × (store_buckets store.now ≡ (sizes_of board.now).buckets) }
-    requires own { IsPassOf (table_of board.now) pass.old }
+    requires own { IsPassOf (board_id board.now) pass.old }
     requires whole { IsWhole (sizes_of board.now).sessions (record_of (own_pass (pass_view pass.old))) }
     requires bound { bound ≡ group_bound (record_of (own_pass (pass_view pass.old))) }
     requires few { removed_all (own_pass (pass_view pass.old)).visits ≤ 2 ^ 41 }
     ensures takes { TakesAll (sizes_of board.now).buckets bound (pass_view pass.old) result (pass_view pass.new) }
-    ensures own { IsPassOf (table_of board.now) pass.new }
+    ensures own { IsPassOf (board_id board.now) pass.new }
 {
     let mut gone = 0;
     while let Some(context) = groups.take_oldest(rt, board, bound, pass) {

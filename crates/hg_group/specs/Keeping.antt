@@ -9,11 +9,11 @@ use Rattle.hg_core.specs.Commits.{commits_in}
 use Rattle.hg_group.specs.Contexts.{AreContexts}
 use Rattle.hg_group.specs.Order.{FollowsQueue}
 use Rattle.hg_group.specs.Batch.{AreLaid}
-use Rattle.hg_group.specs.Founded.{founding_table}
+use Rattle.hg_group.specs.Founded.{founding_board_id}
 
 -- the board
-abbrev pub held_table : HeldList → BoardId
-held_table h = founding_table (tag_of h.locks.now).value
+abbrev pub held_board_id : HeldList → BoardId
+held_board_id h = founding_board_id (tag_of h.locks.now).value
 
 -- With this part of the committer's it may lie under the lock again.
 pub record KeepsBeside (h : HeldList) (part : CommitPart) : Type 0 where
@@ -22,7 +22,7 @@ pub record KeepsBeside (h : HeldList) (part : CommitPart) : Type 0 where
   pub contexts_are : AreContexts part.history.list part.taken h.contexts.items
   pub count_is : h.count ≡ commits_in part.history.list
   pub follows : FollowsQueue part.history.list (known h.line).pairs
-  pub line : ((known h.line).opens ≡ false) × (((known h.line).leads ≡ true) × ((known h.line).board.id ≡ held_table h))
+  pub line : ((known h.line).opens ≡ false) × (((known h.line).leads ≡ true) × ((known h.line).board.id ≡ held_board_id h))
   pub room : (h.popped.items ≡ []) × ((tag_of h.locks.now).value.sessions ≤ vec_capacity h.popped)
-  pub laid : AreLaid (held_table h) 1 h.laid.items × (length h.laid.items ≡ (tag_of h.locks.now).value.sessions)
+  pub laid : AreLaid (held_board_id h) 1 h.laid.items × (length h.laid.items ≡ (tag_of h.locks.now).value.sessions)
   pub pass : IsPassOf (tag_of h.locks.now).value.queue.value h.line

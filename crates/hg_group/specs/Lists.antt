@@ -3,14 +3,14 @@ use Rattle.std.specs.Prelude.{◌≡◌, ℕ, List, [], ◌∷◌, ◌++◌}
 use Rattle.hg_lock.specs.Locks.{tag_of, lock_of, IsLoanOf}
 use Rattle.hg_rule.specs.Seats.{BoardId}
 use Rattle.hg_group.specs.declared.group_list.GroupList.{GroupList}
-use Rattle.hg_group.specs.Founded.{founding_table}
+use Rattle.hg_group.specs.Founded.{founding_board_id}
 use Rattle.hg_group.specs.Pushing.{PusherFits}
 use Rattle.hg_group.specs.declared.submitted.Submitted.{Submitted}
 use Rattle.hg_queue.specs.Queues.{known}
 
 -- the board
-abbrev pub groups_table : GroupList → BoardId
-groups_table q = founding_table (tag_of q.batches).value
+abbrev pub groups_board_id : GroupList → BoardId
+groups_board_id q = founding_board_id (tag_of q.batches).value
 
 -- how many sessions there are
 abbrev pub groups_sessions : GroupList → ℕ

@@ -2,8 +2,8 @@
 
 ghost use Rattle.std.specs.Prelude.{◌≡◌, ◌<◌, []};
 ghost use Rattle.hg_rule.specs.Views.{others};
-ghost use Rattle.hg_rule.specs.Seats.{table_of, sizes_of, session_view, IsAwayOf};
-ghost use Rattle.hg_store.specs.Stores.{store_table, store_buckets};
+ghost use Rattle.hg_rule.specs.Seats.{board_id, sizes_of, session_view, IsAwayOf};
+ghost use Rattle.hg_store.specs.Stores.{store_board_id, store_buckets};
 ghost use Rattle.hg_queue.specs.Queues.{IsPassOf};
 ghost use Rattle.hg_group.specs.Leading.{IsKept, Leads};
 
@@ -61,15 +61,15 @@ pub(crate) fn lead<R: Wait>(
     kept: Batches,
     sessions: usize,
 ) -> Batches
-    requires tables { store_table store.now ≡ table_of board.now }
+    requires boards { store_board_id store.now ≡ board_id board.now }
     requires buckets { (0 < store_buckets store.now) × (store_buckets store.now ≡ (sizes_of board.now).buckets) }
-    requires own { IsAwayOf (table_of board.now) (sizes_of board.now) pass.old }
+    requires own { IsAwayOf (board_id board.now) (sizes_of board.now) pass.old }
     requires alone { others (session_view pass.old) ≡ [] }
-    requires kept { IsKept (table_of board.now) (sizes_of board.now).sessions kept × IsPassOf queue.now kept.line }
+    requires kept { IsKept (board_id board.now) (sizes_of board.now).sessions kept × IsPassOf queue.now kept.line }
     requires most { sessions ≡ (sizes_of board.now).sessions }
-    ensures kept { IsKept (table_of board.now) (sizes_of board.now).sessions result × IsPassOf queue.now result.line }
+    ensures kept { IsKept (board_id board.now) (sizes_of board.now).sessions result × IsPassOf queue.now result.line }
     ensures led { Leads (session_view pass.old) (session_view pass.new) }
-    ensures own { IsAwayOf (table_of board.now) (sizes_of board.now) pass.new × (pass.new.number ≡ pass.old.number) }
+    ensures own { IsAwayOf (board_id board.now) (sizes_of board.now) pass.new × (pass.new.number ≡ pass.old.number) }
 {
     let Batches {
         seat,

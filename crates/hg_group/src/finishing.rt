@@ -3,13 +3,13 @@
 ghost use Rattle.std.specs.Prelude.{◌≡◌, ℕ, suc, ◌<◌, [], length, IfOk, IfErr, IfSome};
 ghost use Rattle.hg_lock.specs.Locks.{tag_of, count_of};
 ghost use Rattle.hg_rule.specs.Views.{session, others};
-ghost use Rattle.hg_rule.specs.Seats.{BoardId, table_of, sizes_of, session_view, IsSessionOf, IsAwayOf};
-ghost use Rattle.hg_store.specs.Stores.{store_table, store_buckets};
+ghost use Rattle.hg_rule.specs.Seats.{BoardId, board_id, sizes_of, session_view, IsSessionOf, IsAwayOf};
+ghost use Rattle.hg_store.specs.Stores.{store_board_id, store_buckets};
 ghost use Rattle.hg_queue.specs.Handing.{MayCommit};
 ghost use Rattle.hg_queue.specs.Queues.{IsPassOf};
 ghost use Rattle.hg_group.specs.Batch.{IsLaid, HasFinished, IsRefused};
 ghost use Rattle.hg_group.specs.Leading.{IsKept, Leads};
-ghost use Rattle.hg_group.specs.Founded.{founding_table};
+ghost use Rattle.hg_group.specs.Founded.{founding_board_id};
 
 use crate::batch::{Batches, lead};
 use crate::laid::Laid;
@@ -32,15 +32,15 @@ fn ready<R: Wait>(
     sessions: u32,
     index: usize,
 ) -> Batches
-    requires tables { store_table store.now ≡ table_of board.now }
+    requires boards { store_board_id store.now ≡ board_id board.now }
     requires buckets { (0 < store_buckets store.now) × (store_buckets store.now ≡ (sizes_of board.now).buckets) }
-    requires own { IsAwayOf (table_of board.now) (sizes_of board.now) pass.old }
+    requires own { IsAwayOf (board_id board.now) (sizes_of board.now) pass.old }
     requires alone { others (session_view pass.old) ≡ [] }
-    requires kept { IsKept (table_of board.now) (sizes_of board.now).sessions kept × IsPassOf queue.now kept.line }
+    requires kept { IsKept (board_id board.now) (sizes_of board.now).sessions kept × IsPassOf queue.now kept.line }
     requires sessions { (sessions ≡ (sizes_of board.now).sessions) × (index < sessions) }
-    ensures kept { IsKept (table_of board.now) (sizes_of board.now).sessions result × IsPassOf queue.now result.line }
+    ensures kept { IsKept (board_id board.now) (sizes_of board.now).sessions result × IsPassOf queue.now result.line }
     ensures led { Leads (session_view pass.old) (session_view pass.new) }
-    ensures own { IsAwayOf (table_of board.now) (sizes_of board.now) pass.new × (pass.new.number ≡ pass.old.number) }
+    ensures own { IsAwayOf (board_id board.now) (sizes_of board.now) pass.new × (pass.new.number ≡ pass.old.number) }
 {
     if kept.laid[index].is_none() {
         return lead(rt, board, store, queue, pass, kept, sessions as usize);
@@ -67,17 +67,17 @@ pub(crate) fn finish<R: Wait>(
     pass: &mut SessionPass,
     sessions: u32,
 ) -> Result<Receipt, OpenTx>
-    requires tables { store_table store.now ≡ table_of board.now }
+    requires boards { store_board_id store.now ≡ board_id board.now }
     requires buckets { (0 < store_buckets store.now) × (store_buckets store.now ≡ (sizes_of board.now).buckets) }
-    requires founded { (founding_table (tag_of batches.now).value ≡ table_of board.now) × ((tag_of batches.now).value.queue.value ≡ queue.now) × ((tag_of batches.now).value.sessions ≡ sessions) }
+    requires founded { (founding_board_id (tag_of batches.now).value ≡ board_id board.now) × ((tag_of batches.now).value.queue.value ≡ queue.now) × ((tag_of batches.now).value.sessions ≡ sessions) }
     requires one { count_of batches.now ≡ 1 }
     requires sessions { sessions ≡ (sizes_of board.now).sessions }
-    requires own { IsAwayOf (table_of board.now) (sizes_of board.now) pass.old }
+    requires own { IsAwayOf (board_id board.now) (sizes_of board.now) pass.old }
     requires alone { others (session_view pass.old) ≡ [] }
     requires may { MayCommit (session (session_view pass.old)) }
     ensures finished { IfOk result (λ receipt. HasFinished (session_view pass.old) receipt (session_view pass.new)) }
     ensures refused { IfErr result (λ tx. IsRefused (session_view pass.old) tx (session_view pass.new)) }
-    ensures own { IsSessionOf (table_of board.now) (sizes_of board.now) pass.new × (pass.new.number ≡ pass.old.number) }
+    ensures own { IsSessionOf (board_id board.now) (sizes_of board.now) pass.new × (pass.new.number ≡ pass.old.number) }
 {
     let index = pass.writer().session as usize - 1;
     for _ in rt.forever() {

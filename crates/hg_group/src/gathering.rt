@@ -2,7 +2,7 @@
 
 ghost use Rattle.std.specs.Prelude.{◌≡◌, ◌≤◌, true, false, [], length, vec_capacity};
 ghost use Rattle.hg_rule.specs.Views.{others};
-ghost use Rattle.hg_rule.specs.Seats.{table_of, sizes_of, session_view, IsAwayOf};
+ghost use Rattle.hg_rule.specs.Seats.{board_id, sizes_of, session_view, IsAwayOf};
 ghost use Rattle.hg_queue.specs.Queues.{IsPassOf, known};
 ghost use Rattle.hg_group.specs.Batch.{Gathers};
 
@@ -20,13 +20,13 @@ pub(crate) fn gather<R: Wait>(
     popped: &mut Vec<OpenTx>,
     most: usize,
 )
-    requires own { IsAwayOf (table_of board.now) (sizes_of board.now) pass.old }
+    requires own { IsAwayOf (board_id board.now) (sizes_of board.now) pass.old }
     requires alone { others (session_view pass.old) ≡ [] }
-    requires line { IsPassOf queue.now line.old × ((known line.old).opens ≡ false) × ((known line.old).leads ≡ true) × ((known line.old).board.id ≡ table_of board.now) }
+    requires line { IsPassOf queue.now line.old × ((known line.old).opens ≡ false) × ((known line.old).leads ≡ true) × ((known line.old).board.id ≡ board_id board.now) }
     requires room { (popped.old.items ≡ []) × (most ≤ vec_capacity popped.old) }
     ensures gathered { Gathers (session_view pass.old) (known line.old).pairs popped.new.items (known line.new).pairs (session_view pass.new) }
-    ensures own { IsAwayOf (table_of board.now) (sizes_of board.now) pass.new × (pass.new.number ≡ pass.old.number) }
-    ensures line { IsPassOf queue.now line.new × ((known line.new).opens ≡ false) × ((known line.new).leads ≡ true) × ((known line.new).board.id ≡ table_of board.now) }
+    ensures own { IsAwayOf (board_id board.now) (sizes_of board.now) pass.new × (pass.new.number ≡ pass.old.number) }
+    ensures line { IsPassOf queue.now line.new × ((known line.new).opens ≡ false) × ((known line.new).leads ≡ true) × ((known line.new).board.id ≡ board_id board.now) }
     ensures room { (vec_capacity popped.new ≡ vec_capacity popped.old) × (length popped.new.items ≤ most) }
 {
     for turn in 0..most {

@@ -38,17 +38,17 @@ impl GroupList {
     ghost use Rattle.std.specs.Prelude.{ℕ, ◌<◌, [], length, IfOk, IfErr};
     ghost use Rattle.hg_rule.specs.New.{IsNewCommit};
     ghost use Rattle.hg_rule.specs.Views.{number, session, others, HasOnlySession};
-    ghost use Rattle.hg_rule.specs.Seats.{BoardId, table_of, sizes_of, session_view, IsSessionOf, IsAwayOf};
-    ghost use Rattle.hg_store.specs.Stores.{store_table, store_buckets};
+    ghost use Rattle.hg_rule.specs.Seats.{BoardId, board_id, sizes_of, session_view, IsSessionOf, IsAwayOf};
+    ghost use Rattle.hg_store.specs.Stores.{store_board_id, store_buckets};
     ghost use Rattle.hg_queue.specs.Handing.{IsOpenTxOf, MayCommit};
     ghost use Rattle.hg_group.specs.Batch.{HasFinished, IsRefused};
-    ghost use Rattle.hg_group.specs.Lists.{groups_table, groups_sessions, has_pushed, IsSubmittedTo};
+    ghost use Rattle.hg_group.specs.Lists.{groups_board_id, groups_sessions, has_pushed, IsSubmittedTo};
     ghost use Rattle.hg_group.specs.Submitting.{HasSubmitted, IsBackAgain, HasCommitted};
 
     /// Nothing is committed, and nothing waits. The seat is the committer's of a new board with so many sessions.
     pub fn new(alloc: Global, seat: CommitSeat, sessions: u32) -> Result<GroupList, NoMemory>
         requires seat { (t : BoardId) × IsNewCommit t seat }
-        ensures table { (t : BoardId) → IsNewCommit t seat → IfOk result (λ groups. groups_table groups ≡ t) }
+        ensures board { (t : BoardId) → IsNewCommit t seat → IfOk result (λ groups. groups_board_id groups ≡ t) }
         ensures sessions { IfOk result (λ groups. groups_sessions groups ≡ sessions) }
     {
         let (queue, line, mut pushing) = Queue::new(alloc, &seat)?;
@@ -90,16 +90,16 @@ impl GroupList {
         tx: OpenTx,
         pass: &mut SessionPass,
     ) -> Result<Submitted, (OpenTx, NoMemory)>
-        requires table { groups_table self.now ≡ table_of board.now }
+        requires board { groups_board_id self.now ≡ board_id board.now }
         requires sessions { groups_sessions self.now ≡ (sizes_of board.now).sessions }
-        requires own { IsSessionOf (table_of board.now) (sizes_of board.now) pass.old }
+        requires own { IsSessionOf (board_id board.now) (sizes_of board.now) pass.old }
         requires only { HasOnlySession (session_view pass.old) }
         requires may { MayCommit (session (session_view pass.old)) }
         requires tx { IsOpenTxOf (number (session_view pass.old)) (session (session_view pass.old)) tx }
         requires some { 0 < length tx.records.list }
-        ensures submitted { IfOk result (λ submitted. IsSubmittedTo self.now submitted × (((mark : ℕ) × HasSubmitted (session_view pass.old) mark (session_view pass.new)) × IsAwayOf (table_of board.now) (sizes_of board.now) pass.new)) }
+        ensures submitted { IfOk result (λ submitted. IsSubmittedTo self.now submitted × (((mark : ℕ) × HasSubmitted (session_view pass.old) mark (session_view pass.new)) × IsAwayOf (board_id board.now) (sizes_of board.now) pass.new)) }
         ensures pair { IfOk result (λ submitted. has_pushed (number (session_view pass.old)) tx.writer.transaction submitted) }
-        ensures refused { IfErr result (λ e. (e.0 ≡ tx) × (IsBackAgain (session_view pass.old) (session_view pass.new) × IsSessionOf (table_of board.now) (sizes_of board.now) pass.new)) }
+        ensures refused { IfErr result (λ e. (e.0 ≡ tx) × (IsBackAgain (session_view pass.old) (session_view pass.new) × IsSessionOf (board_id board.now) (sizes_of board.now) pass.new)) }
         ensures number { pass.new.number ≡ pass.old.number }
     {
         let index = pass.writer().session as usize - 1;
@@ -123,16 +123,16 @@ impl GroupList {
         submitted: Submitted,
         pass: &mut SessionPass,
     ) -> Result<Receipt, (OpenTx, NoMemory)>
-        requires tables { (store_table store.now ≡ table_of board.now) × (groups_table self.now ≡ table_of board.now) }
+        requires boards { (store_board_id store.now ≡ board_id board.now) × (groups_board_id self.now ≡ board_id board.now) }
         requires buckets { (0 < store_buckets store.now) × (store_buckets store.now ≡ (sizes_of board.now).buckets) }
         requires sessions { groups_sessions self.now ≡ (sizes_of board.now).sessions }
         requires submitted { IsSubmittedTo self.now submitted }
-        requires own { IsAwayOf (table_of board.now) (sizes_of board.now) pass.old }
+        requires own { IsAwayOf (board_id board.now) (sizes_of board.now) pass.old }
         requires alone { others (session_view pass.old) ≡ [] }
         requires may { MayCommit (session (session_view pass.old)) }
         ensures finished { IfOk result (λ receipt. HasFinished (session_view pass.old) receipt (session_view pass.new)) }
         ensures refused { IfErr result (λ e. IsRefused (session_view pass.old) e.0 (session_view pass.new)) }
-        ensures own { IsSessionOf (table_of board.now) (sizes_of board.now) pass.new × (pass.new.number ≡ pass.old.number) }
+        ensures own { IsSessionOf (board_id board.now) (sizes_of board.now) pass.new × (pass.new.number ≡ pass.old.number) }
     {
         let finished = finish(
             rt,
@@ -161,17 +161,17 @@ impl GroupList {
         tx: OpenTx,
         pass: &mut SessionPass,
     ) -> Result<Receipt, (OpenTx, NoMemory)>
-        requires tables { (store_table store.now ≡ table_of board.now) × (groups_table self.now ≡ table_of board.now) }
+        requires boards { (store_board_id store.now ≡ board_id board.now) × (groups_board_id self.now ≡ board_id board.now) }
         requires buckets { (0 < store_buckets store.now) × (store_buckets store.now ≡ (sizes_of board.now).buckets) }
         requires sessions { groups_sessions self.now ≡ (sizes_of board.now).sessions }
-        requires own { IsSessionOf (table_of board.now) (sizes_of board.now) pass.old }
+        requires own { IsSessionOf (board_id board.now) (sizes_of board.now) pass.old }
         requires only { HasOnlySession (session_view pass.old) }
         requires may { MayCommit (session (session_view pass.old)) }
         requires tx { IsOpenTxOf (number (session_view pass.old)) (session (session_view pass.old)) tx }
         requires some { 0 < length tx.records.list }
         ensures committed { IfOk result (λ receipt. HasCommitted (session_view pass.old) receipt (session_view pass.new)) }
         ensures refused { IfErr result (λ e. IsOpenTxOf (number (session_view pass.old)) (session (session_view pass.old)) e.0 × IsBackAgain (session_view pass.old) (session_view pass.new)) }
-        ensures own { IsSessionOf (table_of board.now) (sizes_of board.now) pass.new × (pass.new.number ≡ pass.old.number) }
+        ensures own { IsSessionOf (board_id board.now) (sizes_of board.now) pass.new × (pass.new.number ≡ pass.old.number) }
     {
         let submitted = self.submit(rt, board, tx, pass)?;
         self.finish(rt, board, store, submitted, pass)

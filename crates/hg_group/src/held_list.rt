@@ -29,13 +29,13 @@ pub struct HeldList<'a> {
 impl GroupList {
     ghost use Rattle.hg_rule.specs.Seats.{IsCommitOf};
     ghost use Rattle.hg_group.specs.Places.{part_in};
-    ghost use Rattle.hg_group.specs.Lists.{groups_table};
-    ghost use Rattle.hg_group.specs.Keeping.{held_table, KeepsBeside};
+    ghost use Rattle.hg_group.specs.Lists.{groups_board_id};
+    ghost use Rattle.hg_group.specs.Keeping.{held_board_id, KeepsBeside};
 
     /// Waits for the commit lock, and lends the committer's seat.
     pub fn take<R: Wait>(&self, rt: &R) -> (HeldList<'_>, CommitSeat)
-        ensures table { held_table result.0 ≡ groups_table self.now }
-        ensures seat { IsCommitOf (groups_table self.now) result.1 }
+        ensures board { held_board_id result.0 ≡ groups_board_id self.now }
+        ensures seat { IsCommitOf (groups_board_id self.now) result.1 }
         ensures kept { KeepsBeside result.0 (part_in result.1) }
     {
         let (kept, loan) = self.batches.take(rt, 0);
@@ -63,11 +63,11 @@ impl GroupList {
 impl<'a> HeldList<'a> {
     ghost use Rattle.hg_rule.specs.Seats.{IsCommitOf};
     ghost use Rattle.hg_group.specs.Places.{part_in};
-    ghost use Rattle.hg_group.specs.Keeping.{held_table, KeepsBeside};
+    ghost use Rattle.hg_group.specs.Keeping.{held_board_id, KeepsBeside};
 
     /// The seat comes back, and the lock is free. It waits for nobody.
     pub fn give(self, seat: CommitSeat)
-        requires seat { IsCommitOf (held_table self) seat }
+        requires seat { IsCommitOf (held_board_id self) seat }
         requires kept { KeepsBeside self (part_in seat) }
     {
         let HeldList {

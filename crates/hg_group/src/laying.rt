@@ -1,7 +1,7 @@
 //! A leader lays down what became of its batch.
 
 ghost use Rattle.std.specs.Prelude.{◌≡◌, ◌+◌, ◌<◌, ◌^◌, length};
-ghost use Rattle.hg_rule.specs.Seats.{table_of, sizes_of, session_view, IsAwayOf};
+ghost use Rattle.hg_rule.specs.Seats.{board_id, sizes_of, session_view, IsAwayOf};
 ghost use Rattle.hg_group.specs.Batch.{AreLaid, HasGroup, LaysAll};
 
 use crate::laid::{Laid, Outcome};
@@ -18,13 +18,13 @@ pub(crate) fn lay(
     number: u64,
     place: u64,
 )
-    requires own { IsAwayOf (table_of board.now) (sizes_of board.now) pass.old }
+    requires own { IsAwayOf (board_id board.now) (sizes_of board.now) pass.old }
     requires group { HasGroup (sizes_of board.now).sessions (session_view pass.old) popped.now number place }
-    requires laid { AreLaid (table_of board.now) 1 laid.old.items × (length laid.old.items ≡ (sizes_of board.now).sessions) }
+    requires laid { AreLaid (board_id board.now) 1 laid.old.items × (length laid.old.items ≡ (sizes_of board.now).sessions) }
     requires small { place + length popped.now < 2 ^ 64 }
-    ensures laid { AreLaid (table_of board.now) 1 laid.new.items × (length laid.new.items ≡ (sizes_of board.now).sessions) }
+    ensures laid { AreLaid (board_id board.now) 1 laid.new.items × (length laid.new.items ≡ (sizes_of board.now).sessions) }
     ensures all { LaysAll (session_view pass.old) (session_view pass.new) }
-    ensures own { IsAwayOf (table_of board.now) (sizes_of board.now) pass.new × (pass.new.number ≡ pass.old.number) }
+    ensures own { IsAwayOf (board_id board.now) (sizes_of board.now) pass.new × (pass.new.number ≡ pass.old.number) }
 {
     for i in 0..popped.len() {
         let session = popped[i].writer.session;

@@ -5,7 +5,7 @@ ghost use Rattle.hg_lock.specs.Locks.{EachFits};
 ghost use Rattle.hg_rule.specs.Seats.{BoardId};
 ghost use Rattle.hg_queue.specs.Queues.{IsPassOf, known};
 ghost use Rattle.hg_group.specs.Batch.{AreLaid};
-ghost use Rattle.hg_group.specs.Founded.{founding_table};
+ghost use Rattle.hg_group.specs.Founded.{founding_board_id};
 ghost use Rattle.hg_group.specs.Pushing.{PusherFits};
 
 use crate::batch::Founding;
@@ -37,7 +37,7 @@ pub(crate) fn make_pushers(
     sessions: u32,
 ) -> Result<Vec<Pusher>, NoMemory>
     requires queue { founding.now.value.queue.value ≡ queue.now }
-    requires line { IsPassOf queue.now line.old × ((known line.old).opens ≡ false) × ((known line.old).leads ≡ false) × ((known line.old).board.id ≡ founding_table founding.now.value) }
+    requires line { IsPassOf queue.now line.old × ((known line.old).opens ≡ false) × ((known line.old).leads ≡ false) × ((known line.old).board.id ≡ founding_board_id founding.now.value) }
     ensures fit { IfOk result (λ pushers. EachFits (PusherFits founding.now) pushers.items) }
     ensures count { IfOk result (λ pushers. length pushers.items ≡ sessions) }
 {

@@ -3,7 +3,7 @@
 ghost use Rattle.std.specs.Prelude.{◌≡◌, ◌≤◌, length};
 ghost use Rattle.hg_rule.specs.Views.{pass as own_pass};
 ghost use Rattle.hg_rule.specs.Holding.{HasCommit, commit};
-ghost use Rattle.hg_rule.specs.Seats.{table_of, pass_view, IsPassOf};
+ghost use Rattle.hg_rule.specs.Seats.{board_id, pass_view, IsPassOf};
 ghost use Rattle.hg_group.specs.Contexts.{AreContexts};
 ghost use Rattle.hg_group.specs.Oldest.{TakesOldest, PopsBelow};
 
@@ -22,7 +22,7 @@ fn pop_below(
     mark: u64,
     bound: u64,
 ) -> Option<GroupContext>
-    requires own { IsPassOf (table_of board.now) pass.old }
+    requires own { IsPassOf (board_id board.now) pass.old }
     requires held { HasCommit (pass_view pass.old) }
     requires mark { length (commit (pass_view pass.old)).history.list ≡ mark }
     requires taken { (commit (pass_view pass.old)).taken ≤ mark }
@@ -30,7 +30,7 @@ fn pop_below(
     requires contexts { AreContexts (commit (pass_view pass.old)).history.list (commit (pass_view pass.old)).taken contexts.old.items }
     ensures popped { PopsBelow (pass_view pass.old) bound result (pass_view pass.new) }
     ensures contexts { AreContexts (commit (pass_view pass.new)).history.list (commit (pass_view pass.new)).taken contexts.new.items }
-    ensures own { IsPassOf (table_of board.now) pass.new }
+    ensures own { IsPassOf (board_id board.now) pass.new }
 {
     let taken = mark - contexts.len() as u64;
     if taken >= bound {
@@ -41,7 +41,7 @@ fn pop_below(
 }
 
 impl GroupList {
-    ghost use Rattle.hg_group.specs.Lists.{groups_table};
+    ghost use Rattle.hg_group.specs.Lists.{groups_board_id};
 
     /// Where fewer than `bound` groups were taken, counts one more as taken, and gives its context out. Else none is given, and the
     /// pass has seen how many were. The bound is at most the mark of the pass's record. It waits for the commit lock, so the pass
@@ -53,11 +53,11 @@ impl GroupList {
         bound: u64,
         pass: &mut CollectorPass,
     ) -> Option<GroupContext>
-        requires table { groups_table self.now ≡ table_of board.now }
-        requires own { IsPassOf (table_of board.now) pass.old }
+        requires board { groups_board_id self.now ≡ board_id board.now }
+        requires own { IsPassOf (board_id board.now) pass.old }
         requires bound { bound ≤ (own_pass (pass_view pass.old)).mark }
         ensures taken { TakesOldest (pass_view pass.old) bound result (pass_view pass.new) }
-        ensures own { IsPassOf (table_of board.now) pass.new }
+        ensures own { IsPassOf (board_id board.now) pass.new }
     {
         let (mut held, seat) = self.take(rt);
         let mark = board.join_commit(pass, seat);

@@ -1,7 +1,7 @@
 //! A leader that is refused memory hands its batch back.
 
 ghost use Rattle.std.specs.Prelude.{◌≡◌, [], length, vec_capacity};
-ghost use Rattle.hg_rule.specs.Seats.{table_of, sizes_of, session_view, IsAwayOf};
+ghost use Rattle.hg_rule.specs.Seats.{board_id, sizes_of, session_view, IsAwayOf};
 ghost use Rattle.hg_group.specs.Batch.{AreLaid, HasBatch, LaysAll};
 
 use crate::laid::{Laid, Outcome};
@@ -15,12 +15,12 @@ pub(crate) fn lay_back(
     laid: &mut Vec<Option<Laid>>,
     popped: &mut Vec<OpenTx>,
 )
-    requires own { IsAwayOf (table_of board.now) (sizes_of board.now) pass.old }
+    requires own { IsAwayOf (board_id board.now) (sizes_of board.now) pass.old }
     requires batch { HasBatch (sizes_of board.now).sessions (session_view pass.old) popped.old.items }
-    requires laid { AreLaid (table_of board.now) 1 laid.old.items × (length laid.old.items ≡ (sizes_of board.now).sessions) }
-    ensures laid { AreLaid (table_of board.now) 1 laid.new.items × (length laid.new.items ≡ (sizes_of board.now).sessions) }
+    requires laid { AreLaid (board_id board.now) 1 laid.old.items × (length laid.old.items ≡ (sizes_of board.now).sessions) }
+    ensures laid { AreLaid (board_id board.now) 1 laid.new.items × (length laid.new.items ≡ (sizes_of board.now).sessions) }
     ensures all { LaysAll (session_view pass.old) (session_view pass.new) }
-    ensures own { IsAwayOf (table_of board.now) (sizes_of board.now) pass.new × (pass.new.number ≡ pass.old.number) }
+    ensures own { IsAwayOf (board_id board.now) (sizes_of board.now) pass.new × (pass.new.number ≡ pass.old.number) }
     ensures popped { (popped.new.items ≡ []) × (vec_capacity popped.new ≡ vec_capacity popped.old) }
 {
     for turn in 0..popped.len() {

@@ -6,12 +6,12 @@ ghost use Rattle.hg_core.specs.declared.log.LogEntry.TheVariants.{Began, Wrote};
 ghost use Rattle.hg_core.specs.declared.phase.Phase.TheVariants.{Idle, Live};
 ghost use Rattle.hg_core.specs.Logs.{begans};
 ghost use Rattle.hg_rule.specs.declared.view.Part.TheVariants.{OfSession};
-ghost use Rattle.hg_rule.specs.Seats.{table_of, sizes_of, session_view, IsSessionOf};
+ghost use Rattle.hg_rule.specs.Seats.{board_id, sizes_of, session_view, IsSessionOf};
 ghost use Rattle.hg_rule.specs.Steps.{logging};
 ghost use Rattle.hg_rule.specs.Holding.{writer};
 ghost use Rattle.hg_rule.specs.Writes.{with_entry};
 ghost use Rattle.hg_rule.specs.Views.{number, session, HasOnlySession};
-ghost use Rattle.hg_store.specs.Stores.{store_table, store_buckets};
+ghost use Rattle.hg_store.specs.Stores.{store_board_id, store_buckets};
 ghost use Rattle.hg_queue.specs.Handing.{IsOpenTxOf, MayCommit};
 
 use super::*;
@@ -24,11 +24,11 @@ use std::test::Fail;
 
 // Begins a transaction on all tables. The answer is its snapshot.
 fn begin(board: &Board, pass: &mut SessionPass) -> u64
-    requires own { IsSessionOf (table_of board.now) (sizes_of board.now) pass.old }
+    requires own { IsSessionOf (board_id board.now) (sizes_of board.now) pass.old }
     requires only { HasOnlySession (session_view pass.old) }
     requires rests { (session (session_view pass.old)).phase ≡ Idle }
     requires room { begans (session (session_view pass.old)).log < (sizes_of board.now).quota }
-    ensures own { IsSessionOf (table_of board.now) (sizes_of board.now) pass.new }
+    ensures own { IsSessionOf (board_id board.now) (sizes_of board.now) pass.new }
     ensures parts { (session_view pass.new).parts ≡ OfSession (number (session_view pass.old)) (logging (Began result All) (Live result All) (session (session_view pass.old))) ∷ [] }
 {
     let from = board.probe(pass);
@@ -53,16 +53,16 @@ fn write<R: Wait>(
     image: Image,
     at: u64,
 ) -> (Writer, bool)
-    requires table { store_table store.now ≡ table_of board.now }
+    requires board { store_board_id store.now ≡ board_id board.now }
     requires buckets { (0 < store_buckets store.now) × (store_buckets store.now ≡ (sizes_of board.now).buckets) }
-    requires own { IsSessionOf (table_of board.now) (sizes_of board.now) pass.old }
+    requires own { IsSessionOf (board_id board.now) (sizes_of board.now) pass.old }
     requires only { HasOnlySession (session_view pass.old) }
     requires live { (session (session_view pass.old)).phase ≡ Live at All }
     requires log { (session (session_view pass.old)).log ≡ Began at All ∷ [] }
     requires unstamped { (session (session_view pass.old)).stamped ≡ false }
     requires known { rid.table.0 < (sizes_of board.now).tables }
     requires room { 0 < (sizes_of board.now).quota }
-    ensures own { IsSessionOf (table_of board.now) (sizes_of board.now) pass.new }
+    ensures own { IsSessionOf (board_id board.now) (sizes_of board.now) pass.new }
     ensures by { result.0 ≡ writer (session_view pass.old) }
     ensures stored { result.1 ≡ true → (session_view pass.new).parts ≡ OfSession (number (session_view pass.old)) (with_entry (Wrote rid image) (session (session_view pass.old))) ∷ [] }
 {
@@ -82,15 +82,15 @@ fn put<R: Wait>(
     pass: &mut SessionPass,
     key: u64,
 ) -> Result<Option<OpenTx>, NoMemory>
-    requires table { store_table store.now ≡ table_of board.now }
+    requires board { store_board_id store.now ≡ board_id board.now }
     requires buckets { (0 < store_buckets store.now) × (store_buckets store.now ≡ (sizes_of board.now).buckets) }
-    requires own { IsSessionOf (table_of board.now) (sizes_of board.now) pass.old }
+    requires own { IsSessionOf (board_id board.now) (sizes_of board.now) pass.old }
     requires only { HasOnlySession (session_view pass.old) }
     requires rests { (session (session_view pass.old)).phase ≡ Idle }
     requires log { (session (session_view pass.old)).log ≡ [] }
     requires unstamped { (session (session_view pass.old)).stamped ≡ false }
     requires room { (0 < (sizes_of board.now).tables) × (0 < (sizes_of board.now).quota) }
-    ensures own { IsSessionOf (table_of board.now) (sizes_of board.now) pass.new }
+    ensures own { IsSessionOf (board_id board.now) (sizes_of board.now) pass.new }
     ensures ready { IfOk result (λ r. IfSome r (λ tx. HasOnlySession (session_view pass.new) × (MayCommit (session (session_view pass.new)) × (IsOpenTxOf (number (session_view pass.new)) (session (session_view pass.new)) tx × (0 < length tx.records.list))))) }
 {
     let image = image(alloc, 10)?;

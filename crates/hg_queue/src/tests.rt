@@ -4,7 +4,7 @@ ghost use Rattle.std.specs.Prelude.{◌≡◌, ◌<◌, [], ◌∷◌, IfOk};
 ghost use Rattle.hg_core.specs.Contents.{bucket_of};
 ghost use Rattle.hg_rule.specs.declared.view.Part.TheVariants.{OfBucket};
 ghost use Rattle.hg_rule.specs.Facts.{new_bucket};
-ghost use Rattle.hg_rule.specs.Seats.{table_of, sizes_of, session_view, bucket_view, IsSessionOf, IsBucketOf};
+ghost use Rattle.hg_rule.specs.Seats.{board_id, sizes_of, session_view, bucket_view, IsSessionOf, IsBucketOf};
 ghost use Rattle.hg_rule.specs.Moves.{session_part};
 ghost use Rattle.hg_queue.specs.Handing.{IsHandedOf};
 
@@ -23,13 +23,13 @@ fn first_of(
     bucket: BucketSeat,
     key: u32,
 ) -> Result<Handed, NoMemory>
-    requires own { IsSessionOf (table_of board.now) (sizes_of board.now) pass.old }
+    requires own { IsSessionOf (board_id board.now) (sizes_of board.now) pass.old }
     requires first { (session_view pass.old).parts ≡ session_part pass.old.number ∷ [] }
     requires room { (0 < (sizes_of board.now).tables) × (0 < (sizes_of board.now).quota) }
-    requires bucket { IsBucketOf (table_of board.now) bucket × (bucket.number ≡ key) }
+    requires bucket { IsBucketOf (board_id board.now) bucket × (bucket.number ≡ key) }
     requires place { bucket_of (sizes_of board.now).buckets record { table = record { 0 = 0 }; key = key } ≡ key }
     requires empty { (bucket_view bucket).parts ≡ OfBucket bucket.number new_bucket ∷ [] }
-    ensures handed { IfOk result (IsHandedOf (table_of board.now)) }
+    ensures handed { IfOk result (IsHandedOf (board_id board.now)) }
     ensures session { IfOk result (λ x. x.tx.writer.session ≡ pass.old.number) }
 {
     let table = TableId(0);

@@ -16,8 +16,8 @@ use Rattle.hg_rule.specs.declared.view.Sizes.{Sizes}
 use Rattle.hg_rule.specs.Views.{number, session, first_in, bucket_there, commit_there, HasSession, HasPass, HasAway}
 
 -- a board's identity and its sizes
-abbrev pub table_of : Board → BoardId
-table_of b = b.table.shared.table_id
+abbrev pub board_id : Board → BoardId
+board_id b = b.table.shared.table_id
 
 abbrev pub sizes_of : Board → Sizes
 sizes_of b = b.table.shared.key

@@ -10,7 +10,7 @@ ghost use Rattle.hg_core.specs.Passes.{found};
 ghost use Rattle.hg_core.specs.Events.{moved};
 ghost use Rattle.hg_rule.specs.Views.{session, pass as own_pass};
 ghost use Rattle.hg_rule.specs.Steps.{IsNumber, IsMovable, loaded_in, entered_in, Probes, Enters, Fixes, GoesLive, Ends, Marks, Samples, Moves};
-ghost use Rattle.hg_rule.specs.Seats.{table_of, sizes_of, session_view, pass_view, IsSessionOf, IsPassOf};
+ghost use Rattle.hg_rule.specs.Seats.{board_id, sizes_of, session_view, pass_view, IsSessionOf, IsPassOf};
 
 use crate::board::Board;
 use crate::passes::{CollectorPass, SessionPass};
@@ -34,21 +34,21 @@ fn moved(register: Register) -> Register
 impl Board {
     /// Loads the mark, of which nobody knows yet.
     pub fn probe(&self, pass: &mut SessionPass) -> u64
-        requires own { IsSessionOf (table_of self.now) (sizes_of self.now) pass.old }
+        requires own { IsSessionOf (board_id self.now) (sizes_of self.now) pass.old }
         requires rests { (session (session_view pass.old)).phase ≡ Idle }
         requires room { begans (session (session_view pass.old)).log < (sizes_of self.now).quota }
         ensures step { Probes (session_view pass.old) result (session_view pass.new) }
-        ensures own { IsSessionOf (table_of self.now) (sizes_of self.now) pass.new }
+        ensures own { IsSessionOf (board_id self.now) (sizes_of self.now) pass.new }
     {
         self.table.shared.load::<Probing>(&mut pass.seat, 0)
     }
 
     /// Shows that the session enters at the mark that it loaded.
     pub fn enter(&self, pass: &mut SessionPass, f: u64)
-        requires own { IsSessionOf (table_of self.now) (sizes_of self.now) pass.old }
+        requires own { IsSessionOf (board_id self.now) (sizes_of self.now) pass.old }
         requires probed { ((session (session_view pass.old)).phase ≡ Probed f) × IsNumber f }
         ensures step { Enters (session_view pass.old) f (session_view pass.new) }
-        ensures own { IsSessionOf (table_of self.now) (sizes_of self.now) pass.new }
+        ensures own { IsSessionOf (board_id self.now) (sizes_of self.now) pass.new }
     {
         let word = Register::Entering(f).word();
         self.table
@@ -58,10 +58,10 @@ impl Board {
 
     /// Loads the mark again.
     pub fn fix(&self, pass: &mut SessionPass) -> u64
-        requires own { IsSessionOf (table_of self.now) (sizes_of self.now) pass.old }
+        requires own { IsSessionOf (board_id self.now) (sizes_of self.now) pass.old }
         requires entered { (session (session_view pass.old)).phase ≡ Entered (loaded_in (session (session_view pass.old)).phase) }
         ensures step { Fixes (session_view pass.old) result (session_view pass.new) }
-        ensures own { IsSessionOf (table_of self.now) (sizes_of self.now) pass.new }
+        ensures own { IsSessionOf (board_id self.now) (sizes_of self.now) pass.new }
     {
         self.table.shared.load::<Fixing>(&mut pass.seat, 0)
     }
@@ -70,12 +70,12 @@ impl Board {
 impl Board {
     /// Shows the second mark as the snapshot, with the tables that the transaction declares. It is logged as begun.
     pub fn go_live(&self, pass: &mut SessionPass, m: u64, scope: Scope)
-        requires own { IsSessionOf (table_of self.now) (sizes_of self.now) pass.old }
+        requires own { IsSessionOf (board_id self.now) (sizes_of self.now) pass.old }
         requires fixed { ((session (session_view pass.old)).phase ≡ Fixed (entered_in (session (session_view pass.old)).phase) m) × IsNumber m }
         requires tables { IsBelow (sizes_of self.now).tables scope }
         requires room { begans (session (session_view pass.old)).log < (sizes_of self.now).quota }
         ensures step { GoesLive (session_view pass.old) m scope (session_view pass.new) }
-        ensures own { IsSessionOf (table_of self.now) (sizes_of self.now) pass.new }
+        ensures own { IsSessionOf (board_id self.now) (sizes_of self.now) pass.new }
     {
         let register = Register::Live {
             number: m,
@@ -90,11 +90,11 @@ impl Board {
 
     /// Goes to rest. The transaction is logged as over.
     pub fn end(&self, pass: &mut SessionPass)
-        requires own { IsSessionOf (table_of self.now) (sizes_of self.now) pass.old }
+        requires own { IsSessionOf (board_id self.now) (sizes_of self.now) pass.old }
         requires live { IsSome (snapshot_in (session (session_view pass.old)).phase) }
         requires none { (rid : Rid) → open_in rid (session (session_view pass.old)).log ≡ None }
         ensures step { Ends (session_view pass.old) (session_view pass.new) }
-        ensures own { IsSessionOf (table_of self.now) (sizes_of self.now) pass.new }
+        ensures own { IsSessionOf (board_id self.now) (sizes_of self.now) pass.new }
     {
         self.table
             .shared
@@ -103,21 +103,21 @@ impl Board {
 
     /// Loads the mark, which begins a record with what the pass has seen.
     pub fn mark(&self, pass: &mut CollectorPass) -> u64
-        requires own { IsPassOf (table_of self.now) pass.old }
+        requires own { IsPassOf (board_id self.now) pass.old }
         ensures step { Marks (pass_view pass.old) result (pass_view pass.new) }
-        ensures own { IsPassOf (table_of self.now) pass.new }
+        ensures own { IsPassOf (board_id self.now) pass.new }
     {
         self.table.shared.load::<Marking>(&mut pass.seat, 0)
     }
 
     /// Loads a session's register into the record, which has none of that session yet.
     pub fn sample(&self, pass: &mut CollectorPass, j: u32) -> Register
-        requires own { IsPassOf (table_of self.now) pass.old }
+        requires own { IsPassOf (board_id self.now) pass.old }
         requires session { IsSession (sizes_of self.now).sessions j }
         requires fresh { found j (own_pass (pass_view pass.old)).loaded ≡ None }
         ensures step { Samples (pass_view pass.old) j result (pass_view pass.new) }
         ensures register { IsRegister result }
-        ensures own { IsPassOf (table_of self.now) pass.new }
+        ensures own { IsPassOf (board_id self.now) pass.new }
     {
         let word = self
             .table
@@ -129,12 +129,12 @@ impl Board {
     /// Moves a snapshot that the record has as live, declared and not moved, if its register still shows that. The answer
     /// says whether it did: then the record's entry is moved too, and else no part has changed.
     pub fn move_one(&self, pass: &mut CollectorPass, j: u32, from: Register) -> bool
-        requires own { IsPassOf (table_of self.now) pass.old }
+        requires own { IsPassOf (board_id self.now) pass.old }
         requires session { IsSession (sizes_of self.now).sessions j }
         requires movable { IsMovable from × IsRegister from }
         requires loaded { found j (own_pass (pass_view pass.old)).loaded ≡ Some from }
         ensures step { Moves (pass_view pass.old) j (number_of from) result (pass_view pass.new) }
-        ensures own { IsPassOf (table_of self.now) pass.new }
+        ensures own { IsPassOf (board_id self.now) pass.new }
     {
         let unmoved = from.word();
         let found = self

@@ -13,7 +13,7 @@ ghost use Rattle.hg_rule.specs.Views.{number, session, HasOnlySession};
 ghost use Rattle.hg_rule.specs.Moves.{joined, merged, meeting};
 ghost use Rattle.hg_rule.specs.Agreed.{AgreesWith, IsMet};
 ghost use Rattle.hg_rule.specs.Reading.{read, HasAll, AllRest, own_state};
-ghost use Rattle.hg_rule.specs.Seats.{table_of, sizes_of, view, session_view, pass_view, IsSeatOf, IsTied, IsSessionOf, IsPassOf};
+ghost use Rattle.hg_rule.specs.Seats.{board_id, sizes_of, view, session_view, pass_view, IsSeatOf, IsTied, IsSessionOf, IsPassOf};
 
 use crate::board::Board;
 use crate::pass::Pass;
@@ -36,23 +36,23 @@ impl SessionPass {
 
     /// Afterwards each has seen what either had seen.
     pub fn meet(&mut self, board: &Board, other: &mut SessionPass)
-        requires own { IsSessionOf (table_of board.now) (sizes_of board.now) self.old × IsSessionOf (table_of board.now) (sizes_of board.now) other.old }
+        requires own { IsSessionOf (board_id board.now) (sizes_of board.now) self.old × IsSessionOf (board_id board.now) (sizes_of board.now) other.old }
         requires only { HasOnlySession (session_view other.old) }
         ensures backed { IsMet (sizes_of board.now) (joined (session_view self.old) (session_view other.old)) }
         ensures view { session_view self.new ≡ meeting (session_view self.old) (session_view other.old) }
         ensures other { session_view other.new ≡ meeting (session_view other.old) (session_view self.new) }
-        ensures own { IsSessionOf (table_of board.now) (sizes_of board.now) self.new × IsSessionOf (table_of board.now) (sizes_of board.now) other.new }
+        ensures own { IsSessionOf (board_id board.now) (sizes_of board.now) self.new × IsSessionOf (board_id board.now) (sizes_of board.now) other.new }
     {
         board.meet(self, other);
     }
 
     /// Its part of the state goes to a collector's pass for good, which then knows what it had seen and done.
     pub fn finish(self, board: &Board, pass: &mut CollectorPass)
-        requires own { IsSessionOf (table_of board.now) (sizes_of board.now) self × IsPassOf (table_of board.now) pass.old }
+        requires own { IsSessionOf (board_id board.now) (sizes_of board.now) self × IsPassOf (board_id board.now) pass.old }
         requires rests { (session (session_view self)).phase ≡ Idle }
         ensures backed { IsMet (sizes_of board.now) (pass_view pass.new) }
         ensures view { pass_view pass.new ≡ merged (pass_view pass.old) (session_view self) }
-        ensures own { IsPassOf (table_of board.now) pass.new }
+        ensures own { IsPassOf (board_id board.now) pass.new }
     {
         let SessionPass { seat, .. } = self;
         board.take_in(pass, seat);
@@ -62,23 +62,23 @@ impl SessionPass {
 impl CollectorPass {
     /// Afterwards each has seen what either had seen. What this pass did and loaded agrees with the session's log and phase.
     pub fn meet(&mut self, board: &Board, other: &mut SessionPass)
-        requires own { IsPassOf (table_of board.now) self.old × IsSessionOf (table_of board.now) (sizes_of board.now) other.old }
+        requires own { IsPassOf (board_id board.now) self.old × IsSessionOf (board_id board.now) (sizes_of board.now) other.old }
         requires only { HasOnlySession (session_view other.old) }
         ensures backed { IsMet (sizes_of board.now) (joined (pass_view self.old) (session_view other.old)) }
         ensures agrees { AgreesWith (pass_view self.old) (number (session_view other.old)) (session (session_view other.old)) }
         ensures view { pass_view self.new ≡ meeting (pass_view self.old) (session_view other.old) }
         ensures other { session_view other.new ≡ meeting (session_view other.old) (pass_view self.new) }
-        ensures own { IsPassOf (table_of board.now) self.new × IsSessionOf (table_of board.now) (sizes_of board.now) other.new }
+        ensures own { IsPassOf (board_id board.now) self.new × IsSessionOf (board_id board.now) (sizes_of board.now) other.new }
     {
         board.meet(self, other);
     }
 
     /// The other's parts go to this pass, which then knows what that had seen and done. Its own record stays.
     pub fn join(&mut self, board: &Board, other: CollectorPass)
-        requires own { IsPassOf (table_of board.now) self.old × IsPassOf (table_of board.now) other }
+        requires own { IsPassOf (board_id board.now) self.old × IsPassOf (board_id board.now) other }
         ensures backed { IsMet (sizes_of board.now) (pass_view self.new) }
         ensures view { pass_view self.new ≡ merged (pass_view self.old) (pass_view other) }
-        ensures own { IsPassOf (table_of board.now) self.new }
+        ensures own { IsPassOf (board_id board.now) self.new }
     {
         let CollectorPass { seat } = other;
         board.take_in(self, seat);
@@ -89,13 +89,13 @@ impl Board {
     /// A pass that has each session, each bucket, the committer's part and all passes knows the whole invariant, of a state
     /// that is written down from its own parts. The answer is the mark.
     pub fn know_all<P: Pass>(&self, pass: &mut P) -> u64
-        requires own { IsSeatOf (table_of self.now) (P.seat_of pass.old) }
+        requires own { IsSeatOf (board_id self.now) (P.seat_of pass.old) }
         requires all { HasAll (sizes_of self.now) (view (P.seat_of pass.old)) }
         requires rest { AllRest (view (P.seat_of pass.old)) }
         ensures steady { IsSteady (own_state (sizes_of self.now) (view (P.seat_of pass.old))) }
         ensures mark { result ≡ (own_state (sizes_of self.now) (view (P.seat_of pass.old))).mark }
         ensures stays { view (P.seat_of pass.new) ≡ view (P.seat_of pass.old) }
-        ensures own { IsSeatOf (table_of self.now) (P.seat_of pass.new) × (P.rest_of pass.new ≡ P.rest_of pass.old) }
+        ensures own { IsSeatOf (board_id self.now) (P.seat_of pass.new) × (P.rest_of pass.new ≡ P.rest_of pass.old) }
     {
         self.look_at(pass)
     }

@@ -15,7 +15,7 @@ ghost use Rattle.hg_rule.specs.Views.{number};
 ghost use Rattle.hg_rule.specs.Steps.{logging};
 ghost use Rattle.hg_rule.specs.Holding.{writer, tables};
 ghost use Rattle.hg_rule.specs.Writes.{with_entry, with_published, installing, stamping};
-ghost use Rattle.hg_rule.specs.Seats.{table_of, sizes_of, session_view, IsBucketOf, IsCommitOf};
+ghost use Rattle.hg_rule.specs.Seats.{board_id, sizes_of, session_view, IsBucketOf, IsCommitOf};
 ghost use Rattle.hg_rule.specs.Resting.{own_session, own_bucket, own_commit, IsAlone, Rests, IsFreeFrom};
 
 use super::*;
@@ -25,11 +25,11 @@ use std::test::Fail;
 
 // Takes a snapshot of all tables.
 fn begin(board: &Board, pass: &mut SessionPass) -> u64
-    requires own { IsAlone (table_of board.now) (sizes_of board.now) pass.old }
+    requires own { IsAlone (board_id board.now) (sizes_of board.now) pass.old }
     requires rests { Rests pass.old }
     requires room { begans (own_session pass.old).log < (sizes_of board.now).quota }
     ensures parts { (session_view pass.new).parts ≡ OfSession (number (session_view pass.old)) (logging (entries.Began result All) (Live result All) (own_session pass.old)) ∷ [] }
-    ensures own { IsAlone (table_of board.now) (sizes_of board.now) pass.new }
+    ensures own { IsAlone (board_id board.now) (sizes_of board.now) pass.new }
 {
     let from = board.probe(pass);
     board.enter(pass, from);
@@ -46,17 +46,17 @@ fn write(
     rid: Rid,
     image: &Image,
 ) -> BucketSeat
-    requires own { IsAlone (table_of board.now) (sizes_of board.now) pass.old }
+    requires own { IsAlone (board_id board.now) (sizes_of board.now) pass.old }
     requires live { IsSome (snapshot_in (own_session pass.old).phase) × (tables (session_view pass.old) ≡ All) }
     requires open { IsTrue (is_plain (own_session pass.old).log) × ((own_session pass.old).stamped ≡ false) }
     requires room { wrotes (own_session pass.old).log < (sizes_of board.now).quota }
-    requires bucket { IsBucketOf (table_of board.now) bucket × (bucket_of (sizes_of board.now).buckets rid ≡ bucket.number) }
+    requires bucket { IsBucketOf (board_id board.now) bucket × (bucket_of (sizes_of board.now).buckets rid ≡ bucket.number) }
     requires table { rid.table.0 < (sizes_of board.now).tables }
     requires free { look rid (own_bucket bucket).content ≡ [] }
     ensures parts { (session_view pass.new).parts ≡ OfSession (number (session_view pass.old)) (with_entry (entries.Wrote rid image.now) (own_session pass.old)) ∷ [] }
-    ensures bucket { IsBucketOf (table_of board.now) result × (result.number ≡ bucket.number) }
+    ensures bucket { IsBucketOf (board_id board.now) result × (result.number ≡ bucket.number) }
     ensures written { own_bucket result ≡ installing (writer (session_view pass.old)) rid image.now (own_bucket bucket) }
-    ensures own { IsAlone (table_of board.now) (sizes_of board.now) pass.new }
+    ensures own { IsAlone (board_id board.now) (sizes_of board.now) pass.new }
 {
     let number = bucket.number;
     board.join_bucket(pass, bucket);
@@ -72,20 +72,20 @@ fn commit_alone(
     commit: CommitSeat,
     rid: Rid,
 ) -> (BucketSeat, CommitSeat)
-    requires own { IsAlone (table_of board.now) (sizes_of board.now) pass.old }
+    requires own { IsAlone (board_id board.now) (sizes_of board.now) pass.old }
     requires live { IsSome (snapshot_in (own_session pass.old).phase) }
     requires plain { IsTrue (is_plain (own_session pass.old).log) }
     requires unstamped { (own_session pass.old).stamped ≡ false }
-    requires bucket { IsBucketOf (table_of board.now) bucket × (bucket_of (sizes_of board.now).buckets rid ≡ bucket.number) }
+    requires bucket { IsBucketOf (board_id board.now) bucket × (bucket_of (sizes_of board.now).buckets rid ≡ bucket.number) }
     requires mine { IsOpenBy (writer (session_view pass.old)) (look rid (own_bucket bucket).content) }
     requires only { (r : Rid) → IsSome (open_in r (own_session pass.old).log) → same_rid rid r ≡ true }
-    requires commit { IsCommitOf (table_of board.now) commit × ((own_commit commit).stamped ≡ []) }
+    requires commit { IsCommitOf (board_id board.now) commit × ((own_commit commit).stamped ≡ []) }
     ensures parts { (session_view pass.new).parts ≡ OfSession (number (session_view pass.old)) (with_published (suc (length (own_commit commit).history.list)) (own_session pass.old)) ∷ [] }
-    ensures bucket { IsBucketOf (table_of board.now) result.0 × (result.0.number ≡ bucket.number) }
+    ensures bucket { IsBucketOf (board_id board.now) result.0 × (result.0.number ≡ bucket.number) }
     ensures stamped { own_bucket result.0 ≡ stamping (suc (length (own_commit commit).history.list)) (writer (session_view pass.old)) rid (own_bucket bucket) }
-    ensures commit { IsCommitOf (table_of board.now) result.1 × ((own_commit result.1).stamped ≡ []) }
+    ensures commit { IsCommitOf (board_id board.now) result.1 × ((own_commit result.1).stamped ≡ []) }
     ensures published { length (own_commit result.1).history.list ≡ length (own_commit commit).history.list + 1 }
-    ensures own { IsAlone (table_of board.now) (sizes_of board.now) pass.new }
+    ensures own { IsAlone (board_id board.now) (sizes_of board.now) pass.new }
 {
     let (session, number) = (pass.number, bucket.number);
     let (_, tx) = board.hand_over(pass);
@@ -109,17 +109,17 @@ fn commit_one(
     commit: CommitSeat,
     key: u64,
 ) -> (BucketSeat, CommitSeat)
-    requires own { IsAlone (table_of board.now) (sizes_of board.now) pass.old × Rests pass.old }
+    requires own { IsAlone (board_id board.now) (sizes_of board.now) pass.old × Rests pass.old }
     requires room { (begans (own_session pass.old).log < (sizes_of board.now).quota) × (wrotes (own_session pass.old).log < (sizes_of board.now).quota) }
     requires sizes { (0 < (sizes_of board.now).tables) × ((sizes_of board.now).buckets ≡ 1) }
-    requires bucket { IsBucketOf (table_of board.now) bucket × (bucket.number ≡ 0) }
+    requires bucket { IsBucketOf (board_id board.now) bucket × (bucket.number ≡ 0) }
     requires free { IsFreeFrom key (own_bucket bucket).content }
-    requires commit { IsCommitOf (table_of board.now) commit × ((own_commit commit).stamped ≡ []) }
-    ensures own { IsAlone (table_of board.now) (sizes_of board.now) pass.new × Rests pass.new }
+    requires commit { IsCommitOf (board_id board.now) commit × ((own_commit commit).stamped ≡ []) }
+    ensures own { IsAlone (board_id board.now) (sizes_of board.now) pass.new × Rests pass.new }
     ensures counts { (begans (own_session pass.new).log ≡ begans (own_session pass.old).log + 1) × (wrotes (own_session pass.new).log ≡ wrotes (own_session pass.old).log + 1) }
-    ensures bucket { IsBucketOf (table_of board.now) result.0 × (result.0.number ≡ 0) }
+    ensures bucket { IsBucketOf (board_id board.now) result.0 × (result.0.number ≡ 0) }
     ensures free { IsFreeFrom (key + 1) (own_bucket result.0).content }
-    ensures commit { IsCommitOf (table_of board.now) result.1 × ((own_commit result.1).stamped ≡ []) }
+    ensures commit { IsCommitOf (board_id board.now) result.1 × ((own_commit result.1).stamped ≡ []) }
     ensures history { length (own_commit result.1).history.list ≡ length (own_commit commit).history.list + 1 }
 {
     let table = TableId(0);
@@ -141,18 +141,18 @@ fn commit_some(
     first: u64,
     count: u64,
 ) -> (BucketSeat, CommitSeat)
-    requires own { IsAlone (table_of board.now) (sizes_of board.now) pass.old × Rests pass.old }
+    requires own { IsAlone (board_id board.now) (sizes_of board.now) pass.old × Rests pass.old }
     requires room { (begans (own_session pass.old).log + count ≤ (sizes_of board.now).quota) × (wrotes (own_session pass.old).log + count ≤ (sizes_of board.now).quota) }
     requires sizes { (0 < (sizes_of board.now).tables) × ((sizes_of board.now).buckets ≡ 1) }
     requires keys { first + count < 2 ^ 64 }
-    requires bucket { IsBucketOf (table_of board.now) bucket × (bucket.number ≡ 0) }
+    requires bucket { IsBucketOf (board_id board.now) bucket × (bucket.number ≡ 0) }
     requires free { IsFreeFrom first (own_bucket bucket).content }
-    requires commit { IsCommitOf (table_of board.now) commit × ((own_commit commit).stamped ≡ []) }
-    ensures own { IsAlone (table_of board.now) (sizes_of board.now) pass.new × Rests pass.new }
+    requires commit { IsCommitOf (board_id board.now) commit × ((own_commit commit).stamped ≡ []) }
+    ensures own { IsAlone (board_id board.now) (sizes_of board.now) pass.new × Rests pass.new }
     ensures counts { (begans (own_session pass.new).log ≡ begans (own_session pass.old).log + count) × (wrotes (own_session pass.new).log ≡ wrotes (own_session pass.old).log + count) }
-    ensures bucket { IsBucketOf (table_of board.now) result.0 × (result.0.number ≡ 0) }
+    ensures bucket { IsBucketOf (board_id board.now) result.0 × (result.0.number ≡ 0) }
     ensures free { IsFreeFrom (first + count) (own_bucket result.0).content }
-    ensures commit { IsCommitOf (table_of board.now) result.1 × ((own_commit result.1).stamped ≡ []) }
+    ensures commit { IsCommitOf (board_id board.now) result.1 × ((own_commit result.1).stamped ≡ []) }
     ensures history { length (own_commit result.1).history.list ≡ length (own_commit commit).history.list + count }
 {
     let mut seats = (bucket, commit);

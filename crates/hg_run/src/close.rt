@@ -10,7 +10,7 @@ ghost use Rattle.hg_rule.specs.New.{EachFrom, IsNewPass};
 ghost use Rattle.hg_tracker.specs.Gathers.{IsMadeFor};
 ghost use Rattle.hg_headline.specs.Counted.{Closes};
 ghost use Rattle.hg_session.specs.declared.session.Session.{Session};
-ghost use Rattle.hg_session.specs.Engines.{engine_table, engine_sizes};
+ghost use Rattle.hg_session.specs.Engines.{engine_board_id, engine_sizes};
 ghost use Rattle.hg_session.specs.Sessions.{IsOf, number_of, log_of, open_of};
 ghost use Rattle.hg_session.specs.Finished.{logs_of, IsClosed};
 ghost use Rattle.hg_run.specs.Listed.{IsPlaced};
@@ -70,7 +70,7 @@ pub(crate) fn close<R: Wait>(
 ) -> Totals
     requires many { length list.items ≡ (engine_sizes engine.now).sessions }
     requires placed { (d : Session) (k : ℕ) → k < length list.items → IsPlaced engine.now k (get_or list.items k d) }
-    requires passes { IsNewPass (engine_table engine.now) 0 passes.group × IsNewPass (engine_table engine.now) 1 passes.table × IsNewPass (engine_table engine.now) 2 passes.interval }
+    requires passes { IsNewPass (engine_board_id engine.now) 0 passes.group × IsNewPass (engine_board_id engine.now) 1 passes.table × IsNewPass (engine_board_id engine.now) 2 passes.interval }
     requires made { IsMadeFor (engine_sizes engine.now).sessions (engine_sizes engine.now).tables gathered.old }
     ensures { IsClosedBy (engine_sizes engine.now).buckets (engine_sizes engine.now).sessions (logs_of list.items) result }
 {

@@ -22,7 +22,7 @@ use Rattle.hg_queue.specs.declared.open_tx.OpenTx.{OpenTx}
 use Rattle.hg_queue.specs.Handing.{IsOpenTxOf}
 use Rattle.hg_session.specs.declared.engine.Engine.{Engine}
 use Rattle.hg_session.specs.declared.session.Session.{Session}
-use Rattle.hg_session.specs.Engines.{engine_table, engine_sizes}
+use Rattle.hg_session.specs.Engines.{engine_board_id, engine_sizes}
 use Rattle.hg_session.specs.Sessions.{pass_of, view_of, seen_by, opened_of, written_of, left_of, IsIn}
 use Rattle.hg_session.proofs.Meetings.{among_first}
 use Rattle.hg_session.proofs.Settling.{gained}
@@ -106,7 +106,7 @@ after v u receipt at h e = record {
 pub back_gains : (v w : View) → IsBackAgain v w → Gains v [] w
 back_gains v w b = gained v w (session v) [] (record { parts = b.parts; kept = b.kept }) refl
 
-pub back_in : (e : Engine) (v : View) (s : Session) → IsSessionOf (engine_table e) (engine_sizes e) (pass_of s) → IsBackAgain v (view_of s) → Ties (engine_sizes e).quota (opened_of s) (written_of s) (left_of s) 0 0 (session v) → IsHeard (number v) (session v).log v.sights → IsIn e 0 0 s
+pub back_in : (e : Engine) (v : View) (s : Session) → IsSessionOf (engine_board_id e) (engine_sizes e) (pass_of s) → IsBackAgain v (view_of s) → Ties (engine_sizes e).quota (opened_of s) (written_of s) (left_of s) 0 0 (session v) → IsHeard (number v) (session v).log v.sights → IsIn e 0 0 s
 back_in e v s own b ties heard =
     let a : Alone (number v) (session v) v.sights (view_of s) = record { parts = b.parts; kept = b.kept } in
     let n = first_number (view_of s) (number v) (session v) [] b.parts in

@@ -9,7 +9,7 @@ use Rattle.hg_rule.specs.Moves.{meeting}
 use Rattle.hg_rule.specs.Seats.{IsSessionOf}
 use Rattle.hg_session.specs.declared.engine.Engine.{Engine}
 use Rattle.hg_session.specs.declared.session.Session.{Session}
-use Rattle.hg_session.specs.Engines.{engine_table, engine_sizes}
+use Rattle.hg_session.specs.Engines.{engine_board_id, engine_sizes}
 use Rattle.hg_session.specs.Ties.{Ties, IsHeard}
 use Rattle.hg_session.specs.Sessions.{IsIn, pass_of, view_of, left_of, opened_of, written_of}
 
@@ -23,7 +23,7 @@ heard_still j log sights more (inl e) = inl e
 heard_still j log sights more (inr h) = inr (among_first _ sights more h)
 
 -- it is as it was, but for what it has seen
-pub met : (e : Engine) (begins writes : ℕ) (s t : Session) (w : View) → IsIn e begins writes s → IsSessionOf (engine_table e) (engine_sizes e) (pass_of t) → view_of t ≡ meeting (view_of s) w
+pub met : (e : Engine) (begins writes : ℕ) (s t : Session) (w : View) → IsIn e begins writes s → IsSessionOf (engine_board_id e) (engine_sizes e) (pass_of t) → view_of t ≡ meeting (view_of s) w
     → opened_of t ≡ opened_of s → written_of t ≡ written_of s → left_of t ≡ left_of s → IsIn e begins writes t
 met e begins writes s t w is own view opened written left = record {
   pass = own;

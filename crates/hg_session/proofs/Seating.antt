@@ -12,10 +12,10 @@ use Rattle.hg_rule.specs.New.{EachFrom, IsNewSession}
 use Rattle.hg_rule.specs.Seats.{session_view}
 use Rattle.hg_session.specs.declared.engine.Engine.{Engine}
 use Rattle.hg_session.specs.declared.session.Session.{Session}
-use Rattle.hg_session.specs.Engines.{engine_table, engine_sizes}
+use Rattle.hg_session.specs.Engines.{engine_board_id, engine_sizes}
 use Rattle.hg_session.specs.Opened.{seated, IsNewOf}
 
-pub seated_is : (e : Engine) (alloc : Global) (quota j : ℕ) (p : SessionPass) → quota ≤ (engine_sizes e).quota → IsSession (engine_sizes e).sessions j → IsNewSession (engine_table e) j p → IsNewOf e quota j (seated alloc quota p)
+pub seated_is : (e : Engine) (alloc : Global) (quota j : ℕ) (p : SessionPass) → quota ≤ (engine_sizes e).quota → IsSession (engine_sizes e).sessions j → IsNewSession (engine_board_id e) j p → IsNewOf e quota j (seated alloc quota p)
 seated_is e alloc quota j p most inside new =
     let is : session_view p ≡ seeing (session_part j ∷ []) [] [] = ap (λ m. m.0) new.2.1 in
     let at : number (session_view p) ≡ j = ap number is in record {
@@ -46,7 +46,7 @@ seated_is e alloc quota j p most inside new =
       retries = refl;
     }
 
-pub seated_row : (e : Engine) (alloc : Global) (quota i : ℕ) (ps : List SessionPass) → quota ≤ (engine_sizes e).quota → 0 < i → i + length ps ≤ suc (engine_sizes e).sessions → EachFrom (IsNewSession (engine_table e)) i ps → EachFrom (IsNewOf e quota) i (map (seated alloc quota) ps)
+pub seated_row : (e : Engine) (alloc : Global) (quota i : ℕ) (ps : List SessionPass) → quota ≤ (engine_sizes e).quota → 0 < i → i + length ps ≤ suc (engine_sizes e).sessions → EachFrom (IsNewSession (engine_board_id e)) i ps → EachFrom (IsNewOf e quota) i (map (seated alloc quota) ps)
 seated_row e alloc quota i [] most first last row = tt
 seated_row e alloc quota i (p ∷ ps) most first last row = (
   seated_is e alloc quota i p most (record { first = first; last = omega (arith, last) }) row.0,
@@ -54,5 +54,5 @@ seated_row e alloc quota i (p ∷ ps) most first last row = (
 )
 
 -- all sessions of an engine on a board
-pub opened_row : (e : Engine) (alloc : Global) (quota : ℕ) (ps : List SessionPass) (sessions : List Session) → sessions ≡ map (seated alloc quota) ps → quota ≤ (engine_sizes e).quota → length ps ≤ (engine_sizes e).sessions → EachFrom (IsNewSession (engine_table e)) 1 ps → EachFrom (IsNewOf e quota) 1 sessions
+pub opened_row : (e : Engine) (alloc : Global) (quota : ℕ) (ps : List SessionPass) (sessions : List Session) → sessions ≡ map (seated alloc quota) ps → quota ≤ (engine_sizes e).quota → length ps ≤ (engine_sizes e).sessions → EachFrom (IsNewSession (engine_board_id e)) 1 ps → EachFrom (IsNewOf e quota) 1 sessions
 opened_row e alloc quota ps sessions are most all row = subst (EachFrom (IsNewOf e quota) 1) (sym are) (seated_row e alloc quota 1 ps most (omega arith) (omega (arith, all)) row)

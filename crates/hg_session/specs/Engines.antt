@@ -1,7 +1,7 @@
 -- What a clause says of an engine.
 use Rattle.hg_rule.specs.declared.board.Board.{Board}
 use Rattle.hg_rule.specs.declared.view.Sizes.{Sizes}
-use Rattle.hg_rule.specs.Seats.{BoardId, table_of, sizes_of}
+use Rattle.hg_rule.specs.Seats.{BoardId, board_id, sizes_of}
 use Rattle.hg_tracker.specs.Boards.{board_of}
 use Rattle.hg_group.specs.declared.group_list.GroupList.{GroupList}
 use Rattle.hg_store.specs.declared.store.Store.{Store}
@@ -11,8 +11,8 @@ use Rattle.hg_session.specs.declared.engine.Engine.{Engine}
 abbrev pub engine_board : Engine → Board
 engine_board e = board_of e.trackers
 
-abbrev pub engine_table : Engine → BoardId
-engine_table e = table_of (engine_board e)
+abbrev pub engine_board_id : Engine → BoardId
+engine_board_id e = board_id (engine_board e)
 
 abbrev pub engine_sizes : Engine → Sizes
 engine_sizes e = sizes_of (engine_board e)

@@ -11,7 +11,7 @@ use Rattle.hg_rule.specs.Views.{number, session, HasOnlySession}
 use Rattle.hg_rule.specs.Seats.{session_view, IsSessionOf}
 use Rattle.hg_session.specs.declared.engine.Engine.{Engine}
 use Rattle.hg_session.specs.declared.session.Session.{Session}
-use Rattle.hg_session.specs.Engines.{engine_table, engine_sizes}
+use Rattle.hg_session.specs.Engines.{engine_board_id, engine_sizes}
 use Rattle.hg_session.specs.Ties.{Ties, IsHeard}
 
 -- its pass, what that sees, its number, its log and what it has seen
@@ -53,7 +53,7 @@ written_of s = s.written.list
 -- The session is one of the engine and holds nothing of it, and what it keeps is what its part of the state says. It has
 -- heard its own log.
 pub record IsIn (e : Engine) (begins writes : ℕ) (s : Session) : Type 0 where
-  pub pass : IsSessionOf (engine_table e) (engine_sizes e) (pass_of s)
+  pub pass : IsSessionOf (engine_board_id e) (engine_sizes e) (pass_of s)
   pub only : HasOnlySession (view_of s)
   pub ties : Ties (engine_sizes e).quota (opened_of s) (written_of s) (left_of s) begins writes (session (view_of s))
   pub heard : IsHeard (number_of s) (log_of s) (seen_by s)

@@ -6,7 +6,7 @@ ghost use Rattle.hg_rule.specs.Facts.{StartsWith};
 ghost use Rattle.hg_rule.specs.New.{EachFrom, IsNewPass};
 ghost use Rattle.hg_rule.specs.Reading.{passes_in};
 ghost use Rattle.hg_rule.specs.Seats.{pass_view, IsPassOf};
-ghost use Rattle.hg_session.specs.Engines.{engine_table, engine_sizes};
+ghost use Rattle.hg_session.specs.Engines.{engine_board_id, engine_sizes};
 ghost use Rattle.hg_session.specs.Ties.{IsHeard};
 ghost use Rattle.hg_session.specs.Sessions.{seen_by};
 ghost use Rattle.hg_session.specs.Ended.{logs_in, visits_in, HasAllPasses, IsEnded};
@@ -20,13 +20,13 @@ use hg_rule::CollectorPass;
 impl Passes {
     /// The passes of a new engine in one, whose own is the table collector's.
     pub fn join(self, engine: &Engine) -> CollectorPass
-        requires new { IsNewPass (engine_table engine.now) 0 self.group × IsNewPass (engine_table engine.now) 1 self.table × IsNewPass (engine_table engine.now) 2 self.interval }
+        requires new { IsNewPass (engine_board_id engine.now) 0 self.group × IsNewPass (engine_board_id engine.now) 1 self.table × IsNewPass (engine_board_id engine.now) 2 self.interval }
         ensures passes { HasAllPasses (pass_view result) }
         ensures count { passes_in (pass_view result).parts ≡ 3 }
         ensures none { HasNoSession (pass_view result) }
         ensures visits { visits_in (pass_view result) ≡ (λ p. []) }
         ensures seen { (pass_view result).sights ≡ [] }
-        ensures own { IsPassOf (engine_table engine.now) result }
+        ensures own { IsPassOf (engine_board_id engine.now) result }
     {
         let Passes {
             group,
@@ -44,7 +44,7 @@ impl Passes {
 pub fn finish_all(engine: &Engine, sessions: Vec<Session>, pass: &mut CollectorPass)
     requires sessions { EachFrom (IsClosed engine.now) 1 sessions.items }
     requires all { length sessions.items ≡ (engine_sizes engine.now).sessions }
-    requires own { IsPassOf (engine_table engine.now) pass.old }
+    requires own { IsPassOf (engine_board_id engine.now) pass.old }
     requires passes { HasAllPasses (pass_view pass.old) }
     requires none { HasNoSession (pass_view pass.old) }
     ensures ended { IsEnded (engine_sizes engine.now) (pass_view pass.new) }
@@ -54,7 +54,7 @@ pub fn finish_all(engine: &Engine, sessions: Vec<Session>, pass: &mut CollectorP
     ensures kept { StartsWith (pass_view pass.new).sights (pass_view pass.old).sights }
     ensures visits { visits_in (pass_view pass.new) ≡ visits_in (pass_view pass.old) }
     ensures passes { passes_in (pass_view pass.new).parts ≡ passes_in (pass_view pass.old).parts }
-    ensures own { IsPassOf (engine_table engine.now) pass.new }
+    ensures own { IsPassOf (engine_board_id engine.now) pass.new }
 {
     for session in sessions {
         session.finish(engine, pass);

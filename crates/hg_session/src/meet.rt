@@ -5,7 +5,7 @@ ghost use Rattle.hg_rule.specs.Agreed.{AgreesWith, IsMet};
 ghost use Rattle.hg_rule.specs.Views.{session};
 ghost use Rattle.hg_rule.specs.Moves.{joined, merged, meeting};
 ghost use Rattle.hg_rule.specs.Seats.{pass_view, IsPassOf};
-ghost use Rattle.hg_session.specs.Engines.{engine_table, engine_sizes};
+ghost use Rattle.hg_session.specs.Engines.{engine_board_id, engine_sizes};
 ghost use Rattle.hg_session.specs.Sessions.{IsOf, view_of, number_of, open_of, left_of, retries_of};
 
 use crate::engine::Engine;
@@ -28,25 +28,25 @@ impl Session {
 
     /// Afterwards each has seen what either had seen. What the pass did and loaded agrees with the session's log and phase.
     pub fn meet_pass(&mut self, engine: &Engine, pass: &mut CollectorPass)
-        requires own { IsOf engine.now self.old × IsPassOf (engine_table engine.now) pass.old }
+        requires own { IsOf engine.now self.old × IsPassOf (engine_board_id engine.now) pass.old }
         ensures backed { IsMet (engine_sizes engine.now) (joined (pass_view pass.old) (view_of self.old)) }
         ensures agrees { AgreesWith (pass_view pass.old) (number_of self.old) (session (view_of self.old)) }
         ensures pass { pass_view pass.new ≡ meeting (pass_view pass.old) (view_of self.old) }
         ensures view { view_of self.new ≡ meeting (view_of self.old) (pass_view pass.new) }
         ensures kept { left_of self.new ≡ left_of self.old }
         ensures retries { retries_of self.new ≡ retries_of self.old }
-        ensures own { IsOf engine.now self.new × IsPassOf (engine_table engine.now) pass.new }
+        ensures own { IsOf engine.now self.new × IsPassOf (engine_board_id engine.now) pass.new }
     {
         pass.meet(engine.board(), &mut self.pass);
     }
 
     /// Its part of the state goes to a collector's pass for good, which then knows what it had seen and done.
     pub fn finish(self, engine: &Engine, pass: &mut CollectorPass)
-        requires own { IsOf engine.now self × IsPassOf (engine_table engine.now) pass.old }
+        requires own { IsOf engine.now self × IsPassOf (engine_board_id engine.now) pass.old }
         requires closed { open_of self ≡ None }
         ensures backed { IsMet (engine_sizes engine.now) (pass_view pass.new) }
         ensures view { pass_view pass.new ≡ merged (pass_view pass.old) (view_of self) }
-        ensures own { IsPassOf (engine_table engine.now) pass.new }
+        ensures own { IsPassOf (engine_board_id engine.now) pass.new }
     {
         let Session { pass: seat, .. } = self;
         seat.finish(engine.board(), pass);

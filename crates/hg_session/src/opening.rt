@@ -2,7 +2,7 @@
 
 ghost use Rattle.std.specs.Prelude.{◌≡◌, ◌*◌, ◌^◌, ◌<◌, ◌≤◌, length, map, IfOk};
 ghost use Rattle.hg_rule.specs.New.{EachFrom, IsNewPass};
-ghost use Rattle.hg_session.specs.Engines.{engine_table, engine_sizes};
+ghost use Rattle.hg_session.specs.Engines.{engine_board_id, engine_sizes};
 ghost use Rattle.hg_session.specs.Opened.{seated, IsNewOf};
 
 use crate::engine::Engine;
@@ -64,7 +64,7 @@ impl Engine {
         ensures sizes { IfOk result (λ o. engine_sizes o.0 ≡ record { sessions = sessions; tables = length tables.now; buckets = buckets; quota = quota }) }
         ensures count { IfOk result (λ o. length o.1 ≡ sessions) }
         ensures sessions { IfOk result (λ o. EachFrom (IsNewOf o.0 quota) 1 o.1) }
-        ensures passes { IfOk result (λ o. IsNewPass (engine_table o.0) 0 o.2.group × IsNewPass (engine_table o.0) 1 o.2.table × IsNewPass (engine_table o.0) 2 o.2.interval) }
+        ensures passes { IfOk result (λ o. IsNewPass (engine_board_id o.0) 0 o.2.group × IsNewPass (engine_board_id o.0) 1 o.2.table × IsNewPass (engine_board_id o.0) 2 o.2.interval) }
     {
         let (board, seats) = Board::new(alloc, sessions, tables.len() as u32, buckets, quota)?;
         let Seats {

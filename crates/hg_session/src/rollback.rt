@@ -11,7 +11,7 @@ ghost use Rattle.hg_core.specs.Reading.{UndoesAll};
 ghost use Rattle.hg_rule.specs.Views.{session, HasOnlySession};
 ghost use Rattle.hg_rule.specs.Holding.{writer as writer_of};
 ghost use Rattle.hg_rule.specs.Seats.{session_view, IsSessionOf};
-ghost use Rattle.hg_session.specs.Engines.{engine_table, engine_sizes};
+ghost use Rattle.hg_session.specs.Engines.{engine_board_id, engine_sizes};
 ghost use Rattle.hg_session.specs.Sessions.{IsIn, IsOf, view_of, log_of, open_of, left_of, retries_of, opened_of};
 ghost use Rattle.hg_session.specs.Replies.{Answers, inside};
 ghost use Rattle.hg_session.specs.Gains.{Gains, HasUndone};
@@ -25,13 +25,13 @@ use std::sync::Wait;
 
 // Takes one write back. Its bucket is held for that alone.
 fn undo_one<R: Wait>(rt: &R, engine: &Engine, pass: &mut SessionPass, rid: Rid, by: Writer)
-    requires own { IsSessionOf (engine_table engine.now) (engine_sizes engine.now) pass.old }
+    requires own { IsSessionOf (engine_board_id engine.now) (engine_sizes engine.now) pass.old }
     requires only { HasOnlySession (session_view pass.old) }
     requires unstamped { (session (session_view pass.old)).stamped ≡ false }
     requires by { by ≡ writer_of (session_view pass.old) }
     requires mine { IsSome (open_in rid (session (session_view pass.old)).log) }
     ensures undone { HasUndone (session_view pass.old) (rid ∷ []) (session_view pass.new) }
-    ensures own { IsSessionOf (engine_table engine.now) (engine_sizes engine.now) pass.new }
+    ensures own { IsSessionOf (engine_board_id engine.now) (engine_sizes engine.now) pass.new }
 {
     let board = engine.board();
     let bucket = engine.bucket_of(rid);
@@ -48,7 +48,7 @@ fn undo_each<R: Wait>(
     records: &mut RidList,
     by: Writer,
 )
-    requires own { IsSessionOf (engine_table engine.now) (engine_sizes engine.now) pass.old }
+    requires own { IsSessionOf (engine_board_id engine.now) (engine_sizes engine.now) pass.old }
     requires only { HasOnlySession (session_view pass.old) }
     requires unstamped { (session (session_view pass.old)).stamped ≡ false }
     requires by { by ≡ writer_of (session_view pass.old) }
@@ -56,7 +56,7 @@ fn undo_each<R: Wait>(
     requires mine { (rid : Rid) → IsTrue (is_among rid records.old.list) → IsSome (open_in rid (session (session_view pass.old)).log) }
     ensures undone { HasUndone (session_view pass.old) records.old.list (session_view pass.new) }
     ensures emptied { records.new.list ≡ [] }
-    ensures own { IsSessionOf (engine_table engine.now) (engine_sizes engine.now) pass.new }
+    ensures own { IsSessionOf (engine_board_id engine.now) (engine_sizes engine.now) pass.new }
 {
     while let Some(rid) = records.pop() {
         undo_one(rt, engine, pass, rid, by);

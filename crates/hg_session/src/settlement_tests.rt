@@ -2,7 +2,7 @@
 
 ghost use Rattle.std.specs.Prelude.{◌≡◌};
 ghost use Rattle.hg_rule.specs.New.{IsNewSession, IsNewPass};
-ghost use Rattle.hg_rule.specs.Seats.{table_of, sizes_of, pass_view, IsPassOf};
+ghost use Rattle.hg_rule.specs.Seats.{board_id, sizes_of, pass_view, IsPassOf};
 ghost use Rattle.hg_session.specs.Ended.{IsEnded};
 ghost use Rattle.hg_session.specs.Settled.{HasHeardAll};
 
@@ -22,9 +22,9 @@ fn bring_all(
     interval: CollectorPass,
 )
     requires one { (sizes_of board.now).sessions ≡ 1 }
-    requires session { IsNewSession (table_of board.now) 1 session }
-    requires passes { IsNewPass (table_of board.now) 0 group × IsNewPass (table_of board.now) 1 pass.old × IsNewPass (table_of board.now) 2 interval }
-    ensures own { IsPassOf (table_of board.now) pass.new }
+    requires session { IsNewSession (board_id board.now) 1 session }
+    requires passes { IsNewPass (board_id board.now) 0 group × IsNewPass (board_id board.now) 1 pass.old × IsNewPass (board_id board.now) 2 interval }
+    ensures own { IsPassOf (board_id board.now) pass.new }
     ensures ended { IsEnded (sizes_of board.now) (pass_view pass.new) }
     ensures heard { HasHeardAll (sizes_of board.now) (pass_view pass.new) }
 {

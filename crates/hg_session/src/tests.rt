@@ -2,7 +2,7 @@
 
 ghost use Rattle.std.specs.Prelude.{◌≡◌, ◌+◌, ◌<◌, None, OnOk};
 ghost use Rattle.hg_rule.specs.Seats.{pass_view, IsPassOf};
-ghost use Rattle.hg_session.specs.Engines.{engine_table, engine_sizes};
+ghost use Rattle.hg_session.specs.Engines.{engine_board_id, engine_sizes};
 ghost use Rattle.hg_session.specs.Opened.{IsNewOf};
 ghost use Rattle.hg_session.specs.Ended.{HasAllPasses};
 ghost use Rattle.hg_session.specs.Finished.{IsClosed, HasNoSession};
@@ -19,9 +19,9 @@ use std::test::Fail;
 
 fn meet_both(engine: &Engine, first: &mut Session, second: &mut Session, pass: &mut CollectorPass)
     requires sessions { IsNewOf engine.now 10 1 first.old × IsNewOf engine.now 10 2 second.old }
-    requires pass { IsPassOf (engine_table engine.now) pass.old × HasAllPasses (pass_view pass.old) × HasNoSession (pass_view pass.old) }
+    requires pass { IsPassOf (engine_board_id engine.now) pass.old × HasAllPasses (pass_view pass.old) × HasNoSession (pass_view pass.old) }
     ensures closed { IsClosed engine.now 1 first.new × IsClosed engine.now 2 second.new }
-    ensures pass { IsPassOf (engine_table engine.now) pass.new × HasAllPasses (pass_view pass.new) × HasNoSession (pass_view pass.new) }
+    ensures pass { IsPassOf (engine_board_id engine.now) pass.new × HasAllPasses (pass_view pass.new) × HasNoSession (pass_view pass.new) }
 {
     first.meet(engine, second);
     first.meet_pass(engine, pass);

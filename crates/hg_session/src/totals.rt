@@ -14,14 +14,14 @@ ghost use Rattle.hg_rule.specs.Rules.{IsBacked};
 ghost use Rattle.hg_rule.specs.Holding.{commit};
 ghost use Rattle.hg_rule.specs.Places.{HoldsCommit};
 ghost use Rattle.hg_rule.specs.Reading.{passes_in};
-ghost use Rattle.hg_rule.specs.Seats.{table_of, sizes_of, pass_view, IsPassOf, IsCommitOf};
-ghost use Rattle.hg_store.specs.Stores.{store_table, store_buckets};
+ghost use Rattle.hg_rule.specs.Seats.{board_id, sizes_of, pass_view, IsPassOf, IsCommitOf};
+ghost use Rattle.hg_store.specs.Stores.{store_board_id, store_buckets};
 ghost use Rattle.hg_base.specs.declared.report.Kind.{Kind};
 ghost use Rattle.hg_headline.specs.Counted.{removed_all};
 ghost use Rattle.hg_headline.specs.Logged.{Logged};
 ghost use Rattle.hg_headline.specs.Totalled.{TotalsTell, plus};
 ghost use Rattle.hg_session.specs.Ended.{logs_in, visits_in, committed, IsEnded};
-ghost use Rattle.hg_session.specs.Engines.{engine_table, engine_sizes};
+ghost use Rattle.hg_session.specs.Engines.{engine_board_id, engine_sizes};
 ghost use Rattle.hg_session.specs.Visited.{Counts, HasVisited, AreTotals};
 
 use crate::engine::Engine;
@@ -58,11 +58,11 @@ fn count_bucket<R: Wait>(
     bucket: u32,
     pass: &mut CollectorPass,
 ) -> Totals
-    requires table { store_table store.now ≡ table_of board.now }
-    requires own { IsPassOf (table_of board.now) pass.old }
+    requires board { store_board_id store.now ≡ board_id board.now }
+    requires own { IsPassOf (board_id board.now) pass.old }
     requires bucket { bucket < store_buckets store.now }
     ensures counts { Counts (sizes_of board.now) (pass_view pass.old) bucket result (pass_view pass.new) }
-    ensures own { IsPassOf (table_of board.now) pass.new }
+    ensures own { IsPassOf (board_id board.now) pass.new }
 {
     let held = store.take(rt, board, bucket, pass);
     let counts = held.counts();
@@ -77,10 +77,10 @@ pub(crate) fn counted<R: Wait>(
     store: &Store,
     pass: &mut CollectorPass,
 ) -> Totals
-    requires table { store_table store.now ≡ table_of board.now }
+    requires board { store_board_id store.now ≡ board_id board.now }
     requires buckets { store_buckets store.now ≡ (sizes_of board.now).buckets }
     requires some { 0 < (sizes_of board.now).buckets }
-    requires own { IsPassOf (table_of board.now) pass.old }
+    requires own { IsPassOf (board_id board.now) pass.old }
     requires commit { HoldsCommit (pass_view pass.old) }
     requires ended { IsEnded (sizes_of board.now) (pass_view pass.old) }
     requires backed { (mark : ℕ) × IsBacked (sizes_of board.now) mark (pass_view pass.old) }
@@ -91,7 +91,7 @@ pub(crate) fn counted<R: Wait>(
     ensures logs { logs_in (pass_view pass.new) ≡ logs_in (pass_view pass.old) }
     ensures passes { passes_in (pass_view pass.new).parts ≡ passes_in (pass_view pass.old).parts }
     ensures commit { HoldsCommit (pass_view pass.new) × (commit (pass_view pass.new) ≡ commit (pass_view pass.old)) }
-    ensures own { IsPassOf (table_of board.now) pass.new }
+    ensures own { IsPassOf (board_id board.now) pass.new }
 {
     let mut sums = Totals {
         made: 0,
@@ -117,11 +117,11 @@ pub(crate) fn totals_with<R: Wait>(
     seat: CommitSeat,
     pass: &mut CollectorPass,
 ) -> (Totals, CommitSeat)
-    requires table { store_table store.now ≡ table_of board.now }
+    requires board { store_board_id store.now ≡ board_id board.now }
     requires buckets { store_buckets store.now ≡ (sizes_of board.now).buckets }
     requires some { 0 < (sizes_of board.now).buckets }
-    requires own { IsPassOf (table_of board.now) pass.old }
-    requires commit { IsCommitOf (table_of board.now) seat }
+    requires own { IsPassOf (board_id board.now) pass.old }
+    requires commit { IsCommitOf (board_id board.now) seat }
     requires ended { IsEnded (sizes_of board.now) (pass_view pass.old) }
     ensures totals { TotalsTell (sizes_of board.now).sessions (sizes_of board.now).buckets (passes_in (pass_view pass.old).parts) (logs_in (pass_view pass.old)) (visits_in (pass_view pass.old)) (committed seat).history.list result.0 }
     ensures logged { Logged (sizes_of board.now).buckets (committed seat).history.list (logs_in (pass_view pass.old)) }
@@ -130,9 +130,9 @@ pub(crate) fn totals_with<R: Wait>(
     ensures logs { logs_in (pass_view pass.new) ≡ logs_in (pass_view pass.old) }
     ensures passes { passes_in (pass_view pass.new).parts ≡ passes_in (pass_view pass.old).parts }
     ensures removed { (kind : Kind) (p : ℕ) → removed_all kind (visits_in (pass_view pass.new) p) ≡ removed_all kind (visits_in (pass_view pass.old) p) }
-    ensures seat { IsCommitOf (table_of board.now) result.1 × (committed result.1 ≡ committed seat) }
+    ensures seat { IsCommitOf (board_id board.now) result.1 × (committed result.1 ≡ committed seat) }
     ensures ended { IsEnded (sizes_of board.now) (pass_view pass.new) }
-    ensures own { IsPassOf (table_of board.now) pass.new }
+    ensures own { IsPassOf (board_id board.now) pass.new }
 {
     board.join_commit(pass, seat);
     let totals = counted(rt, board, store, pass);
@@ -144,14 +144,14 @@ impl Engine {
     /// What all buckets counted, for some history that the logs have, each group once. All sessions and all other passes were
     /// joined to the pass. It waits for the commit lock, and for each bucket's, and takes no memory.
     pub fn totals<R: Wait>(&self, rt: &R, pass: &mut CollectorPass) -> Totals
-        requires own { IsPassOf (engine_table self.now) pass.old }
+        requires own { IsPassOf (engine_board_id self.now) pass.old }
         requires ended { IsEnded (engine_sizes self.now) (pass_view pass.old) }
         ensures totals { AreTotals (engine_sizes self.now) (pass_view pass.old) result }
         ensures logs { logs_in (pass_view pass.new) ≡ logs_in (pass_view pass.old) }
         ensures passes { passes_in (pass_view pass.new).parts ≡ passes_in (pass_view pass.old).parts }
         ensures removed { (kind : Kind) (p : ℕ) → removed_all kind (visits_in (pass_view pass.new) p) ≡ removed_all kind (visits_in (pass_view pass.old) p) }
         ensures ended { IsEnded (engine_sizes self.now) (pass_view pass.new) }
-        ensures own { IsPassOf (engine_table self.now) pass.new }
+        ensures own { IsPassOf (engine_board_id self.now) pass.new }
     {
         let (held, seat) = self.groups.take(rt);
         let (totals, seat) = totals_with(rt, self.board(), &self.store, seat, pass);

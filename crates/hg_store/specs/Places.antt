@@ -8,9 +8,9 @@ use Rattle.hg_store.specs.declared.store.Place.{Place}
 use Rattle.hg_store.specs.Kept.{Keeps}
 
 -- the board of a bucket's seat
-abbrev pub seat_table : BucketSeat → BoardId
-seat_table s = (bucket_seat s).table_id
+abbrev pub seat_board_id : BucketSeat → BoardId
+seat_board_id s = (bucket_seat s).table_id
 
 -- the seat is of the tag's board and of bucket k, and the bucket keeps the content that the seat shows
 abbrev pub PlaceFits : Snapshot BucketSeat → ℕ → Place → Type 0
-PlaceFits tag k x = IsBucketOf (seat_table tag.value) x.seat × (((bucket_rest x.seat).0 ≡ k) × Keeps x.bucket.value (bucket_there (first_in (bucket_view x.seat).parts)))
+PlaceFits tag k x = IsBucketOf (seat_board_id tag.value) x.seat × (((bucket_rest x.seat).0 ≡ k) × Keeps x.bucket.value (bucket_there (first_in (bucket_view x.seat).parts)))

@@ -13,18 +13,18 @@ use Rattle.hg_rule.specs.Seats.{BoardId}
 use Rattle.hg_store.specs.declared.store.Store.{Store}
 use Rattle.hg_store.specs.declared.held.Held.{Held}
 use Rattle.hg_store.specs.Kept.{Keeps, AreOrdered}
-use Rattle.hg_store.specs.Places.{seat_table}
+use Rattle.hg_store.specs.Places.{seat_board_id}
 
 -- the board of a store, and how many buckets it has
-abbrev pub store_table : Store → BoardId
-store_table s = seat_table (tag_of s.locks).value
+abbrev pub store_board_id : Store → BoardId
+store_board_id s = seat_board_id (tag_of s.locks).value
 
 abbrev pub store_buckets : Store → ℕ
 store_buckets s = count_of s.locks
 
 -- the board of a bucket that is held, its number, and what it keeps
-abbrev pub held_table : Held → BoardId
-held_table h = seat_table (tag_of h.locks.now).value
+abbrev pub held_board_id : Held → BoardId
+held_board_id h = seat_board_id (tag_of h.locks.now).value
 
 abbrev pub held_number : Held → ℕ
 held_number h = h.number

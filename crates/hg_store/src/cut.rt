@@ -11,8 +11,8 @@ ghost use Rattle.hg_rule.specs.Holding.{held};
 ghost use Rattle.hg_rule.specs.Facts.{record_of};
 ghost use Rattle.hg_rule.specs.Views.{pass as own_pass};
 ghost use Rattle.hg_rule.specs.Removes.{left_of, removed_of, Reclaims};
-ghost use Rattle.hg_rule.specs.Seats.{table_of, sizes_of, pass_view, IsPassOf};
-ghost use Rattle.hg_store.specs.Stores.{held_table, held_number, held_records, Holds};
+ghost use Rattle.hg_rule.specs.Seats.{board_id, sizes_of, pass_view, IsPassOf};
+ghost use Rattle.hg_store.specs.Stores.{held_board_id, held_number, held_records, Holds};
 ghost use Rattle.hg_store.specs.Clearing.{Clears, Counts};
 
 use crate::held::Held;
@@ -28,7 +28,7 @@ impl<'a> Held<'a> {
         rid: Rid,
         bound: u64,
     ) -> u64
-        requires own { IsPassOf (table_of board.now) pass.old }
+        requires own { IsPassOf (board_id board.now) pass.old }
         requires whole { IsWhole (sizes_of board.now).sessions (record_of (own_pass (pass_view pass.old))) }
         requires holds { Holds (pass_view pass.old) self.old }
         requires here { bucket_of (sizes_of board.now).buckets rid ≡ held_number self.old }
@@ -36,8 +36,8 @@ impl<'a> Held<'a> {
         ensures step { Reclaims (pass_view pass.old) rid Group (pass_view pass.new) }
         ensures gone { result ≡ removed_of (pass_view pass.old) rid Group }
         ensures holds { Holds (pass_view pass.new) self.new }
-        ensures held { (held_table self.new ≡ held_table self.old) × (held_number self.new ≡ held_number self.old) }
-        ensures own { IsPassOf (table_of board.now) pass.new }
+        ensures held { (held_board_id self.new ≡ held_board_id self.old) × (held_number self.new ≡ held_number self.old) }
+        ensures own { IsPassOf (board_id board.now) pass.new }
     {
         board.reclaim(pass, rid, Kind::Group);
         self.bucket.cut_record(rid, bound)
@@ -52,7 +52,7 @@ impl<'a> Held<'a> {
         table: TableId,
         bound: u64,
     ) -> u64
-        requires own { IsPassOf (table_of board.now) pass.old }
+        requires own { IsPassOf (board_id board.now) pass.old }
         requires whole { IsWhole (sizes_of board.now).sessions (record_of (own_pass (pass_view pass.old))) }
         requires holds { Holds (pass_view pass.old) self.old }
         requires bound { bound ≡ table_bound table (record_of (own_pass (pass_view pass.old))) }
@@ -62,8 +62,8 @@ impl<'a> Held<'a> {
         ensures others { (r : Rid) → (r.table ≡ table → ⊥) → held (pass_view pass.new) r ≡ held (pass_view pass.old) r }
         ensures gone { Counts (pass_view pass.old) Table result (pass_view pass.new) }
         ensures holds { Holds (pass_view pass.new) self.new }
-        ensures held { (held_table self.new ≡ held_table self.old) × (held_number self.new ≡ held_number self.old) }
-        ensures own { IsPassOf (table_of board.now) pass.new }
+        ensures held { (held_board_id self.new ≡ held_board_id self.old) × (held_number self.new ≡ held_number self.old) }
+        ensures own { IsPassOf (board_id board.now) pass.new }
     {
         board.look_at(pass);
         let mut gone = 0;
@@ -78,7 +78,7 @@ impl<'a> Held<'a> {
 
     // Cuts one record at its table's bound.
     fn cut_one(&mut self, board: &Board, pass: &mut CollectorPass, rid: Rid, bound: u64) -> u64
-        requires own { IsPassOf (table_of board.now) pass.old }
+        requires own { IsPassOf (board_id board.now) pass.old }
         requires whole { IsWhole (sizes_of board.now).sessions (record_of (own_pass (pass_view pass.old))) }
         requires holds { Holds (pass_view pass.old) self.old }
         requires here { bucket_of (sizes_of board.now).buckets rid ≡ held_number self.old }
@@ -86,9 +86,9 @@ impl<'a> Held<'a> {
         ensures step { Reclaims (pass_view pass.old) rid Table (pass_view pass.new) }
         ensures gone { result ≡ removed_of (pass_view pass.old) rid Table }
         ensures holds { Holds (pass_view pass.new) self.new }
-        ensures held { (held_table self.new ≡ held_table self.old) × (held_number self.new ≡ held_number self.old) }
+        ensures held { (held_board_id self.new ≡ held_board_id self.old) × (held_number self.new ≡ held_number self.old) }
         ensures front { (at : ℕ) → slice_get (long_keys (held_records self.old) rid.table) at ≡ Some rid.key → take at (long_keys (held_records self.new) rid.table) ≡ take at (long_keys (held_records self.old) rid.table) }
-        ensures own { IsPassOf (table_of board.now) pass.new }
+        ensures own { IsPassOf (board_id board.now) pass.new }
     {
         board.reclaim(pass, rid, Kind::Table);
         self.bucket.cut_for_table(rid, bound)

@@ -21,16 +21,16 @@ pub struct Held<'a> {
 
 impl<'a> Held<'a> {
     ghost use Rattle.hg_rule.specs.Places.{without_bucket};
-    ghost use Rattle.hg_rule.specs.Seats.{table_of, view, IsSeatOf};
-    ghost use Rattle.hg_store.specs.Stores.{held_table, Holds};
+    ghost use Rattle.hg_rule.specs.Seats.{board_id, view, IsSeatOf};
+    ghost use Rattle.hg_store.specs.Stores.{held_board_id, Holds};
 
     /// The bucket's part of the state leaves the pass, and the lock is free. It waits for nobody.
     pub fn give<P: Pass>(self, board: &Board, pass: &mut P)
-        requires table { held_table self ≡ table_of board.now }
-        requires own { IsSeatOf (table_of board.now) (P.seat_of pass.old) }
+        requires board { held_board_id self ≡ board_id board.now }
+        requires own { IsSeatOf (board_id board.now) (P.seat_of pass.old) }
         requires holds { Holds (view (P.seat_of pass.old)) self }
         ensures view { view (P.seat_of pass.new) ≡ without_bucket (view (P.seat_of pass.old)) }
-        ensures own { IsSeatOf (table_of board.now) (P.seat_of pass.new) × (P.rest_of pass.new ≡ P.rest_of pass.old) }
+        ensures own { IsSeatOf (board_id board.now) (P.seat_of pass.new) × (P.rest_of pass.new ≡ P.rest_of pass.old) }
     {
         let Held {
             locks,

@@ -54,14 +54,14 @@ impl Store {
     ghost use Rattle.hg_rule.specs.Rules.{IsBacked};
     ghost use Rattle.hg_rule.specs.New.{EachFrom, IsNewBucket};
     ghost use Rattle.hg_rule.specs.Places.{HasFirst};
-    ghost use Rattle.hg_rule.specs.Seats.{BoardId, table_of, sizes_of, view, IsSeatOf};
-    ghost use Rattle.hg_store.specs.Stores.{store_table, store_buckets, held_table, held_number, Holds, Takes};
+    ghost use Rattle.hg_rule.specs.Seats.{BoardId, board_id, sizes_of, view, IsSeatOf};
+    ghost use Rattle.hg_store.specs.Stores.{store_board_id, store_buckets, held_board_id, held_number, Holds, Takes};
 
     /// An empty bucket for each seat. The seats are all those of one new board, in order.
     pub fn new(alloc: Global, seats: BucketSeatList) -> Result<Store, NoMemory>
         requires some { (0 < length seats) × (length seats < 2 ^ 32) }
         requires seats { (t : BoardId) × EachFrom (IsNewBucket t) 0 seats }
-        ensures table { (t : BoardId) → EachFrom (IsNewBucket t) 0 seats → IfOk result (λ store. store_table store ≡ t) }
+        ensures board { (t : BoardId) → EachFrom (IsNewBucket t) 0 seats → IfOk result (λ store. store_board_id store ≡ t) }
         ensures count { IfOk result (λ store. store_buckets store ≡ length seats) }
     {
         let seats = seats.into_vec();
@@ -99,14 +99,14 @@ impl Store {
         bucket: u32,
         pass: &mut P,
     ) -> Held<'_>
-        requires table { store_table self.now ≡ table_of board.now }
-        requires own { IsSeatOf (table_of board.now) (P.seat_of pass.old) × HasFirst (view (P.seat_of pass.old)) }
+        requires board { store_board_id self.now ≡ board_id board.now }
+        requires own { IsSeatOf (board_id board.now) (P.seat_of pass.old) × HasFirst (view (P.seat_of pass.old)) }
         requires bucket { bucket < store_buckets self.now }
-        ensures held { (held_table result ≡ table_of board.now) × (held_number result ≡ bucket) }
+        ensures held { (held_board_id result ≡ board_id board.now) × (held_number result ≡ bucket) }
         ensures view { Takes (view (P.seat_of pass.old)) bucket (view (P.seat_of pass.new)) }
         ensures holds { Holds (view (P.seat_of pass.new)) result }
         ensures backed { (mark : ℕ) × IsBacked (sizes_of board.now) mark (view (P.seat_of pass.new)) }
-        ensures own { IsSeatOf (table_of board.now) (P.seat_of pass.new) × (P.rest_of pass.new ≡ P.rest_of pass.old) }
+        ensures own { IsSeatOf (board_id board.now) (P.seat_of pass.new) × (P.rest_of pass.new ≡ P.rest_of pass.old) }
     {
         let (place, loan) = self.locks.take(rt, bucket as usize);
         let Place { bucket: data, seat } = place;

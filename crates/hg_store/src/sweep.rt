@@ -13,8 +13,8 @@ ghost use Rattle.hg_rule.specs.Holding.{held};
 ghost use Rattle.hg_rule.specs.Facts.{record_of};
 ghost use Rattle.hg_rule.specs.Views.{pass as own_pass};
 ghost use Rattle.hg_rule.specs.Removes.{left_of, removed_of, Reclaims};
-ghost use Rattle.hg_rule.specs.Seats.{table_of, sizes_of, pass_view, IsPassOf};
-ghost use Rattle.hg_store.specs.Stores.{held_table, held_number, held_records, Holds};
+ghost use Rattle.hg_rule.specs.Seats.{board_id, sizes_of, pass_view, IsPassOf};
+ghost use Rattle.hg_store.specs.Stores.{held_board_id, held_number, held_records, Holds};
 ghost use Rattle.hg_store.specs.Clearing.{Clears, Counts, HaveSame};
 
 use crate::held::Held;
@@ -35,7 +35,7 @@ impl<'a> Held<'a> {
         snapshots: &[u64],
         steps: &mut Steps<L>,
     ) -> u64
-        requires own { IsPassOf (table_of board.now) pass.old }
+        requires own { IsPassOf (board_id board.now) pass.old }
         requires whole { IsWhole (sizes_of board.now).sessions (record_of (own_pass (pass_view pass.old))) }
         requires holds { Holds (pass_view pass.old) self.old }
         requires horizon { horizon ≡ own_horizon (record_of (own_pass (pass_view pass.old))) }
@@ -47,8 +47,8 @@ impl<'a> Held<'a> {
         ensures others { (r : Rid) → (r.table ≡ table → ⊥) → held (pass_view pass.new) r ≡ held (pass_view pass.old) r }
         ensures gone { Counts (pass_view pass.old) Interval result (pass_view pass.new) }
         ensures holds { Holds (pass_view pass.new) self.new }
-        ensures held { (held_table self.new ≡ held_table self.old) × (held_number self.new ≡ held_number self.old) }
-        ensures own { IsPassOf (table_of board.now) pass.new }
+        ensures held { (held_board_id self.new ≡ held_board_id self.old) × (held_number self.new ≡ held_number self.old) }
+        ensures own { IsPassOf (board_id board.now) pass.new }
         ensures cost { steps.new ≤ steps.old + sweep_steps table snapshots.now (held_records self.old).records }
     {
         board.look_at(pass);
@@ -72,7 +72,7 @@ impl<'a> Held<'a> {
         snapshots: &[u64],
         steps: &mut Steps<L>,
     ) -> u64
-        requires own { IsPassOf (table_of board.now) pass.old }
+        requires own { IsPassOf (board_id board.now) pass.old }
         requires whole { IsWhole (sizes_of board.now).sessions (record_of (own_pass (pass_view pass.old))) }
         requires holds { Holds (pass_view pass.old) self.old }
         requires here { bucket_of (sizes_of board.now).buckets rid ≡ held_number self.old }
@@ -82,9 +82,9 @@ impl<'a> Held<'a> {
         ensures step { Reclaims (pass_view pass.old) rid Interval (pass_view pass.new) }
         ensures gone { result ≡ removed_of (pass_view pass.old) rid Interval }
         ensures holds { Holds (pass_view pass.new) self.new }
-        ensures held { (held_table self.new ≡ held_table self.old) × (held_number self.new ≡ held_number self.old) }
+        ensures held { (held_board_id self.new ≡ held_board_id self.old) × (held_number self.new ≡ held_number self.old) }
         ensures front { (at : ℕ) → slice_get (long_keys (held_records self.old) rid.table) at ≡ Some rid.key → take at (long_keys (held_records self.new) rid.table) ≡ take at (long_keys (held_records self.old) rid.table) }
-        ensures own { IsPassOf (table_of board.now) pass.new }
+        ensures own { IsPassOf (board_id board.now) pass.new }
         ensures cost { steps.new ≤ steps.old + record_steps snapshots.now (versions_of (held_records self.old).records rid) }
     {
         board.reclaim(pass, rid, Kind::Interval);

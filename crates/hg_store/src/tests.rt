@@ -6,9 +6,9 @@ ghost use Rattle.hg_core.specs.declared.log.LogEntry.TheVariants.{Began};
 ghost use Rattle.hg_core.specs.declared.phase.Phase.TheVariants.{Idle, Live};
 ghost use Rattle.hg_core.specs.Contents.{bucket_of};
 ghost use Rattle.hg_core.specs.Logs.{begans};
-ghost use Rattle.hg_rule.specs.Seats.{table_of, sizes_of, session_view, IsSessionOf, IsPassOf};
+ghost use Rattle.hg_rule.specs.Seats.{board_id, sizes_of, session_view, IsSessionOf, IsPassOf};
 ghost use Rattle.hg_rule.specs.Views.{session};
-ghost use Rattle.hg_store.specs.Stores.{store_table, store_buckets};
+ghost use Rattle.hg_store.specs.Stores.{store_board_id, store_buckets};
 
 use super::*;
 use hg_base::{Image, NoMemory, Rid, Row, Scope, TableId, Totals};
@@ -34,9 +34,9 @@ fn hold_beside<R: Wait>(
     mine: &AtomicU64,
     other: &AtomicU64,
 ) -> bool
-    requires table { store_table store.now ≡ table_of board.now }
+    requires board { store_board_id store.now ≡ board_id board.now }
     requires bucket { bucket < store_buckets store.now }
-    requires own { IsPassOf (table_of board.now) pass }
+    requires own { IsPassOf (board_id board.now) pass }
 {
     let mut pass = pass;
     let held = store.take(rt, board, bucket, &mut pass);
@@ -71,10 +71,10 @@ fn two_buckets_are_held_at_once(rt: HostRuntime) -> Result<(), Fail> {
 
 // Begins a transaction on all tables. The answer is its snapshot.
 fn begin(board: &Board, pass: &mut SessionPass) -> u64
-    requires own { IsSessionOf (table_of board.now) (sizes_of board.now) pass.old }
+    requires own { IsSessionOf (board_id board.now) (sizes_of board.now) pass.old }
     requires rests { (session (session_view pass.old)).phase ≡ Idle }
     requires room { begans (session (session_view pass.old)).log < (sizes_of board.now).quota }
-    ensures own { IsSessionOf (table_of board.now) (sizes_of board.now) pass.new }
+    ensures own { IsSessionOf (board_id board.now) (sizes_of board.now) pass.new }
     ensures live { (session (session_view pass.new)).phase ≡ Live result All }
     ensures log { (session (session_view pass.new)).log ≡ Began result All ∷ (session (session_view pass.old)).log }
     ensures stamped { (session (session_view pass.new)).stamped ≡ (session (session_view pass.old)).stamped }
@@ -109,9 +109,9 @@ fn write_in<R: Wait>(
     image: Image,
     at: u64,
 ) -> Written
-    requires table { store_table store.now ≡ table_of board.now }
+    requires board { store_board_id store.now ≡ board_id board.now }
     requires bucket { bucket < store_buckets store.now }
-    requires own { IsSessionOf (table_of board.now) (sizes_of board.now) pass.old }
+    requires own { IsSessionOf (board_id board.now) (sizes_of board.now) pass.old }
     requires live { (session (session_view pass.old)).phase ≡ Live at All }
     requires log { (session (session_view pass.old)).log ≡ Began at All ∷ [] }
     requires unstamped { (session (session_view pass.old)).stamped ≡ false }

@@ -10,9 +10,9 @@ ghost use Rattle.hg_core.specs.Contents.{bucket_of};
 ghost use Rattle.hg_rule.specs.Views.{number, session};
 ghost use Rattle.hg_rule.specs.Holding.{HasBoth, farther, commit_behind, held, tables, writer as writer_of, snapshot as snapshot_of};
 ghost use Rattle.hg_rule.specs.Writes.{Looks, Undoes};
-ghost use Rattle.hg_rule.specs.Seats.{table_of, sizes_of, session_view, IsSessionOf, IsAwayOf};
+ghost use Rattle.hg_rule.specs.Seats.{board_id, sizes_of, session_view, IsSessionOf, IsAwayOf};
 ghost use Rattle.hg_rule.specs.Handing.{AreLent, members, who, part_of, writer_at, Stamps};
-ghost use Rattle.hg_store.specs.Stores.{held_table, held_number, Holds};
+ghost use Rattle.hg_store.specs.Stores.{held_board_id, held_number, Holds};
 ghost use Rattle.hg_store.specs.Writing.{Writes, IsAnothers};
 
 use crate::held::Held;
@@ -24,7 +24,7 @@ use std::snapshot::Snapshot;
 impl<'a> Held<'a> {
     /// One look: the rows of the range in this bucket are logged.
     pub fn see(&self, board: &Board, pass: &mut SessionPass, table: TableId, low: u64, high: u64)
-        requires own { IsSessionOf (table_of board.now) (sizes_of board.now) pass.old }
+        requires own { IsSessionOf (board_id board.now) (sizes_of board.now) pass.old }
         requires live { IsSome (snapshot_in (session (session_view pass.old)).phase) }
         requires plain { IsTrue (is_plain (session (session_view pass.old)).log) }
         requires unstamped { (session (session_view pass.old)).stamped ≡ false }
@@ -32,14 +32,14 @@ impl<'a> Held<'a> {
         requires table { IsTrue (has (tables (session_view pass.old)) table) }
         ensures step { (mark : ℕ) × Looks (session_view pass.old) (Read table low high) mark (session_view pass.new) }
         ensures holds { Holds (session_view pass.new) self.now }
-        ensures own { IsSessionOf (table_of board.now) (sizes_of board.now) pass.new }
+        ensures own { IsSessionOf (board_id board.now) (sizes_of board.now) pass.new }
     {
         board.look(pass, &Ask::Read { table, low, high });
     }
 
     /// Takes the transaction's open write of a record back.
     pub fn undo(&mut self, board: &Board, pass: &mut SessionPass, rid: Rid, by: Writer)
-        requires own { IsSessionOf (table_of board.now) (sizes_of board.now) pass.old }
+        requires own { IsSessionOf (board_id board.now) (sizes_of board.now) pass.old }
         requires unstamped { (session (session_view pass.old)).stamped ≡ false }
         requires holds { Holds (session_view pass.old) self.old }
         requires here { bucket_of (sizes_of board.now).buckets rid ≡ held_number self.old }
@@ -47,8 +47,8 @@ impl<'a> Held<'a> {
         requires mine { IsOpenBy (writer_of (session_view pass.old)) (held (session_view pass.old) rid) }
         ensures step { Undoes (session_view pass.old) rid (session_view pass.new) }
         ensures holds { Holds (session_view pass.new) self.new }
-        ensures held { (held_table self.new ≡ held_table self.old) × (held_number self.new ≡ held_number self.old) }
-        ensures own { IsSessionOf (table_of board.now) (sizes_of board.now) pass.new }
+        ensures held { (held_board_id self.new ≡ held_board_id self.old) × (held_number self.new ≡ held_number self.old) }
+        ensures own { IsSessionOf (board_id board.now) (sizes_of board.now) pass.new }
     {
         self.bucket.undo(rid, by);
         board.undo(pass, rid);
@@ -64,7 +64,7 @@ impl<'a> Held<'a> {
         by: Writer,
         number: u64,
     )
-        requires own { IsAwayOf (table_of board.now) (sizes_of board.now) pass.old }
+        requires own { IsAwayOf (board_id board.now) (sizes_of board.now) pass.old }
         requires received { AreLent (farther (session_view pass.old)) × IsTrue (is_in (who (members (farther (session_view pass.old)))) by.session) }
         requires plain { IsTrue (is_plain (part_of by.session (members (farther (session_view pass.old)))).log) }
         requires holds { Holds (session_view pass.old) self.old }
@@ -75,8 +75,8 @@ impl<'a> Held<'a> {
         requires mine { IsOpenBy by (held (session_view pass.old) rid) }
         ensures step { Stamps (session_view pass.old) by.session rid number (session_view pass.new) }
         ensures holds { Holds (session_view pass.new) self.new }
-        ensures held { (held_table self.new ≡ held_table self.old) × (held_number self.new ≡ held_number self.old) }
-        ensures own { IsAwayOf (table_of board.now) (sizes_of board.now) pass.new × (pass.new.number ≡ pass.old.number) }
+        ensures held { (held_board_id self.new ≡ held_board_id self.old) × (held_number self.new ≡ held_number self.old) }
+        ensures own { IsAwayOf (board_id board.now) (sizes_of board.now) pass.new × (pass.new.number ≡ pass.old.number) }
     {
         board.look_at(pass);
         self.bucket.stamp(rid, by, number);
@@ -94,7 +94,7 @@ impl<'a> Held<'a> {
         snapshot: u64,
         by: Writer,
     ) -> Result<bool, WriteRefusal>
-        requires own { IsSessionOf (table_of board.now) (sizes_of board.now) pass.old }
+        requires own { IsSessionOf (board_id board.now) (sizes_of board.now) pass.old }
         requires live { IsSome (snapshot_in (session (session_view pass.old)).phase) }
         requires plain { IsTrue (is_plain (session (session_view pass.old)).log) }
         requires unstamped { (session (session_view pass.old)).stamped ≡ false }
@@ -108,8 +108,8 @@ impl<'a> Held<'a> {
         ensures added { IfOk result (λ added. added ≡ not (is_some (open_in rid (session (session_view pass.old)).log))) }
         ensures owner { IfErr result (IsAnothers (sizes_of board.now) (number (session_view pass.old))) }
         ensures holds { Holds (session_view pass.new) self.new }
-        ensures held { (held_table self.new ≡ held_table self.old) × (held_number self.new ≡ held_number self.old) }
-        ensures own { IsSessionOf (table_of board.now) (sizes_of board.now) pass.new }
+        ensures held { (held_board_id self.new ≡ held_board_id self.old) × (held_number self.new ≡ held_number self.old) }
+        ensures own { IsSessionOf (board_id board.now) (sizes_of board.now) pass.new }
     {
         let mark = board.look(pass, &Ask::Write(rid));
         let written = Snapshot::of(&image);

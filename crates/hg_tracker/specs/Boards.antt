@@ -1,5 +1,5 @@
 -- The board of the trackers.
-use Rattle.hg_rule.specs.Seats.{BoardId, table_of, sizes_of}
+use Rattle.hg_rule.specs.Seats.{BoardId, board_id, sizes_of}
 use Rattle.hg_rule.specs.declared.board.Board.{Board}
 use Rattle.hg_rule.specs.declared.view.Sizes.{Sizes}
 use Rattle.hg_tracker.specs.declared.trackers.Trackers.{Trackers}
@@ -8,8 +8,8 @@ abbrev pub board_of : Trackers → Board
 board_of t = t.board
 
 -- its identity, and its sizes
-abbrev pub board_table : Trackers → BoardId
-board_table t = table_of t.board
+abbrev pub trackers_board_id : Trackers → BoardId
+trackers_board_id t = board_id t.board
 
 abbrev pub board_sizes : Trackers → Sizes
 board_sizes t = sizes_of t.board

@@ -28,7 +28,7 @@ pub struct Trackers {
 }
 
 impl Trackers {
-    ghost use Rattle.hg_tracker.specs.Boards.{board_of, board_table, board_sizes};
+    ghost use Rattle.hg_tracker.specs.Boards.{board_of, trackers_board_id, board_sizes};
 
     pub fn new(board: Board) -> Trackers
         ensures { board_of result ≡ board }
@@ -45,13 +45,13 @@ impl Trackers {
     /// Takes a snapshot, which is in use from the last step on. It is the mark as it was loaded last, and so at or over
     /// everything that the pass had seen.
     pub fn begin(&self, pass: &mut SessionPass, scope: Scope) -> Snapshot
-        requires own { IsSessionOf (board_table self.now) (board_sizes self.now) pass.old }
+        requires own { IsSessionOf (trackers_board_id self.now) (board_sizes self.now) pass.old }
         requires rests { (session (session_view pass.old)).phase ≡ Idle }
         requires room { begans (session (session_view pass.old)).log < (board_sizes self.now).quota }
         requires tables { IsBelow (board_sizes self.now).tables scope }
         ensures begun { HasBegun (session_view pass.old) result.at scope (session_view pass.new) }
         ensures scope { result.scope ≡ scope }
-        ensures own { IsSessionOf (board_table self.now) (board_sizes self.now) pass.new }
+        ensures own { IsSessionOf (trackers_board_id self.now) (board_sizes self.now) pass.new }
     {
         let from = self.board.probe(pass);
         self.board.enter(pass, from);
@@ -62,28 +62,28 @@ impl Trackers {
 
     /// Gives the snapshot back.
     pub fn end(&self, pass: &mut SessionPass)
-        requires own { IsSessionOf (board_table self.now) (board_sizes self.now) pass.old }
+        requires own { IsSessionOf (trackers_board_id self.now) (board_sizes self.now) pass.old }
         requires live { IsSome (snapshot_in (session (session_view pass.old)).phase) }
         requires none { (rid : Rid) → open_in rid (session (session_view pass.old)).log ≡ None }
         ensures step { Ends (session_view pass.old) (session_view pass.new) }
-        ensures own { IsSessionOf (board_table self.now) (board_sizes self.now) pass.new }
+        ensures own { IsSessionOf (trackers_board_id self.now) (board_sizes self.now) pass.new }
     {
         self.board.end(pass);
     }
 }
 
 impl Trackers {
-    ghost use Rattle.hg_tracker.specs.Boards.{board_table, board_sizes};
+    ghost use Rattle.hg_tracker.specs.Boards.{trackers_board_id, board_sizes};
 
     /// Loads the mark, and then each register in order: a record of the pass, which `into` then shows.
     pub fn gather(&self, pass: &mut CollectorPass, into: &mut Gathered)
-        requires own { IsPassOf (board_table self.now) pass.old }
+        requires own { IsPassOf (trackers_board_id self.now) pass.old }
         requires made { IsMadeFor (board_sizes self.now).sessions (board_sizes self.now).tables into.old }
         ensures gathered { HasGathered (pass_view pass.old) (board_sizes self.now).sessions (pass_view pass.new) }
         ensures whole { IsWhole (board_sizes self.now).sessions (record_of (own_pass (pass_view pass.new))) }
         ensures shown { IsGatherOf (board_sizes self.now).sessions (own_pass (pass_view pass.new)) into.new }
         ensures made { IsMadeFor (board_sizes self.now).sessions (board_sizes self.now).tables into.new }
-        ensures own { IsPassOf (board_table self.now) pass.new }
+        ensures own { IsPassOf (trackers_board_id self.now) pass.new }
     {
         let mark = self.board.mark(pass);
         into.start(mark);
@@ -107,7 +107,7 @@ fn is_long_in_use(entry: &Entry, mark: u64, long: u64) -> bool
 }
 
 impl Trackers {
-    ghost use Rattle.hg_tracker.specs.Boards.{board_table, board_sizes};
+    ghost use Rattle.hg_tracker.specs.Boards.{trackers_board_id, board_sizes};
 
     // Tries to move the entry that stands at a position.
     fn try_move(
@@ -117,7 +117,7 @@ impl Trackers {
         position: usize,
         entry: Entry,
     ) -> bool
-        requires own { IsPassOf (board_table self.now) pass.old }
+        requires own { IsPassOf (trackers_board_id self.now) pass.old }
         requires noted { IsNotedOf (own_pass (pass_view pass.old)).mark (own_pass (pass_view pass.old)).loaded gathered.old }
         requires loaded { IsLoaded (board_sizes self.now).sessions (own_pass (pass_view pass.old)).loaded }
         requires position { StandsAt position entry gathered.old.entries.items }
@@ -127,7 +127,7 @@ impl Trackers {
         ensures loaded { IsLoaded (board_sizes self.now).sessions (own_pass (pass_view pass.new)).loaded }
         ensures later { (drop (position + 1) gathered.new.entries.items ≡ drop (position + 1) gathered.old.entries.items) × (length gathered.new.entries.items ≡ length gathered.old.entries.items) }
         ensures made { (sessions tables : ℕ) → IsMadeFor sessions tables gathered.old → IsMadeFor sessions tables gathered.new }
-        ensures own { IsPassOf (board_table self.now) pass.new }
+        ensures own { IsPassOf (trackers_board_id self.now) pass.new }
     {
         let register = Register::Live {
             number: entry.number,
@@ -143,19 +143,19 @@ impl Trackers {
 }
 
 impl Trackers {
-    ghost use Rattle.hg_tracker.specs.Boards.{board_table, board_sizes};
+    ghost use Rattle.hg_tracker.specs.Boards.{trackers_board_id, board_sizes};
 
     /// Tries once to move each entry of this pass's last gather that is declared, not moved, and at least `long` commits
     /// older than the mark, and no other. A moved snapshot holds back only the tables that it declared. The answer counts
     /// those that were moved.
     pub fn move_long(&self, pass: &mut CollectorPass, gathered: &mut Gathered, long: u64) -> u32
-        requires own { IsPassOf (board_table self.now) pass.old }
+        requires own { IsPassOf (trackers_board_id self.now) pass.old }
         requires made { IsMadeFor (board_sizes self.now).sessions (board_sizes self.now).tables gathered.old }
         requires shown { IsGatherOf (board_sizes self.now).sessions (own_pass (pass_view pass.old)) gathered.old }
         ensures moved { HasMoved (pass_view pass.old) long result (pass_view pass.new) }
         ensures shown { IsGatherOf (board_sizes self.now).sessions (own_pass (pass_view pass.new)) gathered.new }
         ensures made { IsMadeFor (board_sizes self.now).sessions (board_sizes self.now).tables gathered.new }
-        ensures own { IsPassOf (board_table self.now) pass.new }
+        ensures own { IsPassOf (trackers_board_id self.now) pass.new }
     {
         let mut count = 0;
         for position in 0..gathered.entries.len() {

@@ -1,7 +1,7 @@
 use Rattle.std.proofs.Common.{◌≡◌, ◌-◌, ◌<◌, ℕ, suc, sym, ◌∙◌, subst, arith, refl}
 use Rattle.std.specs.Prelude.{IfSome, IfOk, IfErr, Result, Ok, Err}
 use Rattle.hg_lock.specs.Locks.{tag_of}
-use Rattle.hg_rule.specs.Seats.{table_of, sizes_of, session_view}
+use Rattle.hg_rule.specs.Seats.{board_id, sizes_of, session_view}
 use Rattle.hg_queue.specs.Queues.{IsPassOf}
 use Rattle.hg_group.specs.Batch.{IsLaid, HasFinished, IsRefused}
 use Rattle.hg_group.specs.Leading.{IsKept}
@@ -21,7 +21,7 @@ if_err P Q (Err e) f h = f e h
 
 pub give-requires-clause-fits : goal.give-requires-clause-fits
 give-requires-clause-fits g c =
-    let t = table_of c.args.board.now in
+    let t = board_id c.args.board.now in
     let z = (sizes_of c.args.board.now).sessions in
     let k = c.ready-kept.ensures.kept in
     let new = c.take_laid-laid.new.kept in
@@ -32,7 +32,7 @@ give-requires-clause-fits g c =
 
 pub take_back-requires-clause-laid : goal.take_back-requires-clause-laid
 take_back-requires-clause-laid g c =
-    let t = table_of c.args.board.now in
+    let t = board_id c.args.board.now in
     let n : ℕ = c.writer.result.session in
     let p : ℕ = c.args.pass.now.number in
     let q : ℕ = c.ready-kept.new.pass.number in

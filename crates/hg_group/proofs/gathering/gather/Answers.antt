@@ -1,5 +1,5 @@
 use Rattle.std.proofs.Common.{rules, ◌≡◌, [], ◌∷◌, ◌++◌, ◌∙◌, sym, ap, subst}
-use Rattle.hg_rule.specs.Seats.{table_of, sizes_of, session_view, tx_view}
+use Rattle.hg_rule.specs.Seats.{board_id, sizes_of, session_view, tx_view}
 use Rattle.hg_group.proofs.Popping.{away_on}
 use Rattle.hg_queue.specs.declared.known.Known.{Known}
 use Rattle.hg_queue.specs.Queues.{known}
@@ -23,7 +23,7 @@ loop-turn-preserved g c =
     let out = c.in-Some.ensures.popped in
     let pairs : k'.pairs ≡ k.pairs ++ pair_of x ∷ [] = ap (λ (y : Known). y.pairs) out.0 in
     let more = gathers_more k.board.id v w u (known c.args.line.now).pairs k.pairs k'.pairs c.loop-turn.popped.items x h.gathered out.1 pairs c.receive.ensures.view in
-    let away = away_on (table_of c.args.board.now) (sizes_of c.args.board.now) c.loop-turn.pass c.receive.new.pass (tx_view x.seat) h.own.0 c.receive.ensures.own.0 c.receive.ensures.own.1 c.receive.ensures.view in
+    let away = away_on (board_id c.args.board.now) (sizes_of c.args.board.now) c.loop-turn.pass c.receive.new.pass (tx_view x.seat) h.own.0 c.receive.ensures.own.0 c.receive.ensures.own.1 c.receive.ensures.view in
     record {
       gathered = subst (λ txs. Gathers v (known c.args.line.now).pairs txs k'.pairs u) (sym c.push_reserved.ensures.items) more;
       own = (away, search rules);

@@ -1,5 +1,5 @@
 use Rattle.std.specs.Prelude.{◌≡◌, ◌≤◌, true, false, length, vec_capacity}
-use Rattle.hg_rule.specs.Seats.{table_of, sizes_of, session_view, IsAwayOf}
+use Rattle.hg_rule.specs.Seats.{board_id, sizes_of, session_view, IsAwayOf}
 use Rattle.hg_queue.specs.Queues.{IsPassOf, known}
 use Rattle.hg_group.specs.Batch.{Gathers}
 use Rattle.hg_group.proofs.gathering.gather.Given as goal
@@ -8,7 +8,7 @@ use Rattle.hg_group.proofs.gathering.gather.Given as goal
 abbrev pub invariant-loop-turn : goal.invariant-loop-turn
 invariant-loop-turn g l = record {
   gathered : Gathers (session_view l.fn.pass) (known l.fn.line).pairs l.popped.items (known l.line).pairs (session_view l.pass);
-  own : IsAwayOf (table_of l.board) (sizes_of l.board) l.pass × (l.pass.number ≡ l.fn.pass.number);
-  line : IsPassOf l.queue l.line × ((known l.line).opens ≡ false) × ((known l.line).leads ≡ true) × ((known l.line).board.id ≡ table_of l.board);
+  own : IsAwayOf (board_id l.board) (sizes_of l.board) l.pass × (l.pass.number ≡ l.fn.pass.number);
+  line : IsPassOf l.queue l.line × ((known l.line).opens ≡ false) × ((known l.line).leads ≡ true) × ((known l.line).board.id ≡ board_id l.board);
   room : (length l.popped.items ≤ l.turn) × (vec_capacity l.popped ≡ vec_capacity l.fn.popped);
 }

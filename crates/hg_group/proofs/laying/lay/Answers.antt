@@ -1,7 +1,7 @@
 use Rattle.std.proofs.Common.{rules, ◌≡◌, ◌<◌, ◌+◌, ◌-◌, ℕ, length, get_or, ap, ◌∙◌, subst, arith, refl}
 use Rattle.hg_core.specs.Phases.{IsSession}
 use Rattle.hg_rule.specs.declared.view.SessionPart.{SessionPart}
-use Rattle.hg_rule.specs.Seats.{table_of, sizes_of, session_view}
+use Rattle.hg_rule.specs.Seats.{board_id, sizes_of, session_view}
 use Rattle.hg_group.specs.declared.laid.Laid.{Laid}
 use Rattle.hg_group.specs.declared.laid.Outcome.TheVariants.{Committed}
 use Rattle.hg_group.specs.Batch.{IsLaid}
@@ -38,11 +38,11 @@ loop-i-preserved c =
     let low : j - 1 < length c.loop-i.laid.items = omega (arith, inside.first, inside.last, few) in
     let back : j ≡ 1 + (j - 1) = omega (arith, inside.first) in
     let new : Laid = record { seat = c.hand_back-seat.result; outcome = Committed (record { number = c.args.number; place = c.args.place + i }) } in
-    let one = laid_one z v txs c.args.number c.args.place g i w d s c.loop-i-test.true (table_of c.args.board.now) new (record { number = c.args.number; place = c.args.place + i }) refl c.hand_back-seat.ensures.tx.0 c.hand_back-seat.ensures.tx.1 c.hand_back-seat.ensures.seat refl refl in
-    let away = away_back (table_of c.args.board.now) (sizes_of c.args.board.now) c.loop-i.pass c.hand_back-seat.new.pass c.loop-i.invariant.own.0 c.hand_back-seat.ensures.own.0 c.hand_back-seat.ensures.own.1 c.hand_back-seat.ensures.view in
+    let one = laid_one z v txs c.args.number c.args.place g i w d s c.loop-i-test.true (board_id c.args.board.now) new (record { number = c.args.number; place = c.args.place + i }) refl c.hand_back-seat.ensures.tx.0 c.hand_back-seat.ensures.tx.1 c.hand_back-seat.ensures.seat refl refl in
+    let away = away_back (board_id c.args.board.now) (sizes_of c.args.board.now) c.loop-i.pass c.hand_back-seat.new.pass c.loop-i.invariant.own.0 c.hand_back-seat.ensures.own.0 c.hand_back-seat.ensures.own.1 c.hand_back-seat.ensures.view in
     record {
       own = (away.0, away.1 ∙ c.loop-i.invariant.own.1);
-      laid = (laid_set (table_of c.args.board.now) 1 (j - 1) c.loop-i.laid.items new low c.loop-i.invariant.laid.0 (subst (λ n. IsLaid (table_of c.args.board.now) n new) back one), search rules);
+      laid = (laid_set (board_id c.args.board.now) 1 (j - 1) c.loop-i.laid.items new low c.loop-i.invariant.laid.0 (subst (λ n. IsLaid (board_id c.args.board.now) n new) back one), search rules);
       group = (g, laying_more z v txs c.args.number c.args.place g i w d s c.loop-i-test.true x c.hand_back-seat.ensures.view);
     }
 

@@ -1,5 +1,5 @@
 use Rattle.std.proofs.Common.{rules, ◌≡◌, [], ◌∷◌, length, ℕ, suc, ◌+◌, ◌-◌, ◌<◌, ◌≤◌, List, drop, slice_index_or, sym, ap, ◌∙◌, subst, arith, refl}
-use Rattle.hg_rule.specs.Seats.{table_of, sizes_of, session_view}
+use Rattle.hg_rule.specs.Seats.{board_id, sizes_of, session_view}
 use Rattle.hg_rule.specs.declared.view.View.{View}
 use Rattle.hg_queue.specs.declared.open_tx.OpenTx.{OpenTx}
 use Rattle.hg_group.specs.declared.laid.Laid.{Laid}
@@ -60,7 +60,7 @@ one_less i long short all e f = omega (arith, e, f)
 pub loop-turn-preserved : goal.loop-turn-preserved
 loop-turn-preserved c =
     let z : ℕ = (sizes_of c.args.board.now).sessions in
-    let t = table_of c.args.board.now in
+    let t = board_id c.args.board.now in
     let w = session_view c.loop-turn.pass in
     let u = session_view c.hand_back-seat.new.pass in
     let tx = c.remove-tx.result in

@@ -1,6 +1,6 @@
 use Rattle.hg_rule.specs.Seats.{IsPassOf}
-use Rattle.hg_tracker.specs.Boards.{board_table}
+use Rattle.hg_tracker.specs.Boards.{trackers_board_id}
 use Rattle.hg_tracker.proofs.tests.finish_all.Given as goal
 
 abbrev pub invariant-loop-session : goal.invariant-loop-session
-invariant-loop-session l = IsPassOf (board_table l.fn.trackers) l.collector
+invariant-loop-session l = IsPassOf (trackers_board_id l.fn.trackers) l.collector

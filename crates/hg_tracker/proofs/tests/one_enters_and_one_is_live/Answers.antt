@@ -1,6 +1,6 @@
 use Rattle.std.proofs.Common.{rules, ◌≡◌, length, All, sym, ap, subst, arith}
 use Rattle.hg_rule.specs.declared.view.Sizes.{Sizes}
-use Rattle.hg_rule.specs.Seats.{table_of, sizes_of}
+use Rattle.hg_rule.specs.Seats.{board_id, sizes_of}
 use Rattle.hg_tracker.specs.Boards.{board_of}
 use Rattle.hg_tracker.specs.Ready.{IsReady}
 use Rattle.hg_tracker.proofs.Readiness.{all_ready}
@@ -16,5 +16,5 @@ enter_and_begin-requires-clause-sessions g c =
     let sessions : (sizes_of board).sessions ≡ 2 = ap (λ (z : Sizes). z.sessions) sizes in
     let quota : (sizes_of board).quota ≡ 1 = ap (λ (z : Sizes). z.quota) sizes in
     let count : length list ≡ 2 = c.in_ok-board.ensures.sessions.0 in
-    let ready : All (IsReady (table_of board) (sizes_of board) 1) list = all_ready (table_of board) (sizes_of board) 1 1 list c.in_ok-board.ensures.sessions.1 (omega arith) (omega arith) (omega arith) in
-    subst (λ b. All (IsReady (table_of b) (sizes_of b) 1) c.into_vec.result.items) (sym same) (subst (All (IsReady (table_of board) (sizes_of board) 1)) (sym items) ready)
+    let ready : All (IsReady (board_id board) (sizes_of board) 1) list = all_ready (board_id board) (sizes_of board) 1 1 list c.in_ok-board.ensures.sessions.1 (omega arith) (omega arith) (omega arith) in
+    subst (λ b. All (IsReady (board_id b) (sizes_of b) 1) c.into_vec.result.items) (sym same) (subst (All (IsReady (board_id board) (sizes_of board) 1)) (sym items) ready)

@@ -1,7 +1,7 @@
 use Rattle.std.proofs.Common.{rules, ◌≡◌, length, All, sym, ap, subst, arith}
 use Rattle.hg_rule.specs.declared.view.Sizes.{Sizes}
 use Rattle.hg_rule.specs.Views.{HasOnlySession}
-use Rattle.hg_rule.specs.Seats.{table_of, sizes_of, session_view}
+use Rattle.hg_rule.specs.Seats.{board_id, sizes_of, session_view}
 use Rattle.hg_tracker.specs.Boards.{board_of}
 use Rattle.hg_tracker.specs.Ready.{IsReady}
 use Rattle.hg_tracker.proofs.Readiness.{all_ready, all_alone}
@@ -17,7 +17,7 @@ finish_all-requires-clause-sessions g c =
     let sessions : (sizes_of board).sessions ≡ 3 = ap (λ (z : Sizes). z.sessions) sizes in
     let quota : (sizes_of board).quota ≡ 1 = ap (λ (z : Sizes). z.quota) sizes in
     let count : length list ≡ 3 = c.in_ok-board.ensures.sessions.0 in
-    let ready = all_ready (table_of board) (sizes_of board) 1 1 list c.in_ok-board.ensures.sessions.1 (omega arith) (omega arith) (omega arith) in
-    let alone = all_alone (table_of board) 1 list c.in_ok-board.ensures.sessions.1 in
-    subst (λ b. All (λ p. IsReady (table_of b) (sizes_of b) 1 p × HasOnlySession (session_view p)) c.into_vec.result.items) (sym same)
-    (subst (All (λ p. IsReady (table_of board) (sizes_of board) 1 p × HasOnlySession (session_view p))) (sym items) (λ k d l. (ready k d l, alone k d l)))
+    let ready = all_ready (board_id board) (sizes_of board) 1 1 list c.in_ok-board.ensures.sessions.1 (omega arith) (omega arith) (omega arith) in
+    let alone = all_alone (board_id board) 1 list c.in_ok-board.ensures.sessions.1 in
+    subst (λ b. All (λ p. IsReady (board_id b) (sizes_of b) 1 p × HasOnlySession (session_view p)) c.into_vec.result.items) (sym same)
+    (subst (All (λ p. IsReady (board_id board) (sizes_of board) 1 p × HasOnlySession (session_view p))) (sym items) (λ k d l. (ready k d l, alone k d l)))

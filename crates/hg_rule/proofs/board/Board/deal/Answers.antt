@@ -1,7 +1,7 @@
 use Rattle.std.proofs.Common.{rules, arith, ◌≡◌, ℕ, suc, ◌+◌, ◌<◌, List, [], ◌∷◌, ◌++◌, drop, length, sym, ap, ◌∙◌, subst}
 use Rattle.hg_rule.specs.declared.view.Part.{Part}
 use Rattle.hg_rule.specs.Views.{seeing}
-use Rattle.hg_rule.specs.Seats.{table_of, view}
+use Rattle.hg_rule.specs.Seats.{board_id, view}
 use Rattle.hg_rule.specs.Moves.{run, first_of, left_tail, right_first}
 use Rattle.hg_rule.specs.New.{IsNew, EachFrom}
 use Rattle.hg_rule.proofs.Shifts.{deals}
@@ -18,7 +18,7 @@ loop-i-preserved g c =
     let v = view c.args.maker.now in
     let ps : List Part = v.parts in
     let m = c.loop-i.maker in
-    let t = table_of c.args.self.now in
+    let t = board_id c.args.self.now in
     let vi : view m ≡ seeing (drop i ps) [] v.events = c.loop-i.invariant.1 in
     let did = c.split_seat-seat.ensures in
     let r : List Part = c.requires.parts.0 in

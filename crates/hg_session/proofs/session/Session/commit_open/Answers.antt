@@ -8,7 +8,7 @@ use Rattle.hg_core.specs.declared.phase.Phase.TheVariants.{Idle}
 use Rattle.hg_rule.specs.Steps.{logging}
 use Rattle.hg_rule.specs.Writes.{with_published}
 use Rattle.hg_session.specs.Ties.{Ties}
-use Rattle.hg_session.specs.Engines.{engine_table, engine_sizes}
+use Rattle.hg_session.specs.Engines.{engine_board_id, engine_sizes}
 use Rattle.hg_session.proofs.Tying.{ties_committed}
 use Rattle.hg_session.proofs.Done.{unwritten, written_some, closed, after, back_gains, back_in, ties_back, none_of}
 use Rattle.hg_session.proofs.Placed.{has_place}
@@ -35,7 +35,7 @@ pub returns-in-Ok-clause-own : goal.returns-in-Ok-clause-own
 returns-in-Ok-clause-own g c =
     let v = session_view c.args.self.now.pass in
     let k = closed v (session_view c.commit.new.pass) (session_view c.end-in-Ok.new.pass) c.in-Ok.receipt c.in-Ok.ensures.committed c.end-in-Ok.ensures.step in
-    let own : IsSessionOf (engine_table c.args.engine.now) (engine_sizes c.args.engine.now) c.end-in-Ok.new.pass = search rules in
+    let own : IsSessionOf (engine_board_id c.args.engine.now) (engine_sizes c.args.engine.now) c.end-in-Ok.new.pass = search rules in
     let none : c.replace-records.new.dest.list ≡ [] = search rules in
     let ties = ties_committed (engine_sizes c.args.engine.now).quota c.args.self.now.left 0 0 c.in-Ok.receipt.number _ _ (session v) c.requires.own.ties in
     settled c.args.engine.now 0 0 v _ _ v.sights own k.alone (subst (λ l. Ties (engine_sizes c.args.engine.now).quota None l c.args.self.now.left 0 0 (logging Over Idle (with_published c.in-Ok.receipt.number (session v)))) (sym none) ties) k.heard
@@ -49,7 +49,7 @@ returns-in-Err-clause-own g c =
     let quota = (engine_sizes c.args.engine.now).quota in
     let old = c.args.self.now.written.list in
     let left = c.args.self.now.left in
-    let own : IsSessionOf (engine_table c.args.engine.now) (engine_sizes c.args.engine.now) c.commit.new.pass = search rules in
+    let own : IsSessionOf (engine_board_id c.args.engine.now) (engine_sizes c.args.engine.now) c.commit.new.pass = search rules in
     let open_ = subst (λ o. Ties quota o old left 0 0 (session v)) c.requires.opened c.requires.own.ties in
     let ties = ties_back quota left c.args.snapshot old c.in-Err.tx.records.list (number v) (session v) c.in-Err.tx refl c.in-Err.ensures.refused.0 open_ in
     back_in c.args.engine.now v _ own c.in-Err.ensures.refused.1 (subst (λ o. Ties quota o c.in-Err.tx.records.list left 0 0 (session v)) (sym c.requires.opened) ties) c.requires.own.heard

@@ -5,7 +5,7 @@ use Rattle.hg_rule.specs.Steps.{loaded_in}
 use Rattle.hg_rule.specs.Places.{HoldsBucket}
 use Rattle.hg_rule.specs.Rules.{IsBacked}
 use Rattle.hg_rule.specs.Seats.{sizes_of, session_view, IsSeatOf, IsSessionOf}
-use Rattle.hg_session.specs.Engines.{engine_sizes, engine_table}
+use Rattle.hg_session.specs.Engines.{engine_sizes, engine_board_id}
 use Rattle.hg_session.proofs.Tying.{ties_quiet}
 use Rattle.hg_session.proofs.Trips.{arrived}
 use Rattle.hg_session.proofs.Seeing.{writer_beside, snapshot_beside}
@@ -44,7 +44,7 @@ returns-clause-own g c =
     let b = c.args.bucket in
     let k = c.see.ensures.step.1 in
     let h = arrived v u b c.requires.own.only c.take-held.ensures.view in
-    let own : IsSessionOf (engine_table c.args.engine.now) (engine_sizes c.args.engine.now) c.see.new.pass = search rules in
-    let seat : IsSeatOf (engine_table c.args.engine.now) c.give.new.pass.seat = search rules in
+    let own : IsSessionOf (engine_board_id c.args.engine.now) (engine_sizes c.args.engine.now) c.see.new.pass = search rules in
+    let seat : IsSeatOf (engine_board_id c.args.engine.now) c.give.new.pass.seat = search rules in
     let t = trip_saw z.buckets (number v) b c.see.ensures.step.0 (session v) v.sights c.args.range.table c.args.range.low c.args.range.high u w h k x c.give.ensures.view in
     trip_settled c.args.engine.now 0 1 b v c.see.new.pass _ _ t own seat c.give.ensures.own.1 (ties_quiet _ _ 0 1 _ _ (session v) (Saw c.args.range.table c.args.range.low c.args.range.high b k.rows) tt c.requires.own.ties)

@@ -10,7 +10,7 @@ use Rattle.hg_rule.specs.Steps.{loaded_in}
 use Rattle.hg_rule.specs.Holding.{held}
 use Rattle.hg_rule.specs.Writes.{with_log, with_entry}
 use Rattle.hg_rule.specs.Seats.{session_view, IsSeatOf, IsSessionOf}
-use Rattle.hg_session.specs.Engines.{engine_sizes, engine_table}
+use Rattle.hg_session.specs.Engines.{engine_sizes, engine_board_id}
 use Rattle.hg_session.specs.Gains.{rows_at}
 use Rattle.hg_session.proofs.Tying.{ties_quiet}
 use Rattle.hg_session.proofs.Trips.{arrived, looked}
@@ -48,6 +48,6 @@ pub returns-clause-own : goal.returns-clause-own
 returns-clause-own g c =
     let v = session_view c.args.self.now.pass in
     let m = made g c in
-    let own : IsSessionOf (engine_table c.args.engine.now) (engine_sizes c.args.engine.now) c.see.new.pass = search rules in
-    let seat : IsSeatOf (engine_table c.args.engine.now) c.give.new.pass.seat = search rules in
+    let own : IsSessionOf (engine_board_id c.args.engine.now) (engine_sizes c.args.engine.now) c.see.new.pass = search rules in
+    let seat : IsSeatOf (engine_board_id c.args.engine.now) c.give.new.pass.seat = search rules in
     trip_settled c.args.engine.now 0 1 c.bucket_of-bucket.result v c.see.new.pass _ _ m.1 own seat c.give.ensures.own.1 (ties_quiet _ _ 0 1 _ _ (session v) (saw (engine_sizes c.args.engine.now).buckets c.args.rid (rows_at c.args.rid.key m.0)) tt c.requires.own.ties)

@@ -6,7 +6,7 @@ use Rattle.hg_rule.specs.Views.{session}
 use Rattle.hg_rule.specs.Steps.{logging}
 use Rattle.hg_rule.specs.Writes.{with_log}
 use Rattle.hg_rule.specs.Seats.{session_view, IsSessionOf}
-use Rattle.hg_session.specs.Engines.{engine_table, engine_sizes}
+use Rattle.hg_session.specs.Engines.{engine_board_id, engine_sizes}
 use Rattle.hg_session.specs.Ties.{Ties}
 use Rattle.hg_session.proofs.Settling.{settled, gained}
 use Rattle.hg_session.proofs.Undoing.{undone_log, all_undone, none_open, rolled_back, ties_rolled}
@@ -30,7 +30,7 @@ returns-clause-own g c =
     let v = session_view c.args.self.now.pass in
     let d = c.undo_each.ensures.undone in
     let r = rolled_back v (session_view c.undo_each.new.pass) (session_view c.end.new.pass) c.args.self.now.written.list d c.end.ensures.step in
-    let own : IsSessionOf (engine_table c.args.engine.now) (engine_sizes c.args.engine.now) c.end.new.pass = search rules in
+    let own : IsSessionOf (engine_board_id c.args.engine.now) (engine_sizes c.args.engine.now) c.end.new.pass = search rules in
     let none : c.undo_each.new.records.list ≡ [] = c.undo_each.ensures.emptied in
     let part = logging Over Idle (with_log (map Undid c.args.self.now.written.list ++ (session v).log) (session v)) in
     let ties = ties_rolled (engine_sizes c.args.engine.now).quota c.args.self.now.left 0 0 _ _ c.args.self.now.written.list (session v) c.requires.own.ties in

@@ -11,7 +11,7 @@ use Rattle.hg_rule.specs.Steps.{loaded_in}
 use Rattle.hg_rule.specs.declared.view.SessionPart.{SessionPart}
 use Rattle.hg_rule.specs.Writes.{with_entry}
 use Rattle.hg_rule.specs.Seats.{session_view, IsSeatOf, IsSessionOf}
-use Rattle.hg_session.specs.Engines.{engine_sizes, engine_table}
+use Rattle.hg_session.specs.Engines.{engine_sizes, engine_board_id}
 use Rattle.hg_session.specs.Gains.{Gains, IsRefusedBy, entries_of}
 use Rattle.hg_store.specs.Writing.{IsAnothers}
 use Rattle.hg_session.specs.Ties.{Ties}
@@ -61,8 +61,8 @@ returns-in_err-written-clause-own g c =
     let u = session_view c.take-held.new.pass in
     let b = c.bucket_of-bucket.result in
     let h = arrived v u b c.requires.own.only c.take-held.ensures.view in
-    let own : IsSessionOf (engine_table c.args.engine.now) (engine_sizes c.args.engine.now) c.write-written.new.pass = search rules in
-    let seat : IsSeatOf (engine_table c.args.engine.now) c.give.new.pass.seat = search rules in
+    let own : IsSessionOf (engine_board_id c.args.engine.now) (engine_sizes c.args.engine.now) c.write-written.new.pass = search rules in
+    let seat : IsSeatOf (engine_board_id c.args.engine.now) c.give.new.pass.seat = search rules in
     let t = trip_refused (number v) b (session v) v.sights c.args.rid c.args.image c.write-written.result u (session_view c.write-written.new.pass) (session_view c.give.new.pass) h c.write-written.ensures.step c.give.ensures.view c.in_err-written.field-0.0 c.in_err-written.was in
     let ties = subst (λ l. Ties (engine_sizes c.args.engine.now).quota c.args.self.now.opened l c.args.self.now.left 0 1 (session v)) (sym c.reserve.ensures.same) c.requires.own.ties in
     trip_settled c.args.engine.now 0 0 b v c.write-written.new.pass _ _ t own seat c.give.ensures.own.1
@@ -83,8 +83,8 @@ returns-then-branch-clause-own g c =
     let u = session_view c.take-held.new.pass in
     let b = c.bucket_of-bucket.result in
     let h = arrived v u b c.requires.own.only c.take-held.ensures.view in
-    let own : IsSessionOf (engine_table c.args.engine.now) (engine_sizes c.args.engine.now) c.write-written.new.pass = search rules in
-    let seat : IsSeatOf (engine_table c.args.engine.now) c.give.new.pass.seat = search rules in
+    let own : IsSessionOf (engine_board_id c.args.engine.now) (engine_sizes c.args.engine.now) c.write-written.new.pass = search rules in
+    let seat : IsSeatOf (engine_board_id c.args.engine.now) c.give.new.pass.seat = search rules in
     let t = trip_stored (number v) b (session v) v.sights c.args.rid c.args.image c.write-written.result u (session_view c.write-written.new.pass) (session_view c.give.new.pass) h c.write-written.ensures.step c.give.ensures.view c.in_ok-written.field-0 c.in_ok-written.was in
     let added : c.in_ok-written.field-0 ≡ not (is_some (open_in c.args.rid (session u).log)) = search rules in
     let new = sym c.if-branch.true ∙ (added ∙ ap (λ (p : SessionPart). not (is_some (open_in c.args.rid p.log))) (first_session u (number v) (session v) _ h.parts)) in
@@ -108,8 +108,8 @@ returns-else-branch-clause-own g c =
     let u = session_view c.take-held.new.pass in
     let b = c.bucket_of-bucket.result in
     let h = arrived v u b c.requires.own.only c.take-held.ensures.view in
-    let own : IsSessionOf (engine_table c.args.engine.now) (engine_sizes c.args.engine.now) c.write-written.new.pass = search rules in
-    let seat : IsSeatOf (engine_table c.args.engine.now) c.give.new.pass.seat = search rules in
+    let own : IsSessionOf (engine_board_id c.args.engine.now) (engine_sizes c.args.engine.now) c.write-written.new.pass = search rules in
+    let seat : IsSeatOf (engine_board_id c.args.engine.now) c.give.new.pass.seat = search rules in
     let t = trip_stored (number v) b (session v) v.sights c.args.rid c.args.image c.write-written.result u (session_view c.write-written.new.pass) (session_view c.give.new.pass) h c.write-written.ensures.step c.give.ensures.view c.in_ok-written.field-0 c.in_ok-written.was in
     let added : c.in_ok-written.field-0 ≡ not (is_some (open_in c.args.rid (session u).log)) = search rules in
     let new = sym c.if-branch.false ∙ (added ∙ ap (λ (p : SessionPart). not (is_some (open_in c.args.rid p.log))) (first_session u (number v) (session v) _ h.parts)) in

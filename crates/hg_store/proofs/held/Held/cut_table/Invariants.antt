@@ -2,8 +2,8 @@ use Rattle.std.proofs.Common.{◌≡◌}
 use Rattle.hg_base.specs.declared.report.Kind.TheVariants.{Table}
 use Rattle.hg_bucket.specs.BucketModel.{long_keys}
 use Rattle.hg_bucket.proofs.Rounds.{Leads}
-use Rattle.hg_rule.specs.Seats.{table_of, pass_view, IsPassOf}
-use Rattle.hg_store.specs.Stores.{held_table, held_number, held_records, Holds}
+use Rattle.hg_rule.specs.Seats.{board_id, pass_view, IsPassOf}
+use Rattle.hg_store.specs.Stores.{held_board_id, held_number, held_records, Holds}
 use Rattle.hg_store.proofs.Rounding.{Rounds}
 use Rattle.hg_store.proofs.held.Held.cut_table.Given as goal
 
@@ -11,8 +11,8 @@ abbrev pub invariant-loop-left : goal.invariant-loop-left
 invariant-loop-left l =
     Rounds Table l.table (long_keys (held_records l.fn.self) l.table) (pass_view l.fn.pass) (pass_view l.pass) l.left l.gone
     × Holds (pass_view l.pass) l.self
-    × IsPassOf (table_of l.board) l.pass
-    × (held_table l.self ≡ held_table l.fn.self)
+    × IsPassOf (board_id l.board) l.pass
+    × (held_board_id l.self ≡ held_board_id l.fn.self)
     × (held_number l.self ≡ held_number l.fn.self)
     × Leads l.left (long_keys (held_records l.self) l.table) (long_keys (held_records l.fn.self) l.table)
 

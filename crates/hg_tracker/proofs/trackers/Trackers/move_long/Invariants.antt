@@ -3,7 +3,7 @@ use Rattle.hg_rule.specs.Views.{pass}
 use Rattle.hg_rule.specs.Seats.{pass_view, IsPassOf}
 use Rattle.hg_tracker.specs.Gathers.{IsMadeFor, IsNotedOf, IsLoaded}
 use Rattle.hg_tracker.specs.Tries.{is_long, HasTried}
-use Rattle.hg_tracker.specs.Boards.{board_table, board_sizes}
+use Rattle.hg_tracker.specs.Boards.{trackers_board_id, board_sizes}
 use Rattle.hg_tracker.proofs.trackers.Trackers.move_long.Given as goal
 
 abbrev pub invariant-loop-position : goal.invariant-loop-position
@@ -14,5 +14,5 @@ invariant-loop-position l =
     × (drop l.position l.gathered.entries.items ≡ drop l.position l.fn.gathered.entries.items)
     × (length l.gathered.entries.items ≡ length l.fn.gathered.entries.items)
     × IsMadeFor (board_sizes l.fn.self).sessions (board_sizes l.fn.self).tables l.gathered
-    × IsPassOf (board_table l.fn.self) l.pass
+    × IsPassOf (trackers_board_id l.fn.self) l.pass
     × (l.count ≤ l.position)
