@@ -1,8 +1,12 @@
+-- Words on lists, options and tests.
 pub mod ListFacts
+-- Histories, and the order of records.
 pub mod HistoryFacts
 pub mod RidOrder
+-- A line more, and a longer history.
 pub mod Extending
 pub mod Growth
+-- A text is read as what was printed.
 pub mod TextNumbers
 pub mod TextFits
 pub mod TextReading

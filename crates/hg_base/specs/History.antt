@@ -6,11 +6,16 @@ use Rattle.std.specs.List.{flat_map, list_any, cons_option}
 use Rattle.std.specs.Option.{option_or}
 use Rattle.hg_base.specs.declared.rid.Rid.{Rid}
 use Rattle.hg_base.specs.declared.image.Image.{Image}
+use Rattle.hg_base.specs.declared.writer.Writer.{Writer}
 use Rattle.hg_base.specs.Lists.{Each}
 
 -- the same record: one table and one key
 abbrev pub same_rid : Rid → Rid → Bool
 same_rid a b = (a.table.0 == b.table.0) && (a.key == b.key)
+
+-- the same transaction of one session
+abbrev pub same_writer : Writer → Writer → Bool
+same_writer a b = (a.session == b.session) && (a.transaction == b.transaction)
 
 -- the image of a deletion
 abbrev pub nothing : Image

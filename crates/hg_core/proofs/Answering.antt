@@ -74,7 +74,7 @@ published_has n j (Over ∷ later) l = published_has n j later l
 
 -- ---- a statement and the log at which it stands
 
-not_alone : (x : Option Snapshot) (statement : Statement) → is_access statement ≡ false → is_alone x statement ≡ false
+pub not_alone : (x : Option Snapshot) (statement : Statement) → is_access statement ≡ false → is_alone x statement ≡ false
 not_alone None statement e = e
 not_alone (Some snapshot) statement e = refl
 
@@ -114,13 +114,7 @@ scope_at statement reply before access declared c e = go (current before) refl d
 
 snapshot_up : (n buckets : ℕ) (u : Unprinted) (statement : Statement) (reply : Reply) (before : List LogEntry) → UpTo n (log_after buckets u statement reply before) → UpTo n (begun_log statement reply before)
 snapshot_up n buckets u (Begin scope) reply before up = subst (λ b. UpTo n (log_with b buckets u (Begin scope) reply before)) (not_alone (current before) (Begin scope) refl) up
-snapshot_up n buckets u (Get r) reply before up = up_at n buckets u (Get r) reply before (is_alone (current before) (Get r)) up
-snapshot_up n buckets u (Put r row) reply before up = up_at n buckets u (Put r row) reply before (is_alone (current before) (Put r row)) up
-snapshot_up n buckets u (Del r) reply before up = up_at n buckets u (Del r) reply before (is_alone (current before) (Del r)) up
-snapshot_up n buckets u (Scan table low high) reply before up = up_at n buckets u (Scan table low high) reply before (is_alone (current before) (Scan table low high)) up
-snapshot_up n buckets u CommitIt reply before up = up_at n buckets u CommitIt reply before (is_alone (current before) CommitIt) up
-snapshot_up n buckets u Rollback reply before up = up_at n buckets u Rollback reply before (is_alone (current before) Rollback) up
-snapshot_up n buckets u (Gc kind) reply before up = up_at n buckets u (Gc kind) reply before (is_alone (current before) (Gc kind)) up
+snapshot_up n buckets u s reply before up = up_at n buckets u s reply before (is_alone (current before) s) up
 
 -- ---- its answer
 
@@ -144,13 +138,10 @@ answer_due : (buckets : ℕ) (h : History) (logs : ℕ → List LogEntry) (j : �
     → IfSome (current (begun_log statement now.reply before)) (λ snapshot. (now.at ≡ snapshot.at) × (now.scope ≡ snapshot.scope))
     → (let own = own_writes (begun_log statement now.reply before) in IsAnswer replay (seen h own now.at) (is_written own) now statement)
 answer_due buckets h logs j u before now (Begin scope) some logged g fits declared at = fits
-answer_due buckets h logs j u before now (Get r) some logged g fits declared at = access_answered buckets h logs j u before now (Get r) some refl g fits declared at
-answer_due buckets h logs j u before now (Put r row) some logged g fits declared at = access_answered buckets h logs j u before now (Put r row) some refl g fits declared at
-answer_due buckets h logs j u before now (Del r) some logged g fits declared at = access_answered buckets h logs j u before now (Del r) some refl g fits declared at
-answer_due buckets h logs j u before now (Scan table low high) some logged g fits declared at = access_answered buckets h logs j u before now (Scan table low high) some refl g fits declared at
 answer_due buckets h logs j u before now CommitIt some logged g fits declared at = subst (λ own. IsCommitted (is_written own) now.reply.answer) (sym (own_before CommitIt now.reply before refl)) fits
 answer_due buckets h logs j u before now Rollback some logged g fits declared at = fits.0
 answer_due buckets h logs j u before now (Gc kind) some logged g fits declared at = absurd (let z : true ≡ false = logged in cc)
+answer_due buckets h logs j u before now s some logged g fits declared at = access_answered buckets h logs j u before now s some refl g fits declared at
 
 -- ---- the cause of a refusal
 
@@ -202,14 +193,12 @@ abbrev pub number_by : Bool → Statement → Reply → Option ℕ
 number_by alone statement reply = if alone then reply.number else committed_by statement reply.answer
 
 number_due : (buckets j : ℕ) (u : Unprinted) (statement : Statement) (reply : Reply) (before later : List LogEntry) → IfSome (number_by (is_alone (current before) statement) statement reply) (λ n. Contains (published n j (later ++ log_after buckets u statement reply before)) (commit_in j (done_log buckets u statement reply before)))
-number_due buckets j u (Begin scope) reply before later = subst (λ b. IfSome (number_by b (Begin scope) reply) (λ n. Contains (published n j (later ++ log_after buckets u (Begin scope) reply before)) (commit_in j (done_log buckets u (Begin scope) reply before)))) (sym (not_alone (current before) (Begin scope) refl)) tt
-number_due buckets j u Rollback reply before later = subst (λ b. IfSome (number_by b Rollback reply) (λ n. Contains (published n j (later ++ log_after buckets u Rollback reply before)) (commit_in j (done_log buckets u Rollback reply before)))) (sym (not_alone (current before) Rollback refl)) tt
-number_due buckets j u (Gc kind) reply before later = subst (λ b. IfSome (number_by b (Gc kind) reply) (λ n. Contains (published n j (later ++ log_after buckets u (Gc kind) reply before)) (commit_in j (done_log buckets u (Gc kind) reply before)))) (sym (not_alone (current before) (Gc kind) refl)) tt
 number_due buckets j u CommitIt reply before later = subst (λ b. IfSome (number_by b CommitIt reply) (λ n. Contains (published n j (later ++ log_with b buckets u CommitIt reply before)) (commit_in j before))) (sym (not_alone (current before) CommitIt refl)) (commit_number j reply.answer before later)
 number_due buckets j u (Get r) reply before later = access_number buckets j u (Get r) reply before later (is_alone (current before) (Get r))
 number_due buckets j u (Put r row) reply before later = access_number buckets j u (Put r row) reply before later (is_alone (current before) (Put r row))
 number_due buckets j u (Del r) reply before later = access_number buckets j u (Del r) reply before later (is_alone (current before) (Del r))
 number_due buckets j u (Scan table low high) reply before later = access_number buckets j u (Scan table low high) reply before later (is_alone (current before) (Scan table low high))
+number_due buckets j u s reply before later = subst (λ b. IfSome (number_by b s reply) (λ n. Contains (published n j (later ++ log_after buckets u s reply before)) (commit_in j (done_log buckets u s reply before)))) (sym (not_alone (current before) s refl)) tt
 
 -- ---- in whole
 

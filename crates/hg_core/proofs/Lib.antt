@@ -1,44 +1,52 @@
+-- Words on functions, records and sums.
 pub mod Indices
+pub mod Records
+pub mod Sums
+pub mod Past
+-- Logs that grow.
 pub mod LogSteps
 pub mod Recalls
-pub mod Records
+pub mod Replies
+pub mod OwnKeys
+-- A record's versions, and what holds of them after each event.
 pub mod Versions
 pub mod OpenWrites
-pub mod Groups
-pub mod NewGroup
-pub mod Backing
-pub mod Sums
 pub mod Placing
 pub mod Clean
+pub mod Covering
 pub mod Visits
 pub mod Tallies
-pub mod Sweep
-pub mod Past
-pub mod Covering
-pub mod Replies
+-- A new group.
+pub mod Groups
+pub mod NewGroup
 pub mod Updates
 pub mod Grouping
+pub mod Backing
+-- Each kind of event keeps the invariant.
 pub mod Begins
-pub mod Gathers
-pub mod Publishing
-pub mod Writing
 pub mod Looking
+pub mod Writing
+pub mod Publishing
+pub mod Gathers
 pub mod Fences
+pub mod Sweep
 pub mod Reclaiming
 pub mod Seats
-pub mod Exact
-pub mod Bounded
-pub mod Commits
+pub mod Runs
+-- What follows from it: of commits, counts, removals, and boards at rest.
 pub mod Earlier
+pub mod Commits
+pub mod Counting
+pub mod Bounded
+pub mod Exact
 pub mod Settling
 pub mod Remaining
-pub mod OwnKeys
+pub mod Alone
+pub mod Words
+-- What logs and replies say of each other.
 pub mod Right
 pub mod Answering
-pub mod Runs
-pub mod Alone
+-- Runs that there are, and steps that are refused.
 pub mod Worked
-pub mod Counting
-pub mod Words
 pub mod Refused
 pub mod Mistakes

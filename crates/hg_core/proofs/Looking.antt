@@ -8,7 +8,7 @@ use Rattle.hg_base.specs.declared.writer.Writer.{Writer}
 use Rattle.hg_base.specs.declared.scope.Scope.{Scope}
 use Rattle.hg_base.specs.declared.line.Answer.{Answer}
 use Rattle.hg_base.specs.declared.line.Answer.TheVariants.{Newer, OpenBy}
-use Rattle.hg_base.specs.History.{image_in, visible, seen, group_at, group_image}
+use Rattle.hg_base.specs.History.{image_in, visible, seen, group_at, group_image, same_writer}
 use Rattle.hg_base.specs.Replies.{AreRows}
 use Rattle.hg_base.specs.Lists.{Each}
 use Rattle.hg_base.specs.Transcript.{has}
@@ -24,7 +24,7 @@ use Rattle.hg_core.specs.Versions.{newest_at, unpublished}
 use Rattle.hg_core.specs.Contents.{versions, has_stamped}
 use Rattle.hg_core.specs.OpenWrites.{writer_of}
 use Rattle.hg_core.specs.Covered.{Reads}
-use Rattle.hg_core.specs.Replies.{same_writer, read_by, in_bucket, refused_over, refused_by, refusal, writes_in, numbers_in, Refuses, IsReplied}
+use Rattle.hg_core.specs.Replies.{read_by, in_bucket, refused_over, refused_by, refusal, writes_in, numbers_in, Refuses, IsReplied}
 use Rattle.hg_core.specs.State.{CoreState}
 use Rattle.hg_core.specs.Events.{put, with_refusal, happens, May, Look, Take}
 use Rattle.hg_core.specs.Invariant.{IsSteady}

@@ -144,7 +144,7 @@ without_it k (r ∷ rs) = go (same_rid r k) refl (without_it k rs)
     go true e ih = ih
     go false e ih = ap (λ b. b || is_among k (filter (λ other. not (same_rid other k)) rs)) (same_rid_not r k e) ∙ ih
 
-once_once : (rs : List Rid) → NoneTwice (once rs)
+pub once_once : (rs : List Rid) → NoneTwice (once rs)
 once_once [] = tt
 once_once (r ∷ rs) = (without_it r (once rs), filtered_once (λ other. not (same_rid other r)) (once rs) (once_once rs))
 

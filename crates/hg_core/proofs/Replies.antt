@@ -9,7 +9,7 @@ use Rattle.hg_base.specs.declared.writer.Writer.{Writer}
 use Rattle.hg_base.specs.declared.line.Answer.{Answer}
 use Rattle.hg_base.specs.declared.line.Answer.TheVariants.{Newer, OpenBy}
 use Rattle.hg_base.specs.Lists.{Each}
-use Rattle.hg_base.specs.History.{Group, History, same_rid, image_in, group_image, group_from, group_at, writes_from, writes}
+use Rattle.hg_base.specs.History.{Group, History, same_rid, image_in, group_image, group_from, group_at, writes_from, writes, same_writer}
 use Rattle.hg_base.specs.Replies.{AreRows}
 use Rattle.hg_base.proofs.HistoryFacts.{seen_stays, writes_from_snoc}
 use Rattle.hg_base.proofs.ListFacts.{any_more}
@@ -23,7 +23,7 @@ use Rattle.hg_core.specs.Versions.{stamp_number, is_up_to, first_at, paired, new
 use Rattle.hg_core.specs.Ordered.{IsBacked}
 use Rattle.hg_core.proofs.Backing.{image_backed}
 use Rattle.hg_core.specs.Covered.{image_of}
-use Rattle.hg_core.specs.Replies.{same_writer, read_by, in_bucket, writes_in, numbers_in, Refuses, IsReplied, AreReplied, RepliesAnswer}
+use Rattle.hg_core.specs.Replies.{read_by, in_bucket, writes_in, numbers_in, Refuses, IsReplied, AreReplied, RepliesAnswer}
 use Rattle.hg_core.specs.Events.{put}
 use Rattle.hg_core.proofs.Indices.{by_number}
 use Rattle.hg_core.proofs.Groups.{length_more}
@@ -101,7 +101,7 @@ group_does first (g ∷ gs) r n i e = go (first == n) refl e (λ k. group_does (
 
 -- ---- an open transaction in its log
 
-numbers_under : (x : ℕ) (log : List LogEntry) → begans log < x → numbers_in x log ≡ []
+pub numbers_under : (x : ℕ) (log : List LogEntry) → begans log < x → numbers_in x log ≡ []
 numbers_under x [] k = refl
 numbers_under x (Began at scope ∷ log) k = numbers_under x log (omega arith)
 numbers_under x (Published n ∷ log) k = let other : (begans log == x) ≡ false = grind (arith, nat_tests) in ap (λ b. if b then n ∷ numbers_in x log else numbers_in x log) other ∙ numbers_under x log k

@@ -10,7 +10,7 @@ use Rattle.hg_base.specs.declared.image.Image.{Image}
 use Rattle.hg_base.specs.declared.scope.Scope.{Scope}
 use Rattle.hg_base.specs.declared.scope.Snapshot.{Snapshot}
 use Rattle.hg_base.specs.declared.statement.Statement.{Statement}
-use Rattle.hg_base.specs.declared.statement.Statement.TheVariants.{Begin, Get, Put, Del, Scan, Commit as CommitIt, Rollback, Gc}
+use Rattle.hg_base.specs.declared.statement.Statement.TheVariants.{Get, Put, Del, Scan}
 use Rattle.hg_base.specs.declared.line.Answer.{Answer}
 use Rattle.hg_base.specs.declared.line.Answer.TheVariants.{Stored, Found, Nothing, Gone, Rows, Newer, OpenBy, Undeclared}
 use Rattle.hg_base.specs.Lists.{Each}
@@ -202,7 +202,4 @@ answer_right mode buckets h logs wrote u j own (Get r) now l c places e sc i f k
 answer_right mode buckets h logs wrote u j own (Put r row) now l c places e sc i f k g = subst (λ scope. WithinScope scope r.table now.reply.answer (IsPut now.reply.answer)) (sym sc) (put_right buckets h logs j r row now.reply.answer l c e f g)
 answer_right mode buckets h logs wrote u j own (Del r) now l c places e sc i f k g = subst (λ scope. WithinScope scope r.table now.reply.answer (IsDeleted (seen h (own_writes l) c.at r) now.reply.answer)) (sym sc) (del_right buckets h logs j u.found r now.reply.answer l c e f g)
 answer_right mode buckets h logs wrote u j own (Scan t low high) now l c places e sc i f k g = subst (λ scope. WithinScope scope t now.reply.answer (IsScanned (λ key. seen h (own_writes l) c.at (record { table = t; key = key })) low high now.reply.answer)) (sym sc) (scan_right buckets h logs j u.part t low high now.reply.answer l c places e f k g)
-answer_right mode buckets h logs wrote u j own (Begin scope) now l c places e sc i f k g = absurd (let z : false ≡ true = i in cc)
-answer_right mode buckets h logs wrote u j own CommitIt now l c places e sc i f k g = absurd (let z : false ≡ true = i in cc)
-answer_right mode buckets h logs wrote u j own Rollback now l c places e sc i f k g = absurd (let z : false ≡ true = i in cc)
-answer_right mode buckets h logs wrote u j own (Gc kind) now l c places e sc i f k g = absurd (let z : false ≡ true = i in cc)
+answer_right mode buckets h logs wrote u j own _ now l c places e sc i f k g = absurd (let z : false ≡ true = i in cc)

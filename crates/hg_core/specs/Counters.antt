@@ -63,7 +63,12 @@ undos test [] = 0
 undos test (Undid r ∷ log) = (if test r then 1 else 0) + undos test log
 undos test (_ ∷ log) = undos test log
 
--- how many versions of a bucket a kind of collector removed in a list of visits
+-- how many versions a kind of collector removed in a list of visits
+abbrev pub removed_all : Kind → List Visit → ℕ
+removed_all kind [] = 0
+removed_all kind (v ∷ visits) = removed_by kind v.removed + removed_all kind visits
+
+-- and in those of one bucket
 abbrev pub removed_in : Kind → ℕ → List Visit → ℕ
 removed_in kind b [] = 0
 removed_in kind b (v ∷ visits) = (if v.bucket == b then removed_by kind v.removed else 0) + removed_in kind b visits

@@ -24,6 +24,13 @@ begans [] = 0
 begans (Began at scope ∷ log) = suc (begans log)
 begans (_ ∷ log) = begans log
 
+-- whether transaction x was published or is over
+abbrev pub has_end : ℕ → List LogEntry → Bool
+has_end x [] = false
+has_end x (Published number ∷ log) = (begans log == x) || has_end x log
+has_end x (Over ∷ log) = (begans log == x) || has_end x log
+has_end x (_ ∷ log) = has_end x log
+
 -- how many writes were stored
 abbrev pub wrotes : List LogEntry → ℕ
 wrotes [] = 0

@@ -1,12 +1,12 @@
 -- What the logs say of reads and writes, as a table would reply that never reclaims.
-use Rattle.std.specs.Prelude.{ℕ, List, [], ◌∷◌, Bool, ◌&&◌, ◌==◌, nat_le, if◌then◌else◌, Option, Some, None, is_some, IfSome, IsTrue, IsFalse, ⊤}
+use Rattle.std.specs.Prelude.{ℕ, List, [], ◌∷◌, ◌==◌, nat_le, if◌then◌else◌, Option, Some, None, is_some, IfSome, IsTrue, IsFalse, ⊤}
 use Rattle.hg_base.specs.declared.rid.Rid.{Rid}
 use Rattle.hg_base.specs.declared.rid.TableId.{TableId}
 use Rattle.hg_base.specs.declared.image.Image.{Image}
 use Rattle.hg_base.specs.declared.writer.Writer.{Writer}
 use Rattle.hg_base.specs.declared.line.Answer.{Answer}
 use Rattle.hg_base.specs.declared.line.Answer.TheVariants.{Newer, OpenBy}
-use Rattle.hg_base.specs.History.{Write, History, nothing, image_in, seen}
+use Rattle.hg_base.specs.History.{Write, History, nothing, image_in, same_writer, seen}
 use Rattle.hg_base.specs.Replies.{AreRows}
 use Rattle.hg_base.specs.Conflicts.{ShowsNewer, ShowsOpen}
 use Rattle.hg_base.specs.Transcript.{has}
@@ -20,9 +20,6 @@ use Rattle.hg_core.specs.Contents.{bucket_of}
 use Rattle.hg_core.specs.Covered.{image_of}
 
 -- ---- what a bucket shows
-
-abbrev pub same_writer : Writer → Writer → Bool
-same_writer a b = (a.session == b.session) && (a.transaction == b.transaction)
 
 -- what a transaction reads at a snapshot: its own open write, or the newest version numbered at or below the snapshot
 abbrev pub read_by : Writer → ℕ → List Version → Image

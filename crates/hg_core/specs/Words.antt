@@ -1,7 +1,8 @@
 -- The word of a register.
-use Rattle.std.specs.Prelude.{ℕ, ◌+◌, ◌-◌, ◌*◌, ◌/◌, ◌%◌, ◌^◌, ◌<◌, ◌==◌, Bool, true, false, if◌then◌else◌, ⊤}
+use Rattle.std.specs.Prelude.{ℕ, ◌+◌, ◌-◌, ◌*◌, ◌/◌, ◌%◌, ◌^◌, ◌<◌, ◌==◌, Bool, true, false, if◌then◌else◌, IsTrue, ⊤}
 use Rattle.hg_base.specs.declared.scope.Scope.{Scope}
 use Rattle.hg_base.specs.declared.scope.Scope.TheVariants.{All, Declared}
+use Rattle.hg_base.specs.Freshness.{is_declared}
 use Rattle.hg_core.specs.declared.register.Register.{Register}
 use Rattle.hg_core.specs.declared.register.Register.TheVariants.{Idle, Entering, Live}
 
@@ -21,10 +22,17 @@ scope_of Idle = All
 scope_of (Entering number) = All
 scope_of (Live number scope moved) = scope
 
--- A register that has a word: its number is below 2 ^ 44, and its tables are below 16.
+-- whether the snapshot was moved
+abbrev pub is_moved : Register → Bool
+is_moved Idle = false
+is_moved (Entering number) = false
+is_moved (Live number scope moved) = moved
+
+-- A register that has a word: its number is below 2 ^ 44, its tables are below 16, and it was moved only where they are declared.
 pub record IsRegister (register : Register) : Type 0 where
   pub number : number_of register < 2 ^ 44
   pub tables : IsBelow 16 (scope_of register)
+  pub declared : IsTrue (is_moved register) → IsTrue (is_declared (scope_of register))
 
 -- 1 where it is set
 abbrev pub flag : Bool → ℕ

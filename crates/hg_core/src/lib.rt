@@ -73,9 +73,9 @@ pub use register::Register;
 pub use theorems::{
     a_log_is_read, a_visit_counts, commits_are_bounded, counters_balance, counts_are_bounded,
     every_answer_is_right, every_event_happens, history_is_sound, mark_is_bounded,
-    no_gather_misses_a_snapshot, no_removal_is_seen, records_are_placed, removal_is_exact,
-    replies_are_right, what_is_live_is_left, what_is_open_is_new, what_was_left_stays,
-    words_are_exact,
+    no_conflict_is_lost, no_gather_misses_a_snapshot, no_removal_is_seen, records_are_placed,
+    removal_is_exact, replies_are_right, what_is_live_is_left, what_is_open_is_new,
+    what_was_left_stays, words_are_exact,
 };
 pub use version::{Stamp, Version};
 pub use visit::{Counters, Removed, Visit};

@@ -1,10 +1,11 @@
 //! What follows of the laws, in the words of the subject.
 
-ghost use Rattle.std.specs.Prelude.{◌≡◌, ℕ, List, [], ◌∷◌, None, length, filter, map, is_some, if◌then◌else◌, ◌<◌, ◌≤◌, ◌*◌, ◌^◌, ◌++◌, IsSome, IsTrue};
+ghost use Rattle.std.specs.Prelude.{◌≡◌, ℕ, List, [], ◌∷◌, None, Some, length, filter, map, is_some, if◌then◌else◌, ◌<◌, ◌≤◌, ◌*◌, ◌^◌, ◌++◌, IsSome, IsTrue};
 ghost use Rattle.hg_base.specs.declared.rid.Rid.{Rid};
 ghost use Rattle.hg_base.specs.declared.rid.TableId.{TableId};
 ghost use Rattle.hg_base.specs.declared.scope.Scope.{Scope};
-ghost use Rattle.hg_base.specs.History.{visible, IsHistory, NoLostUpdate};
+ghost use Rattle.hg_base.specs.declared.image.Image.{Image};
+ghost use Rattle.hg_base.specs.History.{writes, visible, IsHistory, NoLostUpdate};
 ghost use Rattle.hg_base.specs.Transcript.{has, Said};
 ghost use Rattle.hg_core.specs.declared.log.LogEntry.{LogEntry};
 ghost use Rattle.hg_core.specs.Reading.{Unprinted, log_after, Fits};
@@ -12,8 +13,9 @@ ghost use Rattle.hg_core.specs.Answered.{StandsAt, IsAnswered};
 ghost use Rattle.hg_core.specs.Words.{IsRegister, word_of, register_of};
 ghost use Rattle.hg_core.specs.Passes.{PassRecord, IsWhole, horizon, recorded, table_bound, group_bound};
 ghost use Rattle.hg_core.specs.State.{CoreState, opened};
-ghost use Rattle.hg_core.specs.Held.{held, left_by};
-ghost use Rattle.hg_core.specs.Versions.{first_at, unpublished};
+ghost use Rattle.hg_core.specs.Held.{held, newest_held, left_by};
+ghost use Rattle.hg_core.specs.Covered.{last_pair};
+ghost use Rattle.hg_core.specs.Versions.{first_at, newest_at, unpublished};
 ghost use Rattle.hg_core.specs.Sums.{sum_below};
 ghost use Rattle.hg_core.specs.Logs.{current, begans, is_plain, newest_of};
 ghost use Rattle.hg_core.specs.Commits.{commits_in, AreEarlier, AloneHaveLogs};
@@ -52,6 +54,14 @@ pub fn no_removal_is_seen()
     ensures live { Always (λ s. (j at : ℕ) (scope : Scope) (r : Rid) → s.phase j ≡ Phase.Live at scope → IsTrue (has scope r.table) → held s r at ≡ visible s.history r at) }
     ensures fixed { Always (λ s. (j f m : ℕ) (r : Rid) → s.phase j ≡ Phase.Fixed f m → held s r m ≡ visible s.history r m) }
     ensures mark { Always (λ s. (r : Rid) → held s r s.mark ≡ visible s.history r s.mark) }
+{}
+
+/// No conflict is lost by a removal, and nothing that is read is dropped. After every list of steps, where a session is live with
+/// a record's table, and the record's last write has a number over its snapshot, a version of that number is held still: so a write
+/// of the session finds it. And where the session reads a row, a version is held for it.
+pub fn no_conflict_is_lost()
+    ensures newer { Always (λ s. (j at n : ℕ) (scope : Scope) (r : Rid) (image : Image) → s.phase j ≡ Phase.Live at scope → IsTrue (has scope r.table) → last_pair (writes s.history r) ≡ Some (n, image) → at < n → newest_held s r ≡ Some n) }
+    ensures read { Always (λ s. (j at : ℕ) (scope : Scope) (r : Rid) → s.phase j ≡ Phase.Live at scope → IsTrue (has scope r.table) → IsSome (visible s.history r at).row → IsSome (newest_at at (versions s.buckets s.bucket r))) }
 {}
 
 /// A removal is exact. After every list of steps, where a pass may take away versions of a record, a cut leaves all that are

@@ -6,7 +6,7 @@ use Rattle.hg_base.specs.declared.line.Printed.{Printed}
 use Rattle.hg_base.specs.Script.{Script, Mode}
 use Rattle.hg_base.specs.Transcript.{Said, in_order, history_of}
 use Rattle.hg_base.specs.Sound.{all_said}
-use Rattle.hg_decide.specs.Audit.{Fault, in_shape, in_commits, in_reply, in_fresh, in_totals, FirstOutOfShape, FirstWithout, GiveHistory, IsAnswered, IsKnown, HasFault}
+use Rattle.hg_decide.specs.Audit.{Fault, in_shape, in_commits, in_reply, in_fresh, in_totals, FirstOutOfShape, FirstWithout, GiveHistory, IsRightReply, IsKnown, HasFault}
 use Rattle.hg_decide.proofs.Decide.{Decided, decide_equal, decide_never, decide_both, decide_all3, decide_all4, decide_all5, decide_not, decide_each_after}
 use Rattle.hg_decide.proofs.DecidedCommits.{decide_line, decide_shape, decide_whole, decide_no_lost_update}
 use Rattle.hg_decide.proofs.DecidedReplies.{decide_reply}
@@ -27,7 +27,7 @@ decide_without P d earlier (now ∷ later) (suc k) = decide_both (d earlier now)
 abbrev pub decide_history : (all : List Said) → Decided (GiveHistory all)
 decide_history all = decide_both (decide_whole all) (decide_no_lost_update (history_of all))
 
-abbrev pub decide_answered : (mode : Mode) (all : List Said) (earlier : List Said) (now : Said) → Decided (IsAnswered mode all earlier now)
+abbrev pub decide_answered : (mode : Mode) (all : List Said) (earlier : List Said) (now : Said) → Decided (IsRightReply mode all earlier now)
 decide_answered mode all earlier now = decide_both (decide_reply mode (history_of all) earlier now) (decide_conflict mode (history_of all) all earlier now)
 
 abbrev pub decide_known : (mode : Mode) (all : List Said) (earlier : List Said) (now : Said) → Decided (IsKnown mode all earlier now)
@@ -38,10 +38,10 @@ decide_fault mode script printed (in_shape k) = decide_out_of_shape (in_order mo
 decide_fault mode script printed in_commits = decide_both (decide_shape (in_order mode script.records) printed.lines) (decide_not (decide_history (all_said mode script printed.lines)))
 decide_fault mode script printed (in_reply k) =
     let all = all_said mode script printed.lines in
-    decide_all3 (decide_shape (in_order mode script.records) printed.lines) (decide_history all) (decide_without (IsAnswered mode all) (decide_answered mode all) [] all k)
+    decide_all3 (decide_shape (in_order mode script.records) printed.lines) (decide_history all) (decide_without (IsRightReply mode all) (decide_answered mode all) [] all k)
 decide_fault mode script printed (in_fresh k) =
     let all = all_said mode script printed.lines in
-    decide_all4 (decide_shape (in_order mode script.records) printed.lines) (decide_history all) (decide_each_after (IsAnswered mode all) (decide_answered mode all) [] all) (decide_without (IsKnown mode all) (decide_known mode all) [] all k)
+    decide_all4 (decide_shape (in_order mode script.records) printed.lines) (decide_history all) (decide_each_after (IsRightReply mode all) (decide_answered mode all) [] all) (decide_without (IsKnown mode all) (decide_known mode all) [] all k)
 decide_fault mode script printed in_totals =
     let all = all_said mode script printed.lines in
-    decide_all5 (decide_shape (in_order mode script.records) printed.lines) (decide_history all) (decide_each_after (IsAnswered mode all) (decide_answered mode all) [] all) (decide_each_after (IsKnown mode all) (decide_known mode all) [] all) (decide_not (decide_totals all (history_of all) printed.totals))
+    decide_all5 (decide_shape (in_order mode script.records) printed.lines) (decide_history all) (decide_each_after (IsRightReply mode all) (decide_answered mode all) [] all) (decide_each_after (IsKnown mode all) (decide_known mode all) [] all) (decide_not (decide_totals all (history_of all) printed.totals))

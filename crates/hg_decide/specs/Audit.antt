@@ -42,8 +42,8 @@ abbrev pub GiveHistory : List Said → Type 0
 GiveHistory all = IsWhole all × NoLostUpdate (history_of all)
 
 -- of one line: its reply, and the cause of a refused write
-abbrev pub IsAnswered : Mode → List Said → List Said → Said → Type 0
-IsAnswered mode all earlier now = IsReply mode (history_of all) earlier now × ShowsConflict mode (history_of all) all earlier now
+abbrev pub IsRightReply : Mode → List Said → List Said → Said → Type 0
+IsRightReply mode all earlier now = IsReply mode (history_of all) earlier now × ShowsConflict mode (history_of all) all earlier now
 
 -- of one line: it is in order with what was known when it was printed
 abbrev pub IsKnown : Mode → List Said → List Said → Said → Type 0
@@ -55,10 +55,10 @@ HasFault mode script printed (in_shape k) = FirstOutOfShape (in_order mode scrip
 HasFault mode script printed in_commits = HasShape (in_order mode script.records) printed.lines × ¬ GiveHistory (all_said mode script printed.lines)
 HasFault mode script printed (in_reply k) =
     let all = all_said mode script printed.lines in
-    HasShape (in_order mode script.records) printed.lines × GiveHistory all × FirstWithout (IsAnswered mode all) [] all k
+    HasShape (in_order mode script.records) printed.lines × GiveHistory all × FirstWithout (IsRightReply mode all) [] all k
 HasFault mode script printed (in_fresh k) =
     let all = all_said mode script printed.lines in
-    HasShape (in_order mode script.records) printed.lines × GiveHistory all × EachAfter (IsAnswered mode all) [] all × FirstWithout (IsKnown mode all) [] all k
+    HasShape (in_order mode script.records) printed.lines × GiveHistory all × EachAfter (IsRightReply mode all) [] all × FirstWithout (IsKnown mode all) [] all k
 HasFault mode script printed in_totals =
     let all = all_said mode script printed.lines in
-    HasShape (in_order mode script.records) printed.lines × GiveHistory all × EachAfter (IsAnswered mode all) [] all × EachAfter (IsKnown mode all) [] all × ¬ AreTotals all (history_of all) printed.totals
+    HasShape (in_order mode script.records) printed.lines × GiveHistory all × EachAfter (IsRightReply mode all) [] all × EachAfter (IsKnown mode all) [] all × ¬ AreTotals all (history_of all) printed.totals

@@ -61,10 +61,6 @@ pub each_lent : (P : Part → Type 0) (ms : Members) → Each P (lent ms) → Ea
 each_lent P [] h = tt
 each_lent P (m ∷ ms) h = (h.0, each_lent P ms h.1)
 
-pub all_lent : (P : Part → Type 0) (ms : Members) → Each (λ m. P (Lent m.0 m.1)) ms → Each P (lent ms)
-all_lent P [] h = tt
-all_lent P (m ∷ ms) h = (h.0, all_lent P ms h.1)
-
 pub each_who : (P : ℕ → Type 0) (ms : Members) → Each (λ m. P m.0) ms → Each P (who ms)
 each_who P [] h = tt
 each_who P (m ∷ ms) h = (h.0, each_who P ms h.1)

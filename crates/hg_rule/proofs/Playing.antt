@@ -244,7 +244,7 @@ goes_live z slots id f n i x scope m room is inside was few below there value t 
     let same : n ≡ g = sym (ap loaded_in was) in
     let to : Scope = scope_of (register_of x) in
     let tables : IsBelow 16 scope = below_more z.tables scope room.tables below in
-    let back : scope ≡ to = sym (ap (λ y. scope_of (register_of y)) value ∙ ap scope_of (word_back (registers.Live n scope false) record { number = few; tables = tables })) in
+    let back : scope ≡ to = sym (ap (λ y. scope_of (register_of y)) value ∙ ap scope_of (word_back (registers.Live n scope false) record { number = few; tables = tables; declared = λ h. cc })) in
     let new : SessionPart = logging (Began g to) (Live g to) (session v) in
     let d : CoreState = happens c (GoLive j n scope) in
     let own = own_session z t r id v at is in

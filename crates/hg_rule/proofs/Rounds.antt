@@ -1,17 +1,16 @@
 -- A round goes on: what a cut or a taken group adds to it, and what it leaves.
-use Rattle.std.proofs.Common.{◌≡◌, ℕ, suc, ◌+◌, ◌≤◌, Bool, true, false, List, [], ◌∷◌, ◌++◌, map, refl, sym, ap, ◌∙◌, arith}
-use Rattle.std.specs.Prelude.{max, ⊤}
+use Rattle.std.proofs.Common.{◌≡◌, ℕ, ◌+◌, List, [], ◌∷◌, ◌++◌, map, refl, ap, ◌∙◌, arith}
+use Rattle.std.specs.Prelude.{max}
 use Rattle.hg_base.specs.declared.report.Kind.{Kind}
 use Rattle.hg_base.specs.declared.report.Report.{Report}
 use Rattle.hg_base.specs.Lists.{Each}
 use Rattle.hg_base.specs.Reports.{told_of, sweep_of}
 use Rattle.hg_core.specs.declared.register.Register.{Register}
-use Rattle.hg_core.specs.Passes.{PassRecord}
 use Rattle.hg_rule.specs.declared.view.Event.{Event}
 use Rattle.hg_rule.specs.declared.view.Event.TheVariants as events
 use Rattle.hg_rule.specs.declared.view.Sight.{Sight}
 use Rattle.hg_rule.specs.declared.view.Sight.TheVariants.{Saw, Heard, Took, Did}
-use Rattle.hg_rule.specs.Rounds.{IsNoMark, IsWork, IsRound, mark_in, then_loaded, loaded_after, round_record, takes_in, gone_in, IsReportOf, round_told, seen_taken}
+use Rattle.hg_rule.specs.Rounds.{IsNoMark, IsWork, IsRound, mark_in, then_loaded, loaded_after, takes_in, gone_in, IsReportOf, round_told, seen_taken}
 
 work_no_mark : (e : Event) → IsWork e → IsNoMark e
 work_no_mark (events.Reclaim p kind rid n) h = tt

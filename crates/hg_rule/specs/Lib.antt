@@ -21,5 +21,3 @@ pub mod Seats
 pub mod Agreed
 pub mod Reading
 pub mod New
--- What seats are between two commits of a test.
-pub mod Resting
