@@ -1,12 +1,12 @@
 -- What the entries of a get, put, del or scan add to a log, and what its reply shows.
-use Rattle.std.proofs.Common.{◌≡◌, ℕ, zero, suc, ◌≤◌, ℤ, List, [], ◌∷◌, ◌++◌, Bool, true, false, Option, Some, None, refl, sym}
+use Rattle.std.proofs.Common.{◌≡◌, ℕ, ◌≤◌, ℤ, List, [], ◌∷◌, ◌++◌, Bool, true, false, Option, Some, None, refl, sym}
 use Rattle.std.specs.Prelude.{◌==◌, cond, ⊤, IsTrue}
 use Rattle.std.specs.List.{cons_option}
 use Rattle.hg_base.specs.declared.rid.Rid.{Rid}
 use Rattle.hg_base.specs.declared.rid.TableId.{TableId}
 use Rattle.hg_base.specs.declared.image.Image.{Image}
 use Rattle.hg_base.specs.declared.statement.Statement.{Statement}
-use Rattle.hg_base.specs.declared.statement.Statement.TheVariants.{Begin, Get, Put, Del, Scan, Commit as CommitIt, Rollback, Gc}
+use Rattle.hg_base.specs.declared.statement.Statement.TheVariants.{Get, Put, Del, Scan}
 use Rattle.hg_base.specs.declared.line.Answer.{Answer}
 use Rattle.hg_base.specs.declared.line.Answer.TheVariants.{Begun, Stored, Found, Nothing, Gone, Rows, Committed, Ended, Undone, Newer, OpenBy, Undeclared, Swept, Beside}
 use Rattle.hg_base.specs.Lists.{Each}
@@ -94,10 +94,7 @@ adds_access buckets u own (Get r) a l e f = adds_get buckets r a l f
 adds_access buckets u own (Put r row) a l e f = adds_put r row a l f
 adds_access buckets u own (Del r) a l e f = adds_del buckets u.found r a l f
 adds_access buckets u own (Scan t low high) a l e f = adds_scan buckets u.part t low high a l f
-adds_access buckets u own (Begin scope) a l e f = absurd (let k : false ≡ true = e in cc)
-adds_access buckets u own CommitIt a l e f = absurd (let k : false ≡ true = e in cc)
-adds_access buckets u own Rollback a l e f = absurd (let k : false ≡ true = e in cc)
-adds_access buckets u own (Gc kind) a l e f = absurd (let k : false ≡ true = e in cc)
+adds_access buckets u own _ a l e f = absurd (let k : false ≡ true = e in cc)
 
 -- ---- the answers of a get, put, del or scan
 
@@ -141,20 +138,14 @@ access_answer buckets u own (Get r) a e f = get_answer r a f
 access_answer buckets u own (Put r row) a e f = put_answer r a f
 access_answer buckets u own (Del r) a e f = del_answer r a f
 access_answer buckets u own (Scan t low high) a e f = scan_answer (IsReached buckets t low high) u.part t a f
-access_answer buckets u own (Begin scope) a e f = absurd (let k : false ≡ true = e in cc)
-access_answer buckets u own CommitIt a e f = absurd (let k : false ≡ true = e in cc)
-access_answer buckets u own Rollback a e f = absurd (let k : false ≡ true = e in cc)
-access_answer buckets u own (Gc kind) a e f = absurd (let k : false ≡ true = e in cc)
+access_answer buckets u own _ a e f = absurd (let k : false ≡ true = e in cc)
 
 pub access_no_end : (s : Statement) → IsTrue (is_access s) → is_end s ≡ false
 access_no_end (Get r) e = refl
 access_no_end (Put r row) e = refl
 access_no_end (Del r) e = refl
 access_no_end (Scan t low high) e = refl
-access_no_end (Begin scope) e = refl
-access_no_end CommitIt e = absurd (let k : false ≡ true = e in cc)
-access_no_end Rollback e = absurd (let k : false ≡ true = e in cc)
-access_no_end (Gc kind) e = refl
+access_no_end _ e = absurd (let k : false ≡ true = e in cc)
 
 -- what such an answer prints
 pub access_commits : (s : Statement) (a : Answer) → IsTrue (is_access s) → committed_by s a ≡ None
@@ -162,10 +153,7 @@ access_commits (Get r) a e = refl
 access_commits (Put r row) a e = refl
 access_commits (Del r) a e = refl
 access_commits (Scan t low high) a e = refl
-access_commits (Begin scope) a e = refl
-access_commits CommitIt a e = absurd (let k : false ≡ true = e in cc)
-access_commits Rollback a e = refl
-access_commits (Gc kind) a e = refl
+access_commits _ a e = absurd (let k : false ≡ true = e in cc)
 
 pub access_snapshot : (a : Answer) (at : Option ℕ) → IsAccessAnswer a → elim a [ Begun s ↦ Some s | _ ↦ at ] ≡ at
 access_snapshot (Begun n) at f = absurd f

@@ -2,13 +2,13 @@
 use Rattle.std.proofs.Common.{◌≡◌, ℕ, zero, suc, ◌<◌, ◌≤◌, inl, inr, ℤ, List, [], ◌∷◌, ◌++◌, length, Bool, true, false, Option, Some, None, refl, sym, ap, ◌∙◌, subst, arith}
 use Rattle.std.specs.Prelude.{◌==◌, ◌||◌, if◌then◌else◌, IsTrue, IsFalse, IsSome, IfSome, is_some}
 use Rattle.std.specs.Bool.{MatchBool}
-use Rattle.std.proofs.lemmas.Bool.Decides.{Decides-eqb, nat_tests}
+use Rattle.std.proofs.lemmas.Bool.Decides.{Decides-eqb}
 use Rattle.hg_base.specs.declared.rid.Rid.{Rid}
 use Rattle.hg_base.specs.declared.rid.TableId.{TableId}
 use Rattle.hg_base.specs.declared.image.Image.{Image}
 use Rattle.hg_base.specs.declared.scope.Snapshot.{Snapshot}
 use Rattle.hg_base.specs.declared.statement.Statement.{Statement}
-use Rattle.hg_base.specs.declared.statement.Statement.TheVariants.{Begin, Get, Put, Del, Scan, Commit as CommitIt, Rollback, Gc}
+use Rattle.hg_base.specs.declared.statement.Statement.TheVariants.{Get, Put, Del, Scan}
 use Rattle.hg_base.specs.declared.line.Answer.{Answer}
 use Rattle.hg_base.specs.declared.line.Answer.TheVariants.{Stored, Found, Nothing, Gone, Rows, Newer, OpenBy, Undeclared}
 use Rattle.hg_base.specs.Lists.{Each}
@@ -24,10 +24,11 @@ use Rattle.hg_core.specs.Replies.{in_bucket, writes_in, numbers_in, Refuses}
 use Rattle.hg_core.specs.Reading.{Unprinted, saw, saws, own_entries, FitsAnswer, FitsScope}
 use Rattle.hg_core.proofs.Indices.{put_else}
 use Rattle.hg_core.proofs.Updates.{some_is as some_of_yes}
+use Rattle.hg_core.proofs.Replies.{numbers_under}
 use Rattle.hg_core.proofs.OwnKeys.{saws_keep}
 use Rattle.hg_core.proofs.Right.{same_table, shown_here}
 use Rattle.hg_headline.specs.Logged.{Logged}
-use Rattle.hg_headline.specs.Answered.{IsCaused, IsAnswered}
+use Rattle.hg_headline.specs.Answered.{MayRefuse, MayAnswer}
 use Rattle.hg_headline.proofs.Words.{true_false, none_is_not_some}
 use Rattle.hg_headline.proofs.Adds.{adds_saws}
 use Rattle.hg_headline.proofs.Entries.{own_is}
@@ -88,18 +89,7 @@ on_wrote buckets h logs j c l r image g s p = record {
 -- a transaction of which nothing was published has no number
 pub plain_numbers : (l : List LogEntry) (c : Snapshot) → current l ≡ Some c → is_plain l ≡ true → numbers_in (begans l) l ≡ []
 plain_numbers [] c e p = refl
-plain_numbers (Began at scope ∷ l) c e p = no_later (suc (begans l)) l (omega arith)
-  where
-    no_later : (x : ℕ) (l : List LogEntry) → begans l < x → numbers_in x l ≡ []
-    no_later x [] k = refl
-    no_later x (Began at scope ∷ l) k = no_later x l (omega (arith, k))
-    no_later x (Published n ∷ l) k = let e : (begans l == x) ≡ false = grind (arith, nat_tests) in ap (λ b. if b then n ∷ numbers_in x l else numbers_in x l) e ∙ no_later x l k
-    no_later x (Saw t low high b rows ∷ l) k = no_later x l k
-    no_later x (Refused r a ∷ l) k = no_later x l k
-    no_later x (Outside t ∷ l) k = no_later x l k
-    no_later x (Wrote r image ∷ l) k = no_later x l k
-    no_later x (Undid r ∷ l) k = no_later x l k
-    no_later x (Over ∷ l) k = no_later x l k
+plain_numbers (Began at scope ∷ l) c e p = numbers_under (suc (begans l)) l (omega arith)
 plain_numbers (Published n ∷ l) c e p = absurd (true_false (sym p))
 plain_numbers (Undid r ∷ l) c e p = absurd (true_false (sym p))
 plain_numbers (Saw t low high b rows ∷ l) c e p = plain_numbers l c e p
@@ -118,7 +108,7 @@ refusal_in (OpenBy w) = Some (OpenBy w)
 refusal_in _ = None
 
 -- the cause of a refusal, as the core has it
-pub refuses : (h : History) (logs : ℕ → List LogEntry) (j : ℕ) (own : List Write) (at : ℕ) (r : Rid) (a : Answer) (l : List LogEntry) → IsPut a → IsSome (refusal_in a) → IsCaused h logs j own at r a → IsFalse (is_some (image_in r own)) × Refuses h (put logs j l) j at r a
+pub refuses : (h : History) (logs : ℕ → List LogEntry) (j : ℕ) (own : List Write) (at : ℕ) (r : Rid) (a : Answer) (l : List LogEntry) → IsPut a → IsSome (refusal_in a) → MayRefuse h logs j own at r a → IsFalse (is_some (image_in r own)) × Refuses h (put logs j l) j at r a
 refuses h logs j own at r (Newer n) l p s c = c
 refuses h logs j own at r (OpenBy w) l p s c =
     let open_one = some_of_yes (current (logs w.session)) c.3.opened in
@@ -130,14 +120,14 @@ refuses h logs j own at r (OpenBy w) l p s c =
 refuses h logs j own at r Stored l p s c = absurd (let k : false ≡ true = s in cc)
 refuses h logs j own at r _ l p s c = absurd p
 
-pub on_refused : (buckets : ℕ) (h : History) (logs : ℕ → List LogEntry) (j : ℕ) (c : Snapshot) (l : List LogEntry) (r : Rid) (a : Answer) → GoesOn buckets h logs j c l → has c.scope r.table ≡ true → IsPut a → IsSome (refusal_in a) → IsCaused h logs j (own_writes l) c.at r a → GoesOn buckets h logs j c (Refused r a ∷ l)
+pub on_refused : (buckets : ℕ) (h : History) (logs : ℕ → List LogEntry) (j : ℕ) (c : Snapshot) (l : List LogEntry) (r : Rid) (a : Answer) → GoesOn buckets h logs j c l → has c.scope r.table ≡ true → IsPut a → IsSome (refusal_in a) → MayRefuse h logs j (own_writes l) c.at r a → GoesOn buckets h logs j c (Refused r a ∷ l)
 on_refused buckets h logs j c l r a g s p q cause = record {
   logged = logged_on buckets h logs j (Refused r a) l g.logged (small a q cause) (is_open (current l) c g.opened)
       (for_open (current l) c (λ snapshot. IsTrue (has snapshot.scope r.table) × (IsFalse (is_some (image_in r (own_writes l))) × Refuses h (put logs j l) j snapshot.at r a)) g.opened (s, refuses h logs j (own_writes l) c.at r a l p q cause));
   opened = g.opened;
 }
   where
-    small : (a : Answer) → IsSome (refusal_in a) → IsCaused h logs j (own_writes l) c.at r a → AnswerUpTo (length h) a
+    small : (a : Answer) → IsSome (refusal_in a) → MayRefuse h logs j (own_writes l) c.at r a → AnswerUpTo (length h) a
     small (Newer n) q cause = cause.1.within
     small (OpenBy w) q cause = tt
     small _ q cause = absurd (let k : false ≡ true = q in cc)
@@ -185,7 +175,7 @@ leaves_get buckets h logs j c l own r _ true g p s m = absurd m
 leaves_get buckets h logs j c l own r (Undeclared t) false g p s m = record { unprinted = nothing_more; fits = m; scope = tt; goes = outside_table buckets h logs j c l t r.table g s m; plain = p }
 leaves_get buckets h logs j c l own r _ false g p s m = absurd m
 
-pub leaves_put : (buckets : ℕ) (h : History) (logs : ℕ → List LogEntry) (j : ℕ) (c : Snapshot) (l : List LogEntry) (own : List Write) (r : Rid) (row : List ℤ) (a : Answer) (b : Bool) → GoesOn buckets h logs j c l → is_plain l ≡ true → has c.scope r.table ≡ b → MatchBool b (IsPut a) (IsUndeclared r.table a) → IsCaused h logs j (own_writes l) c.at r a → Leaves buckets h logs j c l own (Put r row) a
+pub leaves_put : (buckets : ℕ) (h : History) (logs : ℕ → List LogEntry) (j : ℕ) (c : Snapshot) (l : List LogEntry) (own : List Write) (r : Rid) (row : List ℤ) (a : Answer) (b : Bool) → GoesOn buckets h logs j c l → is_plain l ≡ true → has c.scope r.table ≡ b → MatchBool b (IsPut a) (IsUndeclared r.table a) → MayRefuse h logs j (own_writes l) c.at r a → Leaves buckets h logs j c l own (Put r row) a
 leaves_put buckets h logs j c l own r row Stored true g p s m cause = record { unprinted = nothing_more; fits = tt; scope = tt; goes = on_wrote buckets h logs j c l r (record { row = Some row }) g s p; plain = p }
 leaves_put buckets h logs j c l own r row (Newer n) true g p s m cause = record { unprinted = nothing_more; fits = tt; scope = tt; goes = on_refused buckets h logs j c l r (Newer n) g s tt refl cause; plain = p }
 leaves_put buckets h logs j c l own r row (OpenBy w) true g p s m cause = record { unprinted = nothing_more; fits = tt; scope = tt; goes = on_refused buckets h logs j c l r (OpenBy w) g s tt refl cause; plain = p }
@@ -202,7 +192,7 @@ on_found buckets h logs j c l r g s found =
 abbrev pub finding : List ℤ → Unprinted
 finding row = record { found = row; part = λ b. []; undone = [] }
 
-pub leaves_del : (buckets : ℕ) (h : History) (logs : ℕ → List LogEntry) (j : ℕ) (c : Snapshot) (l : List LogEntry) (own : List Write) (r : Rid) (a : Answer) (b : Bool) → GoesOn buckets h logs j c l → is_plain l ≡ true → has c.scope r.table ≡ b → MatchBool b (IsDeleted (seen h (own_writes l) c.at r) a) (IsUndeclared r.table a) → IsCaused h logs j (own_writes l) c.at r a → Leaves buckets h logs j c l own (Del r) a
+pub leaves_del : (buckets : ℕ) (h : History) (logs : ℕ → List LogEntry) (j : ℕ) (c : Snapshot) (l : List LogEntry) (own : List Write) (r : Rid) (a : Answer) (b : Bool) → GoesOn buckets h logs j c l → is_plain l ≡ true → has c.scope r.table ≡ b → MatchBool b (IsDeleted (seen h (own_writes l) c.at r) a) (IsUndeclared r.table a) → MayRefuse h logs j (own_writes l) c.at r a → Leaves buckets h logs j c l own (Del r) a
 leaves_del buckets h logs j c l own r Nothing true g p s m cause = record { unprinted = nothing_more; fits = tt; scope = tt; goes = on_saw buckets h logs j c l r.table r.key r.key (bucket_of buckets r) [] g s (key_nothing buckets (seen h (own_writes l) c.at) r m); plain = p }
 leaves_del buckets h logs j c l own r Gone true g p s m cause = let f = on_found buckets h logs j c l r g s m in record { unprinted = finding f.0; fits = tt; scope = tt; goes = on_wrote buckets h logs j c (saw buckets r ((r.key, f.0) ∷ []) ∷ l) r nothing f.1 s p; plain = p }
 leaves_del buckets h logs j c l own r (Newer n) true g p s m cause = let f = on_found buckets h logs j c l r g s m in record { unprinted = finding f.0; fits = tt; scope = tt; goes = on_refused buckets h logs j c (saw buckets r ((r.key, f.0) ∷ []) ∷ l) r (Newer n) f.1 s tt refl cause; plain = p }
@@ -224,12 +214,9 @@ leaves_scan buckets h logs j c l own t low high (Undeclared other) false places 
 leaves_scan buckets h logs j c l own t low high _ false places g p s m = absurd m
 
 -- what a right answer leaves, whatever the transaction wrote before
-pub leaves : (buckets : ℕ) (h : History) (logs : ℕ → List LogEntry) (j : ℕ) (c : Snapshot) (l : List LogEntry) (own : List Write) (s : Statement) (a : Answer) → ((r : Rid) → bucket_of buckets r < buckets) → GoesOn buckets h logs j c l → is_plain l ≡ true → IsAnswered h logs j c (own_writes l) s a → Leaves buckets h logs j c l own s a
+pub leaves : (buckets : ℕ) (h : History) (logs : ℕ → List LogEntry) (j : ℕ) (c : Snapshot) (l : List LogEntry) (own : List Write) (s : Statement) (a : Answer) → ((r : Rid) → bucket_of buckets r < buckets) → GoesOn buckets h logs j c l → is_plain l ≡ true → MayAnswer h logs j c (own_writes l) s a → Leaves buckets h logs j c l own s a
 leaves buckets h logs j c l own (Get r) a places g p m = leaves_get buckets h logs j c l own r a (has c.scope r.table) g p refl m
 leaves buckets h logs j c l own (Put r row) a places g p m = leaves_put buckets h logs j c l own r row a (has c.scope r.table) g p refl m.0 m.1
 leaves buckets h logs j c l own (Del r) a places g p m = leaves_del buckets h logs j c l own r a (has c.scope r.table) g p refl m.0 m.1
 leaves buckets h logs j c l own (Scan t low high) a places g p m = leaves_scan buckets h logs j c l own t low high a (has c.scope t) places g p refl m
-leaves buckets h logs j c l own (Begin scope) a places g p m = absurd m
-leaves buckets h logs j c l own CommitIt a places g p m = absurd m
-leaves buckets h logs j c l own Rollback a places g p m = absurd m
-leaves buckets h logs j c l own (Gc kind) a places g p m = absurd m
+leaves buckets h logs j c l own _ a places g p m = absurd m

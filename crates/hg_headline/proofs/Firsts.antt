@@ -1,5 +1,5 @@
 -- The first writes of records in transactions: those that lines print are those that logs have.
-use Rattle.std.proofs.Common.{◌⊎◌, inl, inr, ◌≡◌, not, ℕ, zero, suc, ◌+◌, ◌<◌, ◌≤◌, ℤ, List, [], ◌∷◌, ◌++◌, length, map, Bool, true, false, Option, Some, None, refl, sym, ap, ◌∙◌, subst, arith}
+use Rattle.std.proofs.Common.{◌⊎◌, inl, inr, ◌≡◌, not, ℕ, ◌+◌, ◌<◌, ◌≤◌, ℤ, List, [], ◌∷◌, ◌++◌, length, map, Bool, true, false, Option, Some, None, refl, sym, ap, ◌∙◌, subst, arith}
 use Rattle.std.specs.Prelude.{is_some, ◌&&◌, cond, filter, if◌then◌else◌, IsTrue, is_none, unwrap_or}
 use Rattle.std.specs.List.{cons_option}
 use Rattle.std.specs.Option.{option_map_or}
@@ -31,13 +31,14 @@ use Rattle.hg_core.specs.Sums.{sum_to}
 use Rattle.hg_core.specs.Counters.{first_writes}
 use Rattle.hg_core.specs.Reading.{Unprinted, saws, own_entries, is_access, is_alone, close, log_with, log_after, FitsAnswer, Fits, Follows}
 use Rattle.hg_core.proofs.OwnKeys.{saws_keep}
+use Rattle.hg_core.proofs.Answering.{not_alone}
 use Rattle.hg_core.proofs.Indices.{by_number, at_index, put_here, put_else}
 use Rattle.hg_core.proofs.Sums.{sum_same, sum_grown}
 use Rattle.hg_headline.specs.Counted.{every}
 use Rattle.hg_headline.proofs.Words.{true_false}
 use Rattle.hg_headline.proofs.Ties.{Ties, StandsIn, ties_other}
 use Rattle.hg_headline.proofs.Entries.{record_of, writes_above}
-use Rattle.hg_headline.proofs.Lines.{Right, AsCollected, above, inside_own, not_alone, line_right}
+use Rattle.hg_headline.proofs.Lines.{Right, AsCollected, above, inside_own, line_right}
 use Rattle.hg_headline.proofs.Whole.{follows_first, judged_less, replied_less, differs_from, said_says}
 
 abbrev pub one_if : Bool → ℕ
@@ -95,10 +96,7 @@ first_access test buckets u own (Del r) _ l e f = absurd f
 first_access test buckets u own (Scan t low high) (Rows rows) l e f = first_saws test buckets t low high u.part buckets l
 first_access test buckets u own (Scan t low high) (Undeclared other) l e f = refl
 first_access test buckets u own (Scan t low high) _ l e f = absurd f
-first_access test buckets u own (Begin scope) a l e f = absurd (true_false (sym e))
-first_access test buckets u own CommitIt a l e f = absurd (true_false (sym e))
-first_access test buckets u own Rollback a l e f = absurd (true_false (sym e))
-first_access test buckets u own (Gc kind) a l e f = absurd (true_false (sym e))
+first_access test buckets u own _ a l e f = absurd (true_false (sym e))
 
 pub first_close : (test : ℕ → Bool) (o : Option ℕ) (l : List LogEntry) → first_by test (close o ++ l) ≡ first_by test l
 first_close test None l = refl
@@ -159,10 +157,7 @@ line_counted test buckets earlier u l place j (Get r) reply ties f = line_access
 line_counted test buckets earlier u l place j (Put r row) reply ties f = line_access test buckets earlier u l place j (Put r row) reply ties refl f.answer (open_of j earlier) (current l) refl refl ties.standing
 line_counted test buckets earlier u l place j (Del r) reply ties f = line_access test buckets earlier u l place j (Del r) reply ties refl f.answer (open_of j earlier) (current l) refl refl ties.standing
 line_counted test buckets earlier u l place j (Scan t low high) reply ties f = line_access test buckets earlier u l place j (Scan t low high) reply ties refl f.answer (open_of j earlier) (current l) refl refl ties.standing
-line_counted test buckets earlier u l place j (Begin scope) reply ties f = line_plain test buckets earlier u l (record_of place j (Begin scope)) reply refl
-line_counted test buckets earlier u l place j CommitIt reply ties f = line_plain test buckets earlier u l (record_of place j CommitIt) reply refl
-line_counted test buckets earlier u l place j Rollback reply ties f = line_plain test buckets earlier u l (record_of place j Rollback) reply refl
-line_counted test buckets earlier u l place j (Gc kind) reply ties f = line_plain test buckets earlier u l (record_of place j (Gc kind)) reply refl
+line_counted test buckets earlier u l place j s reply ties f = line_plain test buckets earlier u l (record_of place j s) reply refl
 
 -- ---- all lines
 
@@ -201,14 +196,11 @@ abbrev pub CountsFor : ℕ → Record → Type 0
 CountsFor sessions r = ((1 ≤ r.session) × (r.session ≤ sessions)) ⊎ (is_access r.statement ≡ false)
 
 no_write : (s : Statement) (a : Answer) → is_access s ≡ false → stored_by s a ≡ None
-no_write (Begin scope) a e = refl
-no_write CommitIt a e = refl
-no_write Rollback a e = refl
-no_write (Gc kind) a e = refl
 no_write (Get r) a e = absurd (true_false e)
 no_write (Put r row) a e = absurd (true_false e)
 no_write (Del r) a e = absurd (true_false e)
 no_write (Scan t low high) a e = absurd (true_false e)
+no_write _ a e = refl
 
 -- a sum of which one number grows, or none
 sum_with : (n j d : ℕ) (f g : ℕ → ℕ) {P : Type 0} → ((1 ≤ j) × (j ≤ n)) ⊎ P → (P → d ≡ 0) → ((k : ℕ) → (k ≡ j → ⊥) → g k ≡ f k) → g j ≡ f j + d → sum_to n g ≡ sum_to n f + d

@@ -1,10 +1,9 @@
 -- What a replay knows of the logs of its sessions, one record further, and what that is at its end.
-use Rattle.std.proofs.Common.{◌≡◌, ℕ, suc, ◌<◌, ◌≤◌, List, [], ◌∷◌, ◌++◌, length, Bool, true, false, Option, Some, None, refl, sym, ap, ◌∙◌, subst, arith}
+use Rattle.std.proofs.Common.{◌≡◌, ℕ, suc, ◌<◌, ◌≤◌, List, [], ◌∷◌, ◌++◌, length, Bool, true, false, Option, Some, None, refl, sym, ◌∙◌, subst, arith}
 use Rattle.std.specs.Prelude.{◌&&◌, max, unwrap_or, is_some, IsTrue, IfSome}
 use Rattle.std.specs.List.{cons_option}
 use Rattle.std.specs.Option.{option_or}
 use Rattle.hg_base.specs.declared.scope.Scope.{Scope}
-use Rattle.hg_base.specs.declared.scope.Snapshot.{Snapshot}
 use Rattle.hg_base.specs.declared.report.Kind.{Kind}
 use Rattle.hg_base.specs.declared.statement.Statement.{Statement}
 use Rattle.hg_base.specs.declared.statement.Statement.TheVariants.{Begin, Get, Put, Del, Scan, Commit as CommitIt, Rollback, Gc}
@@ -23,6 +22,7 @@ use Rattle.hg_core.specs.declared.log.LogEntry.TheVariants.{Began, Saw, Refused,
 use Rattle.hg_core.specs.Logs.{current, own_writes, UpTo}
 use Rattle.hg_core.specs.Events.{put}
 use Rattle.hg_core.specs.Reading.{Unprinted, Fits, FitsAnswer, IsGcAnswer, own_entries, is_access, is_alone, log_with, log_after}
+use Rattle.hg_core.proofs.Answering.{not_alone}
 use Rattle.hg_core.proofs.Indices.{put_here, put_else, at_index}
 use Rattle.hg_headline.specs.Timely.{snapshot_in, mark_in, newer_in, commit_in, reads_in, IsTimely}
 use Rattle.hg_headline.specs.Met.{IsMet, IsMetAnswer}
@@ -32,6 +32,7 @@ use Rattle.hg_headline.specs.Following.{AreUpTo, IsOver, IsFollowing, IsFreshIn,
 use Rattle.hg_headline.proofs.Words.{none_of_no, each_cons}
 use Rattle.hg_headline.proofs.Adds.{adds_access, access_answer, access_commits, access_snapshot, access_newer}
 use Rattle.hg_headline.proofs.Entries.{close_known}
+use Rattle.hg_headline.proofs.Lines.{bare}
 use Rattle.hg_headline.proofs.Commits.{greatest_within}
 use Rattle.hg_headline.proofs.Whole.{OfBeginnings, log_first}
 use Rattle.hg_headline.proofs.Loops.{follows_snoc, rises_snoc, shape_snoc, line_of}
@@ -74,10 +75,6 @@ of_head P (Some x) k = k.0
 pub some_within : (n : ℕ) (o : Option ℕ) → unwrap_or o 0 ≤ n → IfSome o (λ at. at ≤ n)
 some_within n None k = tt
 some_within n (Some at) k = k
-
-pub not_alone : (o : Option Snapshot) (s : Statement) → is_access s ≡ false → is_alone o s ≡ false
-not_alone None s e = e
-not_alone (Some c) s e = refl
 
 pub none_commits : (n : ℕ) (s : Statement) (a : Answer) (number : Option ℕ) → committed_by s a ≡ None → IfSome number (λ c. c ≤ n) → IfSome (option_or number (committed_by s a)) (λ c. c ≤ n)
 none_commits n s a None e k = subst (λ o. IfSome o (λ c. c ≤ n)) (sym e) tt
@@ -140,11 +137,6 @@ gc_printed kind at Beside number n no_at no_number f = record {
 }
 gc_printed kind at _ number n no_at no_number f = absurd f
 
-pub none_outside : (buckets : ℕ) (u : Unprinted) (l : List LogEntry) (s : Statement) (reply : Reply) → is_access s ≡ false → Fits buckets u l s reply → (reply.at ≡ None) × (reply.number ≡ None)
-none_outside buckets u l s reply e f =
-    let is : is_alone (current l) s ≡ false = not_alone (current l) s e in
-    (none_of_no reply.at (f.at ∙ is), none_of_no reply.number (f.number ∙ ap (λ b. b && is_some (stored_by s reply.answer)) is))
-
 -- a statement that is never a transaction of its own leaves its entries alone
 pub inside_entries : (buckets : ℕ) (u : Unprinted) (l : List LogEntry) (s : Statement) (reply : Reply) (n : ℕ) → is_access s ≡ false → UpTo n (log_after buckets u s reply l) → UpTo n (own_entries buckets u s reply.answer ++ l)
 inside_entries buckets u l s reply n e k = subst (λ b. UpTo n (log_with b buckets u s reply l)) (not_alone (current l) s e) k
@@ -155,16 +147,16 @@ printed_known buckets u l (Put r row) reply n f k = access_printed buckets u l (
 printed_known buckets u l (Del r) reply n f k = access_printed buckets u l (Del r) reply.at reply.answer reply.number n (is_alone (current l) (Del r)) refl f.at f.number f.answer k
 printed_known buckets u l (Scan t low high) reply n f k = access_printed buckets u l (Scan t low high) reply.at reply.answer reply.number n (is_alone (current l) (Scan t low high)) refl f.at f.number f.answer k
 printed_known buckets u l (Begin scope) reply n f k =
-    let none = none_outside buckets u l (Begin scope) reply refl f in
+    let none = bare buckets u l (Begin scope) reply refl f in
     begin_printed buckets u l scope reply.at reply.answer reply.number n none.0 none.1 f.answer (inside_entries buckets u l (Begin scope) reply n refl k)
 printed_known buckets u l CommitIt reply n f k =
-    let none = none_outside buckets u l CommitIt reply refl f in
+    let none = bare buckets u l CommitIt reply refl f in
     commit_printed buckets u l (is_written (own_writes l)) reply.at reply.answer reply.number n none.0 none.1 f.answer (inside_entries buckets u l CommitIt reply n refl k)
 printed_known buckets u l Rollback reply n f k =
-    let none = none_outside buckets u l Rollback reply refl f in
+    let none = bare buckets u l Rollback reply refl f in
     rollback_printed reply.at reply.answer reply.number n none.0 none.1 f.answer.0
 printed_known buckets u l (Gc kind) reply n f k =
-    let none = none_outside buckets u l (Gc kind) reply refl f in
+    let none = bare buckets u l (Gc kind) reply refl f in
     gc_printed kind reply.at reply.answer reply.number n none.0 none.1 f.answer
 
 -- ---- a record further

@@ -1,13 +1,12 @@
 -- The history and the logs go on as they were known to be: with an entry more, and with a group more.
-use Rattle.std.proofs.Common.{◌≡◌, ℕ, suc, ◌+◌, ◌<◌, ◌≤◌, List, [], ◌∷◌, ◌++◌, length, Bool, true, false, not, refl, sym, ap, ◌∙◌, subst, arith}
-use Rattle.std.specs.Prelude.{◌==◌, ◌||◌, cond, filter, if◌then◌else◌, IsTrue, ⊤}
+use Rattle.std.proofs.Common.{◌≡◌, ℕ, suc, ◌+◌, ◌<◌, ◌≤◌, List, [], ◌∷◌, ◌++◌, length, Bool, true, false, refl, sym, ap, ◌∙◌, subst, arith}
+use Rattle.std.specs.Prelude.{◌==◌, ◌||◌, if◌then◌else◌, IsTrue, ⊤}
 use Rattle.std.proofs.lemmas.Bool.Decides.{Decides-eqb, nat_tests}
-use Rattle.hg_base.specs.declared.rid.Rid.{Rid}
 use Rattle.hg_base.specs.Lists.{Each}
-use Rattle.hg_base.specs.History.{Write, History, IsGroup, LosesNothing, NoneTwice, NoNumberTwice, rids_of, is_among, same_rid, group_at}
+use Rattle.hg_base.specs.History.{Write, History, IsGroup, LosesNothing, NoneTwice, NoNumberTwice, rids_of, group_at}
 use Rattle.hg_base.specs.Transcript.{last_images}
 use Rattle.hg_base.specs.Replies.{is_written}
-use Rattle.hg_base.proofs.ListFacts.{cases}
+use Rattle.hg_base.proofs.ListFacts.{cases, append_nil}
 use Rattle.hg_base.proofs.Growth.{each_group_snoc as group_more}
 use Rattle.hg_core.specs.declared.log.LogEntry.{LogEntry}
 use Rattle.hg_core.specs.declared.log.LogEntry.TheVariants.{Began, Saw, Refused, Outside, Wrote, Undid, Published, Over}
@@ -19,7 +18,6 @@ use Rattle.hg_core.proofs.Indices.{by_number, put_here}
 use Rattle.hg_core.proofs.Groups.{wider, length_more, commits_kept}
 use Rattle.hg_core.proofs.Replies.{IsNoNumber, replies_entry, replies_published}
 use Rattle.hg_core.proofs.Updates.{update_more}
-use Rattle.hg_core.proofs.Remaining.{left_false as or_left, right_false as or_right}
 use Rattle.hg_core.proofs.Grouping.{none_last}
 use Rattle.hg_headline.specs.Logged.{Logged}
 use Rattle.hg_headline.proofs.Words.{same_number}
@@ -141,38 +139,6 @@ logged_published buckets h logs js g distinct group publish loses = record {
 
 -- ---- a group of one session
 
--- a part of the writes has no more records
-among_less : (r : Rid) (p : Write → Bool) (ws : List Write) → is_among r (rids_of ws) ≡ false → is_among r (rids_of (filter p ws)) ≡ false
-among_less r p [] e = refl
-among_less r p (w ∷ ws) e = go (p w) (among_less r p ws (or_right (same_rid r w.rid) (is_among r (rids_of ws)) e))
-  where
-    go : (b : Bool) → is_among r (rids_of (filter p ws)) ≡ false → is_among r (rids_of (cond b (w ∷ filter p ws) (filter p ws))) ≡ false
-    go true later = ap (λ b. b || is_among r (rids_of (filter p ws))) (or_left (same_rid r w.rid) (is_among r (rids_of ws)) e) ∙ later
-    go false later = later
-
-none_less : (p : Write → Bool) (ws : List Write) → NoneTwice (rids_of ws) → NoneTwice (rids_of (filter p ws))
-none_less p [] n = tt
-none_less p (w ∷ ws) n = go (p w) (none_less p ws n.1)
-  where
-    go : (b : Bool) → NoneTwice (rids_of (filter p ws)) → NoneTwice (rids_of (cond b (w ∷ filter p ws) (filter p ws)))
-    go true later = (among_less w.rid p ws n.0, later)
-    go false later = later
-
-among_others : (q : Rid) (ws : List Write) → is_among q (rids_of (filter (λ v. not (same_rid q v.rid)) ws)) ≡ false
-among_others q [] = refl
-among_others q (w ∷ ws) = go (same_rid q w.rid) refl (among_others q ws)
-  where
-    go : (b : Bool) → same_rid q w.rid ≡ b → is_among q (rids_of (filter (λ v. not (same_rid q v.rid)) ws)) ≡ false → is_among q (rids_of (cond (not b) (w ∷ filter (λ v. not (same_rid q v.rid)) ws) (filter (λ v. not (same_rid q v.rid)) ws))) ≡ false
-    go true e later = later
-    go false e later = ap (λ b. b || is_among q (rids_of (filter (λ v. not (same_rid q v.rid)) ws))) e ∙ later
-
-pub append_none : (rids : List Rid) → NoneTwice rids → NoneTwice (rids ++ [])
-append_none rids n = subst NoneTwice (sym (nil rids)) n
-  where
-    nil : (xs : List Rid) → xs ++ [] ≡ xs
-    nil [] = refl
-    nil (x ∷ xs) = ap (λ ys. x ∷ ys) (nil xs)
-
 written_some : (ws : List Write) → is_written ws ≡ true → 0 < length (last_images ws)
 written_some [] e = absurd (let k : false ≡ true = e in cc)
 written_some (w ∷ ws) e = omega arith
@@ -183,7 +149,7 @@ group_of_one h j log wrote at = record {
   some = omega arith;
   commits = (record { some = written_some (own_writes log) wrote; before = omega (arith, at) }, tt);
   sessions = (refl, tt);
-  rids = append_none (rids_of (last_images (own_writes log))) (none_last (own_writes log));
+  rids = subst NoneTwice (sym (append_nil (rids_of (last_images (own_writes log))))) (none_last (own_writes log));
 }
 
 pub published_one : (logs : ℕ → List LogEntry) (j n : ℕ) → published_logs logs (j ∷ []) n ≡ put logs j (Published n ∷ logs j)

@@ -1,36 +1,43 @@
+-- Words on tests, numbers and lists.
 pub mod Words
+-- The history that is printed, and that of the logs.
+pub mod Commits
 pub mod Same
+pub mod Lives
+-- A line beside its session's log.
 pub mod Ties
 pub mod Adds
 pub mod Entries
 pub mod Right
 pub mod Lines
-pub mod Commits
+pub mod Reports
 pub mod Whole
 pub mod Orderly
 pub mod Numbers
 pub mod OpenSnapshots
+-- A replay is sound, and a run.
 pub mod Replaying
+pub mod Running
+pub mod Rounds
+-- A replay step by step: its history and logs go on, with an answer that is right.
 pub mod Growing
-pub mod Loops
 pub mod Parts
 pub mod Answering
+pub mod Loops
 pub mod Stepping
+-- The totals, from the lines and from the logs.
 pub mod Firsts
 pub mod Undone
 pub mod Tidy
-pub mod Lives
 pub mod Counting
 pub mod Tallying
-pub mod Ending
-pub mod Worked
-pub mod Running
-pub mod Rounds
 pub mod OverBuckets
 pub mod Totalling
-pub mod Quiet
+pub mod Removed
+-- A replay whose history is known at its end alone.
 pub mod Following
 pub mod OpenWrites
-pub mod Fresh
 pub mod Before
 pub mod Closing
+-- A replay and a run that meet all this.
+pub mod Worked

@@ -26,7 +26,7 @@ use Rattle.hg_core.specs.Judged.{Judged}
 use Rattle.hg_core.specs.Contents.{bucket_of}
 use Rattle.hg_core.specs.Replies.{AreReplied}
 use Rattle.hg_core.specs.Reading.{Unprinted, own_entries, begin_entries, commit_entries, is_access, is_alone, close, log_with, log_after, FitsAnswer, FitsScope, IsGcAnswer, Fits}
-use Rattle.hg_core.proofs.Answering.{scope_alone}
+use Rattle.hg_core.proofs.Answering.{scope_alone, not_alone}
 use Rattle.hg_core.proofs.Right.{answer_right}
 use Rattle.hg_headline.specs.Timely.{commit_in}
 use Rattle.hg_headline.proofs.Words.{none_of_no, none_is_not_some, some_is_some}
@@ -160,10 +160,6 @@ access_line mode buckets h k logs all earlier u l place j s at a number places t
         }
 
 -- ---- the others
-
-pub not_alone : (c : Option Snapshot) (s : Statement) → is_access s ≡ false → is_alone c s ≡ false
-not_alone None s e = e
-not_alone (Some c) s e = refl
 
 -- neither `at` nor a number stands beside the answer
 pub bare : (buckets : ℕ) (u : Unprinted) (l : List LogEntry) (s : Statement) (reply : Reply) → is_access s ≡ false → Fits buckets u l s reply → (reply.at ≡ None) × (reply.number ≡ None)

@@ -8,7 +8,7 @@ use Rattle.hg_base.specs.declared.image.Image.{Image}
 use Rattle.hg_base.specs.History.{Write, Group, History, IsHistory, same_rid, is_among, NoneTwice, rids_of, group_rids, image_in, group_image, writes_from, writes, last_image, visible}
 use Rattle.hg_base.specs.Counts.{once, live}
 use Rattle.hg_base.proofs.HistoryFacts.{same_rid_equal, same_rid_itself}
-use Rattle.hg_core.proofs.Remaining.{left_false as or_left, right_false as or_right, same_rid_sym, filtered_once, without_it}
+use Rattle.hg_core.proofs.Remaining.{left_false as or_left, right_false as or_right, same_rid_sym, filtered_once, once_once}
 use Rattle.hg_headline.proofs.Words.{true_false, any_append, is_any}
 use Rattle.hg_headline.proofs.Same.{SameGroups, writes_same, length_same}
 
@@ -66,10 +66,6 @@ as_many_records (x ∷ xs) ys n m f =
     same k false e g = ap (λ b. b || is_among k xs) (sym e) ∙ g ∙ sym (among_filtered (λ o. not (same_rid o x)) k ys ∙ ap (λ b. if not b then is_among k ys else false) e)
 
 -- ---- each record once
-
-once_once : (rs : List Rid) → NoneTwice (once rs)
-once_once [] = tt
-once_once (r ∷ rs) = (without_it r (once rs), filtered_once (λ other. not (same_rid other r)) (once rs) (once_once rs))
 
 once_among : (k : Rid) (rs : List Rid) → is_among k (once rs) ≡ is_among k rs
 once_among k [] = refl

@@ -6,7 +6,7 @@ use Rattle.hg_base.specs.declared.rid.Rid.{Rid}
 use Rattle.hg_base.specs.declared.writer.Writer.{Writer}
 use Rattle.hg_base.specs.declared.scope.Snapshot.{Snapshot}
 use Rattle.hg_base.specs.declared.statement.Statement.{Statement}
-use Rattle.hg_base.specs.declared.statement.Statement.TheVariants.{Begin, Get, Put, Del, Scan, Commit as CommitIt, Rollback, Gc}
+use Rattle.hg_base.specs.declared.statement.Statement.TheVariants.{Put, Del, Gc}
 use Rattle.hg_base.specs.declared.line.Answer.{Answer}
 use Rattle.hg_base.specs.declared.line.Answer.TheVariants.{OpenBy}
 use Rattle.hg_base.specs.declared.line.Reply.{Reply}
@@ -14,7 +14,7 @@ use Rattle.hg_base.specs.History.{History, image_in}
 use Rattle.hg_base.specs.Transcript.{has}
 use Rattle.hg_core.specs.declared.log.LogEntry.{LogEntry}
 use Rattle.hg_core.specs.declared.log.LogEntry.TheVariants.{Began, Saw, Refused, Outside, Wrote, Undid, Published, Over}
-use Rattle.hg_core.specs.Logs.{current, begans, own_writes}
+use Rattle.hg_core.specs.Logs.{current, begans, own_writes, has_end}
 use Rattle.hg_core.specs.Judged.{Judged}
 use Rattle.hg_core.specs.Replies.{AreReplied, Refuses, writes_in}
 use Rattle.hg_core.specs.Reading.{Unprinted, saw, is_alone, log_with, log_after}
@@ -23,7 +23,7 @@ use Rattle.hg_core.proofs.Updates.{some_is as some_of_yes}
 use Rattle.hg_core.proofs.Remaining.{left_false as or_left, right_false as or_right}
 use Rattle.hg_headline.specs.Logged.{Logged}
 use Rattle.hg_headline.specs.Met.{IsOpenWrite, IsMetWrite, IsMetAnswer}
-use Rattle.hg_headline.specs.Following.{has_end, KnowsOpen, IsMetIfGc}
+use Rattle.hg_headline.specs.Following.{KnowsOpen, IsMetIfGc}
 use Rattle.hg_headline.proofs.Words.{true_false}
 use Rattle.hg_headline.proofs.Entries.{own_is}
 use Rattle.hg_headline.proofs.Following.{reply_with}
@@ -101,8 +101,4 @@ pub met_answer : (buckets sessions : ℕ) (logs : ℕ → List LogEntry) (j : �
 met_answer buckets sessions logs j u (Put r row) reply gc knows = write_met logs r reply.answer (λ w e. let k = knows w e in known_open buckets logs j u (Put r row) reply r w e k (put_does buckets k.history k.more j u r row reply.at reply.number w (logs j) (current (logs j)) refl))
 met_answer buckets sessions logs j u (Del r) reply gc knows = write_met logs r reply.answer (λ w e. let k = knows w e in known_open buckets logs j u (Del r) reply r w e k (del_does buckets k.history k.more j u r reply.at reply.number w (logs j) (current (logs j)) refl))
 met_answer buckets sessions logs j u (Gc kind) reply gc knows = gc
-met_answer buckets sessions logs j u (Begin scope) reply gc knows = tt
-met_answer buckets sessions logs j u (Get r) reply gc knows = tt
-met_answer buckets sessions logs j u (Scan t low high) reply gc knows = tt
-met_answer buckets sessions logs j u CommitIt reply gc knows = tt
-met_answer buckets sessions logs j u Rollback reply gc knows = tt
+met_answer buckets sessions logs j u _ reply gc knows = tt

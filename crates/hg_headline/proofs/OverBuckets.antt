@@ -14,16 +14,16 @@ use Rattle.hg_core.specs.declared.visit.Visit.{Visit}
 use Rattle.hg_core.specs.Logs.{own_writes}
 use Rattle.hg_core.specs.Contents.{bucket_of}
 use Rattle.hg_core.specs.Sums.{sum_to, sum_below}
-use Rattle.hg_core.specs.Counters.{total, is_of, first_writes, undos, removed_by, removed_in}
+use Rattle.hg_core.specs.Counters.{total, is_of, first_writes, undos, removed_by, removed_in, removed_all}
 use Rattle.hg_core.specs.State.{CoreState}
 use Rattle.hg_core.specs.Steps.{Always}
 use Rattle.hg_core.specs.Invariant.{IsSteady}
-use Rattle.hg_core.proofs.Sums.{sum_same, below_none, below_same, below_grown, below_plus as below_add}
+use Rattle.hg_core.proofs.Sums.{sum_same, below_none, below_same, below_grown, below_plus as below_add, sums_swap}
 use Rattle.hg_core.proofs.Runs.{steady_after}
 use Rattle.hg_core.proofs.Remaining.{rows_left}
 use Rattle.hg_core.proofs.Right.{places_of}
 use Rattle.hg_headline.specs.Logged.{Logged}
-use Rattle.hg_headline.specs.Counted.{every, made_in, undone_in, removed_all}
+use Rattle.hg_headline.specs.Counted.{every, made_in, undone_in}
 use Rattle.hg_headline.specs.Boards.{IsSettled}
 
 -- ---- sums
@@ -39,10 +39,6 @@ one_bucket buckets at n h =
   where
     none_more : (n : ℕ) → n ≡ 0 + n
     none_more n = omega arith
-
-pub swap_to : (buckets n : ℕ) (f : ℕ → ℕ → ℕ) → sum_below buckets (λ b. sum_to n (λ j. f b j)) ≡ sum_to n (λ j. sum_below buckets (λ b. f b j))
-swap_to buckets zero f = below_none buckets
-swap_to buckets (suc n) f = let ih = swap_to buckets n f in let add = below_add buckets (λ b. sum_to n (λ j. f b j)) (λ b. f b (suc n)) in omega (arith, ih, add)
 
 pub swap_below : (buckets n : ℕ) (f : ℕ → ℕ → ℕ) → sum_below buckets (λ b. sum_below n (λ p. f b p)) ≡ sum_below n (λ p. sum_below buckets (λ b. f b p))
 swap_below buckets zero f = below_none buckets
@@ -87,10 +83,10 @@ undos_over buckets (Published n ∷ l) h = undos_over buckets l h
 undos_over buckets (Over ∷ l) h = undos_over buckets l h
 
 pub made_over : (buckets sessions : ℕ) (logs : ℕ → List LogEntry) → 0 < buckets → sum_below buckets (λ b. sum_to sessions (λ j. first_writes (is_of buckets b) (logs j))) ≡ made_in sessions logs
-made_over buckets sessions logs h = swap_to buckets sessions (λ b j. first_writes (is_of buckets b) (logs j)) ∙ sum_same sessions (λ j. first_writes every (logs j)) (λ j. sum_below buckets (λ b. first_writes (is_of buckets b) (logs j))) (λ j le. firsts_over buckets (logs j) h)
+made_over buckets sessions logs h = sums_swap buckets sessions (λ b j. first_writes (is_of buckets b) (logs j)) ∙ sum_same sessions (λ j. first_writes every (logs j)) (λ j. sum_below buckets (λ b. first_writes (is_of buckets b) (logs j))) (λ j le. firsts_over buckets (logs j) h)
 
 pub undone_over : (buckets sessions : ℕ) (logs : ℕ → List LogEntry) → 0 < buckets → sum_below buckets (λ b. sum_to sessions (λ j. undos (is_of buckets b) (logs j))) ≡ undone_in sessions logs
-undone_over buckets sessions logs h = swap_to buckets sessions (λ b j. undos (is_of buckets b) (logs j)) ∙ sum_same sessions (λ j. undos every (logs j)) (λ j. sum_below buckets (λ b. undos (is_of buckets b) (logs j))) (λ j le. undos_over buckets (logs j) h)
+undone_over buckets sessions logs h = sums_swap buckets sessions (λ b j. undos (is_of buckets b) (logs j)) ∙ sum_same sessions (λ j. undos every (logs j)) (λ j. sum_below buckets (λ b. undos (is_of buckets b) (logs j))) (λ j le. undos_over buckets (logs j) h)
 
 -- ---- what visits have
 

@@ -23,10 +23,6 @@ contains_first x xs = (0, omega arith, refl)
 pub contains_more : {X : Type 0} (y x : X) (xs : List X) → Contains xs x → Contains (y ∷ xs) x
 contains_more y x xs c = let k = c.1 in (suc c.0, omega (arith, k), c.2)
 
-pub all_contained : {X : Type 0} (xs : List X) → Each (λ x. Contains xs x) xs
-all_contained [] = tt
-all_contained (x ∷ xs) = (contains_first x xs, each_keeps (λ z. Contains xs z) (λ z. Contains (x ∷ xs) z) (λ z c. contains_more x z xs c) xs (all_contained xs))
-
 -- those that pass a test are of the list
 pub filter_contained : {X : Type 0} (p : X → Bool) (xs : List X) → Each (λ x. Contains xs x) (filter p xs)
 filter_contained p [] = tt

@@ -11,7 +11,7 @@ use Rattle.hg_base.specs.declared.report.Told.{Told}
 use Rattle.hg_base.specs.declared.report.Sweep.{Sweep}
 use Rattle.hg_base.specs.declared.statement.Record.{Record}
 use Rattle.hg_base.specs.declared.statement.Statement.{Statement}
-use Rattle.hg_base.specs.declared.statement.Statement.TheVariants.{Begin, Get, Put, Del, Scan, Commit as CommitIt, Rollback, Gc}
+use Rattle.hg_base.specs.declared.statement.Statement.TheVariants.{Put, Del, Gc}
 use Rattle.hg_base.specs.declared.line.Answer.{Answer}
 use Rattle.hg_base.specs.declared.line.Answer.TheVariants.{OpenBy, Swept}
 use Rattle.hg_base.specs.declared.line.Line.{Line}
@@ -33,10 +33,11 @@ use Rattle.hg_headline.specs.Gathered.{WasLive, IsGathered}
 use Rattle.hg_headline.specs.Timely.{reads_in, snapshot_in, newer_in, mark_in, commit_in}
 use Rattle.hg_headline.specs.Met.{live_in, HasDeclared, IsMetReport, IsOpenWrite, IsMetWrite, IsMetAnswer, IsMet}
 use Rattle.hg_headline.specs.Replayed.{HasReplayed}
-use Rattle.hg_headline.proofs.Words.{if_some_by, each_pairs}
+use Rattle.hg_headline.proofs.Words.{none_is_not_some, if_some_by, each_pairs}
 use Rattle.hg_headline.proofs.Commits.{Matches}
 use Rattle.hg_headline.proofs.Ties.{Ties, StandsIn, ties_nothing}
 use Rattle.hg_headline.proofs.Entries.{own_is}
+use Rattle.hg_headline.proofs.Reports.{report_in, no_report}
 use Rattle.hg_headline.proofs.Right.{StillIn}
 use Rattle.hg_headline.proofs.Lines.{AsCollected}
 use Rattle.hg_headline.proofs.Whole.{IsTold, AtLine, IsKnown, said_says, lines_told, told_right, matches_all}
@@ -47,34 +48,19 @@ use Rattle.hg_headline.proofs.OpenSnapshots.{IsLive, Begins, begins_less, live_i
 -- ---- what is met there
 
 -- the report that an answer gives
-abbrev pub swept_in : Answer → Option Sweep
-swept_in a = elim a [ Swept sweep ↦ Some sweep | _ ↦ None ]
-
 -- a report is that of a `gc`
 abbrev pub IsMetBy : ℕ → (ℕ → List LogEntry) → Statement → Sweep → Type 0
 IsMetBy sessions logs s sweep = (kind : Kind) × (s ≡ Gc kind) × IsMetReport sessions logs kind sweep
 
-pub met_report : (buckets sessions : ℕ) (u : Unprinted) (own : List Write) (logs : ℕ → List LogEntry) (s : Statement) (a : Answer) → FitsAnswer buckets u own s a → IsMetAnswer sessions logs s a → IfSome (swept_in a) (IsMetBy sessions logs s)
+pub met_report : (buckets sessions : ℕ) (u : Unprinted) (own : List Write) (logs : ℕ → List LogEntry) (s : Statement) (a : Answer) → FitsAnswer buckets u own s a → IsMetAnswer sessions logs s a → IfSome (report_in a) (IsMetBy sessions logs s)
 met_report buckets sessions u own logs (Gc kind) (Swept sweep) f m = (kind, refl, m)
-met_report buckets sessions u own logs (Begin scope) (Swept sweep) f m = absurd f
-met_report buckets sessions u own logs (Get r) (Swept sweep) f m = absurd f
-met_report buckets sessions u own logs (Put r row) (Swept sweep) f m = absurd f
-met_report buckets sessions u own logs (Del r) (Swept sweep) f m = absurd f
-met_report buckets sessions u own logs (Scan table low high) (Swept sweep) f m = absurd f
-met_report buckets sessions u own logs CommitIt (Swept sweep) f m = absurd f
-met_report buckets sessions u own logs Rollback (Swept sweep) f m = absurd f.0
+met_report buckets sessions u own logs s (Swept sweep) f m = absurd (none_is_not_some sweep (sym (no_report buckets u own s (Swept sweep) tt f)))
 met_report buckets sessions u own logs s _ f m = tt
 
 pub met_collected : (sessions j : ℕ) (logs : ℕ → List LogEntry) (s : Statement) (a : Answer) → IsMetAnswer sessions logs s a → AsCollected replay j s a
 met_collected sessions j logs (Gc kind) (Swept sweep) m = tt
 met_collected sessions j logs (Gc kind) _ m = absurd m
-met_collected sessions j logs (Begin scope) a m = tt
-met_collected sessions j logs (Get r) a m = tt
-met_collected sessions j logs (Put r row) a m = tt
-met_collected sessions j logs (Del r) a m = tt
-met_collected sessions j logs (Scan table low high) a m = tt
-met_collected sessions j logs CommitIt a m = tt
-met_collected sessions j logs Rollback a m = tt
+met_collected sessions j logs _ a m = tt
 
 pub same_kind_reports : (s : Statement) (kind : Kind) (sweep : Sweep) → s ≡ Gc kind → IsReportOf (Gc kind) (Swept sweep) → IsReportOf s (Swept sweep)
 same_kind_reports s kind sweep e h = subst (λ x. IsReportOf x (Swept sweep)) (sym e) h

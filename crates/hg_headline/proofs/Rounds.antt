@@ -1,6 +1,6 @@
 -- A run: its shape, what its reports tell, and that its lines are sound.
 use Rattle.std.proofs.Common.{◌≡◌, ℕ, zero, suc, ◌≤◌, ◌⊎◌, inl, inr, List, [], ◌∷◌, ◌++◌, length, map, Bool, true, false, Option, Some, None, refl, sym, ap, ◌∙◌, subst}
-use Rattle.std.specs.Prelude.{◌==◌, ◌&&◌, ◌||◌, filter_map, if◌then◌else◌, IfSome, ⊤}
+use Rattle.std.specs.Prelude.{◌==◌, ◌&&◌, ◌||◌, filter_map, if◌then◌else◌, ⊤}
 use Rattle.std.specs.List.{flat_map, cons_option}
 use Rattle.hg_base.specs.declared.scope.Scope.TheVariants.{All}
 use Rattle.hg_base.specs.declared.report.Kind.{Kind}
@@ -10,18 +10,15 @@ use Rattle.hg_base.specs.declared.report.Report.{Report}
 use Rattle.hg_base.specs.declared.report.Told.{Told}
 use Rattle.hg_base.specs.declared.report.Sweep.{Sweep}
 use Rattle.hg_base.specs.declared.statement.Record.{Record}
-use Rattle.hg_base.specs.declared.statement.Statement.{Statement}
-use Rattle.hg_base.specs.declared.statement.Statement.TheVariants.{Begin, Get, Put, Del, Scan, Commit as CommitIt, Rollback, Gc}
-use Rattle.hg_base.specs.declared.line.Answer.{Answer}
+use Rattle.hg_base.specs.declared.statement.Statement.TheVariants.{Gc}
 use Rattle.hg_base.specs.declared.line.Answer.TheVariants.{Swept}
 use Rattle.hg_base.specs.declared.line.Line.{Line}
 use Rattle.hg_base.specs.Lists.{Each, EachAfter, Ascends, numbers_from, greatest}
 use Rattle.hg_base.specs.Script.{Script, run}
-use Rattle.hg_base.specs.History.{Write, History}
+use Rattle.hg_base.specs.History.{History}
 use Rattle.hg_base.specs.Reports.{told_of, sweep_of}
 use Rattle.hg_base.specs.Transcript.{Said, said, said_from, last_of, of_session, sessions_of, rounds_of, in_order, history_of}
 use Rattle.hg_base.specs.Shape.{same_kind, report_of, HasShape}
-use Rattle.hg_base.specs.Replies.{IsBegun, IsCommitted, IsUndone, IsBeside, is_written}
 use Rattle.hg_base.specs.Conflicts.{target}
 use Rattle.hg_base.specs.Freshness.{mark_of, is_declared}
 use Rattle.hg_base.specs.Sound.{LinesAreSound}
@@ -29,15 +26,15 @@ use Rattle.hg_base.proofs.ListFacts.{each_keeps, append_nil, match_keeps}
 use Rattle.hg_core.specs.declared.log.LogEntry.{LogEntry}
 use Rattle.hg_core.specs.declared.log.LogEntry.TheVariants.{Began, Saw, Refused, Outside, Wrote, Undid, Published, Over}
 use Rattle.hg_core.specs.Logs.{own_writes}
-use Rattle.hg_core.specs.Reading.{Unprinted, log_after, IsReached, FitsAnswer, Tells}
-use Rattle.hg_core.proofs.Right.{or_first, or_with, places_of}
+use Rattle.hg_core.specs.Reading.{log_after, Tells}
+use Rattle.hg_core.proofs.Right.{or_first, or_with, if_any, if_none, places_of}
 use Rattle.hg_headline.specs.Gathered.{began_at, WasLive, IsGathered}
-use Rattle.hg_headline.specs.Ran.{LeavesGc, WasMet, IsPassReport, NotFalling, AreReports, report_lines, run_lines, HasRun}
+use Rattle.hg_headline.specs.Ran.{WasMet, IsPassReport, NotFalling, AreReports, report_lines, run_lines, HasRun}
 use Rattle.hg_headline.proofs.Words.{append_assoc, or_either, each_pairs}
-use Rattle.hg_headline.proofs.Adds.{IsAccessAnswer, get_answer, put_answer, del_answer, scan_answer}
 use Rattle.hg_headline.proofs.Ties.{ties_nothing}
 use Rattle.hg_headline.proofs.Whole.{IsTold, AtLine, IsKnown, said_says, lines_told, told_right}
 use Rattle.hg_headline.proofs.OpenSnapshots.{each_unmap}
+use Rattle.hg_headline.proofs.Reports.{no_report}
 use Rattle.hg_headline.proofs.Replaying.{each_after_first}
 use Rattle.hg_headline.proofs.Running.{RunsGc, LeavesLine, round_of, parted, in_order_is, run_follows}
 
@@ -69,46 +66,6 @@ rounds_shape h logs rounds kind reports k = subst (λ n. HasShape (map (round_of
 
 -- ---- a session's lines are no reports
 
-abbrev pub report_in : Answer → Option Sweep
-report_in a = elim a [ Swept sweep ↦ Some sweep | _ ↦ None ]
-
-pub not_report : (a : Answer) → IsAccessAnswer a → report_in a ≡ None
-not_report (Swept sweep) f = absurd f
-not_report _ f = refl
-
-pub no_report : (buckets : ℕ) (u : Unprinted) (own : List Write) (s : Statement) (a : Answer) → LeavesGc s a → FitsAnswer buckets u own s a → report_in a ≡ None
-no_report buckets u own (Begin scope) a e f = begin a f
-  where
-    begin : (b : Answer) → IsBegun b → report_in b ≡ None
-    begin (Swept sweep) k = absurd k
-    begin _ k = refl
-no_report buckets u own (Get r) a e f = not_report a (get_answer r a f)
-no_report buckets u own (Put r row) a e f = not_report a (put_answer r a f)
-no_report buckets u own (Del r) a e f = not_report a (del_answer r a f)
-no_report buckets u own (Scan t low high) a e f = not_report a (scan_answer (IsReached buckets t low high) u.part t a f)
-no_report buckets u own CommitIt a e f = commit a f
-  where
-    commit : (b : Answer) → IsCommitted (is_written own) b → report_in b ≡ None
-    commit (Swept sweep) k = absurd k
-    commit _ k = refl
-no_report buckets u own Rollback a e f = rollback a f.0
-  where
-    rollback : (b : Answer) → IsUndone b → report_in b ≡ None
-    rollback (Swept sweep) k = absurd k
-    rollback _ k = refl
-no_report buckets u own (Gc kind) a e f = beside a e
-  where
-    beside : (b : Answer) → IsBeside b → report_in b ≡ None
-    beside (Swept sweep) k = absurd k
-    beside _ k = refl
-
-pub if_some_always : {X : Type 0} (o : Option X) → IfSome o (λ x. ⊤)
-if_some_always None = tt
-if_some_always (Some x) = tt
-
-pub if_some_none : {X : Type 0} (o : Option X) (P : X → Type 0) → o ≡ None → IfSome o P
-if_some_none o P e = subst (λ p. IfSome p P) (sym e) tt
-
 -- no report stands among the lines
 abbrev pub NoMarks : List Said → Type 0
 NoMarks earlier = (kind : Kind) → filter_map (mark_of kind) earlier ≡ []
@@ -128,7 +85,7 @@ session_known rounds buckets h logs l m (r ∷ rs) more [] later earlier t none 
 session_known rounds buckets h logs l m (r ∷ rs) more (line ∷ lines) later earlier t none f =
     let now : Said = said earlier r line.reply in
     let no : report_of now.reply ≡ None = ap report_of (said_says (last_of r.session earlier) r line.reply r.statement).2 ∙ no_report buckets t.1.0 (own_writes l) r.statement line.reply.answer t.0 t.1.1.answer in (
-      record { exact = tt; still = if_some_always (target now.statement); report = if_some_none (report_of now.reply) (IsGathered h logs earlier) no },
+      record { exact = tt; still = if_any (target now.statement) _ (λ r. tt); report = if_none (report_of now.reply) (IsGathered h logs earlier) no },
       session_known rounds buckets h logs (log_after buckets t.1.0 r.statement line.reply l) m rs more lines later (now ∷ earlier) t.1.2 (λ kind. no_mark kind now earlier no (none kind)) f,
     )
 

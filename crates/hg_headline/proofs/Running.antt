@@ -9,7 +9,7 @@ use Rattle.hg_base.specs.declared.report.Kind.TheVariants as kinds
 use Rattle.hg_base.specs.declared.report.Report.{Report}
 use Rattle.hg_base.specs.declared.statement.Record.{Record}
 use Rattle.hg_base.specs.declared.statement.Statement.{Statement}
-use Rattle.hg_base.specs.declared.statement.Statement.TheVariants.{Begin, Get, Put, Del, Scan, Commit as CommitIt, Rollback, Gc}
+use Rattle.hg_base.specs.declared.statement.Statement.TheVariants.{Gc}
 use Rattle.hg_base.specs.declared.line.Answer.{Answer}
 use Rattle.hg_base.specs.declared.line.Answer.TheVariants.{Swept}
 use Rattle.hg_base.specs.declared.line.Reply.{Reply}
@@ -26,12 +26,13 @@ use Rattle.hg_core.specs.declared.log.LogEntry.{LogEntry}
 use Rattle.hg_core.specs.Logs.{current}
 use Rattle.hg_core.specs.Events.{put}
 use Rattle.hg_core.proofs.Right.{if_any}
+use Rattle.hg_core.proofs.Answering.{not_alone}
 use Rattle.hg_core.specs.Reading.{Unprinted, Fits, is_alone, log_with, log_after, Tells, Follows}
 use Rattle.hg_core.proofs.Indices.{by_number, put_here}
 use Rattle.hg_headline.specs.Ran.{LeavesGc, report_lines, run_lines, HasRun}
 use Rattle.hg_headline.proofs.Words.{differs, cons_is_not_nil, append_assoc}
 use Rattle.hg_headline.proofs.Commits.{plus_zero, plus_suc}
-use Rattle.hg_headline.proofs.Lines.{AsCollected, not_alone}
+use Rattle.hg_headline.proofs.Lines.{AsCollected}
 use Rattle.hg_headline.proofs.Growing.{put_same, put_twice}
 use Rattle.hg_headline.proofs.Answering.{nothing_more}
 
@@ -47,13 +48,10 @@ LeavesLine r line = LeavesGc r.statement line.reply.answer
 
 pub leaves_gc : (rounds j : ℕ) (s : Statement) (a : Answer) → (j == 0) ≡ false → LeavesGc s a → AsCollected (run rounds) j s a
 leaves_gc rounds j (Gc kind) a e k = subst (λ b. MatchBool b (IsSwept a) (IsBeside a)) (sym e) k
-leaves_gc rounds j (Begin scope) a e k = tt
-leaves_gc rounds j (Get r) a e k = tt
-leaves_gc rounds j (Put r row) a e k = tt
-leaves_gc rounds j (Del r) a e k = tt
-leaves_gc rounds j (Scan t low high) a e k = tt
-leaves_gc rounds j CommitIt a e k = tt
-leaves_gc rounds j Rollback a e k = tt
+leaves_gc rounds j _ a e k = tt
+
+not_zero : (m : ℕ) → 1 ≤ m → (m == 0) ≡ false
+not_zero m k = grind (arith, nat_tests)
 
 -- the records of one session, from its log, and then the others
 pub session_follows : (rounds buckets j : ℕ) (rs more : List Record) (lines later : List Line) (logs final : ℕ → List LogEntry) (l m : List LogEntry) → (j == 0) ≡ false → Each (λ (r : Record). r.session ≡ j) rs → l ≡ logs j → Tells buckets LeavesLine l rs lines m → Follows buckets (RunsGc rounds) (put logs j m) more later final → Follows buckets (RunsGc rounds) logs (rs ++ more) (lines ++ later) final
@@ -118,9 +116,6 @@ sessions_follow rounds buckets records lines final more later t n (suc many) som
     (session_follows rounds buckets n (of_session n records) (rest_r ++ more) (lines n) (rest_l ++ later) (done final n) final [] (final n) (not_zero n some) (of_session_is n records) (sym (not_done final n)) (t n)
     (subst (λ ls. Follows buckets (RunsGc rounds) ls (rest_r ++ more) (rest_l ++ later) final) (sym (begun_with final n))
     (sessions_follow rounds buckets records lines final more later t (suc n) many (omega (arith, some)) (subst (λ m. Follows buckets (RunsGc rounds) (done final m) more later final) (plus_suc n many) f)))))
-  where
-    not_zero : (m : ℕ) → 1 ≤ m → (m == 0) ≡ false
-    not_zero m k = grind (arith, nat_tests)
 
 -- ---- the reports leave the logs as they are
 
@@ -152,10 +147,7 @@ none_over (r ∷ rs) j h =
 
 pub none_at_zero : (records : List Record) → Each (λ (r : Record). 1 ≤ r.session) records → of_session 0 records ≡ []
 none_at_zero [] h = refl
-none_at_zero (r ∷ rs) h = ap (λ b. cond b (r ∷ of_session 0 rs) (of_session 0 rs)) (positive_not r.session h.0) ∙ none_at_zero rs h.1
-  where
-    positive_not : (m : ℕ) → 1 ≤ m → (m == 0) ≡ false
-    positive_not m k = grind (arith, nat_tests)
+none_at_zero (r ∷ rs) h = ap (λ b. cond b (r ∷ of_session 0 rs) (of_session 0 rs)) (not_zero r.session h.0) ∙ none_at_zero rs h.1
 
 pub tells_nothing : (buckets : ℕ) (l m : List LogEntry) (rs : List Record) (lines : List Line) → rs ≡ [] → Tells buckets LeavesLine l rs lines m → m ≡ l
 tells_nothing buckets l m [] [] e t = t

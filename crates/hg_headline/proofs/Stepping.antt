@@ -9,7 +9,7 @@ use Rattle.hg_base.specs.declared.scope.Scope.{Scope}
 use Rattle.hg_base.specs.declared.scope.Snapshot.{Snapshot}
 use Rattle.hg_base.specs.declared.statement.Record.{Record}
 use Rattle.hg_base.specs.declared.statement.Statement.{Statement}
-use Rattle.hg_base.specs.declared.statement.Statement.TheVariants.{Begin, Get, Put, Del, Scan, Commit as CommitIt, Rollback, Gc}
+use Rattle.hg_base.specs.declared.statement.Statement.TheVariants.{Begin, Get, Put, Del, Scan, Rollback}
 use Rattle.hg_base.specs.declared.line.Answer.{Answer}
 use Rattle.hg_base.specs.declared.line.Answer.TheVariants.{Begun, Undone, Newer, OpenBy, Swept}
 use Rattle.hg_base.specs.declared.line.Reply.{Reply}
@@ -35,7 +35,7 @@ use Rattle.hg_headline.specs.Logged.{Logged}
 use Rattle.hg_headline.specs.Timely.{reads_in, snapshot_in, mark_in, newer_in, IsTimely}
 use Rattle.hg_headline.specs.Met.{IsMetAnswer}
 use Rattle.hg_headline.specs.Replayed.{HasReplayed}
-use Rattle.hg_headline.specs.Answered.{IsAnswered, HasGone}
+use Rattle.hg_headline.specs.Answered.{MayAnswer, HasGone}
 use Rattle.hg_headline.specs.Counted.{every, made_in, undone_in, adding}
 use Rattle.hg_headline.proofs.Tallying.{made_put, undone_put, no_more, made_access, undos_access, made_undone, undos_undone}
 use Rattle.hg_headline.proofs.Words.{true_false, none_of_no}
@@ -77,28 +77,22 @@ gone_put logs j l o count own e f g p =
 
 -- ---- get, put, del and scan
 
-pub answered_access : (h : History) (logs : ℕ → List LogEntry) (j : ℕ) (c : Snapshot) (own : List Write) (s : Statement) (a : Answer) → IsAnswered h logs j c own s a → IsTrue (is_access s)
+pub answered_access : (h : History) (logs : ℕ → List LogEntry) (j : ℕ) (c : Snapshot) (own : List Write) (s : Statement) (a : Answer) → MayAnswer h logs j c own s a → IsTrue (is_access s)
 answered_access h logs j c own (Get r) a m = refl
 answered_access h logs j c own (Put r row) a m = refl
 answered_access h logs j c own (Del r) a m = refl
 answered_access h logs j c own (Scan t low high) a m = refl
-answered_access h logs j c own (Begin scope) a m = absurd m
-answered_access h logs j c own CommitIt a m = absurd m
-answered_access h logs j c own Rollback a m = absurd m
-answered_access h logs j c own (Gc kind) a m = absurd m
+answered_access h logs j c own _ a m = absurd m
 
 -- a refusal shows what is open there
-pub answered_met : (sessions : ℕ) (h : History) (logs : ℕ → List LogEntry) (j : ℕ) (c : Snapshot) (own : List Write) (s : Statement) (a : Answer) → IsAnswered h logs j c own s a → IsMetAnswer sessions logs s a
+pub answered_met : (sessions : ℕ) (h : History) (logs : ℕ → List LogEntry) (j : ℕ) (c : Snapshot) (own : List Write) (s : Statement) (a : Answer) → MayAnswer h logs j c own s a → IsMetAnswer sessions logs s a
 answered_met sessions h logs j c own (Get r) a m = tt
 answered_met sessions h logs j c own (Put r row) (OpenBy w) m = m.1.3
 answered_met sessions h logs j c own (Put r row) _ m = tt
 answered_met sessions h logs j c own (Del r) (OpenBy w) m = m.1.3
 answered_met sessions h logs j c own (Del r) _ m = tt
 answered_met sessions h logs j c own (Scan t low high) a m = tt
-answered_met sessions h logs j c own (Begin scope) a m = absurd m
-answered_met sessions h logs j c own CommitIt a m = absurd m
-answered_met sessions h logs j c own Rollback a m = absurd m
-answered_met sessions h logs j c own (Gc kind) a m = absurd m
+answered_met sessions h logs j c own _ a m = absurd m
 
 -- the numbers that such an answer prints: of a newer commit, over the snapshot and at or below the mark
 abbrev pub IsSmall : ℕ → Answer → Type 0
@@ -110,24 +104,24 @@ IsSmall top _ = ⊤
 pub newer_small : (h : History) (at n : ℕ) → at < n → n ≤ length h → (0 < n) × (n ≤ length h)
 newer_small h at n a b = (omega (arith, a), b)
 
-pub fits_small : (buckets : ℕ) (u : Unprinted) (own : List Write) (h : History) (logs : ℕ → List LogEntry) (j : ℕ) (c : Snapshot) (mine : List Write) (s : Statement) (a : Answer) → FitsAnswer buckets u own s a → IsAnswered h logs j c mine s a → IsSmall (length h) a
+pub fits_small : (buckets : ℕ) (u : Unprinted) (own : List Write) (h : History) (logs : ℕ → List LogEntry) (j : ℕ) (c : Snapshot) (mine : List Write) (s : Statement) (a : Answer) → FitsAnswer buckets u own s a → MayAnswer h logs j c mine s a → IsSmall (length h) a
 fits_small buckets u own h logs j c mine (Put r row) (Newer n) f m = newer_small h c.at n m.1.1.over m.1.1.within
-fits_small buckets u own h logs j c mine (Del r) (Newer n) f m = newer_small h c.at n m.1.1.over m.1.1.within
-fits_small buckets u own h logs j c mine (Get r) (Newer n) f m = absurd f
-fits_small buckets u own h logs j c mine (Scan t low high) (Newer n) f m = absurd f
-fits_small buckets u own h logs j c mine (Get r) (Begun n) f m = absurd f
 fits_small buckets u own h logs j c mine (Put r row) (Begun n) f m = absurd f
-fits_small buckets u own h logs j c mine (Del r) (Begun n) f m = absurd f
-fits_small buckets u own h logs j c mine (Scan t low high) (Begun n) f m = absurd f
-fits_small buckets u own h logs j c mine (Get r) (Swept sweep) f m = absurd f
 fits_small buckets u own h logs j c mine (Put r row) (Swept sweep) f m = absurd f
+fits_small buckets u own h logs j c mine (Put r row) _ f m = tt
+fits_small buckets u own h logs j c mine (Del r) (Newer n) f m = newer_small h c.at n m.1.1.over m.1.1.within
+fits_small buckets u own h logs j c mine (Del r) (Begun n) f m = absurd f
 fits_small buckets u own h logs j c mine (Del r) (Swept sweep) f m = absurd f
+fits_small buckets u own h logs j c mine (Del r) _ f m = tt
+fits_small buckets u own h logs j c mine (Get r) (Newer n) f m = absurd f
+fits_small buckets u own h logs j c mine (Get r) (Begun n) f m = absurd f
+fits_small buckets u own h logs j c mine (Get r) (Swept sweep) f m = absurd f
+fits_small buckets u own h logs j c mine (Get r) _ f m = tt
+fits_small buckets u own h logs j c mine (Scan t low high) (Newer n) f m = absurd f
+fits_small buckets u own h logs j c mine (Scan t low high) (Begun n) f m = absurd f
 fits_small buckets u own h logs j c mine (Scan t low high) (Swept sweep) f m = absurd f
-fits_small buckets u own h logs j c mine (Begin scope) a f m = absurd m
-fits_small buckets u own h logs j c mine CommitIt a f m = absurd m
-fits_small buckets u own h logs j c mine Rollback a f m = absurd m
-fits_small buckets u own h logs j c mine (Gc kind) a f m = absurd m
-fits_small buckets u own h logs j c mine s _ f m = tt
+fits_small buckets u own h logs j c mine (Scan t low high) _ f m = tt
+fits_small buckets u own h logs j c mine _ a f m = absurd m
 
 pub timely_inside : (top : ℕ) (s : Statement) (a : Answer) → committed_by s a ≡ None → IsSmall top a → IsTimely top top s (inside a)
 timely_inside top s (Newer n) e k = record { grows = omega arith; reads = (k.1, tt); snapshot = tt; mark = tt; newer = k.0; commit = subst (λ o. IfSome o (λ c. (top < c) × (c ≤ top) × Each (λ m. m < c) (reads_in (inside (Newer n))))) (sym e) tt }
@@ -136,7 +130,7 @@ timely_inside top s (Swept sweep) e k = absurd k
 timely_inside top s a e k = record { grows = omega arith; reads = tt; snapshot = tt; mark = tt; newer = tt; commit = subst (λ o. IfSome o (λ c. (top < c) × (c ≤ top) × Each (λ m. m < c) (reads_in (inside a)))) (sym e) tt }
 
 pub replayed_inside : (buckets sessions : ℕ) (h : History) (logs : ℕ → List LogEntry) (rs : List Record) (lines : List Line) (r : Record) (a : Answer) (c : Snapshot) → HasReplayed buckets sessions h logs (length h) rs lines → IsAsked sessions r →
-    current (logs r.session) ≡ Some c → is_plain (logs r.session) ≡ true → IsAnswered h logs r.session c (own_writes (logs r.session)) r.statement a →
+    current (logs r.session) ≡ Some c → is_plain (logs r.session) ≡ true → MayAnswer h logs r.session c (own_writes (logs r.session)) r.statement a →
     Next buckets sessions h logs (rs ++ r ∷ []) (lines ++ line_for r (inside a) ∷ []) r.session (Some c) (begans (logs r.session)) (cons_option (stored_by r.statement a) (own_writes (logs r.session))) (adding (own_writes (logs r.session)) (stored_by r.statement a)) 0
 replayed_inside buckets sessions h logs rs lines r a c g asked opened plain m =
     let l : List LogEntry = logs r.session in
@@ -208,7 +202,7 @@ pub record Stood (buckets : ℕ) (h : History) (logs : ℕ → List LogEntry) (j
   pub access : IsTrue (is_access s)
   pub adds : Adds (Began (length h) (only (table_of s)) ∷ logs j) (own_entries buckets left.unprinted s a ++ (Began (length h) (only (table_of s)) ∷ logs j)) (stored_by s a) a
 
-pub stood : (buckets : ℕ) (h : History) (logs : ℕ → List LogEntry) (j : ℕ) (s : Statement) (a : Answer) → Logged buckets h logs → current (logs j) ≡ None → IsAnswered h logs j (own_snapshot h s) [] s a → Stood buckets h logs j s a
+pub stood : (buckets : ℕ) (h : History) (logs : ℕ → List LogEntry) (j : ℕ) (s : Statement) (a : Answer) → Logged buckets h logs → current (logs j) ≡ None → MayAnswer h logs j (own_snapshot h s) [] s a → Stood buckets h logs j s a
 stood buckets h logs j s a g none m =
     let c : Snapshot = own_snapshot h s in
     let l : List LogEntry = Began (length h) (only (table_of s)) ∷ logs j in
@@ -227,7 +221,7 @@ alone_after buckets u s a number h l none access = sym (ap (λ b. log_with b buc
 
 -- one that stores nothing
 pub replayed_alone : (buckets sessions : ℕ) (h : History) (logs : ℕ → List LogEntry) (rs : List Record) (lines : List Line) (r : Record) (a : Answer) → HasReplayed buckets sessions h logs (length h) rs lines → IsAsked sessions r →
-    current (logs r.session) ≡ None → stored_by r.statement a ≡ None → IsAnswered h logs r.session (own_snapshot h r.statement) [] r.statement a →
+    current (logs r.session) ≡ None → stored_by r.statement a ≡ None → MayAnswer h logs r.session (own_snapshot h r.statement) [] r.statement a →
     Next buckets sessions h logs (rs ++ r ∷ []) (lines ++ line_for r (alone (length h) a None) ∷ []) r.session None (suc (begans (logs r.session))) [] 0 0
 replayed_alone buckets sessions h logs rs lines r a g asked none stored m =
     let j : ℕ = r.session in
@@ -264,7 +258,7 @@ loses_nothing h c e = all c.images
 
 -- one that stores a write, and so commits it
 pub replayed_commits : (buckets sessions : ℕ) (h : History) (logs : ℕ → List LogEntry) (rs : List Record) (lines : List Line) (r : Record) (a : Answer) (w : Write) → HasReplayed buckets sessions h logs (length h) rs lines → IsAsked sessions r →
-    current (logs r.session) ≡ None → stored_by r.statement a ≡ Some w → IsAnswered h logs r.session (own_snapshot h r.statement) [] r.statement a →
+    current (logs r.session) ≡ None → stored_by r.statement a ≡ Some w → MayAnswer h logs r.session (own_snapshot h r.statement) [] r.statement a →
     let more : History = h ++ (own_commit r.session (begans (logs r.session)) (length h) w ∷ []) ∷ [] in
     Next buckets sessions more logs (rs ++ r ∷ []) (lines ++ line_for r (alone (length h) a (Some (suc (length h)))) ∷ []) r.session None (suc (begans (logs r.session))) [] 1 0
 replayed_commits buckets sessions h logs rs lines r a w g asked none stored m =

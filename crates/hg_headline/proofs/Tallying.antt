@@ -1,11 +1,11 @@
 -- What each statement of a replay adds to what the logs made and took back.
-use Rattle.std.proofs.Common.{◌≡◌, ℕ, zero, suc, ◌+◌, ◌≤◌, ℤ, List, [], ◌∷◌, ◌++◌, length, map, Bool, true, Option, Some, None, refl, sym, ap, ◌∙◌, arith}
+use Rattle.std.proofs.Common.{◌≡◌, ℕ, ◌+◌, ◌≤◌, ℤ, List, [], ◌∷◌, ◌++◌, length, map, Bool, true, Option, Some, None, refl, sym, ap, ◌∙◌, arith}
 use Rattle.std.specs.Prelude.{◌&&◌, if◌then◌else◌, IsTrue, is_some, is_none}
 use Rattle.hg_base.specs.declared.rid.Rid.{Rid}
 use Rattle.hg_base.specs.declared.rid.TableId.{TableId}
 use Rattle.hg_base.specs.declared.image.Image.{Image}
 use Rattle.hg_base.specs.declared.statement.Statement.{Statement}
-use Rattle.hg_base.specs.declared.statement.Statement.TheVariants.{Begin, Get, Put, Del, Scan, Commit as CommitIt, Rollback, Gc}
+use Rattle.hg_base.specs.declared.statement.Statement.TheVariants.{Get, Put, Del, Scan}
 use Rattle.hg_base.specs.declared.line.Answer.{Answer}
 use Rattle.hg_base.specs.declared.line.Answer.TheVariants.{Stored, Found, Nothing, Gone, Rows, Newer, OpenBy, Undeclared}
 use Rattle.hg_base.specs.History.{Write, image_in}
@@ -75,10 +75,7 @@ undos_access buckets u own (Del r) _ l e f = absurd f
 undos_access buckets u own (Scan t low high) (Rows rows) l e f = undos_saws buckets t low high u.part buckets l
 undos_access buckets u own (Scan t low high) (Undeclared other) l e f = refl
 undos_access buckets u own (Scan t low high) _ l e f = absurd f
-undos_access buckets u own (Begin scope) a l e f = absurd (true_false (sym e))
-undos_access buckets u own CommitIt a l e f = absurd (true_false (sym e))
-undos_access buckets u own Rollback a l e f = absurd (true_false (sym e))
-undos_access buckets u own (Gc kind) a l e f = absurd (true_false (sym e))
+undos_access buckets u own _ a l e f = absurd (true_false (sym e))
 
 pub undos_undone : (rids : List Rid) (l : List LogEntry) → undos every (map Undid rids ++ l) ≡ undos every l + length rids
 undos_undone [] l = omega arith

@@ -100,10 +100,7 @@ quiet_access buckets u own (Del r) _ f e = absurd f
 quiet_access buckets u own (Scan t low high) (Rows rows) f e = quiet_saws buckets t low high u.part buckets
 quiet_access buckets u own (Scan t low high) (Undeclared other) f e = tt
 quiet_access buckets u own (Scan t low high) _ f e = absurd f
-quiet_access buckets u own (Begin scope) a f e = absurd (true_false (sym e))
-quiet_access buckets u own CommitIt a f e = absurd (true_false (sym e))
-quiet_access buckets u own Rollback a f e = absurd (true_false (sym e))
-quiet_access buckets u own (Gc kind) a f e = absurd (true_false (sym e))
+quiet_access buckets u own _ a f e = absurd (true_false (sym e))
 
 tidy_quiet : (buckets : ℕ) (h : History) (logs : ℕ → List LogEntry) (j : ℕ) (es l : List LogEntry) → IsQuiet es → Judged h (es ++ l) → AreReplied buckets h logs j (es ++ l) → IsTidy l → IsTidy (es ++ l)
 tidy_quiet buckets h logs j [] l n d g k = k

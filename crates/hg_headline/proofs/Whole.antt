@@ -9,7 +9,7 @@ use Rattle.hg_base.specs.declared.report.Told.{Told}
 use Rattle.hg_base.specs.declared.report.Sweep.{Sweep}
 use Rattle.hg_base.specs.declared.statement.Record.{Record}
 use Rattle.hg_base.specs.declared.statement.Statement.{Statement}
-use Rattle.hg_base.specs.declared.statement.Statement.TheVariants.{Begin, Get, Put, Del, Scan, Commit as CommitIt, Rollback, Gc}
+use Rattle.hg_base.specs.declared.statement.Statement.TheVariants.{Begin, Gc}
 use Rattle.hg_base.specs.declared.line.Reply.{Reply}
 use Rattle.hg_base.specs.declared.line.Line.{Line}
 use Rattle.hg_base.specs.Lists.{Each, EachAfter, onto}
@@ -82,12 +82,7 @@ stands_says (Some opened) n r reply = (refl, refl, refl)
 pub said_says : (last : Option Said) (r : Record) (reply : Reply) (s : Statement) → ((said_after last r reply s).session ≡ r.session) × ((said_after last r reply s).statement ≡ r.statement) × ((said_after last r reply s).reply ≡ reply)
 said_says last r reply (Begin scope) = (refl, refl, refl)
 said_says last r reply (Gc kind) = (refl, refl, refl)
-said_says last r reply (Get rid) = stands_says (open_after last) (next_after last) r reply
-said_says last r reply (Put rid row) = stands_says (open_after last) (next_after last) r reply
-said_says last r reply (Del rid) = stands_says (open_after last) (next_after last) r reply
-said_says last r reply (Scan t low high) = stands_says (open_after last) (next_after last) r reply
-said_says last r reply CommitIt = stands_says (open_after last) (next_after last) r reply
-said_says last r reply Rollback = stands_says (open_after last) (next_after last) r reply
+said_says last r reply _ = stands_says (open_after last) (next_after last) r reply
 
 pub differs_from : (m n k : ℕ) → m ≡ n → (k ≡ n → ⊥) → (m == k) ≡ false
 differs_from m n k e f = grind (arith, nat_tests)

@@ -15,18 +15,18 @@ use Rattle.hg_headline.specs.Met.{IsOpenWrite}
 
 -- A write of r at a snapshot is refused for its cause: a newer commit, or another session's transaction that is open and of
 -- which nothing was undone or published. A transaction is refused no record that it has written.
-abbrev pub IsCaused : History → (ℕ → List LogEntry) → ℕ → List Write → ℕ → Rid → Answer → Type 0
-IsCaused h logs j own at r (Newer c) = IsFalse (is_some (image_in r own)) × ShowsNewer h at r c
-IsCaused h logs j own at r (OpenBy writer) = IsFalse (is_some (image_in r own)) × IsFalse (writer.session == j) × IsTrue (is_plain (logs writer.session)) × IsOpenWrite logs r writer
-IsCaused h logs j own at r _ = ⊤
+abbrev pub MayRefuse : History → (ℕ → List LogEntry) → ℕ → List Write → ℕ → Rid → Answer → Type 0
+MayRefuse h logs j own at r (Newer c) = IsFalse (is_some (image_in r own)) × ShowsNewer h at r c
+MayRefuse h logs j own at r (OpenBy writer) = IsFalse (is_some (image_in r own)) × IsFalse (writer.session == j) × IsTrue (is_plain (logs writer.session)) × IsOpenWrite logs r writer
+MayRefuse h logs j own at r _ = ⊤
 
 -- The answer to a get, put, del or scan of session j, whose transaction reads at the snapshot and has these stored writes.
-abbrev pub IsAnswered : History → (ℕ → List LogEntry) → ℕ → Snapshot → List Write → Statement → Answer → Type 0
-IsAnswered h logs j snapshot own (Get r) answer = WithinScope snapshot.scope r.table answer (IsGot (seen h own snapshot.at r) answer)
-IsAnswered h logs j snapshot own (Put r row) answer = WithinScope snapshot.scope r.table answer (IsPut answer) × IsCaused h logs j own snapshot.at r answer
-IsAnswered h logs j snapshot own (Del r) answer = WithinScope snapshot.scope r.table answer (IsDeleted (seen h own snapshot.at r) answer) × IsCaused h logs j own snapshot.at r answer
-IsAnswered h logs j snapshot own (Scan table low high) answer = WithinScope snapshot.scope table answer (IsScanned (λ key. seen h own snapshot.at (record { table = table; key = key })) low high answer)
-IsAnswered h logs j snapshot own _ answer = ⊥
+abbrev pub MayAnswer : History → (ℕ → List LogEntry) → ℕ → Snapshot → List Write → Statement → Answer → Type 0
+MayAnswer h logs j snapshot own (Get r) answer = WithinScope snapshot.scope r.table answer (IsGot (seen h own snapshot.at r) answer)
+MayAnswer h logs j snapshot own (Put r row) answer = WithinScope snapshot.scope r.table answer (IsPut answer) × MayRefuse h logs j own snapshot.at r answer
+MayAnswer h logs j snapshot own (Del r) answer = WithinScope snapshot.scope r.table answer (IsDeleted (seen h own snapshot.at r) answer) × MayRefuse h logs j own snapshot.at r answer
+MayAnswer h logs j snapshot own (Scan table low high) answer = WithinScope snapshot.scope table answer (IsScanned (λ key. seen h own snapshot.at (record { table = table; key = key })) low high answer)
+MayAnswer h logs j snapshot own _ answer = ⊥
 
 -- Only the log of session j has gone on, and nothing of its last transaction is undone or published: the transaction that is
 -- open, how many were begun, and the stored writes of the open one.

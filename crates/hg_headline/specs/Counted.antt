@@ -1,7 +1,6 @@
 -- What a replay counts.
-use Rattle.std.specs.Prelude.{◌≡◌, ◌⊎◌, ℕ, ◌+◌, ◌≤◌, List, [], ◌∷◌, ◌++◌, length, map, sum_by, Bool, true, if◌then◌else◌, Option, Some, None, is_some, IsSome}
+use Rattle.std.specs.Prelude.{◌≡◌, ◌⊎◌, ℕ, ◌+◌, ◌≤◌, List, ◌∷◌, ◌++◌, length, map, sum_by, Bool, true, if◌then◌else◌, Option, Some, None, is_some, IsSome}
 use Rattle.hg_base.specs.declared.rid.Rid.{Rid}
-use Rattle.hg_base.specs.declared.report.Kind.{Kind}
 use Rattle.hg_base.specs.declared.report.Kind.TheVariants as kinds
 use Rattle.hg_base.specs.declared.line.Totals.{Totals}
 use Rattle.hg_base.specs.History.{Write, History, image_in}
@@ -11,8 +10,6 @@ use Rattle.hg_core.specs.declared.log.LogEntry.{LogEntry}
 use Rattle.hg_core.specs.declared.log.LogEntry.TheVariants.{Undid, Over}
 use Rattle.hg_core.specs.Logs.{current, own_writes}
 use Rattle.hg_core.specs.Sums.{sum_to}
-use Rattle.hg_core.specs.declared.visit.Visit.{Visit}
-use Rattle.hg_core.specs.Counters as core
 use Rattle.hg_core.specs.Counters.{first_writes, undos}
 use Rattle.hg_core.specs.Reading.{UndoesAll}
 
@@ -26,11 +23,6 @@ made_in sessions logs = sum_to sessions (λ j. first_writes every (logs j))
 
 abbrev pub undone_in : ℕ → (ℕ → List LogEntry) → ℕ
 undone_in sessions logs = sum_to sessions (λ j. undos every (logs j))
-
--- how many versions a kind of collector removed in a list of visits
-abbrev pub removed_all : Kind → List Visit → ℕ
-removed_all kind [] = 0
-removed_all kind (v ∷ visits) = core.removed_by kind v.removed + removed_all kind visits
 
 -- how many a stored write adds: none where the transaction wrote its record before
 abbrev pub adding : List Write → Option Write → ℕ

@@ -1,7 +1,10 @@
 -- What a replay knows after each record from the logs of its sessions alone: the history is known only at its end.
-use Rattle.std.specs.Prelude.{◌≡◌, ℕ, suc, ◌+◌, ◌<◌, ◌≤◌, List, [], ◌∷◌, length, Bool, false, ◌||◌, ◌==◌, IfSome, IsFalse, ⊤}
+use Rattle.std.specs.Prelude.{◌≡◌, ℕ, suc, ◌+◌, ◌<◌, ◌≤◌, List, [], ◌∷◌, length, if◌then◌else◌, sum_by, IfSome, IsFalse, ⊤}
 use Rattle.std.specs.List.{cons_option}
+use Rattle.std.specs.Option.{option_map_or}
 use Rattle.hg_base.specs.declared.writer.Writer.{Writer}
+use Rattle.hg_base.specs.declared.report.Kind.{Kind}
+use Rattle.hg_base.specs.declared.report.Kind.TheVariants as kinds
 use Rattle.hg_base.specs.declared.statement.Statement.{Statement}
 use Rattle.hg_base.specs.declared.statement.Statement.TheVariants.{Gc}
 use Rattle.hg_base.specs.declared.statement.Record.{Record}
@@ -12,10 +15,9 @@ use Rattle.hg_base.specs.declared.line.Totals.{Totals}
 use Rattle.hg_base.specs.Lists.{Each, greatest}
 use Rattle.hg_base.specs.History.{History}
 use Rattle.hg_base.specs.Counts.{live}
-use Rattle.hg_base.specs.Shape.{HasShape}
+use Rattle.hg_base.specs.Shape.{HasShape, report_of, same_kind}
 use Rattle.hg_core.specs.declared.log.LogEntry.{LogEntry}
-use Rattle.hg_core.specs.declared.log.LogEntry.TheVariants.{Published, Over}
-use Rattle.hg_core.specs.Logs.{begans, UpTo}
+use Rattle.hg_core.specs.Logs.{has_end, UpTo}
 use Rattle.hg_core.specs.Judged.{Judged}
 use Rattle.hg_core.specs.Replies.{AreReplied}
 use Rattle.hg_core.specs.Reading.{Follows}
@@ -59,13 +61,6 @@ top_after top statement reply = greatest (top ∷ cons_option (commit_in stateme
 
 -- ---- a write that is refused for another's
 
--- whether transaction x was published or is over, by its session's log; hg_store has the same function
-abbrev pub has_end : ℕ → List LogEntry → Bool
-has_end x [] = false
-has_end x (Published number ∷ log) = (begans log == x) || has_end x log
-has_end x (Over ∷ log) = (begans log == x) || has_end x log
-has_end x (_ ∷ log) = has_end x log
-
 -- What shows that another's write is open, where session j refuses its own for it. In some family of logs the replies of session j
 -- are right, and it has the log `after`. There the other's log is as it is known, each of its entries is right, and its
 -- transaction was neither published nor ended.
@@ -85,11 +80,20 @@ IsMetIfGc sessions logs _ answer = ⊤
 
 -- ---- the end
 
--- The totals over the logs as they are closed, where no `gc` is asked for: the group and the interval collector removed nothing.
-pub record AreQuietTotals (sessions : ℕ) (h : History) (closed : ℕ → List LogEntry) (totals : Totals) : Type 0 where
+-- how many versions a line says that a collector of that kind removed, and all lines
+abbrev pub told_by : Kind → Line → ℕ
+told_by kind line = option_map_or (λ sweep. if same_kind sweep.kind kind then sweep.removed else 0) (report_of line.reply) 0
+
+abbrev pub told_removed : Kind → List Line → ℕ
+told_removed kind lines = sum_by (told_by kind) lines
+
+-- The totals over the logs as they are closed, where the rounds of each kind of collector removed so many versions. More may
+-- have gone for tables.
+pub record AreTotalsBy (sessions : ℕ) (h : History) (closed : ℕ → List LogEntry) (removed : Kind → ℕ) (totals : Totals) : Type 0 where
   pub made : totals.made ≡ made_in sessions closed
   pub undone : totals.undone ≡ undone_in sessions closed
-  pub group : totals.group ≡ 0
-  pub interval : totals.interval ≡ 0
+  pub group : totals.group ≡ removed kinds.Group
+  pub table : removed kinds.Table ≤ totals.table
+  pub interval : totals.interval ≡ removed kinds.Interval
   pub left : totals.left ≡ length (live h)
   pub balance : totals.made ≡ totals.undone + totals.group + totals.table + totals.interval + totals.left

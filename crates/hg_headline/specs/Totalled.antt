@@ -12,8 +12,8 @@ use Rattle.hg_core.specs.declared.visit.Visit.{Visit}
 use Rattle.hg_core.specs.Contents.{Content, bucket_of, look}
 use Rattle.hg_core.specs.Clean.{IsCutAt}
 use Rattle.hg_core.specs.Sums.{sum_to, sum_below}
-use Rattle.hg_core.specs.Counters.{is_of, first_writes, undos, removed_in}
-use Rattle.hg_headline.specs.Counted.{made_in, undone_in, removed_all}
+use Rattle.hg_core.specs.Counters.{is_of, first_writes, undos, removed_in, removed_all}
+use Rattle.hg_headline.specs.Counted.{made_in, undone_in}
 
 -- ---- what a collector left
 

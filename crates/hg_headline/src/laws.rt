@@ -15,12 +15,12 @@ ghost use Rattle.hg_core.specs.declared.log.LogEntry.{LogEntry};
 ghost use Rattle.hg_base.specs.declared.report.Kind.{Kind};
 ghost use Rattle.hg_base.specs.Counts.{live};
 ghost use Rattle.hg_core.specs.Sums.{sum_below};
-ghost use Rattle.hg_core.specs.Counters.{removed_by, total};
+ghost use Rattle.hg_core.specs.Counters.{removed_by, total, removed_all};
 ghost use Rattle.hg_core.specs.Steps.{Always};
 ghost use Rattle.hg_headline.specs.Logged.{Logged};
 ghost use Rattle.hg_headline.specs.Boards.{IsSettled};
 ghost use Rattle.hg_headline.specs.Replayed.{HasReplayed};
-ghost use Rattle.hg_headline.specs.Counted.{Closes, IsCounted, made_in, undone_in, removed_all};
+ghost use Rattle.hg_headline.specs.Counted.{Closes, IsCounted, made_in, undone_in};
 ghost use Rattle.hg_headline.specs.Ran.{HasRun, run_lines};
 ghost use Rattle.hg_headline.specs.Worked as worked;
 

@@ -1,1 +1,0 @@
--- What is open at the end is rolled back without a line.
