@@ -13,3 +13,4 @@ pub mod Walks
 pub mod Settling
 pub mod Held
 pub mod TestFacts
+pub mod Covers

@@ -35,12 +35,12 @@ pub record Loose (heads : List Head) (nodes : List Node) (free : Strand) (a : Ar
   pub count : length nodes' + free.count ≡ length nodes + free'.count + 1
   pub fits : length nodes' < 2 ^ 32
 
-pub loose : (heads : List Head) (nodes : List Node) (free : Strand) (a : AreStrands heads nodes free) (x : Node) (i : ℕ) (nodes' : List Node) (free' : Strand) → Took nodes free x i nodes' free' → (free.count ≡ 0 → length nodes + 1 < 2 ^ 32) → Loose heads nodes free a i nodes' free'
-loose heads nodes free a x i nodes' free' t room = go free.count refl
+pub loose : (heads : List Head) (nodes : List Node) (free : Strand) (a : AreStrands heads nodes free) (i : ℕ) (nodes' : List Node) (free' : Strand) → (free.count ≡ 0 → (i ≡ length nodes) × (length nodes' ≡ length nodes + 1) × (free' ≡ free)) → (0 < free.count → (i ≡ free.first) × (length nodes' ≡ length nodes) × (free'.first ≡ (node_at nodes free.first).next) × (free'.count + 1 ≡ free.count)) → (free.count ≡ 0 → length nodes + 1 < 2 ^ 32) → Loose heads nodes free a i nodes' free'
+loose heads nodes free a i nodes' free' grown reused room = go free.count refl
   where
     go : (n : ℕ) → free.count ≡ n → Loose heads nodes free a i nodes' free'
     go zero e =
-        let g = t.grown e in
+        let g = grown e in
         let past : i ≡ length nodes = g.0 in
         let longer : length nodes' ≡ length nodes + 1 = g.1 in
         let same : free'.count ≡ free.count = ap (λ (s : Strand). s.count) g.2 in
@@ -55,7 +55,7 @@ loose heads nodes free a x i nodes' free' t room = go free.count refl
           fits = omega (arith, longer, small);
         }
     go (suc n) e =
-        let r = t.reused (omega (arith, e)) in
+        let r = reused (omega (arith, e)) in
         let s : IsStrand nodes a.owner a.rank 0 (a.top 0) (suc n) free.first = subst (λ m. IsStrand nodes a.owner a.rank 0 (a.top 0) m free.first) e (a.strands 0) in
         let less : free'.count + 1 ≡ free.count = r.3 in
         let n_left : n ≡ free'.count = omega (arith, less, e) in
@@ -248,6 +248,10 @@ opened by nodes true (suc n) i h =
       begun = refl;
       writer = same_writer by (writer_in (node_at nodes i)) h;
     }
+
+pub closed : (by : Writer) (nodes : List Node) (n i : ℕ) → is_open_by by (versions nodes false n i) ≡ false
+closed by nodes zero i = refl
+closed by nodes (suc n) i = refl
 
 pub some_open : (by : Writer) (nodes : List Node) (begins : Bool) (n i : ℕ) → IsTrue (is_open_by by (versions nodes begins n i)) → 0 < n
 some_open by nodes begins zero i h = absurd (let k = h in cc)

@@ -1,7 +1,8 @@
 //! The nodes of all chains, and the free ones.
 
 ghost use Rattle.std.specs.Prelude.{◌≡◌, ◌≢◌, ℕ, suc, ◌+◌, ◌-◌, ◌<◌, ◌≤◌, ◌^◌, ◌==◌, ◌&&◌, [], ◌∷◌, ◌++◌, true, false, length, take, drop, if◌then◌else◌, not, nat_lt, slice_set, IsTrue, OnOk, OnErr, IsOk, vec_len, vec_capacity};
-ghost use Rattle.hg_chain.specs.Strands.{blank, node_at, freed, stamp_in, version_in};
+ghost use Rattle.hg_chain.specs.Strands.{blank, node_at, freed, stamp_in, version_in, writer_in};
+ghost use Rattle.hg_chain.specs.declared.version.Stamp.TheVariants.{Numbered};
 ghost use Rattle.hg_base.specs.declared.writer.Writer.{Writer};
 ghost use Rattle.hg_chain.specs.Versions.{IsChain, NoOther, installed, is_at_most, is_open_by, left_by, number_in, open_write, stamped};
 ghost use Rattle.hg_chain.specs.Arenas.{IsArena, IsAt, HasRoom, OthersStayIn, head_in, list_in};
@@ -48,6 +49,18 @@ impl Arena {
         ensures { result ≡ (node_at self.now.nodes.items at).next }
     {
         self.nodes[at as usize].next
+    }
+
+    // Who wrote the version in a node.
+    fn writer(&self, at: u32) -> Writer
+        requires { at < length self.now.nodes.items }
+        ensures { result ≡ writer_in (node_at self.now.nodes.items at) }
+    {
+        let node = &self.nodes[at as usize];
+        Writer {
+            session: node.session,
+            transaction: node.transaction,
+        }
     }
 
     fn set_next(&mut self, at: u32, next: u32)
@@ -219,6 +232,66 @@ impl Arena {
         self.give(cursor.at)
     }
 
+    // Writes a version that has a number over the first one of a place.
+    fn set_first(&mut self, place: u64, by: Writer, number: u64, image: Image)
+        requires arena { IsArena self.old }
+        requires some { 0 < (head_in self.old place).strand.count }
+        ensures arena { IsArena self.new }
+        ensures here { list_in self.new place ≡ record { stamp = Numbered number by; image = image } ∷ drop 1 (list_in self.old place) }
+        ensures others { OthersStayIn place self.old self.new }
+        ensures nodes { length self.new.nodes.items ≡ length self.old.nodes.items }
+        ensures free { self.new.free ≡ self.old.free }
+    {
+        let strand = self.head(place).strand;
+        let next = self.next(strand.first);
+        self.nodes[strand.first as usize] = Node {
+            next,
+            session: by.session,
+            transaction: by.transaction,
+            number,
+            image,
+        };
+        let head = Head {
+            strand,
+            is_open: false,
+        };
+        self.set_head(place, head);
+    }
+
+    // Removes the first of two versions or more. The second one comes to its node.
+    fn uncover(&mut self, place: u64)
+        requires arena { IsArena self.old }
+        requires some { 1 < (head_in self.old place).strand.count }
+        ensures arena { IsArena self.new }
+        ensures here { list_in self.new place ≡ drop 1 (list_in self.old place) }
+        ensures others { OthersStayIn place self.old self.new }
+        ensures nodes { length self.new.nodes.items ≡ length self.old.nodes.items }
+        ensures free { self.new.free.count ≡ self.old.free.count + 1 }
+    {
+        let first = self.start(place);
+        let second = self.pass(first);
+        let by = self.writer(second.at);
+        let (number, image) = self.unlink(place, second);
+        self.set_first(place, by, number, image);
+    }
+
+    /// Removes the first version of a place, which keeps its first node as long as it has another.
+    pub fn undo(&mut self, place: u64)
+        requires arena { IsArena self.old }
+        requires some { 0 < (head_in self.old place).strand.count }
+        ensures arena { IsArena self.new }
+        ensures here { list_in self.new place ≡ drop 1 (list_in self.old place) }
+        ensures others { OthersStayIn place self.old self.new }
+        ensures nodes { length self.new.nodes.items ≡ length self.old.nodes.items }
+        ensures free { self.new.free.count ≡ self.old.free.count + 1 }
+    {
+        if self.head(place).strand.count == 1 {
+            let _ = self.pop(place);
+        } else {
+            self.uncover(place);
+        }
+    }
+
     /// Removes the version before which the walk stands, and hands out its number and its image.
     pub fn remove(&mut self, place: u64, cursor: &mut Cursor) -> (u64, Image)
         requires arena { IsArena self.old }
@@ -314,7 +387,7 @@ impl Arena {
 
     // Puts a node where the first free one is, and adds it only where none is free.
     fn take(&mut self, node: Node) -> u32
-        requires arena { IsArena self.old }
+        requires free { 0 < self.old.free.count → self.old.free.first < length self.old.nodes.items }
         requires room { self.old.free.count ≡ 0 → (vec_len self.old.nodes < vec_capacity self.old.nodes) × (vec_len self.old.nodes + 1 < 2 ^ 32) }
         ensures heads { self.new.heads.items ≡ self.old.heads.items }
         ensures here { node_at self.new.nodes.items result ≡ node }
@@ -337,8 +410,21 @@ impl Arena {
         at
     }
 
-    /// Puts an open write in front of the versions of a place. A node is added only where none is free.
-    pub fn push(&mut self, place: u64, by: Writer, image: Image)
+    // Puts a node in the place of another, and hands that one out.
+    fn replace(&mut self, at: u32, node: Node) -> Node
+        requires { at < length self.old.nodes.items }
+        ensures heads { self.new.heads.items ≡ self.old.heads.items }
+        ensures nodes { self.new.nodes.items ≡ slice_set self.old.nodes.items at node }
+        ensures len { vec_len self.new.nodes ≡ vec_len self.old.nodes }
+        ensures capacity { vec_capacity self.new.nodes ≡ vec_capacity self.old.nodes }
+        ensures free { self.new.free ≡ self.old.free }
+        ensures held { result ≡ node_at self.old.nodes.items at }
+    {
+        mem::replace(&mut self.nodes[at as usize], node)
+    }
+
+    // Puts an open write before the first node of a place.
+    fn begin(&mut self, place: u64, by: Writer, image: Image)
         requires arena { IsArena self.old }
         requires room { HasRoom self.old place }
         requires no_other { NoOther by (list_in self.old place) }
@@ -366,6 +452,61 @@ impl Arena {
             is_open: true,
         };
         self.set_head(place, head);
+    }
+
+    // Puts an open write in the first node of a place. The version that was there goes to the node taken, behind it.
+    fn cover(&mut self, place: u64, by: Writer, image: Image)
+        requires arena { IsArena self.old }
+        requires room { HasRoom self.old place }
+        requires some { 0 < (head_in self.old place).strand.count }
+        requires no_other { NoOther by (list_in self.old place) }
+        requires not_open { is_open_by by (list_in self.old place) ≡ false }
+        ensures arena { IsArena self.new }
+        ensures here { list_in self.new place ≡ open_write by image ∷ list_in self.old place }
+        ensures others { OthersStayIn place self.old self.new }
+        ensures nodes { length self.new.nodes.items ≡ length self.old.nodes.items + (if self.old.free.count == 0 then 1 else 0) }
+        ensures free { self.new.free.count ≡ self.old.free.count - 1 }
+    {
+        let Strand { first, count } = self.head(place).strand;
+        let newest = Node {
+            next: 0,
+            session: by.session,
+            transaction: by.transaction,
+            number: 0,
+            image,
+        };
+        let covered = self.replace(first, newest);
+        let at = self.take(covered);
+        self.set_next(first, at);
+        let strand = Strand {
+            first,
+            count: count + 1,
+        };
+        let head = Head {
+            strand,
+            is_open: true,
+        };
+        self.set_head(place, head);
+    }
+
+    /// Puts an open write in front of the versions of a place. A node is added only where none is free. A place keeps its first
+    /// node as long as it has a version: so the newest versions of all records, which are read most, lie close together.
+    pub fn push(&mut self, place: u64, by: Writer, image: Image)
+        requires arena { IsArena self.old }
+        requires room { HasRoom self.old place }
+        requires no_other { NoOther by (list_in self.old place) }
+        requires not_open { is_open_by by (list_in self.old place) ≡ false }
+        ensures arena { IsArena self.new }
+        ensures here { list_in self.new place ≡ open_write by image ∷ list_in self.old place }
+        ensures others { OthersStayIn place self.old self.new }
+        ensures nodes { length self.new.nodes.items ≡ length self.old.nodes.items + (if self.old.free.count == 0 then 1 else 0) }
+        ensures free { self.new.free.count ≡ self.old.free.count - 1 }
+    {
+        if self.head(place).strand.count == 0 {
+            self.begin(place, by, image);
+        } else {
+            self.cover(place, by, image);
+        }
     }
 
     /// Gives the first version of a place another image.

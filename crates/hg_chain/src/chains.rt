@@ -97,6 +97,10 @@ impl Chains {
     fn is_open_by(&self, place: u64, by: Writer) -> bool
         ensures { result ≡ is_open_by by (list_at self.now place) }
     {
+        // Most first versions are not open, which the head tells without their node.
+        if !self.arena.head(place).is_open {
+            return false;
+        }
         match self.newest(place) {
             Some(Stamp::Written(writer)) => {
                 writer.session == by.session && writer.transaction == by.transaction
@@ -161,7 +165,7 @@ impl Chains {
         ensures free { self.new.free ≡ self.old.free + 1 }
     {
         let _ = by;
-        let _ = self.arena.pop(place);
+        self.arena.undo(place);
     }
 
     /// Gives the transaction's open write its number.

@@ -46,6 +46,10 @@
 //! take out of a chain is put in front of the free ones, and nothing else moves. No node is in two chains, since each
 //! has one owner, a place or the free ones, and along a chain each ranks below the one in front of it. Each call does
 //! to the list of its place what `Chain`'s call of that name does to a single record's, and leaves the others alone.
+//!
+//! A write leaves a place its first node: the version that stood there goes to the node taken, which is linked behind the
+//! first (`cover`), and an undo brings it back (`uncover`). Most reads want the newest version, so what they read lies close
+//! together, in the order in which the records began, however many versions were written since.
 #![tactic(auto)]
 
 mod arena;

@@ -6,8 +6,8 @@ use Rattle.hg_chain.proofs.Writes.{some_open}
 use Rattle.hg_chain.proofs.Held.{list_seen, list_was, others_seen, nodes_seen, nodes_were, holds_after, chain_behind}
 use Rattle.hg_chain.proofs.chains.Chains.undo.Goals as goal
 
-pub pop-requires-clause-some : goal.pop-requires-clause-some
-pop-requires-clause-some c =
+pub undo-requires-clause-some : goal.undo-requires-clause-some
+undo-requires-clause-some c =
     let a = c.self.inside.arena in
     let h = head_in a c.args.place in
     some_open c.args.by a.nodes.items h.is_open h.strand.count h.strand.first (subst (λ vs. IsTrue (is_open_by c.args.by vs)) (list_was a c.args.self.now c.args.place c.self.view_is) c.requires)
@@ -15,13 +15,13 @@ pop-requires-clause-some c =
 pub invariant_of-self : goal.invariant_of-self
 invariant_of-self c =
     let a = c.self.inside.arena in
-    holds_after a c.pop.new.self c.args.place c.self.invariant c.pop.ensures.arena (subst IsChain (sym c.pop.ensures.here) (chain_behind _ (c.self.invariant.chains c.args.place))) c.pop.ensures.others
+    holds_after a c.undo.new.self c.args.place c.self.invariant c.undo.ensures.arena (subst IsChain (sym c.undo.ensures.here) (chain_behind _ (c.self.invariant.chains c.args.place))) c.undo.ensures.others
 
 pub returns-clause-here : goal.returns-clause-here
-returns-clause-here c = list_seen c.pop.new.self c.args.place ∙ c.pop.ensures.here ∙ sym (ap (drop 1) (list_was c.self.inside.arena c.args.self.now c.args.place c.self.view_is))
+returns-clause-here c = list_seen c.undo.new.self c.args.place ∙ c.undo.ensures.here ∙ sym (ap (drop 1) (list_was c.self.inside.arena c.args.self.now c.args.place c.self.view_is))
 
 pub returns-clause-others : goal.returns-clause-others
-returns-clause-others c = others_seen c.self.inside.arena c.pop.new.self c.args.self.now c.args.place c.self.view_is c.pop.ensures.others
+returns-clause-others c = others_seen c.self.inside.arena c.undo.new.self c.args.self.now c.args.place c.self.view_is c.undo.ensures.others
 
 pub returns-clause-nodes : goal.returns-clause-nodes
-returns-clause-nodes c = nodes_seen c.pop.new.self c.pop.ensures.arena ∙ c.pop.ensures.nodes ∙ sym (nodes_were c.self.inside.arena c.args.self.now c.self.view_is c.self.invariant.strands)
+returns-clause-nodes c = nodes_seen c.undo.new.self c.undo.ensures.arena ∙ c.undo.ensures.nodes ∙ sym (nodes_were c.self.inside.arena c.args.self.now c.self.view_is c.self.invariant.strands)

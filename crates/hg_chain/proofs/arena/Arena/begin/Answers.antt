@@ -3,8 +3,12 @@ use Rattle.hg_chain.specs.declared.node.Node.{Node}
 use Rattle.hg_chain.specs.declared.node.Head.{Head}
 use Rattle.hg_chain.specs.Versions.{open_write}
 use Rattle.hg_chain.specs.Strands.{head_at}
+use Rattle.hg_chain.proofs.Removals.{free_within}
 use Rattle.hg_chain.proofs.Writes.{Took, Pushed, pushed, loose, with_front, unopened}
-use Rattle.hg_chain.proofs.arena.Arena.push.Goals as goal
+use Rattle.hg_chain.proofs.arena.Arena.begin.Goals as goal
+
+pub take-at-requires-clause-free : goal.take-at-requires-clause-free
+take-at-requires-clause-free c = λ some. free_within c.args.self.now.heads.items c.args.self.now.nodes.items c.args.self.now.free c.requires.arena (λ e. omega (arith, some, e))
 
 abbrev node : goal.After-set_head → Node
 node c = record { next = c.head-first.result.strand.first; session = c.args.by.session; transaction = c.args.by.transaction; number = 0; image = c.args.image }
@@ -22,7 +26,7 @@ took c =
 all : (c : goal.After-set_head) → Pushed c.args.self.now.heads.items c.args.self.now.nodes.items c.args.place (node c) c.take-at.result c.take-at.new.self.nodes.items c.take-at.new.self.free
 all c =
     pushed c.args.self.now.heads.items c.args.self.now.nodes.items c.args.self.now.free c.requires.arena c.args.place (node c) c.take-at.result c.take-at.new.self.nodes.items c.take-at.new.self.free c.requires.room.head (ap (λ (h : Head). h.strand.first) c.head-first.ensures) (took c)
-    (loose c.args.self.now.heads.items c.args.self.now.nodes.items c.args.self.now.free c.requires.arena (node c) c.take-at.result c.take-at.new.self.nodes.items c.take-at.new.self.free (took c) (λ e. let k = c.requires.room.node e in let l = k.1 in omega (arith, l)))
+    (loose c.args.self.now.heads.items c.args.self.now.nodes.items c.args.self.now.free c.requires.arena c.take-at.result c.take-at.new.self.nodes.items c.take-at.new.self.free c.take-at.ensures.grown c.take-at.ensures.reused (λ e. let k = c.requires.room.node e in let l = k.1 in omega (arith, l)))
 
 new_heads : (c : goal.After-set_head) → c.set_head.new.self.heads.items ≡ set c.args.self.now.heads.items c.args.place (with_front c.args.self.now.heads.items c.args.place c.take-at.result)
 new_heads c = cc
