@@ -16,7 +16,8 @@ use Rattle.hg_space.specs.Index.{place_of, IsIndex}
 use Rattle.hg_space.specs.Places.{Seat, Oldest, image_at}
 use Rattle.hg_bucket.specs.declared.refusal.WriteRefusal.{WriteRefusal}
 use Rattle.hg_bucket.specs.declared.refusal.WriteRefusal.TheVariants.{Newer}
-use Rattle.hg_bucket.specs.BucketModel.{Kept, versions_of, left, begins_open, is_open_by, same_writer, installed, OthersStay}
+use Rattle.hg_base.specs.History.{same_writer}
+use Rattle.hg_bucket.specs.BucketModel.{Kept, versions_of, left, begins_open, is_open_by, installed, OthersStay}
 use Rattle.hg_bucket.specs.Conflicts.{conflict, open_by, NoOther, is_unpublished}
 use Rattle.hg_bucket.specs.Parts.{kept, kept_as, oldest, whole, records_of, AreWhole, IsOver}
 use Rattle.hg_bucket.proofs.Reading.{versions_there, open_kept}

@@ -7,7 +7,8 @@ use Rattle.hg_base.specs.declared.image.Image.{Image}
 use Rattle.hg_base.specs.declared.writer.Writer.{Writer}
 use Rattle.hg_bucket.specs.declared.refusal.WriteRefusal.{WriteRefusal}
 use Rattle.hg_bucket.specs.declared.refusal.WriteRefusal.TheVariants.{Open, Newer, NoMemory}
-use Rattle.hg_bucket.specs.BucketModel.{Kept, begins_open, is_open_by, same_writer}
+use Rattle.hg_base.specs.History.{same_writer}
+use Rattle.hg_bucket.specs.BucketModel.{Kept, begins_open, is_open_by}
 use Rattle.hg_bucket.specs.Conflicts.{holder, newer, conflict, open_by, IsCause}
 
 pub cause_of : (by : Writer) (snapshot mark : ℕ) (vs : List Kept) (e : WriteRefusal) → conflict by snapshot mark vs ≡ Some e → IsCause by snapshot mark vs e

@@ -1,5 +1,5 @@
 -- What a bucket holds: each record's versions, and what became of all others.
-use Rattle.std.specs.Prelude.{◌≡◌, ℕ, ◌+◌, ◌<◌, ◌≤◌, ◌^◌, not, filter, is_some, IsFalse, List, [], ◌∷◌, ◌++◌, length, sum_by, find, drop, Bool, false, ◌&&◌, ◌==◌, nat_le, if◌then◌else◌, Option, Some, None, IsSome, option_map, unwrap_or}
+use Rattle.std.specs.Prelude.{◌≡◌, ℕ, ◌+◌, ◌<◌, ◌≤◌, ◌^◌, not, filter, is_some, IsFalse, List, [], ◌∷◌, ◌++◌, length, sum_by, find, drop, Bool, false, ◌&&◌, nat_le, if◌then◌else◌, Option, Some, None, IsSome, option_map, unwrap_or}
 use Rattle.std.specs.Option.{option_or, MatchOption}
 use Rattle.std.specs.Map.{lookup}
 use Rattle.hg_base.specs.declared.rid.Rid.{Rid}
@@ -7,7 +7,7 @@ use Rattle.hg_base.specs.declared.image.Image.{Image}
 use Rattle.hg_base.specs.declared.writer.Writer.{Writer}
 use Rattle.hg_base.specs.declared.line.Totals.{Totals}
 use Rattle.hg_base.specs.declared.rid.TableId.{TableId}
-use Rattle.hg_base.specs.History.{same_rid}
+use Rattle.hg_base.specs.History.{same_rid, same_writer}
 use Rattle.hg_space.specs.Rosters.{list_of}
 
 -- a version: its number, unless it is an open write; its writer, unless it is the record's oldest image; and its image
@@ -59,9 +59,6 @@ counts_of h = record { made = h.made; undone = h.undone; group = h.group; table 
 -- whether its number is at or below a bound
 abbrev pub is_at_most : ℕ → Kept → Bool
 is_at_most bound v = unwrap_or (option_map (λ n. nat_le n bound) v.number) false
-
-abbrev pub same_writer : Writer → Writer → Bool
-same_writer a b = (a.session == b.session) && (a.transaction == b.transaction)
 
 -- whether it is an open write of that transaction
 abbrev pub is_open_by : Writer → Kept → Bool
