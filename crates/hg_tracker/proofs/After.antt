@@ -16,7 +16,7 @@ use Rattle.hg_rule.specs.declared.view.Sight.{Sight}
 use Rattle.hg_rule.specs.declared.view.Sight.TheVariants.{Saw, Heard, Took, Did}
 use Rattle.hg_rule.specs.declared.view.Event.TheVariants.{Mark, Sample}
 use Rattle.hg_rule.specs.declared.view.View.{View}
-use Rattle.hg_rule.specs.Facts.{record_of}
+use Rattle.hg_rule.specs.Facts.{record_of, IsAmong, groups}
 use Rattle.hg_rule.specs.Views.{number, pass, others, seeing}
 use Rattle.hg_rule.specs.Steps.{Within, IsHistoryAt, loading, Probes, Enters, Fixes, GoesLive, Marks, Samples}
 use Rattle.hg_core.specs.declared.log.LogEntry.TheVariants.{Began}
@@ -61,7 +61,7 @@ begins_all v v1 v2 v3 w f m scope p en fi li = subst (λ (v1 : View). Enters v1 
 
 pub loads_none : (v w : View) (m : ℕ) → Marks v m w → HasLoaded v m 0 (pass w).loaded w × ((pass w).loaded ≡ [])
 loads_none v w m is = subst (λ (w : View). HasLoaded v m 0 (pass w).loaded w × ((pass w).loaded ≡ [])) (sym is.1.1)
-    (record { parts = refl; keys = refl; registers = tt; most = most v m is.0 is.1.0; kept = (_, refl); events = sym (append-nil _) }, refl)
+    (record { parts = refl; keys = refl; registers = tt; most = most v m is.0 is.1.0; saw = (is.0, is.1.0.is_length, among_later _ v.sights (Saw (groups is.0) ∷ []) (inl refl)); kept = (_, refl); events = sym (append-nil _) }, refl)
 
 -- a register more
 pub loads_one : (v w w' : View) (m n : ℕ) (loaded : List (ℕ × Register)) (r : Register) → HasLoaded v m n loaded w → Samples w (suc n) r w' → IsRegister r → HasLoaded v m (suc n) ((suc n, r) ∷ loaded) w'
@@ -70,6 +70,7 @@ loads_one v w w' m n loaded r g is has_word = subst (HasLoaded v m (suc n) ((suc
   keys = ap (λ ks. suc n ∷ ks) g.keys;
   registers = (has_word, g.registers);
   most = g.most;
+  saw = (g.saw.0, g.saw.1, subst (IsAmong (Saw (groups g.saw.0))) (sym (append-nil w.sights)) g.saw.2);
   kept = (g.kept.0, append-nil w.sights ∙ g.kept.1);
   events = (λ i. g.events i ++ Sample (same i) (suc n) r ∷ []) ∙ append_assoc (v.events ++ Mark (number v) m ∷ []) (samples_of (number v) loaded) (Sample (number v) (suc n) r ∷ []);
 }

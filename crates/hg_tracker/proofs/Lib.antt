@@ -3,3 +3,4 @@ pub mod Noting
 pub mod After
 pub mod Trying
 pub mod Readiness
+pub mod Resting

@@ -21,7 +21,7 @@ use Rattle.hg_rule.specs.declared.view.PassPart.{PassPart}
 use Rattle.hg_rule.specs.Facts.{record_of}
 use Rattle.hg_tracker.specs.declared.gathered.Gathered.{Gathered}
 use Rattle.hg_rule.specs.Rounds.{live_entry, entries_of}
-use Rattle.hg_tracker.specs.Entries.{has_number, counts_for, times, numbers_for, lowest}
+use Rattle.hg_tracker.specs.Entries.{has_number, counts_for, times, numbers_for, common_numbers, moved_of, served, lowest}
 use Rattle.hg_tracker.specs.Gathers.{AreListsOf, IsGatherOf}
 
 -- ---- lengths
@@ -45,26 +45,90 @@ entries_most (e ∷ loaded) = omega (arith, entries_most loaded, live_most e.0 e
 
 -- ---- lists of tables
 
-pub lists_snoc : (t : ℕ) (ranked : List Entry) (lists : List (Vec ℕ Global)) (list : Vec ℕ Global) → AreListsOf t ranked lists → list.items ≡ numbers_for (t + length lists) ranked → AreListsOf t ranked (lists ++ list ∷ [])
-lists_snoc t ranked [] list h e = (e ∙ ap (λ n. numbers_for n ranked) (plain t), tt)
+pub lists_snoc : (t : ℕ) (common : List ℕ) (ranked : List Entry) (lists : List (Vec ℕ Global)) (list : Vec ℕ Global) → AreListsOf t common ranked lists → served common list.items ≡ numbers_for (t + length lists) ranked → AreListsOf t common ranked (lists ++ list ∷ [])
+lists_snoc t common ranked [] list h e = (e ∙ ap (λ n. numbers_for n ranked) (plain t), tt)
   where
     plain : (n : ℕ) → n + 0 ≡ n
     plain n = omega arith
-lists_snoc t ranked (l ∷ lists) list h e = (h.0, lists_snoc (suc t) ranked lists list h.1 (e ∙ ap (λ n. numbers_for n ranked) (shift t (length lists))))
+lists_snoc t common ranked (l ∷ lists) list h e = (h.0, lists_snoc (suc t) common ranked lists list h.1 (e ∙ ap (λ n. numbers_for n ranked) (shift t (length lists))))
   where
     shift : (a n : ℕ) → a + suc n ≡ suc a + n
     shift a n = omega arith
 
-pub list_at : (t : ℕ) (ranked : List Entry) (lists : List (Vec ℕ Global)) (k : ℕ) (d : Vec ℕ Global) → k < length lists → AreListsOf t ranked lists → (get_or lists k d).items ≡ numbers_for (t + k) ranked
-list_at t ranked [] k d l h = absurd (omega arith)
-list_at t ranked (x ∷ lists) zero d l h = h.0 ∙ ap (λ n. numbers_for n ranked) (plain t)
+pub list_at : (t : ℕ) (common : List ℕ) (ranked : List Entry) (lists : List (Vec ℕ Global)) (k : ℕ) (d : Vec ℕ Global) → k < length lists → AreListsOf t common ranked lists → served common (get_or lists k d).items ≡ numbers_for (t + k) ranked
+list_at t common ranked [] k d l h = absurd (omega arith)
+list_at t common ranked (x ∷ lists) zero d l h = h.0 ∙ ap (λ n. numbers_for n ranked) (plain t)
   where
     plain : (n : ℕ) → n ≡ n + 0
     plain n = omega arith
-list_at t ranked (x ∷ lists) (suc k) d l h = list_at (suc t) ranked lists k d (omega arith) h.1 ∙ ap (λ n. numbers_for n ranked) (shift t k)
+list_at t common ranked (x ∷ lists) (suc k) d l h = list_at (suc t) common ranked lists k d (omega arith) h.1 ∙ ap (λ n. numbers_for n ranked) (shift t k)
   where
     shift : (a n : ℕ) → suc a + n ≡ a + suc n
     shift a n = omega arith
+
+-- ---- what a table is served
+
+pub common_most : (es : List Entry) → length (common_numbers es) ≤ length es
+common_most [] = omega arith
+common_most (e ∷ es) = go e.moved (common_most es)
+  where
+    go : (m : Bool) → length (common_numbers es) ≤ length es → length (map (λ (x : Entry). x.number) (if not m then e ∷ filter (λ x. not x.moved) es else filter (λ x. not x.moved) es)) ≤ suc (length es)
+    go true h = omega (arith, h)
+    go false h = omega (arith, h)
+
+pub moved_most : (es : List Entry) → length (moved_of es) ≤ length es
+moved_most [] = omega arith
+moved_most (e ∷ es) = go e.moved (moved_most es)
+  where
+    go : (m : Bool) → length (moved_of es) ≤ length es → length (if m then e ∷ moved_of es else moved_of es) ≤ suc (length es)
+    go true h = omega (arith, h)
+    go false h = omega (arith, h)
+
+left_out : (c : Bool) (e : Entry) (es : List Entry) → map (λ (x : Entry). x.number) (if c then e ∷ es else es) ≡ [] → (c ≡ false) × (map (λ (x : Entry). x.number) es ≡ [])
+left_out true e es h = absurd (grind (arith, h))
+left_out false e es h = (refl, h)
+
+unmoved_counts : (t : ℕ) (e : Entry) → e.moved ≡ false → counts_for t e ≡ true
+unmoved_counts t e q = subst (λ m. (not m || has_number e.scope t) ≡ true) (sym q) refl
+
+none_own : (t : ℕ) (es : List Entry) → numbers_for t (moved_of es) ≡ [] → filter (λ x. not x.moved) es ≡ filter (counts_for t) es
+none_own t [] h = refl
+none_own t (e ∷ es) h = go e.moved (counts_for t e) refl (unmoved_counts t e) h (none_own t es)
+  where
+    U : List Entry
+    U = filter (λ x. not x.moved) es
+
+    F : List Entry
+    F = filter (counts_for t) es
+
+    go : (m c : Bool) → c ≡ counts_for t e → (m ≡ false → c ≡ true) → numbers_for t (if m then e ∷ moved_of es else moved_of es) ≡ [] → (numbers_for t (moved_of es) ≡ [] → U ≡ F) → (if not m then e ∷ U else U) ≡ (if c then e ∷ F else F)
+    go false true q k h f = ap (λ l. e ∷ l) (f h)
+    go false false q k h f = absurd (let bad : false ≡ true = k refl in grind (arith, bad))
+    go true c q k h f =
+        let d = left_out (counts_for t e) e (filter (counts_for t) (moved_of es)) h in
+        let out : false ≡ c = sym (q ∙ d.0) in
+        subst (λ x. U ≡ (if x then e ∷ F else F)) out (f d.1)
+
+-- no moved entry counts for the table
+pub served_common : (t : ℕ) (es : List Entry) (own : List ℕ) → own ≡ numbers_for t (moved_of es) → length own ≡ 0 → served (common_numbers es) own ≡ numbers_for t es
+served_common t es [] q l = ap (map (λ (x : Entry). x.number)) (none_own t es (sym q))
+served_common t es (n ∷ own) q l = absurd (omega (arith, l))
+
+none_common : (t : ℕ) (es : List Entry) → numbers_for t es ≡ [] → common_numbers es ≡ []
+none_common t [] h = refl
+none_common t (e ∷ es) h = go e.moved (unmoved_counts t e) (none_common t es)
+  where
+    d : (counts_for t e ≡ false) × (numbers_for t es ≡ [])
+    d = left_out (counts_for t e) e (filter (counts_for t) es) h
+
+    go : (m : Bool) → (m ≡ false → counts_for t e ≡ true) → (numbers_for t es ≡ [] → common_numbers es ≡ []) → map (λ (x : Entry). x.number) (if not m then e ∷ filter (λ x. not x.moved) es else filter (λ x. not x.moved) es) ≡ []
+    go true k f = f d.1
+    go false k f = absurd (let bad : false ≡ true = sym d.0 ∙ k refl in grind (arith, bad))
+
+-- the list has all that count for the table
+pub served_own : (t : ℕ) (es : List Entry) (own : List ℕ) → own ≡ numbers_for t es → served (common_numbers es) own ≡ numbers_for t es
+served_own t es [] q = none_common t es (sym q) ∙ q
+served_own t es (n ∷ own) q = q
 
 -- ---- how often a number counts
 
@@ -206,18 +270,22 @@ mapped_rises es h i j d le l =
 shuffled_of : (sessions : ℕ) (part : PassPart) (g : Gathered) → IsGatherOf sessions part g → IsPermutation (entries_of part.loaded) g.ranked.items
 shuffled_of sessions part g h = subst (λ es. IsPermutation es g.ranked.items) h.noted.2 h.shuffled
 
-pub list_numbers : (sessions : ℕ) (part : PassPart) (g : Gathered) (t : TableId) (d : Vec ℕ Global) → IsGatherOf sessions part g → t.0 < length g.lists.items → (n : ℕ) → times n (get_or g.lists.items t.0 d).items ≡ times n (recorded t (record_of part))
-list_numbers sessions part g t d h l n = ap (times n) (list_at 0 g.ranked.items g.lists.items t.0 d l h.lists ∙ ap (λ k. numbers_for k g.ranked.items) (none_less t.0)) ∙ recorded_times n t part.loaded g.ranked.items (shuffled_of sessions part g h)
+-- what a table is served
+abbrev pub at_table : Gathered → ℕ → Vec ℕ Global → List ℕ
+at_table g t d = served g.common.items (get_or g.lists.items t d).items
+
+pub list_numbers : (sessions : ℕ) (part : PassPart) (g : Gathered) (t : TableId) (d : Vec ℕ Global) → IsGatherOf sessions part g → t.0 < length g.lists.items → (n : ℕ) → times n (at_table g t.0 d) ≡ times n (recorded t (record_of part))
+list_numbers sessions part g t d h l n = ap (times n) (list_at 0 g.common.items g.ranked.items g.lists.items t.0 d l h.lists ∙ ap (λ k. numbers_for k g.ranked.items) (none_less t.0)) ∙ recorded_times n t part.loaded g.ranked.items (shuffled_of sessions part g h)
   where
     none_less : (n : ℕ) → 0 + n ≡ n
     none_less n = omega arith
 
-pub list_rises : (sessions : ℕ) (part : PassPart) (g : Gathered) (t : TableId) (d : Vec ℕ Global) → IsGatherOf sessions part g → t.0 < length g.lists.items → IsNonDecreasing (get_or g.lists.items t.0 d).items
-list_rises sessions part g t d h l = subst IsNonDecreasing (sym (list_at 0 g.ranked.items g.lists.items t.0 d l h.lists)) (mapped_rises (filter (counts_for (0 + t.0)) g.ranked.items) (IsNonDecreasingBy-filter (λ (e : Entry). e.number) (counts_for (0 + t.0)) g.ranked.items h.rises))
+pub list_rises : (sessions : ℕ) (part : PassPart) (g : Gathered) (t : TableId) (d : Vec ℕ Global) → IsGatherOf sessions part g → t.0 < length g.lists.items → IsNonDecreasing (at_table g t.0 d)
+list_rises sessions part g t d h l = subst IsNonDecreasing (sym (list_at 0 g.common.items g.ranked.items g.lists.items t.0 d l h.lists)) (mapped_rises (filter (counts_for (0 + t.0)) g.ranked.items) (IsNonDecreasingBy-filter (λ (e : Entry). e.number) (counts_for (0 + t.0)) g.ranked.items h.rises))
 
-pub bound_is : (sessions : ℕ) (part : PassPart) (g : Gathered) (t : TableId) (d : Vec ℕ Global) → IsGatherOf sessions part g → t.0 < length g.lists.items → lowest g.horizon (get_or g.lists.items t.0 d).items ≡ table_bound t (record_of part)
+pub bound_is : (sessions : ℕ) (part : PassPart) (g : Gathered) (t : TableId) (d : Vec ℕ Global) → IsGatherOf sessions part g → t.0 < length g.lists.items → lowest g.horizon (at_table g t.0 d) ≡ table_bound t (record_of part)
 bound_is sessions part g t d h l =
-    let xs = (get_or g.lists.items t.0 d).items in
+    let xs = at_table g t.0 d in
     lowest_least g.horizon xs (list_rises sessions part g t d h l) ∙ (least_same g.horizon xs (recorded t (record_of part)) (list_numbers sessions part g t d h l) ∙ ap (λ n. least n (recorded t (record_of part))) h.noted.1)
 
 pub least_is_bound : (sessions : ℕ) (part : PassPart) (g : Gathered) → IsGatherOf sessions part g → lowest g.horizon (map (λ (e : Entry). e.number) g.ranked.items) ≡ group_bound (record_of part)

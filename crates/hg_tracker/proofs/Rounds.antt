@@ -1,13 +1,12 @@
 -- A gather is a round, which has its record and did nothing else.
 use Rattle.std.proofs.Common.{◌≡◌, ℕ, List, [], ◌∷◌, ◌++◌, refl, sym, ap, ◌∙◌, append_assoc, arith}
-use Rattle.std.specs.Prelude.{◌+◌, suc}
 use Rattle.hg_base.specs.Lists.{Each}
 use Rattle.hg_core.specs.declared.register.Register.{Register}
 use Rattle.hg_rule.specs.declared.view.Event.{Event}
 use Rattle.hg_rule.specs.declared.view.Event.TheVariants.{Mark, Sample}
 use Rattle.hg_rule.specs.declared.view.View.{View}
 use Rattle.hg_rule.specs.Views.{number, pass}
-use Rattle.hg_rule.specs.Rounds.{IsNoMark, IsRoundOf, loaded_after, moves_in, takes_in, gone_in}
+use Rattle.hg_rule.specs.Rounds.{IsNoMark, IsRoundOf, loaded_after, takes_in, gone_in}
 use Rattle.hg_rule.proofs.Rounds.{loaded_append, gone_on, takes_on}
 use Rattle.hg_tracker.specs.Begun.{samples_of, HasGathered}
 

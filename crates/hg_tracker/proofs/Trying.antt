@@ -1,5 +1,5 @@
 -- A try to move an entry, in the record and in what was gathered.
-use Rattle.std.proofs.Common.{◌≡◌, ◌⊎◌, inl, inr, ℕ, zero, suc, ◌+◌, ◌<◌, ◌≤◌, List, [], ◌∷◌, ◌++◌, length, map, filter, take, drop, get_or, set, Some, Bool, true, false, ◌==◌, if◌then◌else◌, refl, sym, ap, ◌∙◌, subst, arith, append_assoc, append-nil, length-append}
+use Rattle.std.proofs.Common.{◌≡◌, ◌⊎◌, inl, inr, ℕ, zero, suc, ◌+◌, ◌<◌, ◌≤◌, List, [], ◌∷◌, ◌++◌, length, map, filter, take, drop, get_or, set, Option, Some, Bool, true, false, ◌==◌, if◌then◌else◌, refl, sym, ap, ◌∙◌, subst, arith, append_assoc, append-nil, length-append}
 use native.Mathlib.Decide.{dec_le}
 use Rattle.std.proofs.lemmas.Bool.Decides.{nat_tests}
 use Rattle.std.proofs.lemmas.List.{set-append_left, get_or_append_left}
@@ -91,18 +91,23 @@ keys_moved j (x ∷ loaded) = go (j == x.0) (keys_moved j loaded)
     go true h = refl
     go false h = ap (λ ks. x.0 ∷ ks) h
 
-word_moved : (r : Register) → IsRegister r → IsRegister (moved r)
-word_moved Idle h = h
-word_moved (Entering f) h = h
-word_moved (Live n scope was) h = record { number = h.number; tables = h.tables }
+-- a live register, of declared tables
+abbrev IsLiveDeclared : Option Register → Type 0
+IsLiveDeclared (Some (Live n scope was)) = IsTrue (is_declared scope)
+IsLiveDeclared _ = ⊥
 
-pub registers_moved : (j : ℕ) (loaded : List (ℕ × Register)) → Each (λ e. IsRegister e.1) loaded → Each (λ e. IsRegister e.1) (moved_in j loaded)
-registers_moved j [] h = tt
-registers_moved j (x ∷ loaded) h = go (j == x.0) (registers_moved j loaded h.1)
+word_moved : (r : Register) → IsLiveDeclared (Some r) → IsRegister r → IsRegister (moved r)
+word_moved Idle d h = h
+word_moved (Entering f) d h = h
+word_moved (Live n scope was) d h = record { number = h.number; tables = h.tables; declared = λ yes. d }
+
+pub registers_moved : (j : ℕ) (loaded : List (ℕ × Register)) → IsLiveDeclared (found j loaded) → Each (λ e. IsRegister e.1) loaded → Each (λ e. IsRegister e.1) (moved_in j loaded)
+registers_moved j [] d h = tt
+registers_moved j (x ∷ loaded) d h = go (j == x.0) d (λ d. registers_moved j loaded d h.1)
   where
-    go : (b : Bool) → Each (λ e. IsRegister e.1) (moved_in j loaded) → Each (λ e. IsRegister e.1) (if b then (x.0, moved x.1) ∷ loaded else x ∷ moved_in j loaded)
-    go true k = (word_moved x.1 h.0, h.1)
-    go false k = (h.0, k)
+    go : (b : Bool) → IsLiveDeclared (if b then Some x.1 else found j loaded) → (IsLiveDeclared (found j loaded) → Each (λ e. IsRegister e.1) (moved_in j loaded)) → Each (λ e. IsRegister e.1) (if b then (x.0, moved x.1) ∷ loaded else x ∷ moved_in j loaded)
+    go true d k = (word_moved x.1 d h.0, h.1)
+    go false d k = (h.0, k d)
 
 pub register_word : (k : ℕ) (r : Register) (loaded : List (ℕ × Register)) → Each (λ e. IsRegister e.1) loaded → found k loaded ≡ Some r → IsRegister r
 register_word k r [] h f = cc
@@ -175,10 +180,10 @@ noted_moved n v w g position e x same noted keys at is =
       (λ i. set (noted.2 i) position (record (same i) { moved = true })) ∙ (sym (entries_moved n (pass v).loaded position e keys at') ∙ ap entries_of (sym after.0)),
     )
 
-pub loaded_moved : (n : ℕ) (v w : View) (j k : ℕ) → IsLoaded n (pass v).loaded → Moves v j k true w → IsLoaded n (pass w).loaded
-loaded_moved n v w j k h is =
+pub loaded_moved : (n : ℕ) (v w : View) (j k : ℕ) (scope : Scope) (was : Bool) → found j (pass v).loaded ≡ Some (Live k scope was) → IsTrue (is_declared scope) → IsLoaded n (pass v).loaded → Moves v j k true w → IsLoaded n (pass w).loaded
+loaded_moved n v w j k scope was there d h is =
     let after = moved_pass v w j k is in
-    subst (IsLoaded n) (sym after.0) (keys_moved j (pass v).loaded ∙ h.0, registers_moved j (pass v).loaded h.1)
+    subst (IsLoaded n) (sym after.0) (keys_moved j (pass v).loaded ∙ h.0, registers_moved j (pass v).loaded (subst IsLiveDeclared (sym there) d) h.1)
 
 -- ---- one try after the others
 

@@ -1,5 +1,5 @@
 -- What a record's registers show, as entries by ascending session.
-use Rattle.std.specs.Prelude.{ℕ, zero, suc, if◌then◌else◌, ◌^◌, ◌/◌, ◌%◌, ◌==◌, ◌||◌, not, Bool, true, min, map, filter, List, [], ◌∷◌, ◌++◌}
+use Rattle.std.specs.Prelude.{ℕ, zero, suc, if◌then◌else◌, ◌^◌, ◌/◌, ◌%◌, ◌==◌, ◌||◌, not, Bool, true, min, map, filter, List, [], ◌∷◌}
 use Rattle.hg_base.specs.declared.scope.Scope.{Scope}
 use Rattle.hg_base.specs.declared.scope.Scope.TheVariants.{All, Declared}
 use Rattle.hg_base.specs.declared.report.Entry.{Entry}
@@ -26,6 +26,19 @@ times n (m ∷ numbers) = if m == n then suc (times n numbers) else times n numb
 -- the numbers of the entries that count for a table
 abbrev pub numbers_for : ℕ → List Entry → List ℕ
 numbers_for table entries = map (λ e. e.number) (filter (counts_for table) entries)
+
+-- the numbers of the entries that count for all tables
+abbrev pub common_numbers : List Entry → List ℕ
+common_numbers entries = map (λ e. e.number) (filter (λ e. not e.moved) entries)
+
+-- the entries that were moved
+abbrev pub moved_of : List Entry → List Entry
+moved_of entries = filter (λ e. e.moved) entries
+
+-- a table's own list, or the common one where that is empty
+abbrev pub served : List ℕ → List ℕ → List ℕ
+served common [] = common
+served common (n ∷ own) = n ∷ own
 
 -- a number, or the first of a list where that is less
 abbrev pub lowest : ℕ → List ℕ → ℕ

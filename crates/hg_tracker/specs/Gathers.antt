@@ -10,7 +10,7 @@ use Rattle.hg_core.specs.Passes.{least_entering}
 use Rattle.hg_rule.specs.declared.view.PassPart.{PassPart}
 use Rattle.hg_tracker.specs.declared.gathered.Gathered.{Gathered}
 use Rattle.hg_rule.specs.Rounds.{entries_of}
-use Rattle.hg_tracker.specs.Entries.{numbers_for, down_from}
+use Rattle.hg_tracker.specs.Entries.{numbers_for, served, down_from}
 
 -- how many tables it is made for
 abbrev pub tables_in : Gathered → ℕ
@@ -21,6 +21,7 @@ abbrev pub IsMadeFor : ℕ → ℕ → Gathered → Type 0
 IsMadeFor sessions tables g =
     (g.sessions ≡ sessions) × (tables_in g ≡ tables) × (tables ≤ 16)
     × (sessions ≤ vec_capacity g.entries) × (sessions ≤ vec_capacity g.ranked) × All (λ list. sessions ≤ vec_capacity list) g.lists.items
+    × (sessions ≤ vec_capacity g.moved) × (sessions ≤ vec_capacity g.common)
 
 -- the mark, the horizon and the entries are those of a record so far
 abbrev pub IsNotedOf : ℕ → List (ℕ × Register) → Gathered → Type 0
@@ -34,10 +35,10 @@ IsLoaded sessions loaded = (map (λ e. e.0) loaded ≡ down_from sessions) × Ea
 abbrev pub StandsAt : ℕ → Entry → List Entry → Type 0
 StandsAt position e entries = (position < length entries) × ((other : Entry) → slice_index_or entries position other ≡ e)
 
--- each is the list of its table, from number t on
-abbrev pub AreListsOf : ℕ → List Entry → List (Vec ℕ Global) → Type 0
-AreListsOf t ranked [] = ⊤
-AreListsOf t ranked (list ∷ lists) = (list.items ≡ numbers_for t ranked) × AreListsOf (suc t) ranked lists
+-- what each table is served are its numbers, from number t on
+abbrev pub AreListsOf : ℕ → List ℕ → List Entry → List (Vec ℕ Global) → Type 0
+AreListsOf t common ranked [] = ⊤
+AreListsOf t common ranked (list ∷ lists) = (served common list.items ≡ numbers_for t ranked) × AreListsOf (suc t) common ranked lists
 
 -- The gather is the record of a pass that loaded each register: the mark, the horizon, the entries, and of each table the
 -- numbers that count for it, ascending.
@@ -46,4 +47,4 @@ pub record IsGatherOf (sessions : ℕ) (part : PassPart) (g : Gathered) : Type 0
   pub loaded : IsLoaded sessions part.loaded
   pub shuffled : IsPermutation g.entries.items g.ranked.items
   pub rises : IsNonDecreasingBy (λ (e : Entry). e.number) g.ranked.items
-  pub lists : AreListsOf 0 g.ranked.items g.lists.items
+  pub lists : AreListsOf 0 g.common.items g.ranked.items g.lists.items

@@ -8,7 +8,7 @@ ghost use Rattle.hg_rule.specs.Facts.{record_of};
 ghost use Rattle.hg_base.specs.declared.report.Entry.{Entry};
 ghost use Rattle.hg_tracker.specs.Gathers.{AreListsOf};
 ghost use Rattle.hg_rule.specs.Rounds.{live_entry, entries_of};
-ghost use Rattle.hg_tracker.specs.Entries.{has_number, counts_for, numbers_for, lowest, times};
+ghost use Rattle.hg_tracker.specs.Entries.{has_number, counts_for, numbers_for, common_numbers, moved_of, served, lowest, times};
 
 use hg_base::{Entry, NoMemory, Scope, TableId};
 use hg_core::Register;
@@ -25,7 +25,11 @@ pub struct Gathered {
     pub(crate) entries: Vec<Entry>,
     /// The same by ascending number.
     pub(crate) ranked: Vec<Entry>,
-    /// Of each table, the numbers of those that count for it, ascending.
+    /// Those that were moved, by ascending number.
+    pub(crate) moved: Vec<Entry>,
+    /// The numbers of those that count for all tables, ascending.
+    pub(crate) common: Vec<u64>,
+    /// Of each table that a moved one counts for, the numbers of those that count for it, ascending. Of others nothing.
     pub(crate) lists: Vec<Vec<u64>>,
 }
 
@@ -61,15 +65,58 @@ fn fill(list: &mut Vec<u64>, table: u8, ranked: &[Entry])
     }
 }
 
-// Each table's list. None needs more room than for so many sessions.
-fn fill_all(lists: &mut [Vec<u64>], ranked: &[Entry], _sessions: u32)
+// The numbers of those that count for all tables.
+fn fill_common(common: &mut Vec<u64>, ranked: &[Entry])
+    requires room { length ranked.now ≤ vec_capacity common.old }
+    ensures items { common.new.items ≡ common_numbers ranked.now }
+    ensures room { vec_capacity common.old ≤ vec_capacity common.new }
+{
+    common.clear();
+    for entry in ranked {
+        if !entry.moved && common.push(entry.number).is_err() {
+            unreachable!();
+        }
+    }
+}
+
+// Those that were moved.
+fn fill_moved(moved: &mut Vec<Entry>, ranked: &[Entry])
+    requires room { length ranked.now ≤ vec_capacity moved.old }
+    ensures items { moved.new.items ≡ moved_of ranked.now }
+    ensures room { vec_capacity moved.old ≤ vec_capacity moved.new }
+{
+    moved.clear();
+    for entry in ranked {
+        if entry.moved && moved.push(*entry).is_err() {
+            unreachable!();
+        }
+    }
+}
+
+// A table's own list stays empty where no moved one counts for it.
+fn fill_own(list: &mut Vec<u64>, table: u8, moved: &[Entry], ranked: &[Entry])
+    requires table { table < 16 }
+    requires moved { moved.now ≡ moved_of ranked.now }
+    requires room { length ranked.now ≤ vec_capacity list.old }
+    ensures items { served (common_numbers ranked.now) list.new.items ≡ numbers_for table ranked.now }
+    ensures room { vec_capacity list.old ≤ vec_capacity list.new }
+{
+    fill(list, table, moved);
+    if !list.is_empty() {
+        fill(list, table, ranked);
+    }
+}
+
+// Each table's own list. None needs more room than for so many sessions.
+fn fill_all(lists: &mut [Vec<u64>], moved: &[Entry], ranked: &[Entry], _sessions: u32)
     requires tables { length lists.old ≤ 16 }
+    requires moved { moved.now ≡ moved_of ranked.now }
     requires room { (length ranked.now ≤ _sessions) × All (λ list. _sessions ≤ vec_capacity list) lists.old }
-    ensures lists { AreListsOf 0 ranked.now lists.new }
+    ensures lists { AreListsOf 0 (common_numbers ranked.now) ranked.now lists.new }
     ensures room { (length lists.new ≡ length lists.old) × All (λ list. _sessions ≤ vec_capacity list) lists.new }
 {
     for table in 0..lists.len() {
-        fill(&mut lists[table], table as u8, ranked);
+        fill_own(&mut lists[table], table as u8, moved, ranked);
     }
 }
 
@@ -85,6 +132,13 @@ fn rank(ranked: &mut Vec<Entry>, entries: &[Entry])
         unreachable!();
     }
     ranked.sort_unstable_by_key(|entry| entry.number);
+}
+
+// A table's own list where it has one, and else what counts for all tables.
+fn serve<'a>(common: &'a [u64], own: &'a [u64]) -> &'a [u64]
+    ensures { result.now ≡ served common.now own.now }
+{
+    if own.is_empty() { common } else { own }
 }
 
 fn lowest_of(horizon: u64, numbers: &[u64]) -> u64
@@ -124,6 +178,8 @@ impl Gathered {
             horizon: 0,
             entries: Vec::with_capacity(alloc, sessions as usize)?,
             ranked: Vec::with_capacity(alloc, sessions as usize)?,
+            moved: Vec::with_capacity(alloc, sessions as usize)?,
+            common: Vec::with_capacity(alloc, sessions as usize)?,
             lists,
         })
     }
@@ -161,7 +217,7 @@ impl Gathered {
         requires there { t.0 < tables_in self.now }
         ensures { (sessions : ℕ) (part : PassPart) → IsGatherOf sessions part self.now → result ≡ table_bound t (record_of part) }
     {
-        lowest_of(self.horizon, &self.lists[t.0 as usize])
+        lowest_of(self.horizon, serve(&self.common, &self.lists[t.0 as usize]))
     }
 
     /// The snapshots that count for a table: those that were not moved, and those that were and declared it.
@@ -170,7 +226,7 @@ impl Gathered {
         ensures rises { (sessions : ℕ) (part : PassPart) → IsGatherOf sessions part self.now → IsNonDecreasing result.now }
         ensures numbers { (sessions : ℕ) (part : PassPart) → IsGatherOf sessions part self.now → (n : ℕ) → times n result.now ≡ times n (recorded t (record_of part)) }
     {
-        &self.lists[t.0 as usize]
+        serve(&self.common, &self.lists[t.0 as usize])
     }
 
     /// The live registers, by ascending session.
@@ -223,17 +279,24 @@ impl Gathered {
         }
     }
 
-    // The entries are those of the record: ranks them, and makes the list of each table.
+    // The entries are those of the record: ranks them, and makes the list for all tables and those of the moved ones.
     pub(crate) fn sum_up(&mut self)
         requires made { IsMadeFor self.old.sessions (tables_in self.old) self.old }
         requires room { length self.old.entries.items ≤ self.old.sessions }
         ensures noted { (self.new.mark ≡ self.old.mark) × (self.new.horizon ≡ self.old.horizon) × (self.new.entries.items ≡ self.old.entries.items) }
         ensures shuffled { IsPermutation self.new.entries.items self.new.ranked.items }
         ensures rises { IsNonDecreasingBy (λ (e : Entry). e.number) self.new.ranked.items }
-        ensures lists { AreListsOf 0 self.new.ranked.items self.new.lists.items }
+        ensures lists { AreListsOf 0 self.new.common.items self.new.ranked.items self.new.lists.items }
         ensures made { IsMadeFor self.old.sessions (tables_in self.old) self.new }
     {
         rank(&mut self.ranked, &self.entries);
-        fill_all(self.lists.as_mut_slice(), &self.ranked, self.sessions);
+        fill_common(&mut self.common, &self.ranked);
+        fill_moved(&mut self.moved, &self.ranked);
+        fill_all(
+            self.lists.as_mut_slice(),
+            &self.moved,
+            &self.ranked,
+            self.sessions,
+        );
     }
 }

@@ -26,4 +26,6 @@ pub use gathered::Gathered;
 pub use trackers::Trackers;
 
 #[cfg(test)]
+mod entering_tests;
+#[cfg(test)]
 mod tests;

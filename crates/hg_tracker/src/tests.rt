@@ -9,7 +9,6 @@ ghost use Rattle.hg_tracker.specs.Ready.{IsReady};
 
 use super::*;
 use hg_base::{Entry, Scope, TableId};
-use hg_core::Register;
 use hg_rule::{Board, CollectorPass, SessionPass};
 use std::test::Fail;
 use std::thread;
@@ -117,22 +116,6 @@ fn one_pass_takes_in_the_others(rt: HostRuntime) -> Result<(), Fail> {
     trackers.gather(&mut collector, &mut gathered);
     assert_eq!(rt; trackers.move_long(&mut collector, &mut gathered, 1), 0);
     assert_eq!(rt; trackers.board().look_at(&mut collector), 0);
-    assert_eq!(rt; gathered.entries().len(), 0);
-    Ok(())
-}
-
-// Session 1 enters at 4 while others commit to 9, as in the steps of the rule. It has no entry, and holds each bound back.
-#[test]
-fn an_entering_session_holds_the_horizon_back(rt: HostRuntime) -> Result<(), Fail> {
-    let mut gathered = Gathered::new(rt.alloc(), 2, 1)?;
-    gathered.start(9);
-    gathered.note(1, Register::Entering(4));
-    gathered.note(2, Register::Idle);
-    gathered.sum_up();
-    assert_eq!(rt; gathered.mark(), 9);
-    assert_eq!(rt; gathered.horizon(), 4);
-    assert_eq!(rt; gathered.least(), 4);
-    assert_eq!(rt; gathered.bound(TableId(0)), 4);
     assert_eq!(rt; gathered.entries().len(), 0);
     Ok(())
 }

@@ -1,6 +1,6 @@
 use Rattle.std.proofs.Common.{rules, ◌≡◌, ℕ, ◌+◌, ◌<◌, length, take, sym, ap, ◌∙◌, subst}
 use Rattle.std.proofs.lemmas.List.{take_more_set}
-use Rattle.hg_tracker.specs.Entries.{numbers_for}
+use Rattle.hg_tracker.specs.Entries.{numbers_for, common_numbers}
 use Rattle.hg_tracker.specs.Gathers.{AreListsOf}
 use Rattle.hg_tracker.proofs.Noting.{lists_snoc}
 use Rattle.hg_tracker.proofs.gathered.fill_all.Goals as goal
@@ -11,8 +11,8 @@ loop-table-preserved c =
     let t : ℕ = c.loop-table.table in
     let inside : t < length lists = search rules in
     let count : 0 + length (take t lists) ≡ t = search rules in (
-      subst (AreListsOf 0 c.args.ranked.now) (sym (take_more_set lists t c.fill.new.list inside))
-          (lists_snoc 0 c.args.ranked.now (take t lists) c.fill.new.list c.loop-table.invariant.0 (c.fill.ensures.items ∙ ap (λ n. numbers_for n c.args.ranked.now) (sym count))),
+      subst (AreListsOf 0 (common_numbers c.args.ranked.now) c.args.ranked.now) (sym (take_more_set lists t c.fill_own.new.list inside))
+          (lists_snoc 0 (common_numbers c.args.ranked.now) c.args.ranked.now (take t lists) c.fill_own.new.list c.loop-table.invariant.0 (c.fill_own.ensures.items ∙ ap (λ n. numbers_for n c.args.ranked.now) (sym count))),
       search rules,
       search rules,
     )

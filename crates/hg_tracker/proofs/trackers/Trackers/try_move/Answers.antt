@@ -35,4 +35,6 @@ returns-then-moved-clause-loaded c =
     let v = pass_view c.args.pass.now in
     let w = pass_view c.move_one-moved.new.pass in
     let e = c.args.entry in
-    loaded_moved (board_sizes c.args.self.now).sessions v w e.session e.number c.requires.loaded (subst (λ b. Moves v e.session e.number b w) c.if-moved.true c.move_one-moved.ensures.step)
+    let loaded = (pass v).loaded in
+    let there = entry_found (board_sizes c.args.self.now).sessions loaded c.args.position e c.requires.loaded.0 (subst (StandsAt c.args.position e) c.requires.noted.2 c.requires.position) in
+    loaded_moved (board_sizes c.args.self.now).sessions v w e.session e.number e.scope e.moved there c.requires.movable.0 c.requires.loaded (subst (λ b. Moves v e.session e.number b w) c.if-moved.true c.move_one-moved.ensures.step)
