@@ -7,7 +7,7 @@ use Rattle.hg_base.specs.declared.writer.Writer.{Writer}
 use Rattle.hg_base.specs.Lists.{Each}
 use Rattle.hg_core.specs.Versions.{unpublished}
 use Rattle.hg_core.specs.Contents.{has_stamped, versions}
-use Rattle.hg_core.specs.Logs.{begun_in}
+use Rattle.hg_core.specs.Logs.{begun_in, has_end}
 use Rattle.hg_core.specs.OpenWrites.{writer_of}
 use Rattle.hg_core.specs.State.{CoreState}
 use Rattle.hg_core.specs.Invariant.{IsSteady}
@@ -15,7 +15,7 @@ use Rattle.hg_core.proofs.OpenWrites.{none_stamped}
 use Rattle.hg_rule.specs.declared.view.Sight.{Sight}
 use Rattle.hg_rule.specs.declared.view.Sight.TheVariants.{Saw, Heard, Took, Did}
 use Rattle.hg_rule.specs.Facts.{Known}
-use Rattle.hg_store.specs.Ends.{has_end, HasNoEnd}
+use Rattle.hg_store.specs.Ends.{HasNoEnd}
 use Rattle.hg_store.proofs.Refusing.{IsUnstamped}
 use Rattle.hg_store.proofs.Ending.{open_goes_on, seen_goes_on}
 

@@ -11,7 +11,7 @@ use Rattle.hg_core.specs.Versions.{stamp_number, is_up_to, first_at, installed, 
 use Rattle.hg_core.specs.Counters.{added}
 use Rattle.hg_core.specs.Removal.{cut, oldest}
 use Rattle.hg_core.specs.Clean.{past, as_oldest}
-use Rattle.hg_core.specs.Replies.{same_writer}
+use Rattle.hg_base.specs.History.{same_writer}
 use Rattle.hg_core.specs.Ordered.{Falls, IsOrdered}
 use Rattle.hg_core.proofs.Replies.{writer_itself}
 use Rattle.hg_core.proofs.Clean.{cut_exactly}

@@ -26,7 +26,8 @@ use Rattle.hg_core.specs.Logs.{begans, begun_in, wrotes}
 use Rattle.hg_core.specs.OpenWrites.{writer_of}
 use Rattle.hg_core.specs.Ordered.{IsOrdered}
 use Rattle.hg_core.specs.Phases.{IsSession, snapshot_in}
-use Rattle.hg_core.specs.Replies.{same_writer, refused_over, refused_by, refusal}
+use Rattle.hg_base.specs.History.{same_writer}
+use Rattle.hg_core.specs.Replies.{refused_over, refused_by, refusal}
 use Rattle.hg_bucket.specs.declared.refusal.WriteRefusal.{WriteRefusal}
 use Rattle.hg_bucket.specs.declared.refusal.WriteRefusal.TheVariants.{Open, Newer, NoMemory}
 use Rattle.hg_bucket.specs.Conflicts.{holder, newer, conflict, open_by}

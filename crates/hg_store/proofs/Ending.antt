@@ -6,10 +6,9 @@ use Rattle.hg_base.specs.declared.rid.Rid.{Rid}
 use Rattle.hg_base.specs.History.{History, same_rid}
 use Rattle.hg_core.specs.declared.log.LogEntry.{LogEntry}
 use Rattle.hg_core.specs.declared.log.LogEntry.TheVariants.{Began, Saw, Refused, Outside, Wrote, Undid, Published, Over}
-use Rattle.hg_core.specs.Logs.{current, begans, is_plain, open_in}
+use Rattle.hg_core.specs.Logs.{current, begans, is_plain, open_in, has_end}
 use Rattle.hg_core.specs.Replies.{AreReplied}
 use Rattle.hg_core.specs.Judged.{Judged}
-use Rattle.hg_store.specs.Ends.{has_end}
 
 -- no transaction ends that hasn't begun
 later_ends : (x : ℕ) (log : List LogEntry) → begans log < x → has_end x log ≡ false

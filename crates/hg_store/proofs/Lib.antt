@@ -17,3 +17,4 @@ pub mod Rising
 pub mod Clearing
 pub mod Boxing
 pub mod Rounding
+pub mod Spending

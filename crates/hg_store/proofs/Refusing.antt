@@ -10,7 +10,8 @@ use Rattle.hg_core.specs.declared.version.Stamp.{Stamp}
 use Rattle.hg_core.specs.declared.version.Stamp.TheVariants.{Written, Numbered, Oldest}
 use Rattle.hg_core.specs.declared.version.Version.{Version}
 use Rattle.hg_core.specs.Versions.{pair_of, first_at, newest_at, is_numbered, unpublished, IsFreeFor}
-use Rattle.hg_core.specs.Replies.{same_writer, refused_over, refused_by, refusal}
+use Rattle.hg_base.specs.History.{same_writer}
+use Rattle.hg_core.specs.Replies.{refused_over, refused_by, refusal}
 use Rattle.hg_core.specs.Ordered.{IsOrdered}
 use Rattle.hg_core.proofs.Replies.{writer_same}
 use Rattle.hg_bucket.specs.declared.refusal.WriteRefusal.TheVariants.{Newer}

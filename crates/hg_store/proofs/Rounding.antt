@@ -20,7 +20,7 @@ use Rattle.hg_rule.specs.declared.view.Sizes.{Sizes}
 use Rattle.hg_rule.specs.Facts.{record_of}
 use Rattle.hg_rule.specs.Rules.{IsBacked}
 use Rattle.hg_rule.specs.Views.{pass}
-use Rattle.hg_rule.specs.Holding.{bucket, held}
+use Rattle.hg_rule.specs.Holding.{held}
 use Rattle.hg_rule.specs.Removes.{Reclaims, left_of, removed_of}
 use Rattle.hg_store.specs.declared.held.Held.{Held}
 use Rattle.hg_store.specs.Kept.{kept}

@@ -4,13 +4,13 @@ use Rattle.std.specs.Prelude.{find, option_map, unwrap_or}
 use Rattle.std.specs.Option.{option_or}
 use Rattle.hg_base.specs.declared.image.Image.{Image}
 use Rattle.hg_base.specs.declared.writer.Writer.{Writer}
-use Rattle.hg_base.specs.History.{nothing}
+use Rattle.hg_base.specs.History.{nothing, same_writer}
 use Rattle.hg_core.specs.declared.version.Stamp.{Stamp}
 use Rattle.hg_core.specs.declared.version.Stamp.TheVariants.{Written, Numbered, Oldest}
 use Rattle.hg_core.specs.declared.version.Version.{Version}
 use Rattle.hg_core.specs.Versions.{stamp_number, is_up_to, first_at, paired, pair_of, newest_at}
 use Rattle.hg_core.specs.Covered.{image_of}
-use Rattle.hg_core.specs.Replies.{same_writer, read_by}
+use Rattle.hg_core.specs.Replies.{read_by}
 use Rattle.hg_core.specs.Ordered.{Falls, IsOrdered}
 use Rattle.hg_bucket.specs.BucketModel.{Kept, is_at_most, is_open_by, read_at}
 use Rattle.hg_store.specs.Kept.{kept_as, kept}

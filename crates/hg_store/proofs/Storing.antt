@@ -11,7 +11,8 @@ use Rattle.hg_base.specs.Lists.{Each}
 use Rattle.hg_core.specs.declared.ask.Ask.TheVariants.{Write}
 use Rattle.hg_core.specs.Versions.{newest_at, unpublished, installed, IsFreeFor}
 use Rattle.hg_core.specs.Ordered.{IsOrdered}
-use Rattle.hg_core.specs.Replies.{same_writer, refused_over, refused_by, refusal}
+use Rattle.hg_base.specs.History.{same_writer}
+use Rattle.hg_core.specs.Replies.{refused_over, refused_by, refusal}
 use Rattle.hg_core.proofs.Replies.{writer_itself}
 use Rattle.hg_core.proofs.Versions.{installed_ordered}
 use Rattle.hg_bucket.specs.declared.refusal.WriteRefusal.{WriteRefusal}

@@ -1,5 +1,5 @@
 -- What a pass makes of a table in a bucket that it holds.
-use Rattle.std.specs.Prelude.{◌≡◌, ℕ, ◌+◌, List, [], ◌∷◌, map, IsTrue, Contains, ◌↔◌}
+use Rattle.std.specs.Prelude.{◌≡◌, ℕ, ◌+◌, ◌≤◌, List, [], ◌∷◌, map, length, sum_by, IsTrue, Contains, ◌↔◌}
 use Rattle.hg_base.specs.declared.rid.Rid.{Rid}
 use Rattle.hg_base.specs.declared.rid.TableId.{TableId}
 use Rattle.hg_base.specs.declared.report.Kind.{Kind}
@@ -40,6 +40,14 @@ pub record Counts (v : View) (kind : Kind) (gone : ℕ) (w : View) : Type 0 wher
   pub versions : total (bucket w).content + gone ≡ total (bucket v).content
   pub rest : beyond w ≡ beyond v
   pub sights : w.sights ≡ v.sights
+
+-- A count of steps rose at most by what some records of the table cost, each once, that have more than their oldest image: the
+-- versions of each, and so many snapshots.
+pub record Spends (v : View) (table : TableId) (snapshots before after : ℕ) : Type 0 where
+  pub looked : List Rid
+  pub once : NoneTwice looked
+  pub are_long : Each (IsLongOf table v) looked
+  pub few : after ≤ before + sum_by (λ r. length (held v r) + snapshots) looked
 
 -- the same numbers stand in two lists, in whatever order
 abbrev pub HaveSame : List ℕ → List ℕ → Type 0

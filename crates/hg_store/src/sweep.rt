@@ -1,6 +1,6 @@
 //! What a collector's pass sweeps in a bucket that it holds. Each record that is visited costs one step of the pass.
 
-ghost use Rattle.std.specs.Prelude.{◌≡◌, ℕ, ◌+◌, ◌≤◌, Some, slice_get, take};
+ghost use Rattle.std.specs.Prelude.{◌≡◌, ℕ, ◌+◌, ◌≤◌, Some, length, slice_get, take};
 ghost use Rattle.std.specs.List.Sorted.{IsNonDecreasing};
 ghost use Rattle.hg_base.specs.declared.rid.Rid.{Rid};
 ghost use Rattle.hg_base.specs.declared.report.Kind.TheVariants.{Interval};
@@ -15,7 +15,7 @@ ghost use Rattle.hg_rule.specs.Views.{pass as own_pass};
 ghost use Rattle.hg_rule.specs.Removes.{left_of, removed_of, Reclaims};
 ghost use Rattle.hg_rule.specs.Seats.{board_id, sizes_of, pass_view, IsPassOf};
 ghost use Rattle.hg_store.specs.Stores.{held_board_id, held_number, held_records, Holds};
-ghost use Rattle.hg_store.specs.Clearing.{Clears, Counts, HaveSame};
+ghost use Rattle.hg_store.specs.Clearing.{Clears, Counts, Spends, HaveSame};
 
 use crate::held::Held;
 use hg_base::{Kind, Rid, Steps, TableId};
@@ -50,6 +50,7 @@ impl<'a> Held<'a> {
         ensures held { (held_board_id self.new ≡ held_board_id self.old) × (held_number self.new ≡ held_number self.old) }
         ensures own { IsPassOf (board_id board.now) pass.new }
         ensures cost { steps.new ≤ steps.old + sweep_steps table snapshots.now (held_records self.old).records }
+        ensures spends { Spends (pass_view pass.old) table (length snapshots.now) steps.old steps.new }
     {
         board.look_at(pass);
         let mut gone = 0;

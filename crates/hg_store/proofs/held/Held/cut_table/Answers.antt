@@ -1,4 +1,4 @@
-use Rattle.std.proofs.Common.{◌≡◌, ◌+◌, ◌-◌, ◌<◌, ◌≤◌, length, take, slice_get, Some, refl, sym, ap, ◌∙◌, subst, arith}
+use Rattle.std.proofs.Common.{◌≡◌, ◌+◌, ◌-◌, ◌<◌, length, slice_get, Some, refl, sym, ap, ◌∙◌, subst, arith}
 use Rattle.hg_base.specs.declared.report.Kind.TheVariants.{Table}
 use Rattle.hg_core.specs.Clean.{IsCutAt}
 use Rattle.hg_core.specs.Passes.{IsWhole, table_bound}
@@ -10,7 +10,7 @@ use Rattle.hg_rule.specs.Facts.{record_of}
 use Rattle.hg_rule.specs.Rules.{IsBacked}
 use Rattle.hg_rule.specs.Views.{pass, HasPass}
 use Rattle.hg_rule.specs.Seats.{sizes_of, pass_view}
-use Rattle.hg_store.specs.Stores.{held_number, held_records, Holds}
+use Rattle.hg_store.specs.Stores.{held_records, Holds}
 use Rattle.hg_store.proofs.Doing.{does_table}
 use Rattle.hg_store.proofs.Clearing.{same_record, gone_fits, cut_left}
 use Rattle.hg_store.proofs.Rounding.{Rounds, round_begins, round_goes, round_ends, key_here}

@@ -3,10 +3,10 @@ use Rattle.std.proofs.Math.Seq.{take-length}
 use Rattle.hg_base.specs.declared.report.Kind.TheVariants.{Interval}
 use Rattle.hg_core.specs.Clean.{IsClean}
 use Rattle.hg_core.specs.Passes.{IsWhole, horizon, recorded}
-use Rattle.hg_bucket.specs.BucketModel.{record_at, versions_of, BucketModel}
+use Rattle.hg_bucket.specs.BucketModel.{record_at, BucketModel}
 use Rattle.hg_bucket.specs.Long.{AreLong}
 use Rattle.hg_bucket.specs.BucketModel.{long_keys}
-use Rattle.hg_bucket.specs.Sweeping.{swept, sweep_steps}
+use Rattle.hg_bucket.specs.Sweeping.{swept}
 use Rattle.hg_bucket.proofs.Costing.{cost_of}
 use Rattle.hg_bucket.proofs.Paying.{keys_cost, all_keys_paid, key_paid}
 use Rattle.hg_bucket.proofs.Rounds.{Leads, leads_first, leads_within, leads_key, leads_on}
@@ -15,9 +15,10 @@ use Rattle.hg_rule.specs.Rules.{IsBacked}
 use Rattle.hg_rule.specs.Views.{pass, HasPass}
 use Rattle.hg_rule.specs.Seats.{sizes_of, pass_view}
 use Rattle.hg_store.specs.Clearing.{HaveSame}
-use Rattle.hg_store.specs.Stores.{held_number, held_records, Holds}
+use Rattle.hg_store.specs.Stores.{held_records, Holds}
 use Rattle.hg_store.proofs.Doing.{does_interval}
 use Rattle.hg_store.proofs.Clearing.{same_record, gone_fits, clean_left}
+use Rattle.hg_store.proofs.Spending.{spends_keys}
 use Rattle.hg_store.proofs.Rounding.{Rounds, round_begins, round_goes, round_ends, key_here, kept_at}
 use Rattle.hg_store.proofs.held.Held.sweep.Goals as goal
 
@@ -37,7 +38,7 @@ loop-left-init g c =
       refl,
       refl,
       subst (λ n. Leads n keys keys) (sym many) (leads_first keys),
-      (let all = ap (keys_cost t (length c.args.snapshots.now) (held_records h).records) (ap (λ n. take n keys) many ∙ take-length keys) in omega (arith, all, all_keys_paid t c.args.snapshots.now (held_records h).records keys long.once)),
+      (let all = ap (keys_cost t (length c.args.snapshots.now) (held_records h).records) (ap (λ n. take n keys) many ∙ take-length keys) in omega (arith, all)),
     )
 
 pub long_key-key-requires : goal.long_key-key-requires
@@ -101,7 +102,7 @@ loop-left-preserved g c =
     let x = pass_view c.sweep_one-gone.new.pass in
     let n = length c.args.snapshots.now in
     let old = (held_records h).records in
-    let before : c.loop-left.steps + keys_cost t n old (take left keys) ≤ c.args.steps.now + sweep_steps t c.args.snapshots.now old = c.loop-left.invariant.6 in
+    let before : c.loop-left.steps + keys_cost t n old (take left keys) ≤ c.args.steps.now + keys_cost t n old keys = c.loop-left.invariant.6 in
     let cost = subst (λ vs. c.sweep_one-gone.new.steps ≤ c.loop-left.steps + cost_of n vs) (kept_at Interval t keys v w h c.loop-left.self left l k c.loop-left.gone c.requires.holds c.loop-left.invariant.1 c.loop-left.invariant.0 (omega arith) there) c.sweep_one-gone.ensures.cost in
     let once = key_paid t n old keys left l k (omega arith) there in
     let more = round_goes Interval t keys v w x h left l k c.loop-left.gone (omega arith) c.requires.holds long there c.loop-left.invariant.0 c.sweep_one-gone.ensures.step in (
@@ -135,3 +136,19 @@ returns-clause-steps g c = c.loop-left.invariant.0.clears
 
 pub returns-clause-gone : goal.returns-clause-gone
 returns-clause-gone g c = c.loop-left.invariant.0.counts
+
+pub returns-clause-cost : goal.returns-clause-cost
+returns-clause-cost g c =
+    let t = c.args.table in
+    let h = c.args.self.now in
+    let keys = long_keys (held_records h) t in
+    let long = subst (λ (b : BucketModel). AreLong (long_keys b t) t b.records) c.deref.ensures c.long_count-left.ensures.whole in
+    omega (arith, c.loop-left.invariant.6, all_keys_paid t c.args.snapshots.now (held_records h).records keys long.once)
+
+pub returns-clause-spends : goal.returns-clause-spends
+returns-clause-spends g c =
+    let t = c.args.table in
+    let h = c.args.self.now in
+    let keys = long_keys (held_records h) t in
+    let long = subst (λ (b : BucketModel). AreLong (long_keys b t) t b.records) c.deref.ensures c.long_count-left.ensures.whole in
+    spends_keys t (length c.args.snapshots.now) c.args.steps.now c.loop-left.steps (pass_view c.args.pass.now) h keys c.requires.holds long (omega (arith, c.loop-left.invariant.6))

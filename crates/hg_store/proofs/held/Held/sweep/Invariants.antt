@@ -1,7 +1,6 @@
 use Rattle.std.proofs.Common.{◌≡◌, ◌+◌, ◌≤◌, length, take}
 use Rattle.hg_base.specs.declared.report.Kind.TheVariants.{Interval}
 use Rattle.hg_bucket.specs.BucketModel.{long_keys}
-use Rattle.hg_bucket.specs.Sweeping.{sweep_steps}
 use Rattle.hg_bucket.proofs.Paying.{keys_cost}
 use Rattle.hg_bucket.proofs.Rounds.{Leads}
 use Rattle.hg_rule.specs.Seats.{board_id, pass_view, IsPassOf}
@@ -17,7 +16,7 @@ invariant-loop-left g l =
     × (held_board_id l.self ≡ held_board_id l.fn.self)
     × (held_number l.self ≡ held_number l.fn.self)
     × Leads l.left (long_keys (held_records l.self) l.table) (long_keys (held_records l.fn.self) l.table)
-    × (l.steps + keys_cost l.table (length l.snapshots) (held_records l.fn.self).records (take l.left (long_keys (held_records l.fn.self) l.table)) ≤ l.fn.steps + sweep_steps l.table l.snapshots (held_records l.fn.self).records)
+    × (l.steps + keys_cost l.table (length l.snapshots) (held_records l.fn.self).records (take l.left (long_keys (held_records l.fn.self) l.table)) ≤ l.fn.steps + keys_cost l.table (length l.snapshots) (held_records l.fn.self).records (long_keys (held_records l.fn.self) l.table))
 
 abbrev pub decreases-loop-left : goal.decreases-loop-left
 decreases-loop-left g l = l.left
