@@ -11,7 +11,6 @@ use Rattle.hg_core.specs.OpenWrites.{writer_of}
 use Rattle.hg_rule.specs.declared.passes.SessionPass.{SessionPass}
 use Rattle.hg_rule.specs.declared.view.Part.{Part}
 use Rattle.hg_rule.specs.declared.view.Part.TheVariants.{OfBucket, OfCommit, Away, Lent}
-use Rattle.hg_rule.specs.declared.view.Event.TheVariants.{Stamp}
 use Rattle.hg_rule.specs.declared.view.View.{View}
 use Rattle.hg_rule.specs.declared.view.Sizes.{Sizes}
 use Rattle.hg_rule.specs.Facts.{Shown, StartsWith}
@@ -19,16 +18,14 @@ use Rattle.hg_rule.specs.Rules.{IsBacked}
 use Rattle.hg_rule.specs.Views.{number, session, since, others, seeing, HasAway}
 use Rattle.hg_rule.specs.Moves.{put_in, but_second}
 use Rattle.hg_rule.specs.Holding.{beyond, farther, bucket, bucket_number, commit, commit_behind, held, HasCommit, HasBoth}
-use Rattle.hg_rule.specs.Places.{arrive_first, without_bucket, HoldsBucket}
-use Rattle.hg_rule.specs.Writes.{listing}
-use Rattle.hg_rule.specs.Handing.{Members, members, lent, who, part_of, writer_at, flag, Stamps, hands_back}
+use Rattle.hg_rule.specs.Places.{arrive_first, HoldsBucket}
+use Rattle.hg_rule.specs.Handing.{Members, members, lent, who, part_of, writer_at, hands_back}
 use Rattle.hg_rule.specs.Seats.{BoardId, session_view, session_rest, IsSeatOf, IsAwayOf}
 use Rattle.hg_rule.proofs.Grouping.{each_part, each_lent}
 use Rattle.hg_rule.proofs.Holders.{still_away}
 use Rattle.hg_store.specs.Stores.{Takes}
 use Rattle.hg_store.proofs.Holding.{held_is}
 use Rattle.hg_store.proofs.Mine.{open_of}
-use Rattle.hg_group.specs.Batch.{StampsOne}
 
 -- ---- a bucket comes
 
@@ -82,17 +79,6 @@ lent_open z n j b v r k is both hold far among here some none = go (open_in r (p
         subst (λ w. IsOpenBy w (held v r)) writer (subst (IsOpenBy (writer_of (begun_in k.state.log) j)) same (open_of k.state.mark (writer_of (begun_in k.state.log) j) image (versions k.state.buckets k.state.bucket r) out bare))
 
 -- ---- one more
-
-pub stamped_one : (v u w x : View) (b j n : ℕ) (r : Rid) → AwayTaken v b u → Stamps u j r n w → x ≡ without_bucket w → StampsOne v j r n x
-stamped_one v u w x b j n r t step is = record {
-  parts = ap (λ (y : View). y.parts) is ∙ (ap (λ (y : View). (without_bucket y).parts) step ∙ (λ i. Away (t.number_is i) (t.session_is i) (t.since_is i) ∷ OfCommit (listing j r (t.commit_is i)) ∷ lent (flag j (members (t.farther_is i)))));
-  kept = (t.kept.0, ap (λ (y : View). y.sights) is ∙ (ap (λ (y : View). y.sights) step ∙ (none u.sights ∙ t.kept.1)));
-  events = ap (λ (y : View). y.events) is ∙ (ap (λ (y : View). y.events) step ∙ ap (λ l. l ++ Stamp j r n ∷ []) t.events);
-}
-  where
-    none : {A : Type 0} (xs : List A) → xs ++ [] ≡ xs
-    none [] = refl
-    none (y ∷ ys) = ap (λ l. y ∷ l) (none ys)
 
 pub away_with : (t : BoardId) (z : Sizes) (p q : SessionPass) (os : List Part) → IsAwayOf t z p → IsSeatOf t q.seat → session_rest q ≡ session_rest p → (session_view q).parts ≡ Away (number (session_view p)) (session (session_view p)) (since (session_view p)) ∷ os → IsAwayOf t z q × (q.number ≡ p.number)
 away_with t z p q os own seat rest e = (still_away t z p q os own seat rest e, ap (λ x. x.0) rest)

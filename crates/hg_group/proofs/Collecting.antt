@@ -26,7 +26,6 @@ use Rattle.hg_queue.specs.declared.open_tx.OpenTx.{OpenTx}
 use Rattle.hg_group.specs.declared.context.GroupContext.{GroupContext}
 use Rattle.hg_group.specs.Contexts.{IsContextOf}
 use Rattle.hg_group.specs.Batch.{AreTaken, all_records}
-use Rattle.hg_group.proofs.Recording.{take_next}
 use Rattle.hg_group.proofs.Grouped.{once}
 
 -- ---- one more record, and one more transaction
@@ -39,9 +38,6 @@ records_next [] i tx is l = absurd (omega (arith, l))
 records_next (x ∷ txs) zero tx is l = append-nil x.records.list ∙ (λ i. (sym is i).records.list)
 records_next (x ∷ txs) (suc i) tx is l =
     ap (λ n. all_records (take n (x ∷ txs))) (more i) ∙ (ap (λ l. x.records.list ++ l) (records_next txs i tx is (omega (arith, l))) ∙ sym (append_assoc x.records.list (all_records (take i txs)) tx.records.list))
-
-pub listed_next : (done rs : List Rid) (k : ℕ) (d : Rid) → k < length rs → (done ++ take k rs) ++ get_or rs k d ∷ [] ≡ done ++ take (k + 1) rs
-listed_next done rs k d l = append_assoc done (take k rs) (get_or rs k d ∷ []) ∙ ap (λ x. done ++ x) (sym (take_next rs k d l))
 
 -- ---- exactly what the group writes
 

@@ -1,17 +1,22 @@
-pub mod Recording
-pub mod Contexts
+-- The order of commits, and contexts.
 pub mod Ordering
-pub mod Popping
-pub mod Returning
-pub mod Batching
-pub mod Grouped
-pub mod Stamped
-pub mod Whole
-pub mod Laying_down
-pub mod Joint
+pub mod Contexts
 pub mod Bound
-pub mod Collecting
+-- A batch is popped and gathered.
+pub mod Popping
 pub mod Listing
+pub mod Recording
+pub mod Collecting
+-- It is stamped, and becomes a group.
+pub mod Batching
+pub mod Stamped
+pub mod Grouped
+pub mod Whole
+-- It is laid down, and handed back.
+pub mod Laying_down
+pub mod Returning
 pub mod Back
 pub mod Through
+pub mod Joint
+-- A collector takes the oldest group.
 pub mod NextGroup

@@ -20,10 +20,6 @@ pub pairs_room : (n : ℕ) (txs : List OpenTx) → map pair_in (with_room n txs)
 pairs_room n [] = refl
 pairs_room n (tx ∷ txs) = refl
 
-pub length_room : (n : ℕ) (txs : List OpenTx) → length (with_room n txs) ≡ length txs
-length_room n [] = refl
-length_room n (tx ∷ txs) = refl
-
 pub taken_room : (n : ℕ) (txs : List OpenTx) (ms : Members) → AreTaken txs ms → AreTaken (with_room n txs) ms
 taken_room n [] [] h = tt
 taken_room n [] (m ∷ ms) h = absurd h

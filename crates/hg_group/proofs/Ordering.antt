@@ -36,10 +36,6 @@ more_none : (p : ℕ × ℕ) (qs bs : Pairs) → IsNone p bs → last_place p (q
 more_none p [] bs h = none_last p bs h
 more_none p (q ∷ qs) bs h = ap (later (same_pair q p)) (more_none p qs bs h)
 
-later_up : (b : Bool) (n : ℕ) → 0 < n → later b n ≡ suc n
-later_up b zero l = absurd (omega (arith, l))
-later_up b (suc n) l = refl
-
 -- a pair that stands behind these, and not again
 here_last : (p : ℕ × ℕ) (qs bs : Pairs) → IsNone p bs → last_place p (qs ++ p ∷ bs) ≡ suc (length qs)
 here_last p [] bs h = (λ i. later (same_self p i) (none_last p bs h i))

@@ -23,3 +23,7 @@ IsSubmittedTo q s = IsLoanOf q.pushers s.loan × PusherFits (tag_of q.pushers) (
 -- the last pair that it knows is this one
 abbrev pub has_pushed : ℕ → ℕ → Submitted → Type 0
 has_pushed j x s = (before : List (ℕ × ℕ)) × ((known s.pusher.line).pairs ≡ before ++ (j, x) ∷ [])
+
+-- which lock it holds
+abbrev pub held_lock : Submitted → ℕ
+held_lock s = lock_of s.loan

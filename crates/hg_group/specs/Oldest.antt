@@ -1,5 +1,5 @@
 -- What a collector's pass knows once it has asked for the oldest group.
-use Rattle.std.specs.Prelude.{◌≡◌, ℕ, suc, ◌<◌, ◌≤◌, List, [], ◌∷◌, ◌++◌, drop, Option, Some, None}
+use Rattle.std.specs.Prelude.{◌≡◌, ℕ, suc, ◌<◌, ◌≤◌, [], ◌∷◌, ◌++◌, drop, Option, Some, None}
 use Rattle.hg_base.specs.History.{Group, History}
 use Rattle.hg_rule.specs.declared.view.Sight.TheVariants.{Saw}
 use Rattle.hg_rule.specs.declared.view.Event.TheVariants.{Take}

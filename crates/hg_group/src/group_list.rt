@@ -35,14 +35,14 @@ pub struct GroupList {
 }
 
 impl GroupList {
-    ghost use Rattle.std.specs.Prelude.{ℕ, ◌<◌, [], length, IfOk, IfErr};
+    ghost use Rattle.std.specs.Prelude.{ℕ, ◌+◌, ◌<◌, [], length, IfOk, IfErr};
     ghost use Rattle.hg_rule.specs.New.{IsNewCommit};
     ghost use Rattle.hg_rule.specs.Views.{number, session, others, HasOnlySession};
     ghost use Rattle.hg_rule.specs.Seats.{BoardId, board_id, sizes_of, session_view, IsSessionOf, IsAwayOf};
     ghost use Rattle.hg_store.specs.Stores.{store_board_id, store_buckets};
     ghost use Rattle.hg_queue.specs.Handing.{IsOpenTxOf, MayCommit};
     ghost use Rattle.hg_group.specs.Batch.{HasFinished, IsRefused};
-    ghost use Rattle.hg_group.specs.Lists.{groups_board_id, groups_sessions, has_pushed, IsSubmittedTo};
+    ghost use Rattle.hg_group.specs.Lists.{groups_board_id, groups_sessions, has_pushed, held_lock, IsSubmittedTo};
     ghost use Rattle.hg_group.specs.Submitting.{HasSubmitted, IsBackAgain, HasCommitted};
 
     /// Nothing is committed, and nothing waits. The seat is the committer's of a new board with so many sessions.
@@ -99,6 +99,7 @@ impl GroupList {
         requires some { 0 < length tx.records.list }
         ensures submitted { IfOk result (λ submitted. IsSubmittedTo self.now submitted × (((mark : ℕ) × HasSubmitted (session_view pass.old) mark (session_view pass.new)) × IsAwayOf (board_id board.now) (sizes_of board.now) pass.new)) }
         ensures pair { IfOk result (λ submitted. has_pushed (number (session_view pass.old)) tx.writer.transaction submitted) }
+        ensures lock { IfOk result (λ submitted. held_lock submitted + 1 ≡ number (session_view pass.old)) }
         ensures refused { IfErr result (λ e. (e.0 ≡ tx) × (IsBackAgain (session_view pass.old) (session_view pass.new) × IsSessionOf (board_id board.now) (sizes_of board.now) pass.new)) }
         ensures number { pass.new.number ≡ pass.old.number }
     {

@@ -1,4 +1,4 @@
-use Rattle.std.proofs.Common.{rules, ◌≡◌, ◌≤◌, ◌<◌, ℕ, length, deque_len, refl, arith}
+use Rattle.std.proofs.Common.{◌<◌, deque_len, refl, arith}
 use Rattle.hg_rule.specs.Holding.{commit}
 use Rattle.hg_rule.specs.Seats.{pass_view}
 use Rattle.hg_group.specs.Contexts.{AreContexts}
