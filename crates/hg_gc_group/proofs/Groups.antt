@@ -2,6 +2,7 @@
 use Rattle.std.proofs.Common.{◌≡◌, ℕ, suc, ◌+◌, ◌-◌, ◌<◌, ◌≤◌, ◌^◌, List, [], ◌∷◌, ◌++◌, Option, Some, refl, sym, ap, ◌∙◌, subst, arith, append-nil}
 use Rattle.std.specs.Prelude.{true, false, Bool, ◌||◌}
 use Rattle.hg_base.specs.declared.rid.Rid.{Rid}
+use Rattle.hg_base.specs.declared.report.Kind.TheVariants.{Group}
 use Rattle.hg_base.specs.Lists.{Each}
 use Rattle.hg_base.specs.History.{is_among, same_rid}
 use Rattle.hg_base.proofs.HistoryFacts.{same_rid_equal}
@@ -20,17 +21,20 @@ use Rattle.hg_rule.proofs.Lists.{each_map}
 use Rattle.hg_rule.proofs.Rounds.{gone_on, takes_on, taken_append}
 use Rattle.hg_group.specs.declared.context.GroupContext.{GroupContext}
 use Rattle.hg_group.specs.Oldest.{TakesOne, TakesNone, TakesOldest}
-use Rattle.hg_gc_group.specs.Cutting.{removed_all, WasCut, GoesOn, CutsAll}
+use Rattle.hg_core.specs.Counters.{removed_all}
+use Rattle.hg_visit.specs.Visits.{GoesOn}
+use Rattle.hg_visit.proofs.Going.{among_first, same_pass, visits_after, removed_append, goes_none, goes_on}
+use Rattle.hg_gc_group.specs.Cutting.{WasCut, CutsAll}
 use Rattle.hg_gc_group.specs.Taking.{WasTaken, FallsBelow, TakesGroups, TakesAll}
-use Rattle.hg_gc_group.proofs.Going.{among_first, same_pass, visits_after, removed_append, goes_none, goes_on, cut_before, cut_after}
+use Rattle.hg_gc_group.proofs.Going.{cut_before, cut_after}
 
 -- ---- a step that takes a group, and none
 
-abbrev taken_on : (v w : View) (bound : ℕ) (c : GroupContext) → HasPass v → TakesOne v bound c w → GoesOn v w
-taken_on v w bound c own t = record { visits = []; steps = Take (number v) t.mark ∷ []; work = (tt, tt); sum = refl; parts = t.parts ∙ own; kept = t.kept; events = t.events }
+abbrev taken_on : (v w : View) (bound : ℕ) (c : GroupContext) → HasPass v → TakesOne v bound c w → GoesOn Group v w
+taken_on v w bound c own t = record { visits = []; steps = Take (number v) t.mark ∷ []; work = (tt, tt); only = tt; sum = refl; parts = t.parts ∙ own; kept = t.kept; events = t.events }
 
-abbrev seen_on : (v w : View) (bound : ℕ) → HasPass v → TakesNone v bound w → GoesOn v w
-seen_on v w bound own t = record { visits = []; steps = []; work = tt; sum = refl; parts = t.parts ∙ own; kept = t.kept; events = t.events ∙ sym (append-nil v.events) }
+abbrev seen_on : (v w : View) (bound : ℕ) → HasPass v → TakesNone v bound w → GoesOn Group v w
+seen_on v w bound own t = record { visits = []; steps = []; work = tt; only = tt; sum = refl; parts = t.parts ∙ own; kept = t.kept; events = t.events ∙ sym (append-nil v.events) }
 
 -- ---- counts
 
@@ -79,17 +83,17 @@ taken_now buckets p mark bound v x c seen visits more steps later t kept cuts = 
 -- ---- the loop
 
 pub groups_none : (buckets bound : ℕ) (v : View) → HasPass v → TakesGroups buckets bound v 0 v
-groups_none buckets bound v own = record { on = goes_none v own; gone_is = refl; taken = []; count = refl; falls = tt; each = tt }
+groups_none buckets bound v own = record { on = goes_none Group v own; gone_is = refl; taken = []; count = refl; falls = tt; each = tt }
 
 module _ (buckets bound : ℕ) (u v : View) (m : ℕ) (a : TakesGroups buckets bound u m v) where
   own_still : HasPass v
-  own_still = (same_pass u v a.on).own
+  own_still = (same_pass Group u v a.on).own
 
   pub groups_more : (x w : View) (c : GroupContext) (n : ℕ) → TakesOne v bound c x → CutsAll buckets bound x c.records.list n w → TakesGroups buckets bound u (m + n) w
   groups_more x w c n t b =
       let first = taken_on v x bound c own_still t in
-      let to = goes_on u v x a.on first in
-      let s = same_pass u x to in
+      let to = goes_on Group u v x a.on first in
+      let s = same_pass Group u x to in
       let p = number u in
       let mark = (pass u).mark in
       let cuts : Each (WasCut buckets p mark bound b.on.visits b.on.steps) c.records.list = subst (λ (k : ℕ × ℕ). Each (WasCut buckets k.0 k.1 bound b.on.visits b.on.steps) c.records.list) (λ i. (s.number_is i, s.mark_is i)) b.cut in
@@ -97,7 +101,7 @@ module _ (buckets bound : ℕ) (u v : View) (m : ℕ) (a : TakesGroups buckets b
       let r2 = gone_on to.steps b.on.steps in
       let k1 = takes_on a.on.steps first.steps in
       let k2 = takes_on to.steps b.on.steps in record {
-        on = goes_on u x w to b.on;
+        on = goes_on Group u x w to b.on;
         gone_is = omega (arith, r1, r2, a.gone_is, b.gone_is);
         taken = suc t.before ∷ a.taken;
         count = omega (arith, k1, k2, a.count, b.takes_none);
@@ -115,7 +119,7 @@ module _ (buckets bound : ℕ) (u v : View) (m : ℕ) (a : TakesGroups buckets b
       let r = gone_on a.on.steps last.steps in
       let k = takes_on a.on.steps last.steps in record {
         some = record {
-          on = goes_on u v w a.on last;
+          on = goes_on Group u v w a.on last;
           gone_is = omega (arith, r, a.gone_is);
           taken = a.taken;
           count = omega (arith, k, a.count);
@@ -164,19 +168,19 @@ pub bound_low : (buckets bound : ℕ) (u v : View) (m : ℕ) → TakesGroups buc
 bound_low buckets bound u v m a is =
     let low = least_low (horizon (record_of (pass u))) (all_recorded (record_of (pass u))) in
     let most = entering_low (pass u).mark (pass u).loaded in
-    let same = (same_pass u v a.on).mark_is in
+    let same = (same_pass Group u v a.on).mark_is in
     omega (arith, is, low, most, same)
 
 -- ---- no more than were ever made
 
-pub cut_few : (buckets bound : ℕ) (v w : View) (rids : List Rid) (n : ℕ) → CutsAll buckets bound v rids n w → removed_all (pass w).visits ≤ 2 ^ 41 → n ≤ 2 ^ 41
+pub cut_few : (buckets bound : ℕ) (v w : View) (rids : List Rid) (n : ℕ) → CutsAll buckets bound v rids n w → removed_all Group (pass w).visits ≤ 2 ^ 41 → n ≤ 2 ^ 41
 cut_few buckets bound v w rids n c few =
-    let e : removed_all (pass w).visits ≡ removed_all (c.on.visits ++ (pass v).visits) = ap removed_all (visits_after v w c.on) in
-    let s = removed_append c.on.visits (pass v).visits in
+    let e : removed_all Group (pass w).visits ≡ removed_all Group (c.on.visits ++ (pass v).visits) = ap (removed_all Group) (visits_after Group v w c.on) in
+    let s = removed_append Group c.on.visits (pass v).visits in
     omega (arith, e, s, few, c.gone_is, c.on.sum)
 
-pub taken_few : (buckets bound : ℕ) (v w : View) (n : ℕ) → TakesGroups buckets bound v n w → removed_all (pass w).visits ≤ 2 ^ 41 → n ≤ 2 ^ 41
+pub taken_few : (buckets bound : ℕ) (v w : View) (n : ℕ) → TakesGroups buckets bound v n w → removed_all Group (pass w).visits ≤ 2 ^ 41 → n ≤ 2 ^ 41
 taken_few buckets bound v w n c few =
-    let e : removed_all (pass w).visits ≡ removed_all (c.on.visits ++ (pass v).visits) = ap removed_all (visits_after v w c.on) in
-    let s = removed_append c.on.visits (pass v).visits in
+    let e : removed_all Group (pass w).visits ≡ removed_all Group (c.on.visits ++ (pass v).visits) = ap (removed_all Group) (visits_after Group v w c.on) in
+    let s = removed_append Group c.on.visits (pass v).visits in
     omega (arith, e, s, few, c.gone_is, c.on.sum)

@@ -1,4 +1,3 @@
-pub mod Counted
 pub mod Going
 pub mod One
 pub mod Groups

@@ -7,7 +7,7 @@ use Rattle.hg_base.proofs.HistoryFacts.{same_rid_itself}
 use Rattle.hg_core.specs.declared.version.Version.{Version}
 use Rattle.hg_core.specs.Clean.{IsCutAt}
 use Rattle.hg_core.specs.Contents.{Content, bucket_of, look, store}
-use Rattle.hg_core.specs.Counters.{total}
+use Rattle.hg_core.specs.Counters.{total, removed_all}
 use Rattle.hg_core.specs.Passes.{group_bound}
 use Rattle.hg_core.proofs.Clean.{cut_is_cut}
 use Rattle.hg_core.proofs.Records.{look_store}
@@ -24,9 +24,10 @@ use Rattle.hg_rule.specs.Places.{arriving, arrive_first, without_bucket}
 use Rattle.hg_rule.specs.Removes.{left_of, removed_of, Reclaims}
 use Rattle.hg_store.specs.Stores.{Takes}
 use Rattle.hg_store.proofs.Bounding.{total_most}
-use Rattle.hg_gc_group.specs.Cutting.{removed_all, cut_visit, CutsAll}
-use Rattle.hg_gc_group.proofs.Counted.{few, length_most}
-use Rattle.hg_gc_group.proofs.Going.{removed_append, visits_after}
+use Rattle.hg_visit.specs.Visits.{closed_visit}
+use Rattle.hg_visit.proofs.Counted.{few, length_most}
+use Rattle.hg_visit.proofs.Going.{more_only, removed_append, visits_after}
+use Rattle.hg_gc_group.specs.Cutting.{CutsAll}
 
 stored : (r : Rid) (vs : List Version) (content : Content) → look r (store r vs content) ≡ vs
 stored r vs content = look_store r r vs content ∙ ap (λ t. if t then vs else look r content) (same_rid_itself r)
@@ -51,9 +52,10 @@ module _ (buckets b bound : ℕ) (v : View) (rid : Rid) (part : BucketPart) (see
   pub cut_one : (y w : View) (n : ℕ) → b ≡ bucket_of buckets rid → bound ≡ group_bound (record_of (pass v)) → Reclaims hand rid Group y → n ≡ gone_of → w ≡ without_bucket y → CutsAll buckets bound v (rid ∷ []) n w
   cut_one y w n at is step gone after = subst (CutsAll buckets bound v (rid ∷ []) n) (sym (after ∙ ap without_bucket step)) record {
     on = record {
-      visits = cut_visit (pass v).mark b gone_of given_of ∷ [];
+      visits = closed_visit Group (pass v).mark b gone_of given_of ∷ [];
       steps = _;
       work = (tt, tt);
+      only = (more_only Group (pass v).mark b gone_of given_of, tt);
       sum = omega arith;
       parts = refl;
       kept = (seen ++ [], right);
@@ -61,20 +63,20 @@ module _ (buckets b bound : ℕ) (v : View) (rid : Rid) (part : BucketPart) (see
     };
     gone_is = let e : gone_of ≡ gone_of + 0 = omega arith in gone ∙ e;
     takes_none = refl;
-    cut = (record { gone = gone_of; step = inl refl; given = given_of; visit = inl (ap (λ k. cut_visit (pass v).mark k gone_of given_of) at); cut = subst (λ k. IsCutAt k (look rid given_of)) (sym is) (subst (IsCutAt (group_bound (record_of (pass v)))) (sym (stored rid (left_of hand rid Group) part.content)) (cut_is_cut (group_bound (record_of (pass v))) (look rid part.content))) }, tt);
+    cut = (record { gone = gone_of; step = inl refl; given = given_of; visit = inl (ap (λ k. closed_visit Group (pass v).mark k gone_of given_of) at); cut = subst (λ k. IsCutAt k (look rid given_of)) (sym is) (subst (IsCutAt (group_bound (record_of (pass v)))) (sym (stored rid (left_of hand rid Group) part.content)) (cut_is_cut (group_bound (record_of (pass v))) (look rid part.content))) }, tt);
   }
     where
       right : (v.sights ++ seen) ++ [] ≡ v.sights ++ (seen ++ [])
       right = append_assoc v.sights seen []
 
-  pub few_after : (z : Sizes) (mark : ℕ) (w : View) (n : ℕ) → HasRoom z → IsBacked z mark hand → n ≡ gone_of → (c : CutsAll buckets bound v (rid ∷ []) n w) → removed_all (pass w).visits ≤ 2 ^ 41
+  pub few_after : (z : Sizes) (mark : ℕ) (w : View) (n : ℕ) → HasRoom z → IsBacked z mark hand → n ≡ gone_of → (c : CutsAll buckets bound v (rid ∷ []) n w) → removed_all Group (pass w).visits ≤ 2 ^ 41
   few_after z mark w n room backed gone c =
       let s = backed.state in
-      let before = few z mark hand room backed refl in
+      let before = few Group z mark hand room backed refl in
       let content : s.bucket b ≡ part.content = backed.true_of.parts.1.0.0 in
       let long = length_most rid part.content in
       let most : total part.content ≤ s.sessions * s.quota = subst (λ k. total k ≤ s.sessions * s.quota) content (total_most s backed.steady b) in
       let size : s.sessions * s.quota ≡ z.sessions * z.quota = λ i. backed.sized.sessions i * backed.sized.quota i in
-      let all : removed_all (pass w).visits ≡ removed_all (c.on.visits ++ (pass v).visits) = ap removed_all (visits_after v w c.on) in
-      let sum = removed_append c.on.visits (pass v).visits in
+      let all : removed_all Group (pass w).visits ≡ removed_all Group (c.on.visits ++ (pass v).visits) = ap (removed_all Group) (visits_after Group v w c.on) in
+      let sum = removed_append Group c.on.visits (pass v).visits in
       omega (arith, before, long, most, size, room.begins, all, sum, c.on.sum, c.gone_is, gone)

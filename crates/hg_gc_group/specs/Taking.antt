@@ -1,6 +1,7 @@
 -- What taking groups makes of a pass's view.
 use Rattle.std.specs.Prelude.{◌≡◌, ℕ, suc, ◌<◌, ◌≤◌, List, [], ◌∷◌, length, IsSome, ⊤}
 use Rattle.hg_base.specs.declared.rid.Rid.{Rid}
+use Rattle.hg_base.specs.declared.report.Kind.TheVariants as kinds
 use Rattle.hg_base.specs.Lists.{Each}
 use Rattle.hg_base.specs.History.{Group, History, group_image}
 use Rattle.hg_core.specs.declared.visit.Visit.{Visit}
@@ -12,7 +13,8 @@ use Rattle.hg_rule.specs.Facts.{IsAmong, groups}
 use Rattle.hg_rule.specs.Views.{number, pass}
 use Rattle.hg_rule.specs.Rounds.{takes_in, gone_in, seen_taken}
 use Rattle.hg_group.specs.Oldest.{StandsBehind}
-use Rattle.hg_gc_group.specs.Cutting.{WasCut, GoesOn}
+use Rattle.hg_visit.specs.Visits.{GoesOn}
+use Rattle.hg_gc_group.specs.Cutting.{WasCut}
 
 -- The group of that number, in a history that was seen: each record that it writes was cut.
 pub record WasTaken (buckets p mark bound : ℕ) (sights : List Sight) (visits : List Visit) (steps : List Event) (taken : ℕ) : Type 0 where
@@ -31,7 +33,7 @@ FallsBelow n (m ∷ ms) = (m < n) × FallsBelow m ms
 
 -- Groups were taken, one with each Take, and the records of each were cut. Their numbers are given, the last one first.
 pub record TakesGroups (buckets bound : ℕ) (v : View) (gone : ℕ) (w : View) : Type 0 where
-  pub on : GoesOn v w
+  pub on : GoesOn kinds.Group v w
   pub gone_is : gone ≡ gone_in on.steps
   pub taken : List ℕ
   pub count : length taken ≡ takes_in on.steps

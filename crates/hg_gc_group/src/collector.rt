@@ -7,11 +7,12 @@ ghost use Rattle.hg_group.specs.Lists.{groups_board_id};
 ghost use Rattle.hg_tracker.specs.Boards.{trackers_board_id, board_sizes};
 
 use crate::taking::take_all;
-use hg_base::{EntryList, Kind, NoMemory, Report};
+use hg_base::{Kind, NoMemory, Report};
 use hg_group::GroupList;
 use hg_rule::CollectorPass;
 use hg_store::Store;
 use hg_tracker::{Gathered, Trackers};
+use hg_visit::{new_report, rewrite};
 use std::alloc::Global;
 use std::sync::Wait;
 
@@ -21,18 +22,6 @@ pub struct GroupCollector {
     pub(crate) pass: CollectorPass,
     pub(crate) gathered: Gathered,
     pub(crate) report: Report,
-}
-
-fn no_report(alloc: Global, sessions: u32) -> Result<Report, NoMemory>
-    ensures { IfOk result (λ report. sessions ≤ report.entries.room) }
-{
-    Ok(Report {
-        kind: Kind::Group,
-        mark: 0,
-        horizon: 0,
-        removed: 0,
-        entries: EntryList::with_capacity(alloc, sessions as usize)?,
-    })
 }
 
 impl GroupCollector {
@@ -57,7 +46,7 @@ impl GroupCollector {
         let Ok(gathered) = Gathered::new(alloc, sessions, tables) else {
             return Err((pass, NoMemory));
         };
-        let Ok(report) = no_report(alloc, sessions) else {
+        let Ok(report) = new_report(alloc, Kind::Group, sessions) else {
             return Err((pass, NoMemory));
         };
         Ok(GroupCollector {
@@ -108,11 +97,7 @@ impl GroupCollector {
         board.look_at(&mut self.pass);
         let bound = self.gathered.least();
         let removed = take_all(rt, board, store, groups, &mut self.pass, bound);
-        self.report.kind = Kind::Group;
-        self.report.mark = self.gathered.mark();
-        self.report.horizon = self.gathered.horizon();
-        self.report.removed = removed;
-        self.report.entries.refill(self.gathered.entries());
+        rewrite(&mut self.report, Kind::Group, &self.gathered, removed);
     }
 
     /// One round, and its report.

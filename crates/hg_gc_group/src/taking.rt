@@ -1,13 +1,14 @@
 //! Groups are taken up to a bound, oldest first.
 
 ghost use Rattle.std.specs.Prelude.{◌≡◌, ◌<◌, ◌≤◌, ◌^◌};
+ghost use Rattle.hg_base.specs.declared.report.Kind.TheVariants.{Group};
 ghost use Rattle.hg_core.specs.Passes.{IsWhole, group_bound};
 ghost use Rattle.hg_rule.specs.Facts.{record_of};
 ghost use Rattle.hg_rule.specs.Views.{pass as own_pass};
 ghost use Rattle.hg_rule.specs.Seats.{board_id, sizes_of, pass_view, IsPassOf};
 ghost use Rattle.hg_store.specs.Stores.{store_board_id, store_buckets};
 ghost use Rattle.hg_group.specs.Lists.{groups_board_id};
-ghost use Rattle.hg_gc_group.specs.Cutting.{removed_all};
+ghost use Rattle.hg_core.specs.Counters.{removed_all};
 ghost use Rattle.hg_gc_group.specs.Taking.{TakesAll};
 
 use crate::cutting::cut_all;
@@ -30,7 +31,7 @@ pub(crate) fn take_all<R: Wait>(
     requires own { IsPassOf (board_id board.now) pass.old }
     requires whole { IsWhole (sizes_of board.now).sessions (record_of (own_pass (pass_view pass.old))) }
     requires bound { bound ≡ group_bound (record_of (own_pass (pass_view pass.old))) }
-    requires few { removed_all (own_pass (pass_view pass.old)).visits ≤ 2 ^ 41 }
+    requires few { removed_all Group (own_pass (pass_view pass.old)).visits ≤ 2 ^ 41 }
     ensures takes { TakesAll (sizes_of board.now).buckets bound (pass_view pass.old) result (pass_view pass.new) }
     ensures own { IsPassOf (board_id board.now) pass.new }
 {

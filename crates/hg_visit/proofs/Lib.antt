@@ -1,0 +1,7 @@
+pub mod Counted
+pub mod Going
+pub mod Removing
+pub mod Tables
+pub mod Visiting
+pub mod Rounds
+pub mod Snapshots

@@ -1,0 +1,6 @@
+-- What visits of buckets make of a pass's view.
+pub mod Visits
+-- What a pass takes from a bucket that it holds, table by table.
+pub mod Tables
+-- A round, and its report.
+pub mod Reports
