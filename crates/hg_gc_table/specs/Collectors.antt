@@ -1,0 +1,46 @@
+-- What a clause says of a table collector.
+use Rattle.std.specs.Prelude.{ℕ, ◌≤◌}
+use Rattle.hg_base.specs.declared.report.Kind.TheVariants.{Table}
+use Rattle.hg_base.specs.declared.report.Report.{Report}
+use Rattle.hg_rule.specs.declared.passes.CollectorPass.{CollectorPass}
+use Rattle.hg_rule.specs.declared.view.View.{View}
+use Rattle.hg_rule.specs.declared.view.Sizes.{Sizes}
+use Rattle.hg_rule.specs.Facts.{record_of}
+use Rattle.hg_rule.specs.Views.{pass}
+use Rattle.hg_rule.specs.Seats.{BoardId, pass_view, IsPassOf}
+use Rattle.hg_tracker.specs.Begun.{HasGathered}
+use Rattle.hg_tracker.specs.Gathers.{IsLoaded, IsMadeFor}
+use Rattle.hg_tracker.specs.Tries.{HasMoved}
+use Rattle.hg_visit.specs.Visits.{VisitsAll}
+use Rattle.hg_visit.specs.Reports.{Reports}
+use Rattle.hg_gc_table.specs.Cutting.{IsCutBy}
+use Rattle.hg_gc_table.specs.Moving.{TriesLong}
+use Rattle.hg_gc_table.specs.declared.collector.TableCollector.{TableCollector}
+
+-- its pass, and what that sees
+abbrev pub pass_of : TableCollector → CollectorPass
+pass_of c = c.pass
+
+abbrev pub view_of : TableCollector → View
+view_of c = pass_view c.pass
+
+-- its last report
+abbrev pub report_in : TableCollector → Report
+report_in c = c.report
+
+-- its pass is of this board, and it has room for the board's sessions and tables
+abbrev pub IsCollectorOf : BoardId → Sizes → TableCollector → Type 0
+IsCollectorOf t z c = IsPassOf t c.pass × (IsMadeFor z.sessions z.tables c.gathered × (z.sessions ≤ c.report.entries.room))
+
+-- One round: a gather, a try to move each snapshot that is long in use, and no other; and then one visit of each bucket in order,
+-- which gave it back with each table cut at its own bound after the moves. The report is that of the round.
+pub record Cuts (z : Sizes) (long : ℕ) (v : View) (report : Report) (w : View) : Type 0 where
+  pub gathered : View
+  pub gathers : HasGathered v z.sessions gathered
+  pub moved : View
+  pub count : ℕ
+  pub moves : HasMoved gathered long count moved
+  pub loaded : IsLoaded z.sessions (pass moved).loaded
+  pub visits : VisitsAll Table (IsCutBy (record_of (pass moved))) z.buckets report.removed moved w
+  pub reports : Reports Table v report w
+  pub tries : TriesLong long reports.steps
