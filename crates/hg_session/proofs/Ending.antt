@@ -132,14 +132,6 @@ passes_same (OfPass p t ∷ ps) qs e = ap (max (suc p)) (passes_same ps qs e)
 is_below : (i n : ℕ) → ltb i n ≡ true → i < n
 is_below i n e = ltb_less i n (let x : ℕ = one (ltb i n) in let f : x ≡ 1 = ap one e in omega arith)
 
-left_true : (a b : Bool) → both a b ≡ true → a ≡ true
-left_true true b e = refl
-left_true false b e = e
-
-right_true : (a b : Bool) → both a b ≡ true → b ≡ true
-right_true true b e = e
-right_true false b e = absurd (true≢false (sym e))
-
 module _ (z : Sizes) (n : ℕ) (v : View) (k : IsBacked z n v) (ended : IsEnded z v) (committed : 0 < count commit_key v.parts) where
   abbrev s : CoreState
   s = k.state

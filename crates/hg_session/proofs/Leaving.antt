@@ -1,17 +1,23 @@
--- A pass leaves each bucket cut at the mark of its record, where all sessions rest.
-use Rattle.std.proofs.Common.{◌≡◌, ◌⊎◌, inl, inr, ℕ, zero, suc, ◌+◌, ◌<◌, ◌≤◌, Bool, true, false, List, [], ◌∷◌, ◌++◌, length, Some, None, refl, sym, ap, ◌∙◌, subst, arith}
-use Rattle.std.specs.Prelude.{max}
+-- A round of the table collector leaves each bucket cut at the mark, where all sessions rest.
+use Rattle.std.proofs.Common.{◌≡◌, ◌⊎◌, inl, inr, ℕ, zero, suc, ◌+◌, ◌<◌, ◌≤◌, Bool, true, false, List, [], ◌∷◌, ◌++◌, length, refl, sym, ap, ◌∙◌, subst, arith}
+use Rattle.std.specs.Prelude.{max, map, filter}
 use Rattle.hg_base.specs.declared.rid.Rid.{Rid}
-use Rattle.hg_base.specs.Lists.{Each}
+use Rattle.hg_base.specs.declared.report.Entry.{Entry}
+use Rattle.hg_base.specs.declared.report.Report.{Report}
+use Rattle.hg_base.specs.declared.report.Kind.TheVariants.{Table}
+use Rattle.hg_core.specs.declared.register.Register.{Register}
+use Rattle.hg_core.specs.declared.log.LogEntry.{LogEntry}
+use Rattle.hg_core.specs.declared.version.Version.{Version}
 use Rattle.hg_core.specs.declared.visit.Visit.{Visit}
+use Rattle.hg_core.specs.Events.{moved_in}
 use Rattle.hg_core.specs.Clean.{IsCutAt}
 use Rattle.hg_core.specs.Contents.{look}
-use Rattle.hg_core.specs.Counters.{none_removed}
 use Rattle.hg_core.specs.Logs.{newest_of, UpTo}
 use Rattle.hg_core.specs.Passes.{table_bound}
+use Rattle.hg_core.specs.Phases.{IsSession}
 use Rattle.hg_core.proofs.Settling.{idle_table}
 use Rattle.hg_rule.specs.declared.view.PassPart.{PassPart}
-use Rattle.hg_rule.specs.declared.view.Part.TheVariants.{OfBucket, OfPass}
+use Rattle.hg_rule.specs.declared.view.Part.TheVariants.{OfPass}
 use Rattle.hg_rule.specs.declared.view.Sight.{Sight}
 use Rattle.hg_rule.specs.declared.view.Sight.TheVariants.{Heard}
 use Rattle.hg_rule.specs.declared.view.View.{View}
@@ -20,17 +26,22 @@ use Rattle.hg_rule.specs.Keys.{session_key, pass_key, has, count, shares}
 use Rattle.hg_rule.specs.Facts.{StartsWith, IsAmong, heard, record_of}
 use Rattle.hg_rule.specs.Reading.{chosen, seek, passes_in}
 use Rattle.hg_rule.specs.Views.{number, pass, others, number_in, session_there, pass_there, first_in, after_first, HasPass}
-use Rattle.hg_rule.specs.Places.{arriving}
 use Rattle.hg_rule.proofs.Counts.{key_self}
 use Rattle.hg_rule.proofs.Lists.{starts_on}
-use Rattle.hg_tracker.specs.Begun.{gathering, HasGathered}
+use Rattle.hg_rule.specs.Rules.{IsBacked}
+use Rattle.hg_rule.specs.Rounds.{entries_of}
+use Rattle.hg_tracker.specs.Begun.{gathering}
+use Rattle.hg_tracker.specs.Entries.{down_from}
+use Rattle.hg_tracker.specs.Tries.{is_long, moved_by}
+use Rattle.hg_tracker.proofs.Trying.{keys_moved}
+use Rattle.hg_visit.specs.Visits.{OneEach, IsVisitOf}
+use Rattle.hg_gc_table.specs.Cutting.{IsCutBy}
+use Rattle.hg_gc_table.specs.Collectors.{Cuts}
 use Rattle.hg_headline.specs.Totalled.{LeavesCut, HasCut, WasLeftCut}
 use Rattle.hg_session.specs.Ended.{logs_in, visits_in, IsEnded}
 use Rattle.hg_session.specs.Ties.{IsHeard}
-use Rattle.hg_session.specs.Settled.{HasHeardAll, RemovesForTables, IsQuiet, IsForTables, Cuts, CutsBuckets}
-use Rattle.hg_session.proofs.Visiting.{ended_now, logs_now}
+use Rattle.hg_session.specs.Settled.{HasHeardAll, RemovesForTables}
 use Rattle.hg_session.proofs.Quiet.{heard_whole, up_to_whole, found_idle, mark_newest}
-use Rattle.hg_session.proofs.Cutting.{parts_taken}
 
 -- ---- the pass's own part has changed, and no other
 
@@ -70,22 +81,7 @@ module _ (v w : View) (r : PassPart) (own : HasPass v) (now : w.parts ≡ OfPass
       below : (m : ℕ) → number v < max (suc (number v)) m
       below m = let n : ℕ = number v in let l : n < max (suc n) m = omega arith in l
 
--- ---- the gather
-
-pub quiet : (z : Sizes) (v g : View) → HasPass v → HasGathered v z.sessions g → IsEnded z v → HasHeardAll z v → IsQuiet z g
-quiet z v g own h ended whole =
-    let mark = (pass g).mark in
-    let loaded = (pass g).loaded in
-    let logs = logs_own v g (gathering mark loaded v) own h.parts in
-    let same : pass g ≡ gathering mark loaded v = ap (λ ps. pass_there (first_in ps)) h.parts in
-    record {
-      ended = ended_own v g (gathering mark loaded v) own h.parts z refl ended;
-      keys = h.keys;
-      known = λ j is. subst (λ (l : ℕ → List _). length (l j) ≤ heard j (pass g).seen) (sym logs) (subst (λ (xs : List Sight). length (logs_in v j) ≤ heard j xs) (sym (ap (λ (r : PassPart). r.seen) same)) (heard_whole j (logs_in v j) v.sights (whole j is)));
-      most = λ j is. subst (λ (l : ℕ → List _). UpTo mark (l j)) (sym logs) (up_to_whole mark j (logs_in v j) v.sights h.most (whole j is));
-    }
-
--- ---- one bucket more
+-- ---- one visit of each bucket
 
 last_or_before : (b n : ℕ) → b < suc n → (b ≡ n) ⊎ (b < n)
 last_or_before zero zero l = inl refl
@@ -97,82 +93,59 @@ last_or_before (suc b) (suc n) l = more (last_or_before b n (omega arith))
     more (inl e) = inl (ap suc e)
     more (inr l) = inr (omega arith)
 
-module _ (z : Sizes) (g u w : View) (n : ℕ) (own : HasPass g) (q : IsQuiet z g) (h : CutsBuckets z (newest_of z.sessions (logs_in g)) g n u) (c : Cuts z u n w) where
-  abbrev newest : ℕ
-  newest = newest_of z.sessions (logs_in g)
+one_has : (buckets mark : ℕ) (P : ℕ → Visit → Type 0) → ((b : ℕ) (visit : Visit) → P b visit → LeavesCut buckets mark b visit) → (n : ℕ) (vs more : List Visit) → OneEach P n vs → (b : ℕ) → b < n → HasCut buckets mark b (vs ++ more)
+one_has buckets mark P leaves zero vs more once b l = absurd (omega arith)
+one_has buckets mark P leaves (suc n) [] more once b l = absurd once
+one_has buckets mark P leaves (suc n) (visit ∷ vs) more once b l = by_number (last_or_before b n l) (one_has buckets mark P leaves n vs more once.1 b)
+  where
+    by_number : (b ≡ n) ⊎ (b < n) → (b < n → HasCut buckets mark b (vs ++ more)) → HasCut buckets mark b ((visit ∷ vs) ++ more)
+    by_number (inl e) before = inl (leaves b visit (subst (λ k. P k visit) (sym e) once.0))
+    by_number (inr less) before = inr (before less)
 
-  -- while the bucket was there
-  abbrev there : List Visit
-  there = record { bucket = n; mark = (pass g).mark; removed = none_removed; given = None } ∷ (h.visits ++ (pass g).visits)
+nothing_removed : (vs : List Visit) → RemovesForTables vs vs
+nothing_removed vs = record { group = refl; table = omega arith; interval = refl }
 
-  owns : HasPass u
-  owns = h.parts ∙ (λ i. OfPass (number_in (sym h.parts i)) (pass_there (first_in (sym h.parts i))) ∷ after_first (sym h.parts i))
+removes : (Q : Rid → List Version → Type 0) (mark n : ℕ) (vs more : List Visit) → OneEach (IsVisitOf Table Q mark) n vs → RemovesForTables more (vs ++ more)
+removes Q mark zero [] more once = nothing_removed more
+removes Q mark zero (visit ∷ vs) more once = absurd once
+removes Q mark (suc n) [] more once = absurd once
+removes Q mark (suc n) (visit ∷ vs) more once =
+    let k = removes Q mark n vs more once.1 in
+    let group : visit.removed.group ≡ 0 = ap (λ (x : Visit). x.removed.group) once.0.is in
+    let interval : visit.removed.interval ≡ 0 = ap (λ (x : Visit). x.removed.interval) once.0.is in
+    record { group = omega (arith, group, k.group); table = omega (arith, k.table); interval = omega (arith, interval, k.interval) }
 
-  parts_now : c.taken.parts ≡ OfPass (number g) (record (pass g) { visits = there }) ∷ OfBucket n c.takes.part ∷ others g
-  parts_now = parts_taken u c.taken n owns c.takes ∙ (λ i. OfPass (number_in (h.parts i)) (arriving n (pass_there (first_in (h.parts i)))) ∷ OfBucket n c.takes.part ∷ after_first (h.parts i))
+-- ---- a round of the table collector, at whose end a state backs the view
 
-  ended_there : IsEnded z c.taken
-  ended_there = ended_now g c.taken (number g) n (pass g) there c.takes.part (others g) own parts_now z q.ended
-
-  logs_there : logs_in c.taken ≡ logs_in g
-  logs_there = logs_now g c.taken (number g) n (pass g) there c.takes.part (others g) own parts_now
-
-  mark_is : (pass g).mark ≡ newest
-  mark_is = mark_newest z c.mark c.taken c.backed ended_there (number g) (record (pass g) { visits = there }) (OfBucket n c.takes.part ∷ others g) parts_now (λ j is. subst (λ (l : ℕ → List _). UpTo (pass g).mark (l j)) (sym logs_there) (q.most j is)) ∙ ap (newest_of z.sessions) logs_there
-
-  bound_is : (r : Rid) → table_bound r.table (record_of (pass g)) ≡ newest
-  bound_is r = idle_table (record_of (pass g)) r.table (found_idle z c.mark c.taken c.backed ended_there (number g) (record (pass g) { visits = there }) (OfBucket n c.takes.part ∷ others g) parts_now q.keys (λ j is. subst (λ (l : ℕ → List _). length (l j) ≤ heard j (pass g).seen) (sym logs_there) (q.known j is))) ∙ mark_is
-
-  same_pass : pass u ≡ record (pass g) { visits = h.visits ++ (pass g).visits }
-  same_pass = ap (λ ps. pass_there (first_in ps)) h.parts
-
-  abbrev visit : Visit
-  visit = record { bucket = n; mark = (pass g).mark; removed = c.removed; given = Some c.given }
-
-  leaves : (b : ℕ) → b ≡ n → LeavesCut z.buckets newest b visit
-  leaves b e = record {
-    bucket = sym e;
-    mark_is = mark_is;
-    given = c.given;
-    gives = refl;
-    cut = λ r at. subst (λ m. IsCutAt m (look r c.given)) (ap (λ p. table_bound r.table (record_of p)) same_pass ∙ bound_is r) (c.cut r);
-  }
-
-  pub cuts_more : CutsBuckets z newest g (suc n) w
-  cuts_more = record {
-    visits = visit ∷ h.visits;
-    cut = λ b l. by_number b (last_or_before b n l);
-    only = (c.only, h.only);
-    parts = c.parts ∙ (λ i. OfPass (number_in (h.parts i)) (record (pass_there (first_in (h.parts i))) { visits = record { bucket = n; mark = (pass_there (first_in (h.parts i))).mark; removed = c.removed; given = Some c.given } ∷ (pass_there (first_in (h.parts i))).visits }) ∷ after_first (h.parts i));
-    kept = starts_on w.sights u.sights g.sights h.kept c.kept;
-  }
-    where
-      by_number : (b : ℕ) → (b ≡ n) ⊎ (b < n) → HasCut z.buckets newest b (visit ∷ h.visits)
-      by_number b (inl e) = inl (leaves b e)
-      by_number b (inr l) = inr (h.cut b l)
-
--- ---- all buckets
+keys_tried : (es : List Entry) (outcomes : List Bool) (loaded : List (ℕ × Register)) → map (λ e. e.0) (moved_by es outcomes loaded) ≡ map (λ e. e.0) loaded
+keys_tried [] outcomes loaded = refl
+keys_tried (e ∷ es) [] loaded = refl
+keys_tried (e ∷ es) (true ∷ outcomes) loaded = keys_tried es outcomes (moved_in e.session loaded) ∙ keys_moved e.session loaded
+keys_tried (e ∷ es) (false ∷ outcomes) loaded = keys_tried es outcomes loaded
 
 among_before : (x : Sight) (xs more : List Sight) → IsAmong x xs → IsAmong x (xs ++ more)
 among_before x [] more a = absurd a
 among_before x (y ∷ xs) more (inl e) = inl e
 among_before x (y ∷ xs) more (inr a) = inr (among_before x xs more a)
 
-has_cut : (buckets mark b : ℕ) (vs more : List Visit) → HasCut buckets mark b vs → HasCut buckets mark b (vs ++ more)
-has_cut buckets mark b [] more cut = absurd cut
-has_cut buckets mark b (x ∷ vs) more (inl cut) = inl cut
-has_cut buckets mark b (x ∷ vs) more (inr cut) = inr (has_cut buckets mark b vs more cut)
+module _ (z : Sizes) (v w : View) (long : ℕ) (report : Report) (own : HasPass v) (c : Cuts z long v report w) where
+  abbrev outcomes : List Bool
+  outcomes = c.moves.outcomes
 
-removes : (vs more : List Visit) → Each (λ (x : Visit). IsForTables x.removed) vs → RemovesForTables more (vs ++ more)
-removes [] more h = record { group = refl; table = omega arith; interval = refl }
-removes (x ∷ vs) more h = let k = removes vs more h.1 in record { group = omega (arith, h.0.group, k.group); table = omega (arith, k.table); interval = omega (arith, h.0.interval, k.interval) }
+  abbrev tried : List Entry
+  tried = filter (is_long (pass c.gathered).mark long) (entries_of (pass c.gathered).loaded)
 
-module _ (z : Sizes) (v g w : View) (n : ℕ) (own : HasPass v) (h : HasGathered v z.sessions g) (c : CutsBuckets z (newest_of z.sessions (logs_in g)) g n w) where
+  abbrev moved : PassPart
+  moved = gathering (pass c.gathered).mark (moved_by tried outcomes (pass c.gathered).loaded) v
+
   abbrev after : PassPart
-  after = record (gathering (pass g).mark (pass g).loaded v) { visits = c.visits ++ (pass v).visits }
+  after = record moved { visits = c.visits.on.visits ++ (pass v).visits }
+
+  parts_moved : c.moved.parts ≡ OfPass (number v) moved ∷ others v
+  parts_moved = c.moves.parts ∙ (λ i. OfPass (number_in (c.gathers.parts i)) (record (pass_there (first_in (c.gathers.parts i))) { loaded = moved_by tried outcomes (pass_there (first_in (c.gathers.parts i))).loaded }) ∷ after_first (c.gathers.parts i))
 
   parts_after : w.parts ≡ OfPass (number v) after ∷ others v
-  parts_after = c.parts ∙ (λ i. OfPass (number_in (h.parts i)) (record (pass_there (first_in (h.parts i))) { visits = c.visits ++ (pass_there (first_in (h.parts i))).visits }) ∷ after_first (h.parts i))
+  parts_after = c.visits.on.parts ∙ (λ i. OfPass (number_in (parts_moved i)) (record (pass_there (first_in (parts_moved i))) { visits = c.visits.on.visits ++ (pass_there (first_in (parts_moved i))).visits }) ∷ after_first (parts_moved i))
 
   pub logs_after : logs_in w ≡ logs_in v
   logs_after = logs_own v w after own parts_after
@@ -183,20 +156,48 @@ module _ (z : Sizes) (v g w : View) (n : ℕ) (own : HasPass v) (h : HasGathered
   pub ended_after : IsEnded z v → IsEnded z w
   ended_after e = ended_own v w after own parts_after z refl e
 
-  pub removed_after : (p : ℕ) → RemovesForTables (visits_in v p) (visits_in w p)
-  removed_after p = visits_own v w after own parts_after RemovesForTables (removes c.visits (pass v).visits c.only) (λ vs. removes [] vs tt) p
-
-  pub left_after : (b : ℕ) → b < n → WasLeftCut z.buckets (newest_of z.sessions (logs_in v)) (passes_in w.parts) (visits_in w) b
-  left_after b l = left_own v w after own parts_after z.buckets (newest_of z.sessions (logs_in v)) b
-      (subst (λ m. HasCut z.buckets m b (c.visits ++ (pass v).visits)) (ap (newest_of z.sessions) (logs_own v g (gathering (pass g).mark (pass g).loaded v) own h.parts)) (has_cut z.buckets (newest_of z.sessions (logs_in g)) b c.visits (pass v).visits (c.cut b l)))
-
   -- what was heard is heard still
   pub heard_after : HasHeardAll z v → HasHeardAll z w
   heard_after whole j is = subst (λ (l : ℕ → List _). IsHeard j (l j) w.sights) (sym logs_after) (later (whole j is))
     where
       kept : StartsWith w.sights v.sights
-      kept = starts_on w.sights g.sights v.sights h.kept c.kept
+      kept = starts_on w.sights c.gathered.sights v.sights c.gathers.kept (subst (StartsWith w.sights) c.moves.sights c.visits.on.kept)
 
       later : IsHeard j (logs_in v j) v.sights → IsHeard j (logs_in v j) w.sights
       later (inl e) = inl e
       later (inr a) = inr (subst (λ xs. IsAmong (Heard j (logs_in v j)) xs) (sym kept.1) (among_before (Heard j (logs_in v j)) v.sights kept.0 a))
+
+  pub removed_after : (p : ℕ) → RemovesForTables (visits_in v p) (visits_in w p)
+  removed_after p = visits_own v w after own parts_after RemovesForTables (removes (IsCutBy (record_of (pass c.moved))) (pass c.moved).mark z.buckets c.visits.on.visits (pass v).visits c.visits.once) (λ vs. nothing_removed vs) p
+
+  module _ (mark : ℕ) (backed : IsBacked z mark w) (ended : IsEnded z v) (whole : HasHeardAll z v) where
+    abbrev newest : ℕ
+    newest = newest_of z.sessions (logs_in v)
+
+    keys : map (λ e. e.0) after.loaded ≡ down_from z.sessions
+    keys = keys_tried tried outcomes (pass c.gathered).loaded ∙ c.gathers.keys
+
+    known : (j : ℕ) → IsSession z.sessions j → length (logs_in w j) ≤ heard j after.seen
+    known j is = subst (λ (l : ℕ → List LogEntry). length (l j) ≤ heard j v.sights) (sym logs_after) (heard_whole j (logs_in v j) v.sights (whole j is))
+
+    most : (j : ℕ) → IsSession z.sessions j → UpTo after.mark (logs_in w j)
+    most j is = subst (λ (l : ℕ → List LogEntry). UpTo after.mark (l j)) (sym logs_after) (up_to_whole after.mark j (logs_in v j) v.sights c.gathers.most (whole j is))
+
+    mark_is : after.mark ≡ newest
+    mark_is = mark_newest z mark w backed (ended_after ended) (number v) after (others v) parts_after most ∙ ap (newest_of z.sessions) logs_after
+
+    bound_is : (r : Rid) → table_bound r.table (record_of (pass c.moved)) ≡ newest
+    bound_is r = ap (λ ps. table_bound r.table (record_of (pass_there (first_in ps)))) parts_moved
+        ∙ idle_table (record_of after) r.table (found_idle z mark w backed (ended_after ended) (number v) after (others v) parts_after keys known) ∙ mark_is
+
+    leaves : (b : ℕ) (visit : Visit) → IsVisitOf Table (IsCutBy (record_of (pass c.moved))) (pass c.moved).mark b visit → LeavesCut z.buckets newest b visit
+    leaves b visit i = record {
+      bucket = ap (λ (x : Visit). x.bucket) i.is;
+      mark_is = ap (λ (x : Visit). x.mark) i.is ∙ (ap (λ ps. (pass_there (first_in ps)).mark) parts_moved ∙ mark_is);
+      given = i.given;
+      gives = ap (λ (x : Visit). x.given) i.is;
+      cut = λ r at. subst (λ m. IsCutAt m (look r i.given)) (bound_is r) (i.left r);
+    }
+
+    pub left_after : (b : ℕ) → b < z.buckets → WasLeftCut z.buckets newest (passes_in w.parts) (visits_in w) b
+    left_after b l = left_own v w after own parts_after z.buckets newest b (one_has z.buckets newest (IsVisitOf Table (IsCutBy (record_of (pass c.moved))) (pass c.moved).mark) leaves z.buckets c.visits.on.visits (pass v).visits c.visits.once b l)

@@ -1,28 +1,33 @@
+-- What a session keeps, and what it has heard.
 pub mod Tying
+pub mod Done
+pub mod Meetings
+pub mod Settling
+pub mod Refusing
+-- A trip to a bucket.
 pub mod Trips
 pub mod Seeing
-pub mod Settling
-pub mod Meetings
-pub mod Seating
-pub mod Bringing
-pub mod Passing
 pub mod Storing
-pub mod Done
-pub mod Undoing
+-- What a call replies, and that it is right.
 pub mod Replying
 pub mod Putting
 pub mod Ranged
-pub mod Refusing
+pub mod Undoing
 pub mod Placed
 pub mod Right
-pub mod Ending
-pub mod Visiting
-pub mod Committing
+-- A scan.
 pub mod ScanningKeys
 pub mod ScanningRows
 pub mod ScanningLooks
 pub mod ScanningOrder
-pub mod Quiet
-pub mod Cutting
-pub mod Leaving
+-- A new engine.
+pub mod Seating
+pub mod Passing
 pub mod Rested
+-- The end: all parts come to one pass, which cuts and counts.
+pub mod Bringing
+pub mod Quiet
+pub mod Committing
+pub mod Leaving
+pub mod Visiting
+pub mod Ending

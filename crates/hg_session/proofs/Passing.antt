@@ -1,43 +1,99 @@
--- A new engine's passes in one.
-use Rattle.std.proofs.Common.{◌≡◌, ℕ, Bool, true, false, [], ◌∷◌, refl, ap, ◌∙◌, eqb}
+-- An engine's passes in one.
+use Rattle.std.proofs.Common.{◌≡◌, ◌⊎◌, inl, inr, ℕ, Bool, true, false, List, [], ◌∷◌, ◌++◌, refl, sym, ap, ◌∙◌, subst, eqb, arith}
+use Rattle.std.specs.Prelude.{if◌then◌else◌}
 use Rattle.hg_rule.specs.declared.passes.CollectorPass.{CollectorPass}
+use Rattle.hg_rule.specs.declared.view.Part.{Part}
 use Rattle.hg_rule.specs.declared.view.Part.TheVariants.{OfPass}
+use Rattle.hg_rule.specs.declared.view.PassPart.{PassPart}
+use Rattle.hg_rule.specs.declared.view.Sight.{Sight}
 use Rattle.hg_rule.specs.declared.view.View.{View}
 use Rattle.hg_rule.specs.Keys.{session_key, pass_key, count, shares}
-use Rattle.hg_rule.specs.Facts.{new_pass, new_part}
+use Rattle.hg_rule.specs.Facts.{new_part, IsAmong}
 use Rattle.hg_rule.specs.New.{IsNewPass}
-use Rattle.hg_rule.specs.Views.{seeing, pass_there}
-use Rattle.hg_rule.specs.Moves.{merged}
-use Rattle.hg_rule.specs.Reading.{chosen, passes_in}
+use Rattle.hg_rule.specs.Views.{pass, pass_there, number_in, first_in, after_first}
+use Rattle.hg_rule.specs.Moves.{put_in, merged, did}
+use Rattle.hg_rule.specs.Reading.{chosen, seek, passes_in}
 use Rattle.hg_rule.specs.Seats.{BoardId, pass_view}
+use Rattle.hg_rule.proofs.Growing.{among_later}
+use Rattle.hg_session.specs.declared.engine.Engine.{Engine}
+use Rattle.hg_session.specs.declared.opening.Passes.{Passes}
+use Rattle.hg_session.specs.Engines.{engine_board_id}
 use Rattle.hg_session.specs.Ended.{visits_in, HasAllPasses}
 use Rattle.hg_session.specs.Finished.{HasNoSession}
+use Rattle.hg_session.specs.Passing.{IsAlonePass, AreAlone, visits_of}
+use Rattle.hg_session.proofs.Meetings.{among_first}
 
--- the view of the three
-abbrev pub three : View
-three = seeing (OfPass 1 new_pass ∷ OfPass 2 new_pass ∷ OfPass 0 new_pass ∷ []) [] []
+-- ---- a new one
 
-pub three_is : (t : BoardId) (group table interval : CollectorPass) (u w : View) → IsNewPass t 0 group → IsNewPass t 1 table → IsNewPass t 2 interval → u ≡ merged (pass_view table) (pass_view group) → w ≡ merged u (pass_view interval) → w ≡ three
-three_is t group table interval u w g a b first second = second ∙ (λ i. merged (first i) (pass_view interval)) ∙ (λ i. merged (merged ((a.1 i).0) ((g.1 i).0)) ((b.1 i).0))
+pub new_alone : (t : BoardId) (p : ℕ) (c : CollectorPass) → IsNewPass t p c → IsAlonePass t p c
+new_alone t p c h = record {
+  own = ((h.0, ap (λ m. m.1) h.1), parts ∙ ap (λ ps. OfPass (number_in ps) (pass_there (first_in ps)) ∷ after_first ps) (sym parts));
+  only = parts ∙ ap (λ ps. OfPass p (pass_there (first_in ps)) ∷ []) (sym parts);
+  share = ap (λ ps. (pass_there (first_in ps)).share) parts;
+}
+  where
+    parts : (pass_view c).parts ≡ new_part (pass_key p) ∷ []
+    parts = ap (λ m. m.0.parts) h.1
 
-module _ (w : View) (is : w ≡ three) where
+pub new_passes : (e : Engine) (passes : Passes) → IsNewPass (engine_board_id e) 0 passes.group → IsNewPass (engine_board_id e) 1 passes.table → IsNewPass (engine_board_id e) 2 passes.interval → AreAlone e passes
+new_passes e passes group table interval = record { group = new_alone (engine_board_id e) 0 passes.group group; table = new_alone (engine_board_id e) 1 passes.table table; interval = new_alone (engine_board_id e) 2 passes.interval interval }
+
+-- ---- the three
+
+abbrev pub three : PassPart → PassPart → PassPart → List Part
+three group table interval = OfPass 1 table ∷ OfPass 2 interval ∷ OfPass 0 group ∷ []
+
+module _ (e : Engine) (passes : Passes) (u w : View) (h : AreAlone e passes) (first : u ≡ merged (pass_view passes.table) (pass_view passes.group)) (second : w ≡ merged u (pass_view passes.interval)) where
+  abbrev group : PassPart
+  group = pass (pass_view passes.group)
+
+  abbrev table : PassPart
+  table = pass (pass_view passes.table)
+
+  abbrev interval : PassPart
+  interval = pass (pass_view passes.interval)
+
+  two : u.parts ≡ OfPass 1 table ∷ OfPass 0 group ∷ []
+  two = ap (λ (v : View). v.parts) first ∙ (λ i. put_in (h.table.only i) (h.group.only i))
+
+  parts : w.parts ≡ three group table interval
+  parts = ap (λ (v : View). v.parts) second ∙ (λ i. put_in (two i) (h.interval.only i))
+
   pub all_passes : HasAllPasses w
-  all_passes = ap (λ (v : View). shares v.parts) is
+  all_passes = let sum : shares w.parts ≡ shares (three group table interval) = ap shares parts in let a = h.group.share in let b = h.table.share in let d = h.interval.share in omega (arith, sum, a, b, d)
 
   pub three_passes : passes_in w.parts ≡ 3
-  three_passes = ap (λ (v : View). passes_in v.parts) is
+  three_passes = ap passes_in parts
 
   pub no_session : HasNoSession w
-  no_session j = ap (λ (v : View). count (session_key j) v.parts) is
+  no_session j = ap (count (session_key j)) parts
 
-  pub no_visits : visits_in w ≡ (λ p. [])
-  no_visits = λ i p. (ap (λ (v : View). visits_in v p) is ∙ none p) i
+  pub all_visits : visits_in w ≡ visits_of passes
+  all_visits = λ i p. (ap (λ (ps : List Part). (pass_there (seek (pass_key p) ps)).visits) parts ∙ go p (eqb 1 p) (eqb 2 p) (eqb 0 p)) i
     where
-      go : (p : ℕ) (a b c : Bool) → (pass_there (chosen a (OfPass 1 new_pass) (chosen b (OfPass 2 new_pass) (chosen c (OfPass 0 new_pass) (new_part (pass_key p)))))).visits ≡ []
+      go : (p : ℕ) (a b c : Bool) → (pass_there (chosen a (OfPass 1 table) (chosen b (OfPass 2 interval) (chosen c (OfPass 0 group) (new_part (pass_key p)))))).visits
+          ≡ (if a then table.visits else (if b then interval.visits else (if c then group.visits else [])))
       go p true b c = refl
       go p false true c = refl
       go p false false true = refl
       go p false false false = refl
 
-      none : (p : ℕ) → visits_in three p ≡ []
-      none p = go p (eqb 1 p) (eqb 2 p) (eqb 0 p)
+  abbrev own_sights : List Sight
+  own_sights = (pass_view passes.table).sights
+
+  abbrev group_sights : List Sight
+  group_sights = (pass_view passes.group).sights ++ did (pass_view passes.group).events
+
+  abbrev interval_sights : List Sight
+  interval_sights = (pass_view passes.interval).sights ++ did (pass_view passes.interval).events
+
+  sights : w.sights ≡ (own_sights ++ group_sights) ++ interval_sights
+  sights = ap (λ (v : View). v.sights) second ∙ ap (λ (l : List Sight). l ++ interval_sights) (ap (λ (v : View). v.sights) first)
+
+  pub all_seen : (s : Sight) → IsAmong s (pass_view passes.group).sights ⊎ (IsAmong s (pass_view passes.table).sights ⊎ IsAmong s (pass_view passes.interval).sights) → IsAmong s w.sights
+  all_seen s h = subst (IsAmong s) (sym sights) (go h)
+    where
+      go : IsAmong s (pass_view passes.group).sights ⊎ (IsAmong s (pass_view passes.table).sights ⊎ IsAmong s (pass_view passes.interval).sights) → IsAmong s ((own_sights ++ group_sights) ++ interval_sights)
+      go (inl i) = among_first s (own_sights ++ group_sights) interval_sights (among_later s own_sights group_sights (among_first s _ _ i))
+      go (inr (inl i)) = among_first s (own_sights ++ group_sights) interval_sights (among_first s own_sights group_sights i)
+      go (inr (inr i)) = among_later s (own_sights ++ group_sights) interval_sights (among_first s _ _ i)

@@ -21,6 +21,7 @@ use Rattle.hg_core.specs.Phases.{IsSession}
 use Rattle.hg_base.specs.declared.scope.Scope.{Scope}
 use Rattle.hg_core.specs.Reading.{FitsScope, Unprinted, own_entries, close, is_access, FitsAnswer, UndoesAll}
 use Rattle.hg_core.specs.Reading as reading
+use Rattle.hg_core.proofs.Right.{if_none}
 use Rattle.hg_bucket.specs.declared.refusal.WriteRefusal.{WriteRefusal}
 use Rattle.hg_bucket.specs.declared.refusal.WriteRefusal.TheVariants.{Open, Newer, NoMemory}
 use Rattle.hg_rule.specs.declared.view.Sizes.{Sizes}
@@ -33,7 +34,6 @@ use Rattle.hg_tracker.specs.Begun.{AtMost}
 use Rattle.hg_store.specs.Ends.{HasNoEnd}
 use Rattle.hg_group.specs.declared.receipt.Receipt.{Receipt}
 use Rattle.hg_headline.specs.Timely.{snapshot_in, newer_in, commit_in}
-use Rattle.hg_headline.proofs.Rounds.{if_some_none as if_none}
 use Rattle.hg_session.specs.declared.answers.PutRefusal.{PutRefusal}
 use Rattle.hg_session.specs.declared.answers.PutRefusal.TheVariants as put
 use Rattle.hg_session.specs.Gains.{Gains, IsAfter, IsRefusedBy, entries_of, number_in}

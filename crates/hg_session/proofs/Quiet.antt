@@ -1,7 +1,8 @@
 -- What a gather finds where all sessions rest, and were heard to the end of their logs.
-use Rattle.std.proofs.Common.{◌≡◌, ◌⊎◌, inl, inr, ℕ, zero, suc, ◌+◌, ◌<◌, ◌≤◌, Bool, true, false, List, [], ◌∷◌, ◌++◌, length, map, Option, Some, None, refl, sym, ap, ◌∙◌, subst, arith, eqb, true≢false}
+use Rattle.std.proofs.Common.{◌≡◌, ◌⊎◌, inl, inr, ℕ, zero, suc, ◌+◌, ◌<◌, ◌≤◌, Bool, true, false, List, [], ◌∷◌, ◌++◌, length, map, Option, Some, None, refl, sym, ap, ◌∙◌, subst, arith, eqb, length-append, true≢false}
 use Rattle.std.specs.Prelude.{◌==◌, if◌then◌else◌, max, IfSome, IsTrue}
 use Rattle.std.proofs.lemmas.Bool.Decides.{nat_tests}
+use Rattle.hg_base.specs.History.{History}
 use Rattle.hg_base.specs.Lists.{Each}
 use Rattle.hg_core.specs.declared.register.Register.{Register}
 use Rattle.hg_core.specs.declared.register.Register.TheVariants as registers
@@ -20,7 +21,7 @@ use Rattle.hg_rule.specs.declared.view.Sight.{Sight}
 use Rattle.hg_rule.specs.declared.view.Sight.TheVariants.{Saw, Heard, Took, Did}
 use Rattle.hg_rule.specs.declared.view.View.{View}
 use Rattle.hg_rule.specs.declared.view.Sizes.{Sizes}
-use Rattle.hg_rule.specs.Facts.{IsAmong, heard, record_of, Shown}
+use Rattle.hg_rule.specs.Facts.{IsAmong, StartsWith, groups, heard, record_of, Shown, Known}
 use Rattle.hg_rule.specs.Keys.{session_key, one, count}
 use Rattle.hg_rule.specs.Rules.{IsBacked}
 use Rattle.hg_rule.specs.Reading.{chosen, seek}
@@ -193,6 +194,11 @@ session_is s j (OfPass p part ∷ ps) h l = session_is s j ps h.1 (less _ l)
     less : (n : ℕ) → 0 < 0 + n → 0 < n
     less n l = omega arith
 
+known_among : (s : CoreState) (a : Sight) (xs : List Sight) → Each (Known s) xs → IsAmong a xs → Known s a
+known_among s a [] h i = absurd i
+known_among s a (x ∷ xs) h (inl e) = subst (Known s) e h.0
+known_among s a (x ∷ xs) h (inr i) = known_among s a xs h.1 i
+
 module _ (z : Sizes) (n : ℕ) (x : View) (k : IsBacked z n x) (ended : IsEnded z x) (p : ℕ) (r : PassPart) (os : List Part) (parts : x.parts ≡ OfPass p r ∷ os) where
   abbrev s : CoreState
   s = k.state
@@ -226,3 +232,13 @@ module _ (z : Sizes) (n : ℕ) (x : View) (k : IsBacked z n x) (ended : IsEnded 
       let told : s.mark ≡ newest_of z.sessions (logs_in x) = mark_told s k.steady ∙ ap (λ m. newest_of m s.log) k.sized.sessions ∙ same_newest z.sessions s.log (logs_in x) (λ j is. (session j is).1) in
       let less : r.mark ≤ s.mark = subst (λ (t : PassRecord). t.mark ≤ s.mark) record_is (k.steady.mark_is_length.passes p) in
       omega (arith, told, less, all_most z.sessions r.mark (logs_in x) most)
+
+  -- no group was seen beyond it
+  pub seen_newest : (h : History) → IsAmong (Saw (groups h)) x.sights → length h ≤ newest_of z.sessions (logs_in x)
+  seen_newest h i =
+      let told : s.mark ≡ newest_of z.sessions (logs_in x) = mark_told s k.steady ∙ ap (λ m. newest_of m s.log) k.sized.sessions ∙ same_newest z.sessions s.log (logs_in x) (λ j is. (session j is).1) in
+      let known : StartsWith s.history h = known_among s (Saw (groups h)) x.sights k.true_of.sights i in
+      let sum = length-append h known.0 in
+      let all : length s.history ≡ length (h ++ known.0) = ap length known.1 in
+      let mark = k.steady.mark_is_length.is_length in
+      omega (arith, told, sum, all, mark)

@@ -13,7 +13,8 @@ use Rattle.hg_core.specs.declared.ask.Ask.TheVariants.{Write}
 use Rattle.hg_core.specs.declared.log.LogEntry.TheVariants.{Wrote}
 use Rattle.hg_core.specs.Versions.{newest_at, unpublished}
 use Rattle.hg_core.specs.Events.{with_refusal}
-use Rattle.hg_core.specs.Replies.{same_writer, refused_over, refused_by, refusal}
+use Rattle.hg_base.specs.History.{same_writer}
+use Rattle.hg_core.specs.Replies.{refused_over, refused_by, refusal}
 use Rattle.hg_bucket.specs.declared.refusal.WriteRefusal.{WriteRefusal}
 use Rattle.hg_bucket.specs.declared.refusal.WriteRefusal.TheVariants.{Open, Newer, NoMemory}
 use Rattle.hg_rule.specs.declared.view.SessionPart.{SessionPart}

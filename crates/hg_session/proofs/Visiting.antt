@@ -8,7 +8,7 @@ use Rattle.hg_base.specs.Lists.{Each}
 use Rattle.hg_core.specs.declared.visit.Counters.{Counters}
 use Rattle.hg_core.specs.declared.visit.Visit.{Visit}
 use Rattle.hg_core.specs.Contents.{Content}
-use Rattle.hg_core.specs.Counters.{none_removed, removed_by, removed_in}
+use Rattle.hg_core.specs.Counters.{none_removed, removed_by, removed_in, removed_all}
 use Rattle.hg_core.specs.Logs.{newest_of}
 use Rattle.hg_core.specs.State.{CoreState}
 use Rattle.hg_core.proofs.Sums.{below_same}
@@ -30,7 +30,6 @@ use Rattle.hg_rule.proofs.Lists.{starts_on}
 use Rattle.hg_store.specs.Kept.{AreCountsOf}
 use Rattle.hg_store.specs.Stores.{Takes}
 use Rattle.hg_headline.specs.Logged.{Logged}
-use Rattle.hg_headline.specs.Counted.{removed_all}
 use Rattle.hg_headline.specs.Totalled.{HasCut, AreCounts, BucketTells, SumTells, TotalsTell, plus}
 use Rattle.hg_headline.proofs.Totalling.{tells_same, more_tells, totals_tell, made_few, Fits, fits}
 use Rattle.hg_session.specs.Ended.{logs_in, visits_in, history_in, IsEnded}

@@ -13,6 +13,8 @@ pub mod Alone
 pub mod Right
 -- What a scan reads, bucket by bucket.
 pub mod Scans
+-- The passes of its collectors.
+pub mod Passing
 -- What a pass knows once all others are joined to it.
 pub mod Ended
 pub mod Finished

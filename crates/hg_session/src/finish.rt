@@ -1,43 +1,39 @@
 //! How all passes and all sessions of an engine go to one pass.
 
-ghost use Rattle.std.specs.Prelude.{◌≡◌, ℕ, [], length};
+ghost use Rattle.std.specs.Prelude.{◌≡◌, ℕ, length};
 ghost use Rattle.hg_base.specs.Lists.{Each};
 ghost use Rattle.hg_rule.specs.Facts.{StartsWith};
-ghost use Rattle.hg_rule.specs.New.{EachFrom, IsNewPass};
+ghost use Rattle.hg_rule.specs.New.{EachFrom};
 ghost use Rattle.hg_rule.specs.Reading.{passes_in};
 ghost use Rattle.hg_rule.specs.Seats.{pass_view, IsPassOf};
 ghost use Rattle.hg_session.specs.Engines.{engine_board_id, engine_sizes};
+ghost use Rattle.hg_session.specs.Passing.{AreAlone, passes_with, visits_of};
 ghost use Rattle.hg_session.specs.Ties.{IsHeard};
 ghost use Rattle.hg_session.specs.Sessions.{seen_by};
 ghost use Rattle.hg_session.specs.Ended.{logs_in, visits_in, HasAllPasses, IsEnded};
 ghost use Rattle.hg_session.specs.Finished.{logs_of, IsClosed, HasNoSession, AreAmong};
 
 use crate::engine::Engine;
-use crate::opening::Passes;
 use crate::session::Session;
 use hg_rule::CollectorPass;
 
-impl Passes {
-    /// The passes of a new engine in one, whose own is the table collector's.
-    pub fn join(self, engine: &Engine) -> CollectorPass
-        requires new { IsNewPass (engine_board_id engine.now) 0 self.group × IsNewPass (engine_board_id engine.now) 1 self.table × IsNewPass (engine_board_id engine.now) 2 self.interval }
-        ensures passes { HasAllPasses (pass_view result) }
-        ensures count { passes_in (pass_view result).parts ≡ 3 }
-        ensures none { HasNoSession (pass_view result) }
-        ensures visits { visits_in (pass_view result) ≡ (λ p. []) }
-        ensures seen { (pass_view result).sights ≡ [] }
-        ensures own { IsPassOf (engine_board_id engine.now) result }
-    {
-        let Passes {
-            group,
-            table,
-            interval,
-        } = self;
-        let mut pass = table;
-        pass.join(engine.board(), group);
-        pass.join(engine.board(), interval);
-        pass
-    }
+/// The group and the interval collector's passes go to the table collector's.
+pub fn join_all(
+    engine: &Engine,
+    pass: &mut CollectorPass,
+    group: CollectorPass,
+    interval: CollectorPass,
+)
+    requires alone { AreAlone engine.now (passes_with group pass.old interval) }
+    ensures passes { HasAllPasses (pass_view pass.new) }
+    ensures count { passes_in (pass_view pass.new).parts ≡ 3 }
+    ensures none { HasNoSession (pass_view pass.new) }
+    ensures visits { visits_in (pass_view pass.new) ≡ visits_of (passes_with group pass.old interval) }
+    ensures seen { AreAmong (pass_view group).sights (pass_view pass.new).sights × AreAmong (pass_view pass.old).sights (pass_view pass.new).sights × AreAmong (pass_view interval).sights (pass_view pass.new).sights }
+    ensures own { IsPassOf (engine_board_id engine.now) pass.new }
+{
+    pass.join(engine.board(), group);
+    pass.join(engine.board(), interval);
 }
 
 /// All sessions of an engine go to a pass that all other passes were joined to, which then knows what they had seen and done.

@@ -4,6 +4,7 @@ ghost use Rattle.std.specs.Prelude.{◌≡◌, ◌*◌, ◌^◌, ◌<◌, ◌≤
 ghost use Rattle.hg_rule.specs.New.{EachFrom, IsNewPass};
 ghost use Rattle.hg_session.specs.Engines.{engine_board_id, engine_sizes};
 ghost use Rattle.hg_session.specs.Opened.{seated, IsNewOf};
+ghost use Rattle.hg_session.specs.Passing.{AreAlone};
 
 use crate::engine::Engine;
 use crate::session::Session;
@@ -64,6 +65,7 @@ impl Engine {
         ensures sizes { IfOk result (λ o. engine_sizes o.0 ≡ record { sessions = sessions; tables = length tables.now; buckets = buckets; quota = quota }) }
         ensures count { IfOk result (λ o. length o.1 ≡ sessions) }
         ensures sessions { IfOk result (λ o. EachFrom (IsNewOf o.0 quota) 1 o.1) }
+        ensures alone { IfOk result (λ o. AreAlone o.0 o.2) }
         ensures passes { IfOk result (λ o. IsNewPass (engine_board_id o.0) 0 o.2.group × IsNewPass (engine_board_id o.0) 1 o.2.table × IsNewPass (engine_board_id o.0) 2 o.2.interval) }
     {
         let (board, seats) = Board::new(alloc, sessions, tables.len() as u32, buckets, quota)?;

@@ -8,10 +8,12 @@ ghost use Rattle.hg_session.specs.Settled.{HasHeardAll};
 
 use crate::engine::Engine;
 use crate::settlement::settle;
+use hg_base::Kind;
+use hg_gc_table::TableCollector;
 use hg_group::GroupList;
 use hg_rule::{Board, CollectorPass, SessionPass};
 use hg_store::Store;
-use hg_tracker::{Gathered, Trackers};
+use hg_tracker::Trackers;
 use std::test::Fail;
 
 fn bring_all(
@@ -50,11 +52,14 @@ fn a_new_engine_is_settled(rt: HostRuntime) -> Result<(), Fail> {
         store,
         groups,
     };
-    let mut gathered = Gathered::new(rt.alloc(), 1, 2)?;
-    settle(&rt, &engine, &mut pass, &mut gathered);
-    settle(&rt, &engine, &mut pass, &mut gathered);
-    assert_eq!(rt; gathered.tables(), 2);
-    assert_eq!(rt; gathered.mark(), 0);
-    assert_eq!(rt; gathered.entries().len(), 0);
+    let Ok(mut collector) = TableCollector::new(rt.alloc(), pass, 1, 2) else {
+        panic!(rt; "no memory");
+    };
+    settle(&rt, &engine, &mut collector);
+    settle(&rt, &engine, &mut collector);
+    assert_eq!(rt; collector.report().kind, Kind::Table);
+    assert_eq!(rt; collector.report().mark, 0);
+    assert_eq!(rt; collector.report().entries.as_slice().len(), 0);
+    assert_eq!(rt; collector.report().removed, 0);
     Ok(())
 }

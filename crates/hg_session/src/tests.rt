@@ -32,7 +32,12 @@ fn a_new_engine_has_made_nothing(rt: HostRuntime) -> Result<(), Fail> {
     let tables = [TableDecl { columns: 2 }];
     let (engine, sessions, passes) = Engine::open(rt.alloc(), 2, &tables[..], 4, 10)?;
     assert_eq!(rt; engine.store().buckets(), 4);
-    let mut pass = passes.join(&engine);
+    let Passes {
+        group,
+        table: mut pass,
+        interval,
+    } = passes;
+    join_all(&engine, &mut pass, group, interval);
     let mut sessions = sessions.into_vec();
     assert_eq!(rt; sessions.len(), 2);
     let (Some(mut second), Some(mut first)) = (sessions.pop(), sessions.pop()) else {

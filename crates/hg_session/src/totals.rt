@@ -17,7 +17,7 @@ ghost use Rattle.hg_rule.specs.Reading.{passes_in};
 ghost use Rattle.hg_rule.specs.Seats.{board_id, sizes_of, pass_view, IsPassOf, IsCommitOf};
 ghost use Rattle.hg_store.specs.Stores.{store_board_id, store_buckets};
 ghost use Rattle.hg_base.specs.declared.report.Kind.{Kind};
-ghost use Rattle.hg_headline.specs.Counted.{removed_all};
+ghost use Rattle.hg_core.specs.Counters.{removed_all};
 ghost use Rattle.hg_headline.specs.Logged.{Logged};
 ghost use Rattle.hg_headline.specs.Totalled.{TotalsTell, plus};
 ghost use Rattle.hg_session.specs.Ended.{logs_in, visits_in, committed, IsEnded};

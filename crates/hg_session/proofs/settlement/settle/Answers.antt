@@ -1,27 +1,39 @@
-use Rattle.std.proofs.Common.{◌≡◌, subst}
+use Rattle.std.proofs.Common.{◌≡◌, ℕ, subst}
 use Rattle.hg_rule.specs.declared.board.Board.{Board}
 use Rattle.hg_rule.specs.declared.view.View.{View}
-use Rattle.hg_rule.specs.Seats.{sizes_of, pass_view}
-use Rattle.hg_tracker.specs.Begun.{HasGathered}
+use Rattle.hg_rule.specs.Rules.{IsBacked}
+use Rattle.hg_rule.specs.Seats.{sizes_of}
+use Rattle.hg_base.specs.declared.report.Report.{Report}
+use Rattle.hg_gc_table.specs.Collectors.{view_of, report_in, Cuts}
 use Rattle.hg_session.specs.Engines.{engine_sizes}
-use Rattle.hg_session.proofs.Leaving.{quiet, left_after, removed_after, ended_after, heard_after}
+use Rattle.hg_session.proofs.Leaving.{left_after, removed_after, logs_after, passes_after, ended_after, heard_after}
 use Rattle.hg_session.proofs.settlement.settle.Goals as goal
 
--- a gather at the board of the trackers is one at the engine's
-gathered : (v w : View) (a b : Board) → a ≡ b → HasGathered v (sizes_of a).sessions w → HasGathered v (sizes_of b).sessions w
-gathered v w a b same h = subst (λ (x : Board). HasGathered v (sizes_of x).sessions w) same h
+-- a round at the board of the trackers is one at the engine's
+cuts_at : (v w : View) (long : ℕ) (report : Report) (a b : Board) → a ≡ b → Cuts (sizes_of a) long v report w → Cuts (sizes_of b) long v report w
+cuts_at v w long report a b same h = subst (λ (x : Board). Cuts (sizes_of x) long v report w) same h
 
-pub settle_buckets-requires-clause-quiet : goal.settle_buckets-requires-clause-quiet
-settle_buckets-requires-clause-quiet g c = quiet (engine_sizes c.args.engine.now) (pass_view c.args.pass.now) (pass_view c.gather.new.pass) c.requires.own.1 (gathered _ _ _ _ c.trackers.ensures c.gather.ensures.gathered) c.requires.ended c.requires.heard
+backed_at : (w : View) (a b : Board) → a ≡ b → (mark : ℕ) × IsBacked (sizes_of a) mark w → (mark : ℕ) × IsBacked (sizes_of b) mark w
+backed_at w a b same h = subst (λ (x : Board). (mark : ℕ) × IsBacked (sizes_of x) mark w) same h
 
 pub returns-clause-settled : goal.returns-clause-settled
-returns-clause-settled g c = left_after (engine_sizes c.args.engine.now) (pass_view c.args.pass.now) (pass_view c.gather.new.pass) (pass_view c.settle_buckets.new.pass) (engine_sizes c.args.engine.now).buckets c.requires.own.1 (gathered _ _ _ _ c.trackers.ensures c.gather.ensures.gathered) c.settle_buckets.ensures.cuts
+returns-clause-settled g c =
+    let v = view_of c.args.collector.now in
+    let w = view_of c.collect.new.self in
+    let backed = backed_at w _ _ c.trackers.ensures c.collect.ensures.backed in
+    left_after (engine_sizes c.args.engine.now) v w _ (report_in c.collect.new.self) c.requires.own.0.1 (cuts_at v w _ _ _ _ c.trackers.ensures c.collect.ensures.cuts) backed.0 backed.1 c.requires.ended c.requires.heard
 
 pub returns-clause-removed : goal.returns-clause-removed
-returns-clause-removed g c = removed_after (engine_sizes c.args.engine.now) (pass_view c.args.pass.now) (pass_view c.gather.new.pass) (pass_view c.settle_buckets.new.pass) (engine_sizes c.args.engine.now).buckets c.requires.own.1 (gathered _ _ _ _ c.trackers.ensures c.gather.ensures.gathered) c.settle_buckets.ensures.cuts
+returns-clause-removed g c = removed_after (engine_sizes c.args.engine.now) (view_of c.args.collector.now) (view_of c.collect.new.self) _ (report_in c.collect.new.self) c.requires.own.0.1 (cuts_at _ _ _ _ _ _ c.trackers.ensures c.collect.ensures.cuts)
+
+pub returns-clause-logs : goal.returns-clause-logs
+returns-clause-logs g c = logs_after (engine_sizes c.args.engine.now) (view_of c.args.collector.now) (view_of c.collect.new.self) _ (report_in c.collect.new.self) c.requires.own.0.1 (cuts_at _ _ _ _ _ _ c.trackers.ensures c.collect.ensures.cuts)
+
+pub returns-clause-passes : goal.returns-clause-passes
+returns-clause-passes g c = passes_after (engine_sizes c.args.engine.now) (view_of c.args.collector.now) (view_of c.collect.new.self) _ (report_in c.collect.new.self) c.requires.own.0.1 (cuts_at _ _ _ _ _ _ c.trackers.ensures c.collect.ensures.cuts)
 
 pub returns-clause-ended : goal.returns-clause-ended
-returns-clause-ended g c = ended_after (engine_sizes c.args.engine.now) (pass_view c.args.pass.now) (pass_view c.gather.new.pass) (pass_view c.settle_buckets.new.pass) (engine_sizes c.args.engine.now).buckets c.requires.own.1 (gathered _ _ _ _ c.trackers.ensures c.gather.ensures.gathered) c.settle_buckets.ensures.cuts c.requires.ended
+returns-clause-ended g c = ended_after (engine_sizes c.args.engine.now) (view_of c.args.collector.now) (view_of c.collect.new.self) _ (report_in c.collect.new.self) c.requires.own.0.1 (cuts_at _ _ _ _ _ _ c.trackers.ensures c.collect.ensures.cuts) c.requires.ended
 
 pub returns-clause-heard : goal.returns-clause-heard
-returns-clause-heard g c = heard_after (engine_sizes c.args.engine.now) (pass_view c.args.pass.now) (pass_view c.gather.new.pass) (pass_view c.settle_buckets.new.pass) (engine_sizes c.args.engine.now).buckets c.requires.own.1 (gathered _ _ _ _ c.trackers.ensures c.gather.ensures.gathered) c.settle_buckets.ensures.cuts c.requires.heard
+returns-clause-heard g c = heard_after (engine_sizes c.args.engine.now) (view_of c.args.collector.now) (view_of c.collect.new.self) _ (report_in c.collect.new.self) c.requires.own.0.1 (cuts_at _ _ _ _ _ _ c.trackers.ensures c.collect.ensures.cuts) c.requires.heard

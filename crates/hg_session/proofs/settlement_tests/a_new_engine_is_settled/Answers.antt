@@ -1,6 +1,6 @@
 use Rattle.std.proofs.Common.{◌≡◌, ◌<◌, sym, ap, ◌∙◌, subst, arith}
 use Rattle.hg_rule.specs.declared.view.Sizes.{Sizes}
-use Rattle.hg_rule.specs.Seats.{board_id, sizes_of}
+use Rattle.hg_rule.specs.Seats.{board_id, sizes_of, IsPassOf}
 use Rattle.hg_tracker.specs.Boards.{board_of}
 use Rattle.hg_store.specs.Stores.{store_buckets}
 use Rattle.hg_session.proofs.settlement_tests.a_new_engine_is_settled.Goals as goal
@@ -16,3 +16,10 @@ invariant_of-engine g c =
       buckets_are = count ∙ sym (ap (λ (z : Sizes). z.buckets) sizes);
       some = subst (λ n. 0 < n) (sym count) (omega arith);
     }
+
+pub settle-requires-clause-own : goal.settle-requires-clause-own
+settle-requires-clause-own g c =
+    let same : board_of c.new-trackers.result ≡ c.in_ok-board.board = c.new-trackers.ensures in
+    let sizes : sizes_of (board_of c.new-trackers.result) ≡ record { sessions = 1; tables = 2; buckets = 2; quota = 1 } = ap sizes_of same ∙ c.in_ok-board.ensures.sizes in
+    c.in-Ok.ensures.collector (board_id (board_of c.new-trackers.result)) (sizes_of (board_of c.new-trackers.result))
+    (subst (λ b. IsPassOf (board_id b) c.bring_all.new.pass) (sym same) c.bring_all.ensures.own) (ap (λ (z : Sizes). z.sessions) sizes) (ap (λ (z : Sizes). z.tables) sizes)

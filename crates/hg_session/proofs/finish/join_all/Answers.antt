@@ -1,0 +1,21 @@
+use Rattle.std.proofs.Common.{inl, inr}
+use Rattle.hg_session.specs.Passing.{passes_with}
+use Rattle.hg_session.proofs.Passing.{all_passes, three_passes, no_session, all_visits, all_seen}
+use Rattle.hg_session.proofs.finish.join_all.Goals as goal
+
+pub returns-clause-passes : goal.returns-clause-passes
+returns-clause-passes c = all_passes c.args.engine.now (passes_with c.args.group c.args.pass.now c.args.interval) _ _ c.requires.alone c.join.ensures.view c.join-2.ensures.view
+
+pub returns-clause-none : goal.returns-clause-none
+returns-clause-none c = no_session c.args.engine.now (passes_with c.args.group c.args.pass.now c.args.interval) _ _ c.requires.alone c.join.ensures.view c.join-2.ensures.view
+
+pub returns-clause-visits : goal.returns-clause-visits
+returns-clause-visits c = all_visits c.args.engine.now (passes_with c.args.group c.args.pass.now c.args.interval) _ _ c.requires.alone c.join.ensures.view c.join-2.ensures.view
+
+pub returns-clause-seen : goal.returns-clause-seen
+returns-clause-seen c =
+    let all = all_seen c.args.engine.now (passes_with c.args.group c.args.pass.now c.args.interval) _ _ c.requires.alone c.join.ensures.view c.join-2.ensures.view in
+    (λ s i. all s (inl i), λ s i. all s (inr (inl i)), λ s i. all s (inr (inr i)))
+
+pub returns-clause-count : goal.returns-clause-count
+returns-clause-count c = three_passes c.args.engine.now (passes_with c.args.group c.args.pass.now c.args.interval) _ _ c.requires.alone c.join.ensures.view c.join-2.ensures.view
