@@ -1,5 +1,5 @@
 -- The value of a numeral, digit by digit.
-use Rattle.std.proofs.Common.{◌≡◌, ◌<◌, ◌≤◌, ◌+◌, ◌-◌, ◌*◌, ◌/◌, ◌^◌, ◌∙◌, ℕ, true, false, List, length, get_or, take, arith, sym, ap, inl, inr, nat_lt, refl, Some, None, length-take}
+use Rattle.std.proofs.Common.{◌≡◌, ◌<◌, ◌≤◌, ◌+◌, ◌-◌, ◌*◌, ◌/◌, ◌^◌, ◌∙◌, ℕ, true, false, List, length, get_or, take, arith, sym, inl, inr, nat_lt, refl, Some, None, length-take}
 use Rattle.std.proofs.lemmas.Bool.{cases_Bool, false≢true, and_parts as both, le-leb}
 use Rattle.std.proofs.lemmas.List.{take_all}
 use Rattle.std.proofs.lemmas.List.Folds.{list_all_at, list_all_more}

@@ -20,12 +20,12 @@ use Rattle.hg_script.specs.declared.values.Values.TheVariants.{No, Over, Are}
 use Rattle.hg_script.specs.declared.word.Word.{Word}
 use Rattle.hg_script.specs.declared.word.Word.TheVariants as word
 use Rattle.hg_script.specs.declared.draft.Ask.{Ask}
-use Rattle.hg_script.specs.declared.draft.Ask.TheVariants.{Begin, Get, Put, Del, Scan, Commit, Rollback}
+use Rattle.hg_script.specs.declared.draft.Ask.TheVariants.{Begin, Get, Put, Del, Scan, Commit, Rollback, Gc}
 use Rattle.hg_script.specs.declared.draft.Draft.{Draft}
 use Rattle.hg_script.specs.declared.draft.Draft.TheVariants.{Table, Session}
 use Rattle.hg_script.specs.Number.{is_between, natural_of, value_of}
 use Rattle.hg_script.specs.Fields.{Field, Fields, nth, word_of}
-use Rattle.hg_script.specs.Draft.{draft_of, is_fresh, scope_named, table_named, values_of}
+use Rattle.hg_script.specs.Draft.{draft_of, is_fresh, kind_named, scope_named, table_named, values_of}
 use Rattle.hg_script.specs.Rules.{count_of, count_breaks, number_breaks, range_breaks, name_breaks, columns_breaks, ask_order_breaks, is_open, order_breaks}
 use Rattle.hg_script.specs.Meaning.{draft_code, first_code, nothing, or_next, refusal_from, refusal_of, row_of, script_from, script_of, statement_of, with_draft, with_row, code_table, first_broken}
 use Rattle.hg_script.specs.Lawful.{AreInOrder, FitsTables, HasWidths, IsLawful, IsStatement, IsTable, MayStand}
@@ -61,6 +61,7 @@ may-stand true Commit e = refl
 may-stand false Commit e = absurd (let bad : ⊥ = cc e in bad)
 may-stand true Rollback e = refl
 may-stand false Rollback e = absurd (let bad : ⊥ = cc e in bad)
+may-stand within (Gc kind) e = tt
 
 -- ---- the tests, as facts
 
@@ -207,6 +208,7 @@ by-word place s r word.Scan g count k =
     (among s.tables (nth r 2) k.name) (natural-fits (nth r 3), natural-fits (nth r 4))
 by-word place s r word.Commit g count k = asked-more place s (natural_of (nth r 0)) Commit g (room place _ count) k.range k.order tt tt
 by-word place s r word.Rollback g count k = asked-more place s (natural_of (nth r 0)) Rollback g (room place _ count) k.range k.order tt tt
+by-word place s r word.Gc g count k = asked-more place s (natural_of (nth r 0)) (Gc (kind_named (nth r 2))) g (room place _ count) k.range k.order tt tt
 
 by-words : (place : ℕ) (s : Script) (r : Fields) (w : Option Word) → Grown place s → count_breaks place s.tables w ≡ false
     → first_broken (drop 1 (code_table place s r w (option_map (λ word. draft_of s.tables word r) w))) ≡ None

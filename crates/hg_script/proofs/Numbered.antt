@@ -2,7 +2,6 @@
 use Rattle.std.proofs.Common.{◌≡◌, ◌<◌, ◌+◌, ◌∙◌, ℕ, zero, suc, List, [], ◌∷◌, ◌++◌, length, map, get_or, refl, ap, arith}
 use Rattle.hg_base.specs.declared.statement.Record.{Record}
 use Rattle.hg_base.specs.declared.statement.Statement.{Statement}
-use Rattle.hg_script.specs.declared.asked.Asked.{Asked}
 use Rattle.hg_script.specs.Asked.{asked_by, said_by}
 use Rattle.hg_script.specs.Numbered.{numbered}
 

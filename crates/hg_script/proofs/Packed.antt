@@ -1,12 +1,11 @@
 -- Statements whose values stand in one list.
-use Rattle.std.proofs.Common.{◌≡◌, ◌≤◌, ◌+◌, ◌*◌, ◌∙◌, ℕ, ℤ, suc, List, [], ◌∷◌, ◌++◌, length, length-drop, map, take, drop, max, fold, refl, sym, ap, arith, length-append}
+use Rattle.std.proofs.Common.{◌≡◌, ◌≤◌, ◌+◌, ◌∙◌, ℕ, ℤ, List, [], ◌∷◌, ◌++◌, length, length-drop, map, take, drop, max, fold, refl, ap, arith, length-append}
 use Rattle.std.proofs.Math.Seq.{take-append-le, drop-append-le, drop-append_seam}
 use Rattle.std.proofs.lemmas.List.{map-append, take_all}
 use Rattle.hg_base.specs.Lists.{Each, greatest}
-use Rattle.hg_base.specs.declared.limits.TheConstants.{MOST_COLUMNS}
 use Rattle.hg_base.specs.declared.statement.Statement.{Statement}
 use Rattle.hg_base.specs.declared.statement.Statement.TheVariants as say
-use Rattle.hg_base.proofs.ListFacts.{each_keeps, each_snoc}
+use Rattle.hg_base.proofs.ListFacts.{each_keeps}
 use Rattle.hg_script.specs.declared.statements.Entry.{Entry}
 use Rattle.hg_script.specs.declared.statements.Packed.{Packed}
 use Rattle.hg_script.specs.declared.statements.Packed.TheVariants.{Begin, Get, Put, Del, Scan, Commit, Rollback, Gc}

@@ -1,11 +1,13 @@
 -- A record with its numbers read and its table looked up, before its rules are tested.
-use Rattle.std.specs.Prelude.{ℕ, List, [], ◌∷◌, ◌^◌, length, drop, fold, position, bytes_eq, Bool, false, not, ◌&&◌, ◌||◌, ◌==◌, nat_le, Option, Some, None, is_some, option_map}
+use Rattle.std.specs.Prelude.{ℕ, List, [], ◌∷◌, ◌^◌, length, drop, fold, position, bytes_eq, codes, if◌then◌else◌, Bool, false, not, ◌&&◌, ◌||◌, ◌==◌, nat_le, Option, Some, None, is_some, option_map}
 use Rattle.std.specs.List.{list_all, list_any}
 use Rattle.std.specs.Option.{option_map_or}
 use Rattle.std.specs.Int.Bits.{bit_or}
 use Rattle.hg_base.specs.declared.rid.TableId.{TableId}
 use Rattle.hg_base.specs.declared.scope.Scope.{Scope}
 use Rattle.hg_base.specs.declared.scope.Scope.TheVariants.{All, Declared}
+use Rattle.hg_base.specs.declared.report.Kind.{Kind}
+use Rattle.hg_base.specs.declared.report.Kind.TheVariants as kinds
 use Rattle.hg_base.specs.declared.limits.TheConstants.{MOST_NAME_BYTES}
 use Rattle.hg_base.specs.Script.{Declaration}
 use Rattle.hg_script.specs.declared.number.Integer.{Integer}
@@ -14,7 +16,7 @@ use Rattle.hg_script.specs.declared.values.Values.{Values}
 use Rattle.hg_script.specs.declared.values.Values.TheVariants.{No, Over, Are}
 use Rattle.hg_script.specs.declared.word.Word.{Word}
 use Rattle.hg_script.specs.declared.word.Word.TheVariants as word
-use Rattle.hg_script.specs.declared.draft.Ask.TheVariants.{Begin, Get, Put, Del, Scan, Commit, Rollback}
+use Rattle.hg_script.specs.declared.draft.Ask.TheVariants.{Begin, Get, Put, Del, Scan, Commit, Rollback, Gc}
 use Rattle.hg_script.specs.declared.draft.Draft.{Draft}
 use Rattle.hg_script.specs.declared.draft.Draft.TheVariants.{Table, Session}
 use Rattle.hg_script.specs.Number.{is_digit, natural_of, integer_of}
@@ -66,6 +68,16 @@ scope_named tables names = option_map Declared (set_named tables names)
 abbrev pub is_fresh : List Declaration → Field → Bool
 is_fresh tables name = is_name name && not (is_some (table_named tables name))
 
+-- ---- collectors
+
+-- the collector of this name
+abbrev pub kind_named : Field → Option Kind
+kind_named name =
+    if bytes_eq name (codes "group") then Some kinds.Group
+    else (if bytes_eq name (codes "table") then Some kinds.Table
+    else (if bytes_eq name (codes "interval") then Some kinds.Interval
+    else None))
+
 -- ---- values
 
 -- a value, and then others
@@ -94,3 +106,4 @@ draft_of tables word.Del r = Session (natural_of (nth r 0)) (Del (table_named ta
 draft_of tables word.Scan r = Session (natural_of (nth r 0)) (Scan (table_named tables (nth r 2)) (natural_of (nth r 3)) (natural_of (nth r 4)))
 draft_of tables word.Commit r = Session (natural_of (nth r 0)) Commit
 draft_of tables word.Rollback r = Session (natural_of (nth r 0)) Rollback
+draft_of tables word.Gc r = Session (natural_of (nth r 0)) (Gc (kind_named (nth r 2)))

@@ -2,7 +2,7 @@
 use Rattle.std.specs.Prelude.{ℕ, List, [], get_or, codes, bytes_eq, Option, Some, None, if◌then◌else◌}
 use Rattle.csv.specs.Reading.{default_config, records, strip_bom}
 use Rattle.hg_script.specs.declared.word.Word.{Word}
-use Rattle.hg_script.specs.declared.word.Word.TheVariants.{Table, Begin, Get, Put, Del, Scan, Commit, Rollback}
+use Rattle.hg_script.specs.declared.word.Word.TheVariants.{Table, Begin, Get, Put, Del, Scan, Commit, Rollback, Gc}
 
 -- a field is its bytes
 abbrev pub Field : Type 0
@@ -29,7 +29,8 @@ statement_word word =
     else (if bytes_eq word (codes "scan") then Some Scan
     else (if bytes_eq word (codes "commit") then Some Commit
     else (if bytes_eq word (codes "rollback") then Some Rollback
-    else None))))))
+    else (if bytes_eq word (codes "gc") then Some Gc
+    else None)))))))
 
 -- A table record is one whose first field is `table`. Every other is a session's, and its second field is its word.
 abbrev pub word_of : Fields → Option Word

@@ -61,7 +61,7 @@ pub record IsStatement (tables : List Declaration) (r : Record) : Type 0 where
   pub widths : HasWidths r.statement
 
 -- A statement may stand where its session's transaction is open, or where it is not: a `begin` where it is not, a `commit` or
--- `rollback` where it is, and the others anywhere. A `gc` is not in this version.
+-- `rollback` where it is, and the others anywhere.
 abbrev pub MayStand : Bool → Statement → Type 0
 MayStand within (say.Begin scope) = IsFalse within
 MayStand within (say.Get r) = ⊤
@@ -70,7 +70,7 @@ MayStand within (say.Del r) = ⊤
 MayStand within (say.Scan table low high) = ⊤
 MayStand within say.Commit = IsTrue within
 MayStand within say.Rollback = IsTrue within
-MayStand within (say.Gc kind) = ⊥
+MayStand within (say.Gc kind) = ⊤
 
 -- each record may stand after those before it
 abbrev pub AreInOrder : List Record → List Record → Type 0

@@ -12,7 +12,7 @@ use Rattle.hg_script.specs.declared.values.Values.TheVariants.{No, Over, Are}
 use Rattle.hg_script.specs.declared.word.Word.{Word}
 use Rattle.hg_script.specs.declared.word.Word.TheVariants as word
 use Rattle.hg_script.specs.declared.draft.Ask.{Ask}
-use Rattle.hg_script.specs.declared.draft.Ask.TheVariants.{Begin, Get, Put, Del, Scan, Commit, Rollback}
+use Rattle.hg_script.specs.declared.draft.Ask.TheVariants.{Begin, Get, Put, Del, Scan, Commit, Rollback, Gc}
 use Rattle.hg_script.specs.declared.draft.Draft.{Draft}
 use Rattle.hg_script.specs.declared.draft.Draft.TheVariants.{Table, Session}
 use Rattle.hg_script.specs.Number.{is_no, is_over, is_between, value_of}
@@ -37,6 +37,7 @@ fields_breaks word.Del n = not (n == 4)
 fields_breaks word.Scan n = not (n == 5)
 fields_breaks word.Commit n = not (n == 2)
 fields_breaks word.Rollback n = not (n == 2)
+fields_breaks word.Gc n = not (n == 3)
 
 -- ---- Number: a field that is not written as a number
 
@@ -52,6 +53,7 @@ ask_number_breaks (Del table key) = is_no key
 ask_number_breaks (Scan table low high) = is_no low || is_no high
 ask_number_breaks Commit = false
 ask_number_breaks Rollback = false
+ask_number_breaks (Gc kind) = false
 
 abbrev pub number_breaks : Draft → Bool
 number_breaks (Table fresh columns) = is_no columns
@@ -71,12 +73,13 @@ ask_range_breaks (Del table key) = is_over key
 ask_range_breaks (Scan table low high) = is_over low || is_over high
 ask_range_breaks Commit = false
 ask_range_breaks Rollback = false
+ask_range_breaks (Gc kind) = false
 
 abbrev pub range_breaks : Draft → Bool
 range_breaks (Table fresh columns) = not (is_between 1 MOST_COLUMNS columns)
 range_breaks (Session session ask) = not (is_between 1 MOST_SESSIONS session) || ask_range_breaks ask
 
--- ---- Name: a name that no table may take, or that no table has
+-- ---- Name: a name that no table may take, or that no table has, or that no collector has
 
 abbrev pub ask_name_breaks : Ask → Bool
 ask_name_breaks (Begin scope) = not (is_some scope)
@@ -86,6 +89,7 @@ ask_name_breaks (Del table key) = not (is_some table)
 ask_name_breaks (Scan table low high) = not (is_some table)
 ask_name_breaks Commit = false
 ask_name_breaks Rollback = false
+ask_name_breaks (Gc kind) = not (is_some kind)
 
 abbrev pub name_breaks : Draft → Bool
 name_breaks (Table fresh columns) = not fresh

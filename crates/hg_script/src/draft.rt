@@ -6,6 +6,7 @@ ghost use Rattle.hg_script.specs.Draft.{draft_of};
 ghost use Rattle.hg_script.specs.Rules.{ask_number_breaks, ask_range_breaks, fields_breaks};
 ghost use Rattle.hg_script.specs.Meaning.{rid_of, statement_of};
 
+use crate::kind::find_kind;
 use crate::number::{Natural, read_natural};
 use crate::rules::FIRST_TABLE;
 use crate::scope::find_scope;
@@ -13,10 +14,11 @@ use crate::table::{Table, find_table, is_free};
 use crate::values::Values;
 use crate::word::{Word, field};
 use csv::ByteRecord;
-use hg_base::{MOST_TABLES, NoMemory, Rid, Scope, Statement, TableId};
+use hg_base::{Kind, MOST_TABLES, NoMemory, Rid, Scope, Statement, TableId};
 use std::alloc::Global;
 
-/// What a session's record asks. A table that is not declared is `None`, and so is a scope that names one.
+/// What a session's record asks. A table that is not declared is `None`, and so is a scope that names one, and a collector that
+/// is not there.
 #[derive(Debug, Drop)]
 pub enum Ask {
     Begin {
@@ -42,6 +44,9 @@ pub enum Ask {
     },
     Commit,
     Rollback,
+    Gc {
+        kind: Option<Kind>,
+    },
 }
 
 /// A record that has the fields of its word.
@@ -83,6 +88,7 @@ impl Ask {
             },
             Ask::Commit => Statement::Commit,
             Ask::Rollback => Statement::Rollback,
+            Ask::Gc { kind } => Statement::Gc(kind.unwrap_or(Kind::Group)),
         }
     }
 }
@@ -127,6 +133,9 @@ impl Draft {
             },
             Word::Commit => Ask::Commit,
             Word::Rollback => Ask::Rollback,
+            Word::Gc => Ask::Gc {
+                kind: find_kind(field(row, 2)),
+            },
         };
         Ok(Draft::Session {
             session: read_natural(field(row, 0)),

@@ -12,6 +12,7 @@
 //!     1,scan,t,0,9     every row of a key from 0 to 9
 //!     1,commit
 //!     2,rollback
+//!     1,gc,group       a pass of the group collector; `table` and `interval` name the two others
 //!     3,get,t,5        outside of a transaction: a transaction of its own
 //!
 //! Records are counted from 1, table records included, and a statement's count is its place. So places follow one another, and a
@@ -26,7 +27,7 @@
 //! | `Fields`  | a number of fields that the record's word does not have |
 //! | `Number`  | a session, key, end of a scan, value or number of columns that is not written as a decimal number |
 //! | `Range`   | columns not from 1 to 8, a session not from 1 to 64, a key or end of 2^64 or more, a value out of a signed 64-bit number |
-//! | `Name`    | a table declared twice, or by no name of 1 to 32 letters, digits and `_`; a table named that is not declared |
+//! | `Name`    | a table declared twice, or by no name of 1 to 32 letters, digits and `_`; a table named that is not declared; a collector other than `group`, `table` and `interval` |
 //! | `Columns` | a put of another number of values than its table has columns |
 //! | `Order`   | a table record behind a session record, `begin` in a transaction, and `commit` or `rollback` outside of one |
 //!
@@ -42,6 +43,7 @@
 mod asked;
 mod code;
 mod draft;
+mod kind;
 mod law;
 mod number;
 mod reader;

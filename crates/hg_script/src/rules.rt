@@ -35,6 +35,7 @@ pub(crate) fn breaks_fields(word: Word, count: usize) -> bool
         Word::Scan => count != 5,
         Word::Commit => count != 2,
         Word::Rollback => count != 2,
+        Word::Gc => count != 3,
     }
 }
 
@@ -59,6 +60,7 @@ impl Ask {
             Ask::Scan { low, high, .. } => low.is_no() || high.is_no(),
             Ask::Commit => false,
             Ask::Rollback => false,
+            Ask::Gc { .. } => false,
         }
     }
 
@@ -73,6 +75,7 @@ impl Ask {
             Ask::Scan { low, high, .. } => low.is_over() || high.is_over(),
             Ask::Commit => false,
             Ask::Rollback => false,
+            Ask::Gc { .. } => false,
         }
     }
 
@@ -87,6 +90,7 @@ impl Ask {
             Ask::Scan { table, .. } => !table.is_some(),
             Ask::Commit => false,
             Ask::Rollback => false,
+            Ask::Gc { kind } => !kind.is_some(),
         }
     }
 
@@ -103,6 +107,7 @@ impl Ask {
             Ask::Scan { .. } => false,
             Ask::Commit => false,
             Ask::Rollback => false,
+            Ask::Gc { .. } => false,
         }
     }
 
@@ -117,6 +122,7 @@ impl Ask {
             Ask::Scan { .. } => false,
             Ask::Commit => !within,
             Ask::Rollback => !within,
+            Ask::Gc { .. } => false,
         }
     }
 }

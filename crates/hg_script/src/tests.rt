@@ -61,6 +61,10 @@ fn takes_scripts(rt: HostRuntime) -> Result<(), Fail> {
             4,
         ),
         ("table,t,1\n1,begin\n2,begin,t\n2,rollback\n1,commit", 4),
+        (
+            "1,gc,group\n1,begin\n1,gc,table\n1,commit\n1,gc,interval",
+            5,
+        ),
         ("table,t,1\n\n\"1\",\"get\",t,5\r\n", 1),
     ] {
         let script = read_script(rt.alloc(), text.as_bytes())?;
@@ -88,7 +92,10 @@ fn refuses_scripts(rt: HostRuntime) -> Result<(), Fail> {
         ("", "1,commit", 1, Code::Order),
         ("", "1,fly", 1, Code::Word),
         ("", "1,Begin", 1, Code::Word),
-        ("", "1,gc,group", 1, Code::Word),
+        ("", "1,gc", 1, Code::Fields),
+        ("", "1,gc,all", 1, Code::Name),
+        ("", "1,gc,Table", 1, Code::Name),
+        ("", "1,gc,intervals", 1, Code::Name),
         ("", "1,begin,t", 1, Code::Name),
         ("", "table,a-b,1", 1, Code::Name),
         (

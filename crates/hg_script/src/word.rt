@@ -17,6 +17,7 @@ pub enum Word {
     Scan,
     Commit,
     Rollback,
+    Gc,
 }
 
 /// The field at this place, counted from 0, and no bytes where there is none.
@@ -46,6 +47,8 @@ fn read_statement_word(word: &[u8]) -> Option<Word>
         Some(Word::Commit)
     } else if word == b"rollback".as_slice() {
         Some(Word::Rollback)
+    } else if word == b"gc".as_slice() {
+        Some(Word::Gc)
     } else {
         None
     }

@@ -1,4 +1,4 @@
-use Rattle.std.proofs.Common.{◌≡◌, ◌≤◌, ℕ, true, get_or, length, arith, refl, rules}
+use Rattle.std.proofs.Common.{◌≡◌, ◌≤◌, true, get_or, length, arith, refl, rules}
 use Rattle.hg_script.specs.Number.{is_digit}
 use Rattle.hg_script.proofs.Digits.{between, read_more, room_left}
 use Rattle.hg_script.proofs.number.short_value.Goals as goal

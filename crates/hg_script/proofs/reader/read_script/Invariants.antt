@@ -1,4 +1,4 @@
-use Rattle.std.proofs.Common.{◌≡◌, ◌≤◌, ◌<◌, ◌+◌, Bor, ℕ, List, Some, None, true, length}
+use Rattle.std.proofs.Common.{◌≡◌, ◌≤◌, ◌+◌, Bor, ℕ, List, Some, None, true, length}
 use Rattle.csv.specs.Reading.{Reached, Ready, default_config, source_of, strip_bom, is_flexible, reader_trim, reader_config, reader_state}
 use Rattle.csv.specs.declared.parser.State.TheVariants as st
 use Rattle.csv.specs.declared.reader.Trim.TheVariants as trim

@@ -1,4 +1,4 @@
-use Rattle.std.proofs.Common.{◌≡◌, ◌<◌, ◌+◌, ◌∙◌, sym, length, arith}
+use Rattle.std.proofs.Common.{◌+◌, ◌∙◌, sym, length, arith}
 use Rattle.hg_script.proofs.Numbered.{numbered_many, places_are}
 use Rattle.hg_script.proofs.script.Script.record_count.Goals as goal
 

@@ -1,5 +1,4 @@
-use Rattle.std.proofs.Common.{◌≡◌, ◌+◌, ◌++◌, ◌∷◌, [], ◌∙◌, sym, length, arith}
-use Rattle.hg_script.proofs.Packed.{one_more, within_more}
+use Rattle.hg_script.proofs.Packed.{one_more}
 use Rattle.hg_script.proofs.statements.StatementList.push.Goals as goal
 
 pub returns-clause-ok : goal.returns-clause-ok
