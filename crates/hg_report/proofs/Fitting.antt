@@ -1,8 +1,7 @@
 -- Whatever is guessed fits the script: where it is written as the record stands there, the record may come next.
-use Rattle.std.proofs.Common.{◌≡◌, ◌<◌, ◌≤◌, ◌+◌, ◌^◌, ℕ, zero, suc, ℤ, pos, neg_ℤ, List, [], ◌∷◌, ◌++◌, length, length-append, drop, get_or, false, ◌==◌, ◌&&◌, Option, Some, None, nat_lt, nat_le, refl, arith, subst}
+use Rattle.std.proofs.Common.{◌≡◌, ◌<◌, ◌+◌, ◌^◌, ℕ, zero, suc, ℤ, List, [], ◌∷◌, ◌++◌, length, length-append, false, ◌==◌, ◌&&◌, Option, Some, None, nat_lt, nat_le, refl, arith, subst}
 use Rattle.std.specs.Prelude.{IsTrue, IfSome, is_some, option_map, option_and_then, codes, ⊤}
-use Rattle.std.specs.Str.Parse.{digits_value}
-use Rattle.std.proofs.lemmas.Bool.{and_parts as both, ltb-true, leb-true, cond_both}
+use Rattle.std.proofs.lemmas.Bool.{and_parts as both, ltb-true, cond_both}
 use Rattle.std.proofs.lemmas.Bool.Decides.{nat_tests}
 use lib.Signed.{mag}
 use Rattle.hg_base.specs.declared.rid.TableId.{TableId}
@@ -19,8 +18,6 @@ use Rattle.hg_base.specs.Lists.{Each}
 use Rattle.hg_base.specs.Script.{Declaration, Script}
 use Rattle.hg_base.specs.Transcript.{table_of}
 use Rattle.hg_base.specs.Text.{Field, Fits64, Fits32, FitsRow, FitsPut, FitsDel, FitsSweep, FitsAnswer, FitsReply, Fits, columns_of, is_write}
-use Rattle.hg_script.specs.declared.number.Natural.{Natural}
-use Rattle.hg_script.specs.declared.number.Natural.TheVariants as n
 use Rattle.hg_script.specs.declared.number.Integer.{Integer}
 use Rattle.hg_script.specs.declared.number.Integer.TheVariants as signed
 use Rattle.hg_script.specs.Number.{integer_of}

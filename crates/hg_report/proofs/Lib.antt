@@ -9,6 +9,7 @@ pub mod Columns
 pub mod Heads
 pub mod Running
 pub mod Plain
+pub mod Backwards
 pub mod Parted
 pub mod Following
 pub mod Taking

@@ -18,7 +18,7 @@ use Rattle.hg_script.specs.Number.{is_digit}
 use Rattle.hg_script.specs.Lawful.{IsTable}
 use Rattle.hg_report.specs.declared.piece.Piece.{Piece}
 use Rattle.hg_report.specs.declared.piece.Piece.TheVariants as piece
-use Rattle.hg_report.specs.Bytes.{flexible_writer}
+use Rattle.hg_report.specs.Bytes.{flexible_writer, field_bytes}
 use Rattle.hg_report.specs.Guess.{piece_fields, total_word}
 
 abbrev pub IsPlain : Field → Type 0
@@ -58,9 +58,14 @@ pub plain_number : (n : ℕ) → IsPlain (decimal n)
 unfolding digits
 plain_number n = plain_onto 64 n [] refl
 
-plain_value : (v : ℤ) → IsPlain (signed_decimal v)
+pub plain_value : (v : ℤ) → IsPlain (signed_decimal v)
 plain_value (pos n) = plain_number n
 plain_value (negsuc n) = plain_number (suc n)
+
+-- a number's field is its digits
+pub number_bytes : (n : ℕ) → field_bytes (decimal n) ≡ decimal n
+unfolding field_bytes
+number_bytes n = rw (plain_number n) refl
 
 plain_values : (row : List ℤ) → Each IsPlain (map signed_decimal row)
 plain_values [] = tt

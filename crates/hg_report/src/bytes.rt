@@ -1,12 +1,14 @@
 //! The bytes of fields and records, as a CSV writer writes them.
 
-ghost use Rattle.std.specs.Prelude.{◌≡◌, ◌++◌, ◌∷◌, [], OnOk, decimal};
+ghost use Rattle.std.specs.Prelude.{◌≡◌, ◌++◌, ◌∷◌, [], OnOk, decimal, false};
+ghost use Rattle.std.specs.Fmt.{signed_decimal};
 ghost use Rattle.std.specs.List.{list_any};
 ghost use Rattle.csv.specs.Writing.{escaped, needs_byte, quoted};
 ghost use Rattle.hg_report.specs.Bytes.{field_bytes, flexible_writer, further_bytes};
 
+use crate::number_fields::{FIELD_ROOM, put_number, put_value};
 use hg_base::NoMemory;
-use itoa::{Buffer, Integer};
+use itoa::write_digits;
 
 fn calls_for_quotes(b: u8) -> bool
     ensures { result ≡ needs_byte flexible_writer b }
@@ -73,12 +75,34 @@ pub(crate) fn add_field(text: &mut Vec<u8>, field: &[u8]) -> Result<(), NoMemory
     Ok(())
 }
 
-/// Adds a number behind another field.
-pub(crate) fn add_number<I: Integer>(text: &mut Vec<u8>, n: I) -> Result<(), NoMemory>
-    ensures { OnOk result (text.new.items ≡ text.old.items ++ further_bytes (I.text n)) }
+/// Adds a field behind another that calls for no quotes: none is looked for.
+#[tactic(auto, unfolding(crate::specs::Bytes::field_bytes, crate::specs::Bytes::further_bytes))]
+pub(crate) fn add_plain(text: &mut Vec<u8>, field: &[u8]) -> Result<(), NoMemory>
+    requires { list_any (needs_byte flexible_writer) field.now ≡ false }
+    ensures { OnOk result (text.new.items ≡ text.old.items ++ further_bytes field.now) }
 {
-    let mut digits = Buffer::new();
-    add_field(text, digits.format(n).as_bytes())?;
+    text.push(b',')?;
+    text.extend_from_slice(field)?;
+    Ok(())
+}
+
+/// Adds a number behind another field.
+pub(crate) fn add_number(text: &mut Vec<u8>, n: u64) -> Result<(), NoMemory>
+    ensures { OnOk result (text.new.items ≡ text.old.items ++ further_bytes (decimal n)) }
+{
+    let mut bytes = [0; FIELD_ROOM];
+    let start = put_number(n, &mut bytes, FIELD_ROOM);
+    text.extend_from_slice(&bytes[start..])?;
+    Ok(())
+}
+
+/// Adds a value of a row behind another field.
+pub(crate) fn add_value(text: &mut Vec<u8>, n: i64) -> Result<(), NoMemory>
+    ensures { OnOk result (text.new.items ≡ text.old.items ++ further_bytes (signed_decimal n)) }
+{
+    let mut bytes = [0; FIELD_ROOM];
+    let start = put_value(n, &mut bytes, FIELD_ROOM);
+    text.extend_from_slice(&bytes[start..])?;
     Ok(())
 }
 
@@ -95,13 +119,10 @@ pub(crate) fn begin_record(text: &mut Vec<u8>, first: &[u8], second: &[u8]) -> R
 pub(crate) fn begin_reply(text: &mut Vec<u8>, session: u32, place: u64) -> Result<(), NoMemory>
     ensures { OnOk result (text.new.items ≡ text.old.items ++ (field_bytes (decimal session) ++ further_bytes (decimal place))) }
 {
-    let mut first = Buffer::new();
-    let mut second = Buffer::new();
-    begin_record(
-        text,
-        first.format(session).as_bytes(),
-        second.format(place).as_bytes(),
-    )?;
+    let mut bytes = [0; 2 * FIELD_ROOM];
+    let after = put_number(place, &mut bytes, 2 * FIELD_ROOM);
+    let start = write_digits(u64::from(session), &mut bytes, after);
+    text.extend_from_slice(&bytes[start..])?;
     Ok(())
 }
 

@@ -26,10 +26,12 @@ mod bytes;
 mod fields;
 mod guess;
 mod law;
+mod number_fields;
 mod piece;
 mod progress;
 mod reading;
 mod refusal;
+mod row_start;
 #[cfg(test)]
 mod tests;
 mod told;

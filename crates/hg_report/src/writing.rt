@@ -1,14 +1,18 @@
 //! The records of replies and of totals.
 
-ghost use Rattle.std.specs.Prelude.{◌≡◌, ◌++◌, ◌∷◌, [], IfOk, OnErr, OnOk, codes, decimal, if◌then◌else◌, map};
+ghost use Rattle.std.specs.Prelude.{◌≡◌, ◌++◌, ◌∷◌, [], IfOk, OnErr, OnOk, codes, decimal, if◌then◌else◌, map, false};
 ghost use Rattle.std.specs.Fmt.{signed_decimal};
-ghost use Rattle.std.specs.List.{flat_map};
+ghost use Rattle.std.specs.List.{flat_map, list_any};
+ghost use Rattle.csv.specs.Writing.{needs_byte};
 ghost use Rattle.hg_base.specs.declared.line.Answer.TheVariants.{Swept};
 ghost use Rattle.hg_base.specs.Text.{answer_fields, held_fields, kind_word, line_records, more_fields, name_of, of_line, row_fields, text_of, told_as, total_fields, totals_records};
-ghost use Rattle.hg_report.specs.Bytes.{further_bytes, record_bytes};
+ghost use Rattle.hg_report.specs.Bytes.{flexible_writer, further_bytes, record_bytes};
 ghost use Rattle.hg_report.specs.Guess.{behind};
 
-use crate::bytes::{add_field, add_number, begin_record, begin_reply, end_record};
+use crate::bytes::{
+    add_field, add_number, add_plain, add_value, begin_record, begin_reply, end_record,
+};
+use crate::row_start::RowStart;
 use hg_base::{Answer, Kind, Line, NoMemory, Printed, Reply, Row, Sweep, TableId, Told, Totals};
 use hg_script::{Script, Table};
 use std::alloc::Global;
@@ -36,17 +40,18 @@ fn add_row(text: &mut Vec<u8>, row: &Row) -> Result<(), NoMemory>
     ensures { OnOk result (text.new.items ≡ text.old.items ++ flat_map further_bytes (map signed_decimal row.now)) }
 {
     for value in row.values() {
-        add_number(text, *value)?;
+        add_value(text, *value)?;
     }
     Ok(())
 }
 
 // A number behind its word, where it is printed.
 fn add_told(text: &mut Vec<u8>, word: &[u8], number: Option<u64>) -> Result<(), NoMemory>
+    requires { list_any (needs_byte flexible_writer) word.now ≡ false }
     ensures { OnOk result (text.new.items ≡ text.old.items ++ flat_map further_bytes (told_as word.now number)) }
 {
     if let Some(n) = number {
-        add_field(text, word)?;
+        add_plain(text, word)?;
         add_number(text, n)?;
     }
     Ok(())
@@ -78,46 +83,46 @@ fn add_answer(text: &mut Vec<u8>, tables: &[Table], answer: &Answer) -> Result<(
 {
     match answer {
         Answer::Begun(snapshot) => {
-            add_field(text, b"begun")?;
+            add_plain(text, b"begun")?;
             add_number(text, *snapshot)?;
             Ok(())
         }
-        Answer::Stored => add_field(text, b"stored"),
+        Answer::Stored => add_plain(text, b"stored"),
         Answer::Found(row) => {
-            add_field(text, b"row")?;
+            add_plain(text, b"row")?;
             add_row(text, row)?;
             Ok(())
         }
-        Answer::Nothing => add_field(text, b"none"),
-        Answer::Gone => add_field(text, b"gone"),
+        Answer::Nothing => add_plain(text, b"none"),
+        Answer::Gone => add_plain(text, b"gone"),
         Answer::Rows(rows) => {
-            add_field(text, b"rows")?;
-            add_number(text, rows.as_slice().len())?;
+            add_plain(text, b"rows")?;
+            add_number(text, rows.as_slice().len() as u64)?;
             Ok(())
         }
         Answer::Committed(number) => {
-            add_field(text, b"committed")?;
+            add_plain(text, b"committed")?;
             add_number(text, *number)?;
             Ok(())
         }
-        Answer::Ended => add_field(text, b"ended"),
-        Answer::Undone => add_field(text, b"undone"),
+        Answer::Ended => add_plain(text, b"ended"),
+        Answer::Undone => add_plain(text, b"undone"),
         Answer::Newer(number) => {
-            add_field(text, b"refused")?;
-            add_field(text, b"newer")?;
+            add_plain(text, b"refused")?;
+            add_plain(text, b"newer")?;
             add_number(text, *number)?;
             Ok(())
         }
         Answer::OpenBy(writer) => {
-            add_field(text, b"refused")?;
-            add_field(text, b"open")?;
-            add_number(text, writer.session)?;
+            add_plain(text, b"refused")?;
+            add_plain(text, b"open")?;
+            add_number(text, u64::from(writer.session))?;
             add_number(text, writer.transaction)?;
             Ok(())
         }
         Answer::Undeclared(table) => add_undeclared(text, name_of(tables, *table)),
         Answer::Swept(sweep) => add_sweep(text, sweep),
-        Answer::Beside => add_field(text, b"beside"),
+        Answer::Beside => add_plain(text, b"beside"),
     }
 }
 
@@ -134,7 +139,7 @@ fn add_count(text: &mut Vec<u8>, at: Option<u64>, rows: u64) -> Result<(), NoMem
     ensures { OnOk result (text.new.items ≡ text.old.items ++ flat_map further_bytes (told_as (codes "at") at ++ codes "rows" ∷ decimal rows ∷ [])) }
 {
     add_told(text, b"at", at)?;
-    add_field(text, b"rows")?;
+    add_plain(text, b"rows")?;
     add_number(text, rows)?;
     Ok(())
 }
@@ -158,7 +163,7 @@ fn add_held(text: &mut Vec<u8>, told: Told) -> Result<(), NoMemory>
     ensures { OnOk result (text.new.items ≡ text.old.items ++ flat_map further_bytes (held_fields told)) }
 {
     add_field(text, b"held")?;
-    add_number(text, told.session)?;
+    add_number(text, u64::from(told.session))?;
     add_number(text, told.number)?;
     add_field(text, moved_word(told.moved))?;
     Ok(())
@@ -262,8 +267,9 @@ pub(crate) fn write_total(text: &mut Vec<u8>, word: &[u8], n: u64) -> Result<(),
 fn write_rows(text: &mut Vec<u8>, line: &Line, rows: &[(u64, Row)]) -> Result<(), NoMemory>
     ensures { OnOk result (text.new.items ≡ text.old.items ++ flat_map record_bytes (map (of_line line.now) (map row_fields rows.now))) }
 {
+    let start = RowStart::new(line.session, line.place);
     for (key, row) in rows {
-        write_row(text, line.session, line.place, *key, row)?;
+        start.write(text, *key, row)?;
     }
     Ok(())
 }
