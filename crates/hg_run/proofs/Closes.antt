@@ -1,37 +1,49 @@
 -- The end of a replay: what is open is rolled back, and what is counted.
-use Rattle.std.proofs.Common.{◌≡◌, ℕ, zero, suc, ◌+◌, ◌<◌, ◌≤◌, ◌≢◌, inl, List, [], ◌∷◌, length, Bool, true, false, Option, Some, None, refl, sym, ap, ◌∙◌, subst, arith}
+use Rattle.std.proofs.Common.{◌≡◌, ℕ, zero, suc, ◌+◌, ◌<◌, ◌≤◌, ◌≢◌, inl, inr, List, [], ◌∷◌, length, Bool, true, false, Option, Some, None, refl, sym, ap, ◌∙◌, subst, arith}
 use Rattle.std.specs.Prelude.{get_or, map, nat_lt, is_some, IsSome}
 use Rattle.std.proofs.lemmas.Bool.Decides.{nat_tests}
 use Rattle.hg_base.specs.declared.statement.Statement.TheVariants.{Rollback}
 use Rattle.hg_base.specs.declared.report.Kind.{Kind}
-use Rattle.hg_base.specs.declared.report.Kind.TheVariants.{Group, Interval}
+use Rattle.hg_base.specs.declared.report.Kind.TheVariants.{Group, Table, Interval}
 use Rattle.hg_base.specs.declared.line.Reply.{Reply}
 use Rattle.hg_base.specs.declared.line.Totals.{Totals}
 use Rattle.hg_base.proofs.ListFacts.{false_true}
-use Rattle.hg_core.specs.declared.visit.Visit.{Visit}
+use Rattle.hg_base.specs.History.{History}
+use Rattle.hg_base.specs.Lists.{Each}
 use Rattle.hg_core.specs.Logs.{current, newest_of}
 use Rattle.hg_core.specs.Sums.{sum_below}
-use Rattle.hg_core.proofs.Sums.{below_none, below_same}
 use Rattle.hg_rule.specs.declared.view.View.{View}
 use Rattle.hg_rule.specs.declared.view.Sizes.{Sizes}
-use Rattle.hg_rule.specs.New.{EachFrom}
+use Rattle.hg_rule.specs.declared.view.Sight.{Sight}
+use Rattle.hg_rule.specs.declared.view.Sight.TheVariants.{Saw}
+use Rattle.hg_rule.specs.Facts.{IsAmong, StartsWith, groups}
+use Rattle.hg_rule.specs.declared.passes.CollectorPass.{CollectorPass}
+use Rattle.hg_rule.specs.New.{EachFrom, IsNewPass}
+use Rattle.hg_rule.specs.Seats.{BoardId, pass_view}
 use Rattle.hg_rule.specs.Reading.{passes_in}
-use Rattle.hg_rule.specs.Views.{session}
-use Rattle.hg_headline.specs.Counted.{Closes, removed_all}
+use Rattle.hg_rule.specs.Views.{session, pass, pass_there, first_in}
+use Rattle.hg_core.specs.Counters.{removed_all}
+use Rattle.hg_headline.specs.Counted.{Closes}
 use Rattle.hg_headline.specs.Totalled.{WasLeftCut}
-use Rattle.hg_headline.specs.Following.{AreQuietTotals}
+use Rattle.hg_headline.specs.Following.{AreTotalsBy}
 use Rattle.hg_headline.proofs.Closing.{closes_rollback}
 use Rattle.hg_session.specs.declared.engine.Engine.{Engine}
 use Rattle.hg_session.specs.declared.session.Session.{Session}
-use Rattle.hg_session.specs.Engines.{engine_sizes}
-use Rattle.hg_session.specs.Sessions.{IsOf, view_of, number_of, log_of, open_of}
+use Rattle.hg_session.specs.Engines.{engine_board_id, engine_sizes}
+use Rattle.hg_session.specs.Sessions.{IsOf, view_of, number_of, log_of, open_of, seen_by}
 use Rattle.hg_session.specs.Opened.{IsNewOf}
+use Rattle.hg_session.specs.declared.opening.Passes.{Passes}
 use Rattle.hg_session.specs.Ended.{logs_in, visits_in}
+use Rattle.hg_session.specs.Passing.{visits_of}
+use Rattle.hg_session.specs.Settled.{RemovesForTables}
 use Rattle.hg_session.specs.Finished.{logs_of, IsClosed}
 use Rattle.hg_session.specs.Replies.{Answers}
 use Rattle.hg_session.specs.Visited.{AreTotals}
 use Rattle.hg_run.specs.Listed.{IsPlaced, AreReady}
+use Rattle.hg_run.specs.Collecting.{removed_in}
+use Rattle.hg_run.specs.Heard.{HasSeen}
 use Rattle.hg_run.proofs.Hearing.{heard_none}
+use Rattle.hg_run.proofs.Rounds.{starts_more}
 use Rattle.hg_run.proofs.Listing.{by_two, log_at, map_over}
 use Rattle.hg_run.proofs.OpenAfter.{open_after}
 
@@ -76,6 +88,17 @@ new_ready e quota list many some row = record {
   heard = λ d. heard_none (logs_of list) (view_of (get_or list 0 d)) (new_logs e quota list row);
 }
 
+-- the passes of a new engine removed nothing
+pub new_removed : (e : Engine) (passes : Passes) (k : Kind) → IsNewPass (engine_board_id e) 0 passes.group × IsNewPass (engine_board_id e) 1 passes.table × IsNewPass (engine_board_id e) 2 passes.interval → removed_in k passes ≡ 0
+new_removed e passes k h =
+    let a = none (engine_board_id e) 0 passes.group h.0 in
+    let b = none (engine_board_id e) 1 passes.table h.1 in
+    let d = none (engine_board_id e) 2 passes.interval h.2 in
+    omega (arith, a, b, d)
+  where
+    none : (t : BoardId) (p : ℕ) (c : CollectorPass) → IsNewPass t p c → removed_all k (pass (pass_view c)).visits ≡ 0
+    none t p c n = ap (λ m. removed_all k (pass_there (first_in m.0.parts)).visits) n.1
+
 -- ---- rolling back
 
 pub none_open : {X : Type 0} (o : Option X) → is_some o ≡ false → o ≡ None
@@ -92,6 +115,7 @@ rolled_back z v w reply opened a = (
 pub record ArePartlyClosed (e : Engine) (old now : List Session) (n : ℕ) : Type 0 where
   pub many : length now ≡ length old
   pub below : (d : Session) (k : ℕ) → k < n → k < length old → IsClosed e (suc k) (get_or now k d) × Closes (log_of (get_or old k d)) (log_of (get_or now k d))
+  pub kept : (d : Session) (k : ℕ) → StartsWith (seen_by (get_or now k d)) (seen_by (get_or old k d))
   pub above : (d : Session) (k : ℕ) → n ≤ k → get_or now k d ≡ get_or old k d
 
 -- what the closing of the session at i says
@@ -100,6 +124,7 @@ pub record HasClosed (e : Engine) (i : ℕ) (old new : List Session) : Type 0 wh
   pub closed : (d : Session) → open_of (get_or new i d) ≡ None
   pub closes : (d : Session) → Closes (log_of (get_or old i d)) (log_of (get_or new i d))
   pub number : (d : Session) → number_of (get_or new i d) ≡ number_of (get_or old i d)
+  pub kept : (d : Session) → StartsWith (seen_by (get_or new i d)) (seen_by (get_or old i d))
   pub rest : (d : Session) (k : ℕ) → k ≢ i → get_or new k d ≡ get_or old k d
   pub own : (d : Session) → IsOf e (get_or new i d)
 
@@ -109,11 +134,16 @@ partly_more e i n old now new is within placed c p = record {
   below = λ d k less inside. by_two i i k (λ k. k < n → k < length old → IsClosed e (suc k) (get_or new k d) × Closes (log_of (get_or old k d)) (log_of (get_or new k d))) (here d) (here d)
       (λ apart _ less inside. let lower : k < i = omega (arith, less, is, apart) in
       subst (λ s. IsClosed e (suc k) s × Closes (log_of (get_or old k d)) (log_of s)) (sym (c.rest d k apart)) (p.below d k lower inside)) less inside;
+  kept = λ d k. by_two i i k (λ k. StartsWith (seen_by (get_or new k d)) (seen_by (get_or old k d))) (more_seen d) (more_seen d)
+      (λ apart _. subst (λ s. StartsWith (seen_by s) (seen_by (get_or old k d))) (sym (c.rest d k apart)) (p.kept d k));
   above = λ d k more. let over : i ≤ k = omega (arith, more, is) in c.rest d k (λ same. omega (arith, more, is, same)) ∙ p.above d k over;
 }
   where
     was : (d : Session) → get_or now i d ≡ get_or old i d
     was d = let same : i ≤ i = omega arith in p.above d i same
+
+    more_seen : (d : Session) → StartsWith (seen_by (get_or new i d)) (seen_by (get_or old i d))
+    more_seen d = starts_more (seen_by (get_or old i d)) (seen_by (get_or now i d)) (seen_by (get_or new i d)) (p.kept d i) (c.kept d)
 
     here : (d : Session) → i < n → i < length old → IsClosed e (suc i) (get_or new i d) × Closes (log_of (get_or old i d)) (log_of (get_or new i d))
     here d less inside = (
@@ -138,13 +168,13 @@ partly_logs e old now n most p = by_place (λ j. Closes (logs_of old j) (logs_of
     let too : logs_of now (suc k) ≡ [] = map_over log_of now k (λ q. over (omega (arith, q, many))) in
     inl (ap current gone, too ∙ sym gone))
   where
-    some_in : (xs : List Session) (k : ℕ) → k < length xs → Session
-    some_in [] k h = absurd (omega (arith, h))
-    some_in (x ∷ xs) k h = x
+    one_in : (xs : List Session) (k : ℕ) → k < length xs → Session
+    one_in [] k h = absurd (omega (arith, h))
+    one_in (x ∷ xs) k h = x
 
     at : (k : ℕ) → k < length old → Closes (logs_of old (suc k)) (logs_of now (suc k))
     at k within =
-        let d = some_in old k within in
+        let d = one_in old k within in
         let many = p.many in
         let inside : k < length now = omega (arith, within, many) in
         let less : k < n = omega (arith, within, most) in
@@ -152,17 +182,41 @@ partly_logs e old now n most p = by_place (λ j. Closes (logs_of old j) (logs_of
 
 -- ---- counting
 
--- where no collector of the kind removed anything
-pub none_removed : (kind : Kind) (visits : ℕ → List Visit) (n : ℕ) → ((p : ℕ) → removed_all kind (visits p) ≡ 0) → sum_below n (λ p. removed_all kind (visits p)) ≡ 0
-none_removed kind visits n none = below_same n (λ p. 0) (λ p. removed_all kind (visits p)) (λ p less. none p) ∙ below_none n
+-- where no visit came for groups or intervals since, and none for tables was lost
+pub record HasSettled (passes : Passes) (v : View) : Type 0 where
+  pub three : passes_in v.parts ≡ 3
+  pub removed : (p : ℕ) → RemovesForTables (visits_of passes p) (visits_in v p)
 
-pub quiet_totals : (z : Sizes) (v : View) (totals : Totals) (a : AreTotals z v totals) → ((b : ℕ) → b < z.buckets → WasLeftCut z.buckets (newest_of z.sessions (logs_in v)) (passes_in v.parts) (visits_in v) b) →
-    ((p : ℕ) → removed_all Group (visits_in v p) ≡ 0) → ((p : ℕ) → removed_all Interval (visits_in v p) ≡ 0) → AreQuietTotals z.sessions a.history (logs_in v) totals
-quiet_totals z v totals a settled group interval = record {
-  made = a.tells.made;
-  undone = a.tells.undone;
-  group = a.tells.group ∙ none_removed Group (visits_in v) (passes_in v.parts) group;
-  interval = a.tells.interval ∙ none_removed Interval (visits_in v) (passes_in v.parts) interval;
-  left = a.tells.left (λ b below. subst (λ n. WasLeftCut z.buckets n (passes_in v.parts) (visits_in v) b) (sym a.newest) (settled b below));
-  balance = a.tells.balance;
-}
+three_of : (n : ℕ) (f : ℕ → ℕ) → n ≡ 3 → sum_below n f ≡ f 0 + f 1 + f 2
+three_of n f e = ap (λ n. sum_below n f) e ∙ (let s : sum_below 3 f ≡ 0 + f 0 + f 1 + f 2 = refl in omega (arith, s))
+
+pub closed_totals : (z : Sizes) (v : View) (passes : Passes) (totals : Totals) (a : AreTotals z v totals) → ((b : ℕ) → b < z.buckets → WasLeftCut z.buckets (newest_of z.sessions (logs_in v)) (passes_in v.parts) (visits_in v) b) →
+    HasSettled passes v → AreTotalsBy z.sessions a.history (logs_in v) (λ kind. removed_in kind passes) totals
+closed_totals z v passes totals a settled s =
+    let zero_is = s.removed 0 in
+    let one_is = s.removed 1 in
+    let two_is = s.removed 2 in
+    record {
+      made = a.tells.made;
+      undone = a.tells.undone;
+      group = (let t = a.tells.group in let k = three_of (passes_in v.parts) (λ p. removed_all Group (visits_in v p)) s.three in let x = zero_is.group in let y = one_is.group in let w = two_is.group in omega (arith, t, k, x, y, w));
+      table = (let t = a.tells.table in let k = three_of (passes_in v.parts) (λ p. removed_all Table (visits_in v p)) s.three in let x = zero_is.table in let y = one_is.table in let w = two_is.table in omega (arith, t, k, x, y, w));
+      interval = (let t = a.tells.interval in let k = three_of (passes_in v.parts) (λ p. removed_all Interval (visits_in v p)) s.three in let x = zero_is.interval in let y = one_is.interval in let w = two_is.interval in omega (arith, t, k, x, y, w));
+      left = a.tells.left (λ b below. subst (λ n. WasLeftCut z.buckets n (passes_in v.parts) (visits_in v) b) (sym a.newest) (settled b below));
+      balance = a.tells.balance;
+    }
+
+-- ---- what was seen is in the history
+
+pub some_in : (xs : List Session) (k : ℕ) → k < length xs → Session
+some_in [] k h = absurd (omega (arith, h))
+some_in (x ∷ xs) k h = x
+
+pub among_each : (P : Session → Type 0) (d : Session) (xs : List Session) (k : ℕ) → k < length xs → Each P xs → P (get_or xs k d)
+among_each P d [] k h e = absurd (omega (arith, h))
+among_each P d (x ∷ xs) zero h e = e.0
+among_each P d (x ∷ xs) (suc k) h e = among_each P d xs k (omega (arith, h)) e.1
+
+pub seen_within : (seen m : ℕ) (sights : List Sight) → HasSeen seen sights → ((h : History) → IsAmong (Saw (groups h)) sights → length h ≤ m) → seen ≤ m
+seen_within seen m sights (inl e) f = omega (arith, e)
+seen_within seen m sights (inr (h, e, i)) f = let k = f h i in omega (arith, e, k)

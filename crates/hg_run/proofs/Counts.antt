@@ -5,7 +5,7 @@ use Rattle.std.specs.List.{cons_option, filter_map, list_any}
 use Rattle.std.proofs.lemmas.List.{length-map}
 use Rattle.std.proofs.lemmas.Bool.Decides.{Decides-eqb}
 use Rattle.hg_base.specs.declared.statement.Statement.{Statement}
-use Rattle.hg_base.specs.declared.statement.Statement.TheVariants.{Begin, Get, Put, Del, Scan, Commit as CommitIt, Rollback, Gc}
+use Rattle.hg_base.specs.declared.statement.Statement.TheVariants.{Begin, Gc}
 use Rattle.hg_base.specs.declared.statement.Record.{Record}
 use Rattle.hg_base.specs.declared.line.Line.{Line}
 use Rattle.hg_base.specs.declared.line.Reply.{Reply}
@@ -154,12 +154,7 @@ begins_next (Some s) n h = omega (arith, h)
 says_next : (last : Option Said) (n : ℕ) (r : Record) (reply : Reply) (s : Statement) → IfSome last (λ s. s.transaction ≤ n) → (said_after last r reply s).transaction ≤ suc n
 says_next last n r reply (Begin scope) h = begins_next last n h
 says_next last n r reply (Gc kind) h = omega arith
-says_next last n r reply (Get x) h = stands_next last n r reply h
-says_next last n r reply (Put x row) h = stands_next last n r reply h
-says_next last n r reply (Del x) h = stands_next last n r reply h
-says_next last n r reply (Scan t low high) h = stands_next last n r reply h
-says_next last n r reply CommitIt h = stands_next last n r reply h
-says_next last n r reply Rollback h = stands_next last n r reply h
+says_next last n r reply _ h = stands_next last n r reply h
 
 pub transactions_few : (rs : List Record) (lines : List Line) (earlier : List Said) (n : ℕ) → Each (λ s. s.transaction ≤ n) earlier → Each (λ s. s.transaction ≤ n + length rs) (said_from earlier rs lines)
 transactions_few [] lines earlier n h = tt

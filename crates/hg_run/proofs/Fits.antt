@@ -1,12 +1,13 @@
 -- What is sound for a lawful script fits it.
 use Rattle.std.proofs.Common.{◌≡◌, ℕ, ℤ, ◌+◌, ◌<◌, ◌≤◌, ◌^◌, List, [], ◌∷◌, ◌++◌, length, Bool, true, false, Option, Some, None, refl, sym, ap, ◌∙◌, subst, arith, append_assoc}
-use Rattle.std.specs.Prelude.{cond, filter, find, map, is_some, unwrap_or, IfSome, IsSome, IsTrue, MatchOption, ⊤, ◌==◌, ◌&&◌, ◌||◌}
-use Rattle.std.specs.List.{filter_map, list_any}
+use Rattle.std.specs.Prelude.{cond, filter, find, map, sum_by, if◌then◌else◌, is_some, unwrap_or, IfSome, IsSome, IsTrue, MatchOption, ⊤, ◌==◌, ◌&&◌, ◌||◌}
+use Rattle.std.specs.List.{cons_option, filter_map, list_any}
 use Rattle.std.specs.Bool.{MatchBool}
 use Rattle.std.specs.Option.{option_map_or}
 use Rattle.std.proofs.lemmas.Bool.{and_parts}
 use Rattle.std.proofs.lemmas.Bool.Decides.{Decides-eqb, nat_tests}
 use Rattle.std.proofs.lemmas.List.{length-map}
+use Rattle.std.proofs.lemmas.List.Sums.{sum_by-cons}
 use Rattle.hg_base.specs.declared.rid.Rid.{Rid}
 use Rattle.hg_base.specs.declared.rid.TableId.{TableId}
 use Rattle.hg_base.specs.declared.image.Image.{Image}
@@ -14,20 +15,26 @@ use Rattle.hg_base.specs.declared.statement.Statement.{Statement}
 use Rattle.hg_base.specs.declared.statement.Statement.TheVariants.{Begin, Get, Put, Del, Scan, Commit as CommitIt, Rollback, Gc}
 use Rattle.hg_base.specs.declared.statement.Record.{Record}
 use Rattle.hg_base.specs.declared.line.Answer.{Answer}
-use Rattle.hg_base.specs.declared.line.Answer.TheVariants.{Begun, Stored, Found, Nothing, Gone, Rows, Committed, Ended, Undone, Newer, OpenBy, Undeclared}
+use Rattle.hg_base.specs.declared.line.Answer.TheVariants.{Begun, Stored, Found, Nothing, Gone, Rows, Committed, Ended, Undone, Newer, OpenBy, Undeclared, Swept}
 use Rattle.hg_base.specs.declared.line.Line.{Line}
 use Rattle.hg_base.specs.declared.line.Printed.{Printed}
-use Rattle.hg_base.specs.Lists.{Each, EachAfter, Ascends}
+use Rattle.hg_base.specs.declared.line.Totals.{Totals}
+use Rattle.hg_base.specs.declared.report.Kind.{Kind}
+use Rattle.hg_base.specs.declared.report.Kind.TheVariants as kinds
+use Rattle.hg_base.specs.declared.report.Sweep.{Sweep}
+use Rattle.hg_base.specs.declared.report.Told.{Told}
+use Rattle.hg_base.specs.Counts.{AreTotals, removed_by}
+use Rattle.hg_base.specs.Freshness.{IsHeld, IsReported, prints, snapshot_of}
+use Rattle.hg_base.specs.Lists.{Each, EachAfter, Ascends, greatest}
 use Rattle.hg_base.specs.Script.{Declaration, Script, replay}
 use Rattle.hg_base.specs.History.{History, image_in}
-use Rattle.hg_base.specs.Transcript.{Said, said, said_from, has, is_of, last_of, stored, stored_by, stored_in, committed, committed_by, table_of, history_of}
-use Rattle.hg_base.specs.Shape.{HasShape, IsLineOf}
-use Rattle.hg_base.specs.Replies.{IsBegun, IsGot, IsPut, IsDeleted, IsScanned, IsCommitted, IsUndone, IsUndeclared, IsAnswer}
+use Rattle.hg_base.specs.Transcript.{Said, said, said_from, has, is_of, last_of, stored, stored_by, stored_in, committed, committed_by, greatest_commit, table_of, history_of}
+use Rattle.hg_base.specs.Shape.{HasShape, IsLineOf, report_of, same_kind}
+use Rattle.hg_base.specs.Replies.{IsBegun, IsGot, IsPut, IsDeleted, IsScanned, IsCommitted, IsUndone, IsSwept, IsUndeclared, IsAnswer}
 use Rattle.hg_base.specs.Conflicts.{ShowsCause, target}
 use Rattle.hg_base.specs.Sound.{IsRight, IsSound, all_said}
-use Rattle.hg_base.specs.Text.{Fits64, Fits32, FitsRow, FitsBegin, FitsGet, FitsPut, FitsDel, FitsScan, FitsCommit, FitsRollback, FitsAnswer, FitsReply, Fits, IsFit, IsReport, asked, is_write}
-use Rattle.hg_base.proofs.ListFacts.{false_true, not_equal, each_keeps}
-use Rattle.hg_core.specs.Answered.{is_gc}
+use Rattle.hg_base.specs.Text.{Fits64, Fits32, FitsRow, FitsBegin, FitsGet, FitsPut, FitsDel, FitsScan, FitsCommit, FitsRollback, FitsSweep, FitsGc, FitsAnswer, FitsReply, FitTotals, Fits, IsFit, IsReport, asked, is_write}
+use Rattle.hg_base.proofs.ListFacts.{false_true, not_equal, each_keeps, if_some_keeps}
 use Rattle.hg_headline.proofs.Orderly.{orderly_nothing}
 use Rattle.hg_headline.proofs.Parts.{ascends_over, ascends_rest}
 use Rattle.hg_headline.proofs.Whole.{said_says}
@@ -149,6 +156,57 @@ either false f g q = g q
 abbrev IsFew : Said → Type 0
 IsFew s = Fits32 s.session × Fits64 s.transaction
 
+-- its snapshot is one of the history
+abbrev PrintsWithin : History → Said → Type 0
+PrintsWithin h now = IfSome (snapshot_of now) (λ s. s ≤ length h)
+
+abbrev CommitsWithin : History → Said → Type 0
+CommitsWithin h now = IfSome (committed now) (λ c. c ≤ length h)
+
+kind_itself : (k : Kind) → same_kind k k ≡ true
+kind_itself kinds.Group = refl
+kind_itself kinds.Table = refl
+kind_itself kinds.Interval = refl
+
+greatest_commits : (h : History) (xs : List Said) → Each (CommitsWithin h) xs → greatest_commit xs ≤ length h
+greatest_commits h [] e = omega arith
+greatest_commits h (x ∷ xs) e = go (committed x) e.0 (greatest_commits h xs e.1)
+  where
+    go : (o : Option ℕ) → IfSome o (λ c. c ≤ length h) → greatest (filter_map committed xs) ≤ length h → greatest (cons_option o (filter_map committed xs)) ≤ length h
+    go None k m = m
+    go (Some c) k m = omega (arith, k, m)
+
+-- in a replay each snapshot is the greatest commit before
+snapshots_within : (h : History) (all earlier xs : List Said) → Each (CommitsWithin h) earlier → Each (CommitsWithin h) xs → EachAfter (IsRight replay h all) earlier xs → Each (PrintsWithin h) xs
+snapshots_within h all earlier [] e x r = tt
+snapshots_within h all earlier (now ∷ later) e x r = (
+  if_some_keeps (snapshot_of now) (λ s. s ≡ greatest_commit earlier) (λ s. s ≤ length h) (λ s k. let m = greatest_commits h earlier e in omega (arith, k, m)) r.0.fresh.exact.snapshot,
+  snapshots_within h all (now ∷ earlier) later (x.0, e) x.1 r.1,
+)
+
+summed : (k : Kind) (xs : List Said) → Each (λ now. removed_by k now ≤ sum_by (removed_by k) xs) xs
+summed k [] = tt
+summed k (x ∷ xs) =
+    let s = sum_by-cons (removed_by k) x xs in (
+      omega (arith, s),
+      each_keeps (λ now. removed_by k now ≤ sum_by (removed_by k) xs) (λ now. removed_by k now ≤ sum_by (removed_by k) (x ∷ xs)) (λ now m. omega (arith, s, m)) xs (summed k xs),
+    )
+
+each_every : (P : Kind → Said → Type 0) (xs : List Said) → Each (P kinds.Group) xs → Each (P kinds.Table) xs → Each (P kinds.Interval) xs → Each (λ now. (k : Kind) → P k now) xs
+each_every P [] a b c = tt
+each_every P (x ∷ xs) a b c = (go, each_every P xs a.1 b.1 c.1)
+  where
+    go : (k : Kind) → P k x
+    go kinds.Group = a.0
+    go kinds.Table = b.0
+    go kinds.Interval = c.0
+
+removed_few : (all : List Said) (h : History) (t : Totals) → AreTotals all h t → FitTotals t → Each (λ now. (k : Kind) → Fits64 (removed_by k now)) all
+removed_few all h t a f = each_every (λ k now. Fits64 (removed_by k now)) all
+    (each_keeps (λ now. removed_by kinds.Group now ≤ sum_by (removed_by kinds.Group) all) (λ now. Fits64 (removed_by kinds.Group now)) (λ now m. let e = a.group in let w = f.group in omega (arith, m, e, w)) all (summed kinds.Group all))
+    (each_keeps (λ now. removed_by kinds.Table now ≤ sum_by (removed_by kinds.Table) all) (λ now. Fits64 (removed_by kinds.Table now)) (λ now m. let e = a.table in let w = f.table in omega (arith, m, e, w)) all (summed kinds.Table all))
+    (each_keeps (λ now. removed_by kinds.Interval now ≤ sum_by (removed_by kinds.Interval) all) (λ now. Fits64 (removed_by kinds.Interval now)) (λ now m. let e = a.interval in let w = f.interval in omega (arith, m, e, w)) all (summed kinds.Interval all))
+
 module _ (script : Script) (h : History) (all : List Said) (few : length h < 2 ^ 64) (short : length script.records < 2 ^ 64) (writers : Each IsFew all) where
   writer_fits : (r : Rid) (j x : ℕ) (xs : List Said) → IsSome (image_in r (stored_in j x xs)) → Each IsFew xs → Fits32 j × Fits64 x
   writer_fits r j x [] some e = absurd (false_true some)
@@ -200,7 +258,7 @@ module _ (script : Script) (h : History) (all : List Said) (few : length h < 2 ^
       go false is = wide (committed_by now.statement now.reply.answer) (subst (λ o. IfSome o (λ c. c ≤ length h)) (ap (λ b. cond b now.reply.number (committed_by now.statement now.reply.answer)) is) within)
 
   answer_fits : (look : Rid → Image) (wrote : Bool) (now : Said) (s : Statement) → now.statement ≡ s → IsStanding now → now.at ≤ length h → IsAnswer replay look wrote now s → IfSome (target s) (λ r. FitsCause now.reply.answer) →
-      PrintsRow (IsPutRow script) s now.reply.answer → HasWidths s → is_gc s ≡ false → IfSome (committed_by s now.reply.answer) Fits64 → FitsAnswer script.tables s now.reply.answer
+      PrintsRow (IsPutRow script) s now.reply.answer → HasWidths s → (IsSwept now.reply.answer → FitsGc now.reply.answer) → IfSome (committed_by s now.reply.answer) Fits64 → FitsAnswer script.tables s now.reply.answer
   answer_fits look wrote now (Begin scope) is k most a cause rows wide quiet number =
       let same = k.begun scope is in
       let fits : Fits64 now.at = omega (arith, most, few) in
@@ -216,30 +274,62 @@ module _ (script : Script) (h : History) (all : List Said) (few : length h < 2 ^
       (λ u. (out_fits script.tables table now.reply.answer u).3) a
   answer_fits look wrote now CommitIt is k most a cause rows wide quiet number = commit_fits wrote now.reply.answer a number
   answer_fits look wrote now Rollback is k most a cause rows wide quiet number = rollback_fits now.reply.answer a
-  answer_fits look wrote now (Gc kind) is k most a cause rows wide quiet number = absurd (false_true (sym quiet))
+  answer_fits look wrote now (Gc kind) is k most a cause rows wide swept number = swept a
 
   causes_fit : (earlier : List Said) (now : Said) (s : Statement) → IfSome (target s) (λ r. ShowsCause replay h all earlier now r now.reply.answer) → IfSome (target s) (λ r. FitsCause now.reply.answer)
   causes_fit earlier now (Put r row) k = cause_fits earlier now r now.reply.answer k
   causes_fit earlier now (Del r) k = cause_fits earlier now r now.reply.answer k
   causes_fit earlier now _ k = tt
 
+  -- the snapshot that a held entry names was printed
+  held_fits : (told : Told) (xs : List Said) → list_any (prints told) xs ≡ true → Each IsFew xs → Each (PrintsWithin h) xs → Fits32 told.session × Fits64 told.number
+  held_fits told [] is w s = absurd (false_true is)
+  held_fits told (x ∷ xs) is w s = go (prints told x) refl is (λ is. held_fits told xs is w.1 s.1)
+    where
+      number : (o : Option ℕ) → option_map_or (λ n. n == told.number) o false ≡ true → IfSome o (λ n. n ≤ length h) → Fits64 told.number
+      number None e k = absurd (false_true e)
+      number (Some n) e k = let same : n ≡ told.number = (Decides-eqb n told.number).0 e in omega (arith, same, k, few)
+
+      go : (b : Bool) → prints told x ≡ b → (b || list_any (prints told) xs) ≡ true → (list_any (prints told) xs ≡ true → Fits32 told.session × Fits64 told.number) → Fits32 told.session × Fits64 told.number
+      go true e is later =
+          let k = and_parts (x.session == told.session) _ e in
+          let session : x.session ≡ told.session = (Decides-eqb x.session told.session).0 k.0 in
+          (subst Fits32 session w.0.0, number (snapshot_of x) k.1 s.0)
+      go false e is later = later is
+
+  sweep_fits : (earlier : List Said) (sweep : Sweep) → IsReported h all earlier sweep → Each (PrintsWithin h) all → Fits64 sweep.removed → FitsSweep sweep
+  sweep_fits earlier sweep r shown gone = (
+    omega (arith, r.mark, few),
+    omega (arith, r.horizon, r.mark, few),
+    gone,
+    each_keeps (IsHeld all) (λ told. Fits32 told.session × Fits64 told.number) (λ told k. held_fits told all k.printed writers shown) sweep.held r.held,
+  )
+
+  gc_fits : (earlier : List Said) (now : Said) (a : Answer) → now.reply.answer ≡ a → IsSwept a → IfSome (report_of now.reply) (IsReported h all earlier) → Each (PrintsWithin h) all → ((k : Kind) → Fits64 (removed_by k now)) → FitsGc a
+  gc_fits earlier now (Swept sweep) is s report shown gone =
+      let said : report_of now.reply ≡ Some sweep = ap (λ (a : Answer). elim a [ Swept x ↦ Some x | _ ↦ None ]) is in
+      let own : removed_by sweep.kind now ≡ sweep.removed = ap (λ (o : Option Sweep). option_map_or (λ (x : Sweep). if same_kind x.kind sweep.kind then x.removed else 0) o 0) said ∙ ap (λ b. if b then sweep.removed else 0) (kind_itself sweep.kind) in
+      sweep_fits earlier sweep (subst (λ o. IfSome o (IsReported h all earlier)) said report) shown (subst Fits64 own (gone sweep.kind))
+  gc_fits earlier now _ is s report shown gone = absurd s
+
   -- what was found out of a line
   record IsKnown (now : Said) : Type 0 where
     standing : IsStanding now
     rows : PrintsRow (IsPutRow script) now.statement now.reply.answer
     number : IfSome (committed now) (λ c. c ≤ length h)
+    gone : (k : Kind) → Fits64 (removed_by k now)
 
-  reply_fits : (earlier : List Said) (now : Said) → IsRight replay h all earlier now → IsKnown now → FitsReply script.tables now.statement now.reply
-  reply_fits earlier now right known = record {
+  reply_fits : (earlier : List Said) (now : Said) → Each (PrintsWithin h) all → IsRight replay h all earlier now → IsKnown now → FitsReply script.tables now.statement now.reply
+  reply_fits earlier now shown right known = record {
     at = at_fits now right.reply.at right.reply.snapshot known.standing;
-    answer = answer_fits _ _ now now.statement refl known.standing right.reply.snapshot right.reply.answer (causes_fit earlier now now.statement right.conflict) known.rows known.standing.widths known.standing.quiet
-        (number_in now known.standing known.number);
+    answer = answer_fits _ _ now now.statement refl known.standing right.reply.snapshot right.reply.answer (causes_fit earlier now now.statement right.conflict) known.rows known.standing.widths
+        (λ s. gc_fits earlier now now.reply.answer refl s right.fresh.report shown known.gone) (number_in now known.standing known.number);
     number = number_fits now right.reply.number known.number;
   }
 
-  replies_fit : (earlier xs : List Said) → EachAfter (IsRight replay h all) earlier xs → Each IsKnown xs → Each (λ now. FitsReply script.tables now.statement now.reply) xs
-  replies_fit earlier [] right known = tt
-  replies_fit earlier (now ∷ later) right known = (reply_fits earlier now right.0 known.0, replies_fit (now ∷ earlier) later right.1 known.1)
+  replies_fit : (earlier xs : List Said) → Each (PrintsWithin h) all → EachAfter (IsRight replay h all) earlier xs → Each IsKnown xs → Each (λ now. FitsReply script.tables now.statement now.reply) xs
+  replies_fit earlier [] shown right known = tt
+  replies_fit earlier (now ∷ later) shown right known = (reply_fits earlier now shown right.0 known.0, replies_fit (now ∷ earlier) later shown right.1 known.1)
 
 -- ---- the record of a line
 
@@ -313,10 +403,13 @@ sound_fits script printed lawful sound =
     (all_of_sessions script.tables script.records printed.lines [] lawful.statements) transactions in
     let standing : Each IsStanding all = all_stand script.tables [] script.records printed.lines [] lawful.order lawful.statements orderly_nothing (λ j. refl) in
     let rows = rows_put (IsPutRow script) replay all (all_rows script printed.lines lawful) right in
-    let known : Each (IsKnown script h all few short writers) all = both_each _ (λ (now : Said). IfSome (committed now) (λ c. c ≤ length h)) (IsKnown script h all few short writers) (λ now k n. record { standing = k.0; rows = k.1; number = n }) all
+    let totals : FitTotals printed.totals = totals_fit all h printed.totals sound.totals (omega (arith, many, short)) in
+    let gone : Each (λ (now : Said). (k : Kind) → Fits64 (removed_by k now)) all = removed_few all h printed.totals sound.totals totals in
+    let shown : Each (PrintsWithin h) all = snapshots_within h all [] all tt (numbers_within all) right.lines in
+    let known : Each (IsKnown script h all few short writers) all = both_each _ (λ (now : Said). IfSome (committed now) (λ c. c ≤ length h) × ((k : Kind) → Fits64 (removed_by k now))) (IsKnown script h all few short writers) (λ now k n. record { standing = k.0; rows = k.1; number = n.0; gone = n.1 }) all
     (both_each IsStanding (λ (now : Said). PrintsRow (IsPutRow script) now.statement now.reply.answer) (λ (now : Said). IsStanding now × PrintsRow (IsPutRow script) now.statement now.reply.answer) (λ now k rows. (k, rows)) all standing rows)
-    (numbers_within all) in
+    (both_each (CommitsWithin h) (λ (now : Said). (k : Kind) → Fits64 (removed_by k now)) (λ (now : Said). CommitsWithin h now × ((k : Kind) → Fits64 (removed_by k now))) (λ now n g. (n, g)) all (numbers_within all) gone) in
     record {
-      lines = lines_fit script lawful [] script.records printed.lines [] refl sound.lines.shape lawful.statements (replies_fit script h all few short writers [] all right.lines known);
-      totals = totals_fit all h printed.totals sound.totals (omega (arith, many, short));
+      lines = lines_fit script lawful [] script.records printed.lines [] refl sound.lines.shape lawful.statements (replies_fit script h all few short writers [] all shown right.lines known);
+      totals = totals;
     }

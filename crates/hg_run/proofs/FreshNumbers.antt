@@ -16,30 +16,30 @@ use Rattle.hg_core.specs.Logs.{current, own_writes}
 use Rattle.hg_core.specs.Reading.{Unprinted, Fits, is_alone}
 use Rattle.hg_rule.specs.declared.view.View.{View}
 use Rattle.hg_tracker.specs.Begun.{AtMost}
-use Rattle.hg_script.specs.Lawful.{MayStand}
 use Rattle.hg_headline.specs.Timely.{snapshot_in, newer_in, mark_in, commit_in, reads_in}
 use Rattle.hg_headline.specs.Following.{IsOver, IsFreshIn}
 use Rattle.hg_headline.specs.Ran.{LeavesGc}
-use Rattle.hg_headline.proofs.Rounds.{no_report}
+use Rattle.hg_headline.proofs.Reports.{no_report}
 use Rattle.hg_session.specs.Replies.{IsNext}
-use Rattle.hg_run.specs.Heard.{HasHeard}
+use Rattle.hg_run.specs.Heard.{HasHeard, HasSeen}
+use Rattle.hg_run.specs.Asked.{collector_asked}
 use Rattle.hg_run.proofs.Hearing.{over_at_most}
 
 -- ---- what it doesn't print
 
--- no statement that may stand is a `gc`
-pub leaves_gc : (open_one : Bool) (s : Statement) (a : Answer) → MayStand open_one s → LeavesGc s a
-leaves_gc o (Gc kind) a h = absurd h
-leaves_gc o (Begin scope) a h = tt
-leaves_gc o (Get r) a h = tt
-leaves_gc o (Put r row) a h = tt
-leaves_gc o (Del r) a h = tt
-leaves_gc o (Scan t low high) a h = tt
-leaves_gc o CommitIt a h = tt
-leaves_gc o Rollback a h = tt
+-- a statement of a session's own is no `gc`
+pub leaves_gc : (s : Statement) (a : Answer) → collector_asked s ≡ None → LeavesGc s a
+leaves_gc (Gc kind) a h = absurd (let z : Some kind ≡ None = h in cc)
+leaves_gc (Begin scope) a h = tt
+leaves_gc (Get r) a h = tt
+leaves_gc (Put r row) a h = tt
+leaves_gc (Del r) a h = tt
+leaves_gc (Scan t low high) a h = tt
+leaves_gc CommitIt a h = tt
+leaves_gc Rollback a h = tt
 
-pub no_mark : (buckets : ℕ) (u : Unprinted) (log : List LogEntry) (o : Bool) (s : Statement) (reply : Reply) → MayStand o s → Fits buckets u log s reply → mark_in reply ≡ None
-no_mark buckets u log o s reply may fits = ap (λ (r : Option Sweep). option_map (λ sweep. sweep.mark) r) (no_report buckets u (own_writes log) s reply.answer (leaves_gc o s reply.answer may) fits.answer)
+pub no_mark : (buckets : ℕ) (u : Unprinted) (log : List LogEntry) (s : Statement) (reply : Reply) → collector_asked s ≡ None → Fits buckets u log s reply → mark_in reply ≡ None
+no_mark buckets u log s reply other fits = ap (λ (r : Option Sweep). option_map (λ sweep. sweep.mark) r) (no_report buckets u (own_writes log) s reply.answer (leaves_gc s reply.answer other) fits.answer)
 
 -- a reply with a commit number names no newer one
 pub stored_is_not_newer : (s : Statement) (c : ℕ) → stored_by s (Newer c) ≡ None
@@ -68,18 +68,18 @@ reads_snapshot n s alone at a number c e some mark below = go (snapshot_in (reco
 
 -- ---- its numbers are fresh
 
-pub fresh_heard : (buckets : ℕ) (u : Unprinted) (logs : ℕ → List LogEntry) (log : List LogEntry) (v : View) (o : Bool) (s : Statement) (reply : Reply) → MayStand o s → Fits buckets u log s reply → HasHeard logs v → IfSome (snapshot_in reply) (λ at. Each (AtMost at) v.sights) → IfSome (commit_in s reply) (IsNext v.sights (snapshot_in reply)) →
-    IfSome (newer_in reply) (λ c. 0 < c) → IsFreshIn logs 0 0 s reply
-fresh_heard buckets u logs log v o s reply may fits heard snapshot commit newer =
-    let mark : mark_in reply ≡ None = no_mark buckets u log o s reply may fits in
+pub fresh_heard : (buckets : ℕ) (u : Unprinted) (logs : ℕ → List LogEntry) (log : List LogEntry) (seen : ℕ) (v : View) (s : Statement) (reply : Reply) → collector_asked s ≡ None → Fits buckets u log s reply → HasHeard logs v → HasSeen seen v.sights → IfSome (snapshot_in reply) (λ at. Each (AtMost at) v.sights) → IfSome (commit_in s reply) (IsNext v.sights (snapshot_in reply)) →
+    IfSome (newer_in reply) (λ c. 0 < c) → IsFreshIn logs seen seen s reply
+fresh_heard buckets u logs log seen v s reply other fits heard saw snapshot commit newer =
+    let mark : mark_in reply ≡ None = no_mark buckets u log s reply other fits in
     record {
       grows = omega arith;
-      snapshot = if_some_keeps (snapshot_in reply) (λ at. Each (AtMost at) v.sights) (λ at. IsOver logs 0 at) (λ at k. over_at_most logs v at heard k) snapshot;
-      mark = subst (λ m. IfSome m (λ x. IsOver logs 0 x × (x ≤ 0))) (sym mark) tt;
+      snapshot = if_some_keeps (snapshot_in reply) (λ at. Each (AtMost at) v.sights) (λ at. IsOver logs seen at) (λ at k. over_at_most logs seen v at heard saw k) snapshot;
+      mark = subst (λ m. IfSome m (λ x. IsOver logs seen x × (x ≤ seen))) (sym mark) tt;
       newer = newer;
       commit = go (commit_in s reply) refl commit;
     }
   where
-    go : (c : Option ℕ) → commit_in s reply ≡ c → IfSome c (IsNext v.sights (snapshot_in reply)) → IfSome c (λ c. (n : ℕ) × (c ≡ suc n) × IsOver logs 0 n × Each (λ m. m ≤ n) (reads_in reply))
+    go : (c : Option ℕ) → commit_in s reply ≡ c → IfSome c (IsNext v.sights (snapshot_in reply)) → IfSome c (λ c. (n : ℕ) × (c ≡ suc n) × IsOver logs seen n × Each (λ m. m ≤ n) (reads_in reply))
     go None e k = tt
-    go (Some c) e k = (k.before, k.next, over_at_most logs v k.before heard k.over, reads_snapshot k.before s (is_alone (current log) s) reply.at reply.answer reply.number c fits.number e (no_mark buckets u log o s reply may fits) k.begun)
+    go (Some c) e k = (k.before, k.next, over_at_most logs seen v k.before heard saw k.over, reads_snapshot k.before s (is_alone (current log) s) reply.at reply.answer reply.number c fits.number e (no_mark buckets u log s reply other fits) k.begun)

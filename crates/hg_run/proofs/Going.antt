@@ -1,9 +1,11 @@
 -- A replay amid a script that breaks no rule.
-use Rattle.std.proofs.Common.{◌≡◌, ℕ, suc, ◌≤◌, List, [], ◌∷◌, ◌++◌, length, Bool, false, refl, sym, ap, ◌∙◌, subst, arith, append_assoc}
+use Rattle.std.proofs.Common.{◌≡◌, ℕ, suc, ◌+◌, ◌≤◌, inl, List, [], ◌∷◌, ◌++◌, length, refl, sym, ap, ◌∙◌, subst, arith, append_assoc}
 use Rattle.std.specs.Prelude.{map, max, is_some}
+use Rattle.std.proofs.lemmas.List.Sums.{sum_by-cons, sum_by-append}
 use Rattle.hg_base.specs.declared.limits.TheConstants.{MOST_SESSIONS}
 use Rattle.hg_base.specs.declared.statement.Statement.{Statement}
 use Rattle.hg_base.specs.declared.statement.Statement.TheVariants.{Begin, Get, Put, Del, Scan, Commit, Rollback, Gc}
+use Rattle.hg_base.specs.declared.report.Kind.{Kind}
 use Rattle.hg_base.specs.declared.scope.Scope.{Scope}
 use Rattle.hg_base.specs.declared.scope.Scope.TheVariants.{All, Declared}
 use Rattle.hg_base.specs.declared.statement.Record.{Record}
@@ -11,19 +13,21 @@ use Rattle.hg_base.specs.declared.line.Line.{Line}
 use Rattle.hg_base.specs.Lists.{Each, greatest}
 use Rattle.hg_base.specs.Script.{Declaration, Script}
 use Rattle.hg_base.proofs.ListFacts.{append_nil}
-use Rattle.hg_core.specs.Answered.{is_gc}
+use Rattle.hg_core.specs.declared.log.LogEntry.{LogEntry}
 use Rattle.hg_core.specs.Logs.{current}
 use Rattle.hg_core.specs.Words.{IsBelow}
 use Rattle.hg_script.specs.Lawful.{AreInOrder, FitsTables, IsScope, IsLawful, IsStatement, MayStand}
 use Rattle.hg_script.specs.Rules.{is_open}
-use Rattle.hg_headline.specs.Following.{IsFollowing, top_after}
+use Rattle.hg_headline.specs.Following.{IsFollowing, top_after, told_by, told_removed}
 use Rattle.hg_headline.proofs.Following.{following_opened, following_more}
 use Rattle.hg_session.specs.declared.engine.Engine.{Engine}
 use Rattle.hg_session.specs.declared.session.Session.{Session}
 use Rattle.hg_session.specs.Engines.{engine_sizes}
 use Rattle.hg_session.specs.Finished.{logs_of}
-use Rattle.hg_run.specs.Listed.{AreReady}
-use Rattle.hg_run.specs.Asked.{IsOnTables, IsReplied}
+use Rattle.hg_run.specs.Listed.{AreReady, SawAt}
+use Rattle.hg_run.specs.Asked.{IsOnTables, IsReplied, HasReplied}
+use Rattle.hg_run.specs.Swept.{told_of}
+use Rattle.hg_run.specs.Played.{HasPlayed}
 use Rattle.hg_run.proofs.OpenAfter.{opened_more}
 
 -- of a record that is still to come: a statement of a session that there is
@@ -31,14 +35,17 @@ pub record IsToCome (script : Script) (sessions : ℕ) (r : Record) : Type 0 whe
   pub stands : IsStatement script.tables r
   pub most : r.session ≤ sessions
 
--- the records that were answered, and those that are left
-pub record Going (e : Engine) (list : List Session) (last : ℕ) (lines : List Line) (rest : List Record) (script : Script) : Type 0 where
+-- the records that were answered, and those that are left; and what the collectors have removed, by kind
+pub record Going (e : Engine) (removed : Kind → ℕ) (list : List Session) (last : ℕ) (lines : List Line) (rest : List Record) (script : Script) : Type 0 where
   pub done : List Record
+  pub seen : ℕ
   pub top : ℕ
   pub all : script.records ≡ done ++ rest
-  pub following : IsFollowing (engine_sizes e).buckets (engine_sizes e).sessions (logs_of list) 0 top done lines
+  pub following : IsFollowing (engine_sizes e).buckets (engine_sizes e).sessions (logs_of list) seen top done lines
   pub opened : (j : ℕ) → is_open j done ≡ is_some (current (logs_of list j))
   pub ready : AreReady e last (length rest) list
+  pub saw : SawAt seen last list
+  pub told : (k : Kind) → removed k ≡ told_removed k lines
   pub order : AreInOrder done rest
   pub coming : Each (IsToCome script (engine_sizes e).sessions) rest
 
@@ -63,41 +70,79 @@ sessions_within script h = let most = greatest_within script script.records h.st
 
 -- ---- one turn
 
-pub going_first : (e : Engine) (list : List Session) (script : Script) → (engine_sizes e).sessions ≡ max 1 (greatest (map (λ r. r.session) script.records)) → IsLawful script → AreReady e 0 (length script.records) list → ((j : ℕ) → logs_of list j ≡ []) → Going e list 0 [] script.records script
-going_first e list script sessions h ready none =
+pub going_first : (e : Engine) (removed : Kind → ℕ) (list : List Session) (script : Script) → (engine_sizes e).sessions ≡ max 1 (greatest (map (λ r. r.session) script.records)) → IsLawful script → AreReady e 0 (length script.records) list → ((j : ℕ) → logs_of list j ≡ []) → ((k : Kind) → removed k ≡ 0) → Going e removed list 0 [] script.records script
+going_first e removed list script sessions h ready none gone =
     let most : greatest (map (λ (r : Record). r.session) script.records) ≤ (engine_sizes e).sessions = omega (arith, sessions) in
     let same : (λ j. []) ≡ logs_of list = (λ p j. sym (none j) p) in
     record {
       done = [];
+      seen = 0;
       top = 0;
       all = refl;
       following = subst (λ logs. IsFollowing (engine_sizes e).buckets (engine_sizes e).sessions logs 0 0 [] []) same (following_opened (engine_sizes e).buckets (engine_sizes e).sessions);
       opened = λ j. ap (λ l. is_some (current l)) (sym (none j));
       ready = ready;
+      saw = λ d. inl refl;
+      told = gone;
       order = h.order;
       coming = to_come script (engine_sizes e).sessions script.records h.statements most;
     }
 
-pub going_on : (e : Engine) (old new : List Session) (last i : ℕ) (lines : List Line) (r : Record) (rest : List Record) (script : Script) (line : Line) → Going e old last lines (r ∷ rest) script → suc i ≡ r.session → line.session ≡ r.session → line.place ≡ r.place →
-    IsReplied (engine_sizes e).buckets (engine_sizes e).sessions (logs_of old) (suc i) r.statement line.reply (logs_of new) → ((left : ℕ) → AreReady e last (suc left) old → AreReady e i left new) → Going e new i (lines ++ line ∷ []) rest script
-going_on e old new last i lines r rest script line g is session place replied ready =
+-- the session of the next record has met the one that ran last
+pub going_turned : (e : Engine) (removed : Kind → ℕ) (old mid : List Session) (last i : ℕ) (lines : List Line) (rest : List Record) (script : Script) → Going e removed old last lines rest script → logs_of mid ≡ logs_of old → ((seen : ℕ) → SawAt seen last old → SawAt seen i mid) → ((left : ℕ) → AreReady e last left old → AreReady e i left mid) → Going e removed mid i lines rest script
+going_turned e removed old mid last i lines rest script g same saw ready = record {
+  done = g.done;
+  seen = g.seen;
+  top = g.top;
+  all = g.all;
+  following = subst (λ logs. IsFollowing (engine_sizes e).buckets (engine_sizes e).sessions logs g.seen g.top g.done lines) (sym same) g.following;
+  opened = λ j. g.opened j ∙ ap (λ (l : ℕ → List LogEntry). is_some (current (l j))) (sym same);
+  ready = ready (length rest) g.ready;
+  saw = saw g.seen g.saw;
+  told = g.told;
+  order = g.order;
+  coming = g.coming;
+}
+
+told_more : (k : Kind) (lines : List Line) (line : Line) → told_removed k (lines ++ line ∷ []) ≡ told_removed k lines + told_of k line.reply
+told_more k lines line =
+    let all = sum_by-append (told_by k) lines (line ∷ []) in
+    let one = sum_by-cons (told_by k) line [] in
+    let none : told_removed k [] ≡ 0 = refl in
+    let same : told_by k line ≡ told_of k line.reply = refl in
+    omega (arith, all, one, none, same)
+
+pub going_on : (e : Engine) (removed later : Kind → ℕ) (old new : List Session) (i : ℕ) (lines : List Line) (r : Record) (rest : List Record) (script : Script) (line : Line) → (g : Going e removed old i lines (r ∷ rest) script) → suc i ≡ r.session → line.session ≡ r.session → line.place ≡ r.place →
+    HasReplied e g.seen old i r.statement line.reply new → ((left : ℕ) → AreReady e i (suc left) old → AreReady e i left new) → ((k : Kind) → later k ≡ removed k + told_of k line.reply) → Going e later new i (lines ++ line ∷ []) rest script
+going_on e removed later old new i lines r rest script line g is session place h ready gone =
     let z = engine_sizes e in
-    let a : IsReplied z.buckets z.sessions (logs_of old) r.session r.statement line.reply (logs_of new) = subst (λ j. IsReplied z.buckets z.sessions (logs_of old) j r.statement line.reply (logs_of new)) is replied in
+    let a : IsReplied z.buckets z.sessions (logs_of old) g.seen h.later r.session r.statement line.reply (logs_of new) = subst (λ j. IsReplied z.buckets z.sessions (logs_of old) g.seen h.later j r.statement line.reply (logs_of new)) is h.replied in
     let top : ℕ = top_after g.top r.statement line.reply in
     record {
       done = g.done ++ r ∷ [];
+      seen = h.later;
       top = top;
       all = g.all ∙ sym (append_assoc g.done (r ∷ []) rest);
-      following = subst (λ logs. IsFollowing z.buckets z.sessions logs 0 top (g.done ++ r ∷ []) (lines ++ line ∷ [])) (sym a.logs)
-          (following_more z.buckets z.sessions (logs_of old) 0 0 g.top g.done lines r line a.u g.following g.coming.0.stands.some g.coming.0.most session place a.fits a.met a.fresh);
+      following = subst (λ logs. IsFollowing z.buckets z.sessions logs h.later top (g.done ++ r ∷ []) (lines ++ line ∷ [])) (sym a.logs)
+          (following_more z.buckets z.sessions (logs_of old) g.seen h.later g.top g.done lines r line a.u g.following g.coming.0.stands.some g.coming.0.most session place a.fits a.met a.fresh);
       opened = opened_more z.buckets (logs_of old) (logs_of new) g.done r a.u line.reply a.logs a.fits g.opened;
       ready = ready (length rest) g.ready;
+      saw = h.saw;
+      told = λ k. let before = g.told k in let now = gone k in let more = told_more k lines line in omega (arith, before, now, more);
       order = g.order.1;
       coming = g.coming.1;
     }
 
-pub going_last : (e : Engine) (list : List Session) (last : ℕ) (lines : List Line) (script : Script) → Going e list last lines [] script → (top : ℕ) × IsFollowing (engine_sizes e).buckets (engine_sizes e).sessions (logs_of list) 0 top script.records lines
-going_last e list last lines script g = (g.top, subst (λ rs. IsFollowing (engine_sizes e).buckets (engine_sizes e).sessions (logs_of list) 0 g.top rs lines) (sym (g.all ∙ append_nil g.done)) g.following)
+pub going_last : (e : Engine) (removed : Kind → ℕ) (list : List Session) (last : ℕ) (lines : List Line) (script : Script) → Going e removed list last lines [] script → HasPlayed e removed list script lines
+going_last e removed list last lines script g = record {
+  seen = g.seen;
+  top = g.top;
+  following = subst (λ rs. IsFollowing (engine_sizes e).buckets (engine_sizes e).sessions (logs_of list) g.seen g.top rs lines) (sym (g.all ∙ append_nil g.done)) g.following;
+  last = last;
+  ready = g.ready;
+  saw = g.saw;
+  told = g.told;
+}
 
 -- ---- what the next record asks for
 
@@ -110,8 +155,8 @@ ready_less e last left more list less r = record {
   heard = r.heard;
 }
 
-pub may_stand : (e : Engine) (list : List Session) (last : ℕ) (lines : List Line) (r : Record) (rest : List Record) (script : Script) → Going e list last lines (r ∷ rest) script → MayStand (is_some (current (logs_of list r.session))) r.statement
-may_stand e list last lines r rest script g = subst (λ b. MayStand b r.statement) (g.opened r.session) g.order.0
+pub may_stand : (e : Engine) (removed : Kind → ℕ) (list : List Session) (last : ℕ) (lines : List Line) (r : Record) (rest : List Record) (script : Script) → Going e removed list last lines (r ∷ rest) script → MayStand (is_some (current (logs_of list r.session))) r.statement
+may_stand e removed list last lines r rest script g = subst (λ b. MayStand b r.statement) (g.opened r.session) g.order.0
 
 scope_below : (tables : List Declaration) (scope : Scope) → IsScope tables scope → IsBelow (length tables) scope
 scope_below tables All h = tt
@@ -126,19 +171,3 @@ on_tables tables (Scan table low high) fits = fits
 on_tables tables Commit fits = tt
 on_tables tables Rollback fits = tt
 on_tables tables (Gc kind) fits = tt
-
--- ---- no record is a `gc`
-
-pub no_gc : (o : Bool) (s : Statement) → MayStand o s → is_gc s ≡ false
-no_gc o (Gc kind) h = absurd h
-no_gc o (Begin scope) h = refl
-no_gc o (Get r) h = refl
-no_gc o (Put r row) h = refl
-no_gc o (Del r) h = refl
-no_gc o (Scan t low high) h = refl
-no_gc o Commit h = refl
-no_gc o Rollback h = refl
-
-pub order_quiet : (before rs : List Record) → AreInOrder before rs → Each (λ (r : Record). is_gc r.statement ≡ false) rs
-order_quiet before [] h = tt
-order_quiet before (r ∷ rs) h = (no_gc (is_open r.session before) r.statement h.0, order_quiet (before ++ r ∷ []) rs h.1)

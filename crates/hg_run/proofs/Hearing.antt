@@ -1,5 +1,5 @@
 -- What a session's pass that has heard all logs knows.
-use Rattle.std.proofs.Common.{◌≡◌, ℕ, ◌<◌, ◌⊎◌, inl, inr, List, [], ◌∷◌, ◌++◌, false, refl, sym, ◌∙◌, subst, arith}
+use Rattle.std.proofs.Common.{◌≡◌, ℕ, ◌<◌, ◌≤◌, ◌⊎◌, inl, inr, List, [], ◌∷◌, ◌++◌, length, false, refl, sym, ◌∙◌, subst, arith}
 use Rattle.hg_base.specs.declared.writer.Writer.{Writer}
 use Rattle.hg_base.specs.Lists.{Each}
 use Rattle.hg_core.specs.declared.log.LogEntry.{LogEntry}
@@ -8,22 +8,23 @@ use Rattle.hg_core.specs.Events.{put}
 use Rattle.hg_core.proofs.Indices.{at_index, put_here, put_else}
 use Rattle.hg_rule.specs.declared.view.Part.TheVariants.{OfSession}
 use Rattle.hg_rule.specs.declared.view.Sight.{Sight}
-use Rattle.hg_rule.specs.declared.view.Sight.TheVariants.{Heard}
+use Rattle.hg_rule.specs.declared.view.Sight.TheVariants.{Saw, Heard}
 use Rattle.hg_rule.specs.declared.view.View.{View}
 use Rattle.hg_rule.specs.declared.view.Sizes.{Sizes}
-use Rattle.hg_rule.specs.Facts.{IsAmong, StartsWith, Shown}
+use Rattle.hg_rule.specs.Facts.{IsAmong, StartsWith, Shown, groups}
 use Rattle.hg_rule.specs.Moves.{joined, meeting, put_in}
 use Rattle.hg_rule.specs.Agreed.{IsMet}
 use Rattle.hg_rule.specs.Views.{number, session, HasOnlySession}
 use Rattle.hg_tracker.specs.Begun.{AtMost}
-use Rattle.hg_store.specs.Ends as store
 use Rattle.hg_store.specs.Ends.{HasNoEnd}
 use Rattle.hg_headline.specs.Logged.{Logged}
-use Rattle.hg_headline.specs.Following.{AreUpTo, IsOver, KnowsOpen, has_end}
+use Rattle.hg_core.specs.Logs.{has_end}
+use Rattle.hg_headline.specs.Following.{AreUpTo, IsOver, KnowsOpen}
 use Rattle.hg_headline.proofs.OpenWrites.{knows_open}
 use Rattle.hg_headline.proofs.OverBuckets.{state_logged}
 use Rattle.hg_session.specs.Ties.{IsHeard}
-use Rattle.hg_run.specs.Heard.{HasLog, HasHeard}
+use Rattle.hg_session.specs.Finished.{AreAmong}
+use Rattle.hg_run.specs.Heard.{HasLog, HasHeard, HasSeen}
 
 -- ---- one of a list
 
@@ -41,11 +42,6 @@ pub among_right : {A : Type 0} (a : A) (xs ys : List A) → IsAmong a ys → IsA
 among_right a [] ys i = i
 among_right a (x ∷ xs) ys i = inr (among_right a xs ys i)
 
--- ---- both functions are one
-
-pub same_end : (x : ℕ) (l : List LogEntry) → has_end x l ≡ store.has_end x l
-same_end x l = refl
-
 -- ---- what is known of every log
 
 pub heard_log : (logs : ℕ → List LogEntry) (v : View) (P : Sight → Type 0) (k : ℕ) → HasHeard logs v → Each P v.sights → P (Heard k []) → P (Heard k (logs k))
@@ -59,12 +55,17 @@ heard_log logs v P k h each empty = go (h k)
 pub heard_at_most : (logs : ℕ → List LogEntry) (v : View) (n : ℕ) → HasHeard logs v → Each (AtMost n) v.sights → AreUpTo n logs
 heard_at_most logs v n h each k = heard_log logs v (AtMost n) k h each tt
 
-pub over_at_most : (logs : ℕ → List LogEntry) (v : View) (n : ℕ) → HasHeard logs v → Each (AtMost n) v.sights → IsOver logs 0 n
-over_at_most logs v n h each = record { entries = heard_at_most logs v n h each; groups = omega arith }
+-- and over every group that was seen
+pub seen_at_most : (seen n : ℕ) (sights : List Sight) → HasSeen seen sights → Each (AtMost n) sights → seen ≤ n
+seen_at_most seen n sights (inl e) each = omega (arith, e)
+seen_at_most seen n sights (inr (h, e, i)) each = let most : length h ≤ n = of_among (AtMost n) (Saw (groups h)) sights each i in omega (arith, e, most)
+
+pub over_at_most : (logs : ℕ → List LogEntry) (seen : ℕ) (v : View) (n : ℕ) → HasHeard logs v → HasSeen seen v.sights → Each (AtMost n) v.sights → IsOver logs seen n
+over_at_most logs seen v n h saw each = record { entries = heard_at_most logs v n h each; groups = seen_at_most seen n v.sights saw each }
 
 -- a write that is refused: the other's transaction has no end in its log
 pub heard_goes : (logs : ℕ → List LogEntry) (v : View) (w : Writer) → HasHeard logs v → Each (HasNoEnd w) v.sights → has_end w.transaction (logs w.session) ≡ false
-heard_goes logs v w h each = same_end w.transaction (logs w.session) ∙ heard_log logs v (HasNoEnd w) w.session h each (λ e. refl) refl
+heard_goes logs v w h each = heard_log logs v (HasNoEnd w) w.session h each (λ e. refl) refl
 
 -- ---- how it is kept
 
@@ -79,6 +80,14 @@ heard_met logs v w h k = go (h k)
     go : (logs k ≡ []) ⊎ IsAmong (Heard k (logs k)) w.sights → (logs k ≡ []) ⊎ IsAmong (Heard k (logs k)) (v.sights ++ w.sights)
     go (inl e) = inl e
     go (inr i) = inr (among_right (Heard k (logs k)) v.sights w.sights i)
+
+-- what was seen is seen where all of that is
+pub seen_among : (n : ℕ) (xs ys : List Sight) → AreAmong xs ys → HasSeen n xs → HasSeen n ys
+seen_among n xs ys all (inl e) = inl e
+seen_among n xs ys all (inr (h, e, i)) = inr (h, e, all (Saw (groups h)) i)
+
+pub seen_kept : (n : ℕ) (xs ys : List Sight) → StartsWith ys xs → HasSeen n xs → HasSeen n ys
+seen_kept n xs ys kept s = seen_among n xs ys (λ x i. subst (IsAmong x) (sym kept.1) (among_left x xs kept.0 i)) s
 
 -- its steps keep what it heard
 pub heard_kept : (logs : ℕ → List LogEntry) (v w : View) → HasHeard logs v → StartsWith w.sights v.sights → HasHeard logs w

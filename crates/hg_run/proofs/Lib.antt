@@ -8,9 +8,15 @@ mod Told
 -- The sessions of a list: one answers, and two meet.
 mod Listing
 mod Turns
+-- A round of a collector: what it found, and what meetings with its pass leave.
+mod Gathering
+mod Rounds
+mod Meetings
+mod Sweeping
 -- A whole script.
 mod OpenAfter
 mod Going
+mod Asking
 mod Closes
 -- What is printed fits the script: its rows, how many there are of all, and each line.
 mod Rows

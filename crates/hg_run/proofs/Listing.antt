@@ -23,6 +23,11 @@ map_over f (x ∷ xs) (suc k) h = map_over f xs k (λ q. h (omega (arith, q)))
 pub log_at : (d : Session) (xs : List Session) (k : ℕ) → k < length xs → logs_of xs (suc k) ≡ log_of (get_or xs k d)
 log_at d xs k h = map_get log_of d xs k h
 
+pub get_any : {X : Type 0} (d x : X) (xs : List X) (k : ℕ) → k < length xs → get_or xs k d ≡ get_or xs k x
+get_any d x [] k h = absurd (omega (arith, h))
+get_any d x (y ∷ ys) zero h = refl
+get_any d x (y ∷ ys) (suc k) h = get_any d x ys k (omega (arith, h))
+
 -- where each session has the log that it had
 pub logs_same : (d : Session) (xs ys : List Session) → length ys ≡ length xs → ((k : ℕ) → k < length xs → log_of (get_or ys k d) ≡ log_of (get_or xs k d)) → logs_of ys ≡ logs_of xs
 logs_same d xs ys many same = λ p j. at j p

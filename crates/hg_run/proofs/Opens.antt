@@ -4,6 +4,7 @@ use Rattle.std.proofs.Common.{◌≡◌, ℕ, List, [], ◌∷◌, ◌++◌, Boo
 use Rattle.std.specs.Prelude.{cond, not, is_some, unwrap_or, IsTrue, if◌then◌else◌, nat_lt, ◌==◌, ◌&&◌}
 use Rattle.std.proofs.lemmas.Bool.Decides.{Decides-eqb, Decides-ltb}
 use Rattle.hg_base.specs.declared.scope.Scope.{Scope}
+use Rattle.hg_base.specs.declared.report.Kind.{Kind}
 use Rattle.hg_base.specs.declared.statement.Statement.{Statement}
 use Rattle.hg_base.specs.declared.statement.Statement.TheVariants.{Begin, Get, Put, Del, Scan, Commit as CommitIt, Rollback, Gc}
 use Rattle.hg_base.specs.declared.statement.Record.{Record}
@@ -20,18 +21,16 @@ use Rattle.hg_headline.proofs.Words.{none_is_not_some, same_number}
 use Rattle.hg_script.specs.Lawful.{AreInOrder, HasWidths, IsStatement, MayStand}
 use Rattle.hg_script.specs.Rules.{is_open, opened}
 use Rattle.hg_run.proofs.OpenAfter.{open_snoc}
-use Rattle.hg_run.proofs.Going.{no_gc}
 
 -- the lines before show which transactions the records before leave open
 abbrev pub ShowsOpen : List Record → List Said → Type 0
 ShowsOpen done earlier = (j : ℕ) → is_open j done ≡ is_some (open_of j earlier)
 
 -- A line that prints its snapshot is that of a get, put, del or scan outside a transaction, and a `begin` prints that of its
--- transaction. None is a `gc`, and the numbers of the statement have their widths.
+-- transaction. The numbers of the statement have their widths.
 pub record IsStanding (now : Said) : Type 0 where
   pub alone : now.alone ≡ true → (now.at ≡ unwrap_or now.reply.at 0) × IsTrue (is_some (table_of now.statement))
   pub begun : (scope : Scope) → now.statement ≡ Begin scope → now.at ≡ begun now.reply
-  pub quiet : is_gc now.statement ≡ false
   pub widths : HasWidths now.statement
 
 -- ---- one line of a session, by its statement
@@ -74,15 +73,15 @@ module _ (earlier : List Said) (r : Record) (reply : Reply) (orderly : Orderly r
   abbrev Leaves : Statement → Type 0
   Leaves s = (nat_lt 0 (said_after last r reply s).transaction ≡ true) × (opened (is_some (open_after last)) s ≡ not (ends (said_after last r reply s)))
 
-  leaves : (s : Statement) → r.statement ≡ s → MayStand (is_some (open_after last)) s → Leaves s
-  leaves (Begin scope) e may = (next_some, sym (ap (λ s. not (is_end s)) e))
-  leaves (Get x) e may = (has_number (open_after last) refl, goes_on (open_after last) (ap is_end e))
-  leaves (Put x row) e may = (has_number (open_after last) refl, goes_on (open_after last) (ap is_end e))
-  leaves (Del x) e may = (has_number (open_after last) refl, goes_on (open_after last) (ap is_end e))
-  leaves (Scan t low high) e may = (has_number (open_after last) refl, goes_on (open_after last) (ap is_end e))
-  leaves CommitIt e may = (has_number (open_after last) refl, is_over (open_after last) (ap is_end e))
-  leaves Rollback e may = (has_number (open_after last) refl, is_over (open_after last) (ap is_end e))
-  leaves (Gc kind) e may = absurd may
+  leaves : (s : Statement) → r.statement ≡ s → is_gc s ≡ false → MayStand (is_some (open_after last)) s → Leaves s
+  leaves (Begin scope) e g may = (next_some, sym (ap (λ s. not (is_end s)) e))
+  leaves (Get x) e g may = (has_number (open_after last) refl, goes_on (open_after last) (ap is_end e))
+  leaves (Put x row) e g may = (has_number (open_after last) refl, goes_on (open_after last) (ap is_end e))
+  leaves (Del x) e g may = (has_number (open_after last) refl, goes_on (open_after last) (ap is_end e))
+  leaves (Scan t low high) e g may = (has_number (open_after last) refl, goes_on (open_after last) (ap is_end e))
+  leaves CommitIt e g may = (has_number (open_after last) refl, is_over (open_after last) (ap is_end e))
+  leaves Rollback e g may = (has_number (open_after last) refl, is_over (open_after last) (ap is_end e))
+  leaves (Gc kind) e g may = absurd (false_true (sym g))
 
   abbrev IsAlone : Said → Type 0
   IsAlone now = now.alone ≡ true → (now.at ≡ unwrap_or now.reply.at 0) × IsTrue (is_some (table_of now.statement))
@@ -103,7 +102,7 @@ module _ (earlier : List Said) (r : Record) (reply : Reply) (orderly : Orderly r
   is_alone (Scan t low high) e may a = on_table (open_after last) (ap (λ s. is_some (table_of s)) e) a
   is_alone CommitIt e may a = within (open_after last) may a
   is_alone Rollback e may a = within (open_after last) may a
-  is_alone (Gc kind) e may a = absurd may
+  is_alone (Gc kind) e may a = absurd (false_true a)
 
   is_other : (s : Statement) (scope : Scope) → r.statement ≡ s → is_begin s ≡ false → (said_after last r reply s).statement ≡ Begin scope → ⊥
   is_other s scope e none k = false_true (sym none ∙ ap is_begin (sym e ∙ sym (said_says last r reply s).1 ∙ k))
@@ -118,15 +117,11 @@ module _ (earlier : List Said) (r : Record) (reply : Reply) (orderly : Orderly r
   at_begun Rollback e scope k = absurd (is_other Rollback scope e refl k)
   at_begun (Gc kind) e scope k = absurd (is_other (Gc kind) scope e refl k)
 
-  quiet : (s : Statement) → MayStand (is_some (open_after last)) s → is_gc s ≡ false
-  quiet s may = no_gc (is_some (open_after last)) s may
-
   line_stands : MayStand (is_some (open_after last)) r.statement → HasWidths r.statement → IsStanding (said earlier r reply)
   line_stands may widths =
       let same = (said_says last r reply r.statement).1 in record {
         alone = is_alone r.statement refl may;
         begun = at_begun r.statement refl;
-        quiet = ap is_gc same ∙ quiet r.statement may;
         widths = subst HasWidths (sym same) widths;
       }
 
@@ -139,8 +134,34 @@ opens_now earlier now k = ap (λ l. is_some (open_after l)) (last_is_now now.ses
     go true = refl
     go false = refl
 
-shows_more : (done : List Record) (earlier : List Said) (r : Record) (reply : Reply) → Orderly r.session earlier → MayStand (is_some (open_of r.session earlier)) r.statement → ShowsOpen done earlier → ShowsOpen (done ++ r ∷ []) (said earlier r reply ∷ earlier)
-shows_more done earlier r reply orderly may shows j = cases (r.session == j) (λ e. subst Shows ((Decides-eqb r.session j).0 e) own) other
+-- a `gc` leaves each transaction as it was
+shows_gc : (done : List Record) (earlier : List Said) (r : Record) (reply : Reply) (kind : Kind) → r.statement ≡ Gc kind → ShowsOpen done earlier → ShowsOpen (done ++ r ∷ []) (said earlier r reply ∷ earlier)
+shows_gc done earlier r reply kind is shows j =
+    let line : Said = said earlier r reply in
+    let none : line.transaction ≡ 0 = ap (λ s. (said_after (last_of r.session earlier) r reply s).transaction) is in
+    let kept : last_of j (line ∷ earlier) ≡ last_of j earlier = ap (λ n. cond ((line.session == j) && nat_lt 0 n) (Some line) (last_of j earlier)) none ∙ outside (line.session == j) (Some line) (last_of j earlier) in
+    open_snoc j done r ∙ (ap (λ s. cond (r.session == j) (opened (is_open j done) s) (is_open j done)) is ∙ either_way (r.session == j) (is_open j done)) ∙ shows j ∙ ap (λ l. is_some (open_after l)) (sym kept)
+  where
+    outside : (b : Bool) (x y : Option Said) → cond (b && false) x y ≡ y
+    outside true x y = refl
+    outside false x y = refl
+
+    either_way : (b x : Bool) → cond b x x ≡ x
+    either_way true x = refl
+    either_way false x = refl
+
+gc_of : (s : Statement) → is_gc s ≡ true → (kind : Kind) × (s ≡ Gc kind)
+gc_of (Gc kind) e = (kind, refl)
+gc_of (Begin scope) e = absurd (false_true e)
+gc_of (Get x) e = absurd (false_true e)
+gc_of (Put x row) e = absurd (false_true e)
+gc_of (Del x) e = absurd (false_true e)
+gc_of (Scan t low high) e = absurd (false_true e)
+gc_of CommitIt e = absurd (false_true e)
+gc_of Rollback e = absurd (false_true e)
+
+shows_own : (done : List Record) (earlier : List Said) (r : Record) (reply : Reply) → Orderly r.session earlier → is_gc r.statement ≡ false → MayStand (is_some (open_of r.session earlier)) r.statement → ShowsOpen done earlier → ShowsOpen (done ++ r ∷ []) (said earlier r reply ∷ earlier)
+shows_own done earlier r reply orderly other_word may shows j = cases (r.session == j) (λ e. subst Shows ((Decides-eqb r.session j).0 e) own) other
   where
     Shows : ℕ → Type 0
     Shows i = is_open i (done ++ r ∷ []) ≡ is_some (open_of i (said earlier r reply ∷ earlier))
@@ -148,7 +169,7 @@ shows_more done earlier r reply orderly may shows j = cases (r.session == j) (λ
     own : Shows r.session
     own =
         let by : (said earlier r reply).session ≡ r.session = (said_says (last_of r.session earlier) r reply r.statement).0 in
-        let left = leaves earlier r reply orderly r.statement refl may in
+        let left = leaves earlier r reply orderly r.statement refl other_word may in
         open_snoc r.session done r ∙ ap (λ b. cond b (opened (is_open r.session done) r.statement) (is_open r.session done)) (same_number r.session)
         ∙ ap (λ b. opened b r.statement) (shows r.session) ∙ left.1
         ∙ subst (λ i. not (ends (said earlier r reply)) ≡ is_some (open_of i (said earlier r reply ∷ earlier))) by (sym (opens_now earlier (said earlier r reply) left.0))
@@ -159,6 +180,12 @@ shows_more done earlier r reply orderly may shows j = cases (r.session == j) (λ
         let apart : (line.session == j) ≡ false = ap (λ i. i == j) (said_says (last_of r.session earlier) r reply r.statement).0 ∙ e in
         let kept : last_of j (line ∷ earlier) ≡ last_of j earlier = ap (λ b. cond (b && nat_lt 0 line.transaction) (Some line) (last_of j earlier)) apart in
         open_snoc j done r ∙ ap (λ b. cond b (opened (is_open j done) r.statement) (is_open j done)) e ∙ shows j ∙ ap (λ l. is_some (open_after l)) (sym kept)
+
+shows_more : (done : List Record) (earlier : List Said) (r : Record) (reply : Reply) → Orderly r.session earlier → MayStand (is_some (open_of r.session earlier)) r.statement → ShowsOpen done earlier → ShowsOpen (done ++ r ∷ []) (said earlier r reply ∷ earlier)
+shows_more done earlier r reply orderly may shows =
+    cases (is_gc r.statement)
+    (λ yes. let k = gc_of r.statement yes in shows_gc done earlier r reply k.0 k.1 shows)
+    (λ no. shows_own done earlier r reply orderly no may shows)
 
 -- ---- all lines
 

@@ -1,44 +1,34 @@
 -- Every row that is printed was put.
 use Rattle.std.proofs.Common.{◌≡◌, ℕ, suc, List, [], ◌∷◌, Bool, true, false, Option, Some, None, refl, sym, subst}
 use Rattle.std.specs.Prelude.{ℤ, cond, filter, map, nat_le, nat_lt, IfSome, option_map, unwrap_or, ◌==◌}
-use Rattle.std.specs.List.{cons_option, filter_map}
+use Rattle.std.specs.List.{filter_map}
 use Rattle.std.specs.Bool.{MatchBool}
 use Rattle.std.specs.Option.{option_or}
 use Rattle.hg_base.specs.declared.rid.Rid.{Rid}
 use Rattle.hg_base.specs.declared.rid.TableId.{TableId}
 use Rattle.hg_base.specs.declared.image.Image.{Image}
 use Rattle.hg_base.specs.declared.statement.Statement.{Statement}
-use Rattle.hg_base.specs.declared.statement.Statement.TheVariants.{Begin, Get, Put, Del, Scan, Commit as CommitIt, Rollback, Gc}
+use Rattle.hg_base.specs.declared.statement.Statement.TheVariants.{Get, Put, Del, Scan}
 use Rattle.hg_base.specs.declared.statement.Record.{Record}
 use Rattle.hg_base.specs.declared.line.Answer.{Answer}
 use Rattle.hg_base.specs.declared.line.Answer.TheVariants.{Begun, Stored, Found, Nothing, Gone, Rows, Committed, Ended, Undone, Newer, OpenBy, Undeclared, Swept, Beside}
-use Rattle.hg_base.specs.declared.line.Reply.{Reply}
 use Rattle.hg_base.specs.declared.line.Line.{Line}
 use Rattle.hg_base.specs.declared.line.Printed.{Printed}
 use Rattle.hg_base.specs.Lists.{Each, EachAfter}
 use Rattle.hg_base.specs.Script.{Mode, Declaration, Script, replay}
 use Rattle.hg_base.specs.History.{Write, Commit, Group, History, same_rid, image_in, group_image, writes_from, writes, last_image, visible, seen}
-use Rattle.hg_base.specs.Transcript.{Said, has, said, said_after, said_from, standing, open_after, next_after, last_of, is_of, stored, stored_by, stored_in, own_writes, committed, last_images, commit_by, commits_from, commits, put_by_session, group_of, history_of}
+use Rattle.hg_base.specs.Transcript.{Said, has, said, said_from, last_of, is_of, stored, stored_by, stored_in, own_writes, committed, last_images, commit_by, commits_from, commits, put_by_session, group_of, history_of}
 use Rattle.hg_base.specs.Replies.{IsGot, IsScanned, IsUndeclared, IsAnswer}
 use Rattle.hg_base.specs.Sound.{IsSound, AreRight, IsRight, all_said}
 use Rattle.hg_base.proofs.ListFacts.{each_keeps}
 use Rattle.hg_base.proofs.HistoryFacts.{same_rid_equal}
+use Rattle.hg_headline.proofs.Words.{each_cons}
+use Rattle.hg_headline.proofs.Same.{each_filter}
+use Rattle.hg_headline.proofs.Whole.{said_says}
 use Rattle.hg_script.specs.Lawful.{IsLawful, IsStatement, FitsTables}
 use Rattle.hg_run.specs.Rows.{AsksRow, FoundRow, FoundRows, PrintsRow, HasColumns, PrintsColumns}
 
 -- ---- lists
-
-each_filter : {X : Type 0} (Q : X → Type 0) (p : X → Bool) (xs : List X) → Each Q xs → Each Q (filter p xs)
-each_filter Q p [] e = tt
-each_filter Q p (x ∷ xs) e = go (p x) (each_filter Q p xs e.1)
-  where
-    go : (b : Bool) → Each Q (filter p xs) → Each Q (cond b (x ∷ filter p xs) (filter p xs))
-    go true later = (e.0, later)
-    go false later = later
-
-each_cons : {X : Type 0} (Q : X → Type 0) (o : Option X) (xs : List X) → IfSome o Q → Each Q xs → Each Q (cons_option o xs)
-each_cons Q None xs h e = e
-each_cons Q (Some x) xs h e = (h, e)
 
 each_picked : {X Y : Type 0} (Q : Y → Type 0) (f : X → Option Y) (xs : List X) → Each (λ x. IfSome (f x) Q) xs → Each Q (filter_map f xs)
 each_picked Q f [] e = tt
@@ -130,12 +120,7 @@ one_stored P (Del r) (OpenBy w) p = tt
 one_stored P (Del r) (Undeclared t) p = tt
 one_stored P (Del r) (Swept s) p = tt
 one_stored P (Del r) Beside p = tt
-one_stored P (Begin scope) a p = tt
-one_stored P (Get r) a p = tt
-one_stored P (Scan t low high) a p = tt
-one_stored P CommitIt a p = tt
-one_stored P Rollback a p = tt
-one_stored P (Gc kind) a p = tt
+one_stored P _ a p = tt
 
 one_own : (P : Rid → List ℤ → Type 0) (j x : ℕ) (list : List Said) → Each (λ now. AsksRow P now.statement) list → Each (IsOne P) (stored_in j x list)
 one_own P j x list e =
@@ -173,25 +158,11 @@ one_history P all e = each_mapped (Each (λ (c : Commit). Each (IsOne P) c.image
 
 -- ---- the lines beside their records
 
-stands : (o : Option Said) (n : ℕ) (r : Record) (reply : Reply) → (standing o n r reply).statement ≡ r.statement
-stands None n r reply = refl
-stands (Some opened) n r reply = refl
-
-says : (last : Option Said) (r : Record) (reply : Reply) (s : Statement) → (said_after last r reply s).statement ≡ r.statement
-says last r reply (Begin scope) = refl
-says last r reply (Gc kind) = refl
-says last r reply (Get x) = stands (open_after last) (next_after last) r reply
-says last r reply (Put x row) = stands (open_after last) (next_after last) r reply
-says last r reply (Del x) = stands (open_after last) (next_after last) r reply
-says last r reply (Scan t low high) = stands (open_after last) (next_after last) r reply
-says last r reply CommitIt = stands (open_after last) (next_after last) r reply
-says last r reply Rollback = stands (open_after last) (next_after last) r reply
-
 pub all_ask : (P : Rid → List ℤ → Type 0) (earlier : List Said) (rs : List Record) (lines : List Line) → Each (λ r. AsksRow P r.statement) rs → Each (λ now. AsksRow P now.statement) (said_from earlier rs lines)
 all_ask P earlier [] lines e = tt
 all_ask P earlier (r ∷ rs) [] e = tt
 all_ask P earlier (r ∷ rs) (line ∷ lines) e = (
-  subst (AsksRow P) (sym (says (last_of r.session earlier) r line.reply r.statement)) e.0,
+  subst (AsksRow P) (sym (said_says (last_of r.session earlier) r line.reply r.statement).1) e.0,
   all_ask P (said earlier r line.reply ∷ earlier) rs lines e.1,
 )
 
@@ -272,12 +243,7 @@ answered P mode look wrote now (Scan table low high) h a = go (has now.scope tab
     go : (b : Bool) → MatchBool b (IsScanned (λ key. look (record { table = table; key = key })) low high now.reply.answer) (IsUndeclared table now.reply.answer) → FoundRows P table now.reply.answer
     go true a = scanned P table (λ key. look (record { table = table; key = key })) low high now.reply.answer (λ key. h (record { table = table; key = key })) a
     go false a = rows_out P table table now.reply.answer a
-answered P mode look wrote now (Begin scope) h a = tt
-answered P mode look wrote now (Put r row) h a = tt
-answered P mode look wrote now (Del r) h a = tt
-answered P mode look wrote now CommitIt h a = tt
-answered P mode look wrote now Rollback h a = tt
-answered P mode look wrote now (Gc kind) h a = tt
+answered P mode look wrote now _ h a = tt
 
 all_print : (P : Rid → List ℤ → Type 0) (mode : Mode) (h : History) (all earlier xs : List Said) → Each (Each (λ c. Each (IsOne P) c.images)) h → Each (λ now. AsksRow P now.statement) earlier → Each (λ now. AsksRow P now.statement) xs → EachAfter (IsRight mode h all) earlier xs → Each (λ now. PrintsRow P now.statement now.reply.answer) xs
 all_print P mode h all earlier [] history before asks right = tt
@@ -292,14 +258,8 @@ rows_put P mode all asks right = all_print P mode (history_of all) all [] all (o
 -- ---- the columns
 
 lawful_row : (tables : List Declaration) (s : Statement) → FitsTables tables s → AsksRow (HasColumns tables) s
-lawful_row tables (Begin scope) fits = tt
-lawful_row tables (Get r) fits = tt
 lawful_row tables (Put r row) fits = fits.1
-lawful_row tables (Del r) fits = tt
-lawful_row tables (Scan table low high) fits = tt
-lawful_row tables CommitIt fits = tt
-lawful_row tables Rollback fits = tt
-lawful_row tables (Gc kind) fits = tt
+lawful_row tables _ fits = tt
 
 pub rows_have_columns : (script : Script) (printed : Printed) → IsLawful script → IsSound replay script printed → Each (PrintsColumns script.tables) (all_said replay script printed.lines)
 rows_have_columns script printed lawful sound =

@@ -1,6 +1,6 @@
 -- Sessions of a list that meet, and one that answers.
-use Rattle.std.proofs.Common.{◌≡◌, ℕ, suc, ◌+◌, ◌-◌, ◌<◌, ◌≤◌, ◌≢◌, List, [], ◌∷◌, length, Bool, true, false, sym, ap, ◌∙◌, subst, arith}
-use Rattle.std.specs.Prelude.{get_or, is_some, ◌==◌, IsFalse}
+use Rattle.std.proofs.Common.{◌≡◌, ℕ, suc, ◌+◌, ◌-◌, ◌<◌, ◌≤◌, ◌≢◌, List, [], ◌∷◌, length, true, false, Some, None, sym, ap, ◌∙◌, subst, arith}
+use Rattle.std.specs.Prelude.{get_or, ◌==◌, IsFalse}
 use Rattle.std.proofs.lemmas.Bool.Decides.{Decides-eqb}
 use Rattle.hg_base.specs.declared.writer.Writer.{Writer}
 use Rattle.hg_base.specs.declared.statement.Statement.{Statement}
@@ -9,15 +9,14 @@ use Rattle.hg_base.specs.declared.line.Answer.{Answer}
 use Rattle.hg_base.specs.declared.line.Answer.TheVariants.{OpenBy}
 use Rattle.hg_base.specs.declared.line.Reply.{Reply}
 use Rattle.hg_core.specs.declared.log.LogEntry.{LogEntry}
-use Rattle.hg_core.specs.Logs.{current}
 use Rattle.hg_core.specs.Phases.{IsSession}
 use Rattle.hg_core.specs.Events.{put}
 use Rattle.hg_core.specs.Reading.{Fits, log_after}
 use Rattle.hg_rule.specs.declared.view.View.{View}
 use Rattle.hg_rule.specs.Moves.{joined, meeting}
 use Rattle.hg_rule.specs.Agreed.{IsMet}
+use Rattle.hg_rule.specs.Facts.{IsAmong}
 use Rattle.hg_rule.specs.Views.{number, session}
-use Rattle.hg_script.specs.Lawful.{MayStand}
 use Rattle.hg_headline.specs.Following.{KnowsOpen, IsMetIfGc}
 use Rattle.hg_headline.proofs.OpenWrites.{met_answer}
 use Rattle.hg_session.specs.declared.engine.Engine.{Engine}
@@ -28,9 +27,9 @@ use Rattle.hg_session.specs.Ties.{IsHeard}
 use Rattle.hg_session.specs.Replies.{Answers, GoesOn}
 use Rattle.hg_run.specs.Heard.{HasHeard}
 use Rattle.hg_session.specs.Finished.{logs_of}
-use Rattle.hg_run.specs.Listed.{IsPlaced, AreReady}
-use Rattle.hg_run.specs.Asked.{IsReplied}
-use Rattle.hg_run.proofs.Hearing.{heard_met, heard_kept, heard_more, heard_goes, met_open}
+use Rattle.hg_run.specs.Listed.{IsPlaced, AreReady, SawAt}
+use Rattle.hg_run.specs.Asked.{IsReplied, collector_asked}
+use Rattle.hg_run.proofs.Hearing.{among_right, heard_met, heard_kept, heard_more, heard_goes, met_open, seen_among, seen_kept}
 use Rattle.hg_run.proofs.Listing.{by_two, log_at, logs_same, logs_put}
 use Rattle.hg_run.proofs.FreshNumbers.{fresh_heard}
 
@@ -134,15 +133,15 @@ other_asked e i s reply old new left h r w is =
 
 -- ---- what is shown
 
-gc_none : (o : Bool) (sessions : ℕ) (logs : ℕ → List LogEntry) (s : Statement) (a : Answer) → MayStand o s → IsMetIfGc sessions logs s a
-gc_none o sessions logs (Gc kind) a h = absurd h
-gc_none o sessions logs (Begin scope) a h = tt
-gc_none o sessions logs (Get r) a h = tt
-gc_none o sessions logs (Put r row) a h = tt
-gc_none o sessions logs (Del r) a h = tt
-gc_none o sessions logs (Scan t low high) a h = tt
-gc_none o sessions logs CommitIt a h = tt
-gc_none o sessions logs Rollback a h = tt
+gc_none : (sessions : ℕ) (logs : ℕ → List LogEntry) (s : Statement) (a : Answer) → collector_asked s ≡ None → IsMetIfGc sessions logs s a
+gc_none sessions logs (Gc kind) a h = absurd (let z : Some kind ≡ None = h in cc)
+gc_none sessions logs (Begin scope) a h = tt
+gc_none sessions logs (Get r) a h = tt
+gc_none sessions logs (Put r row) a h = tt
+gc_none sessions logs (Del r) a h = tt
+gc_none sessions logs (Scan t low high) a h = tt
+gc_none sessions logs CommitIt a h = tt
+gc_none sessions logs Rollback a h = tt
 
 -- the session that answered has met the one that it names
 pub knows_other : (e : Engine) (i left : ℕ) (s : Statement) (reply : Reply) (old new : List Session) (d : Session) → 0 < (engine_sizes e).buckets → (h : HasAsked e i s reply old new) → AreReady e i (suc left) old → (w : Writer) → reply.answer ≡ OpenBy w →
@@ -169,9 +168,9 @@ knows_other e i left s reply old new d some h r w is met =
     subst (λ j. KnowsOpen z.buckets (logs_of old) j after w) mine
     (met_open z (logs_of old) v u after w some met (h.own d).only own (record { only = placed.own.only; own = log }) (placed.number_is ∙ next) (heard_goes (logs_of old) (view_of (get_or old i d)) w (r.heard d) on.1.1))
 
-pub replied : (e : Engine) (i left : ℕ) (s : Statement) (reply : Reply) (old new : List Session) (d : Session) → 0 < (engine_sizes e).buckets → MayStand (is_some (current (logs_of old (suc i)))) s → (h : HasAsked e i s reply old new) → AreReady e i (suc left) old →
-    ((w : Writer) → reply.answer ≡ OpenBy w → IsMet (engine_sizes e) (joined (view_of (get_or new i d)) (view_of (get_or new (w.session - 1) d)))) → IsReplied (engine_sizes e).buckets (engine_sizes e).sessions (logs_of old) (suc i) s reply (logs_of new)
-replied e i left s reply old new d some may h r met =
+pub replied : (e : Engine) (i left seen : ℕ) (s : Statement) (reply : Reply) (old new : List Session) (d : Session) → 0 < (engine_sizes e).buckets → collector_asked s ≡ None → (h : HasAsked e i s reply old new) → AreReady e i (suc left) old → SawAt seen i old →
+    ((w : Writer) → reply.answer ≡ OpenBy w → IsMet (engine_sizes e) (joined (view_of (get_or new i d)) (view_of (get_or new (w.session - 1) d)))) → IsReplied (engine_sizes e).buckets (engine_sizes e).sessions (logs_of old) seen seen (suc i) s reply (logs_of new)
+replied e i left seen s reply old new d some other h r saw met =
     let z = engine_sizes e in
     let a = h.answers d in
     let v : View = view_of (get_or old i d) in
@@ -179,7 +178,21 @@ replied e i left s reply old new d some may h r met =
     record {
       u = a.u;
       fits = fits;
-      met = met_answer z.buckets z.sessions (logs_of old) (suc i) a.u s reply (gc_none (is_some (current (logs_of old (suc i)))) z.sessions (logs_of old) s reply.answer may) (λ w is. knows_other e i left s reply old new d some h r w is (met w is));
-      fresh = fresh_heard z.buckets a.u (logs_of old) (logs_of old (suc i)) v (is_some (current (logs_of old (suc i)))) s reply may fits (r.heard d) a.snapshot a.commit a.newer;
+      met = met_answer z.buckets z.sessions (logs_of old) (suc i) a.u s reply (gc_none z.sessions (logs_of old) s reply.answer other) (λ w is. knows_other e i left s reply old new d some h r w is (met w is));
+      fresh = fresh_heard z.buckets a.u (logs_of old) (logs_of old (suc i)) seen v s reply other fits (r.heard d) (saw d) a.snapshot a.commit a.newer;
       logs = logs_asked e i s reply old new d r.within h;
     }
+
+-- ---- what it has seen of the history
+
+pub saw_turned : (e : Engine) (i last seen : ℕ) (old new : List Session) → HaveMet e i last old new → SawAt seen last old → SawAt seen i new
+saw_turned e i last seen old new m saw d =
+    let v : View = view_of (get_or old i d) in
+    let w : View = view_of (get_or old last d) in
+    seen_among seen w.sights (view_of (get_or new i d)).sights (λ x k. subst (IsAmong x) (sym (ap (λ (u : View). u.sights) (m.this d))) (among_right x v.sights w.sights k)) (saw d)
+
+pub saw_shown : (e : Engine) (i j seen : ℕ) (old new : List Session) → HaveMet e i j old new → SawAt seen i old → SawAt seen i new
+saw_shown e i j seen old new m saw d = seen_kept seen (view_of (get_or old i d)).sights (view_of (get_or new i d)).sights ((view_of (get_or old j d)).sights, ap (λ (v : View). v.sights) (m.this d)) (saw d)
+
+pub saw_asked : (e : Engine) (i seen : ℕ) (s : Statement) (reply : Reply) (old new : List Session) → HasAsked e i s reply old new → SawAt seen i old → SawAt seen i new
+saw_asked e i seen s reply old new h saw d = seen_kept seen (view_of (get_or old i d)).sights (view_of (get_or new i d)).sights (h.answers d).kept (saw d)

@@ -4,6 +4,9 @@ pub mod Status
 pub mod Heard
 pub mod Listed
 pub mod Asked
+pub mod Swept
+pub mod Collecting
+pub mod Played
 pub mod Closed
 pub mod Rows
 pub mod Printing

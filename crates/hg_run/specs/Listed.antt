@@ -5,7 +5,7 @@ use Rattle.hg_session.specs.declared.session.Session.{Session}
 use Rattle.hg_session.specs.Engines.{engine_sizes}
 use Rattle.hg_session.specs.Sessions.{view_of, number_of, left_of, IsOf}
 use Rattle.hg_session.specs.Finished.{logs_of}
-use Rattle.hg_run.specs.Heard.{HasHeard}
+use Rattle.hg_run.specs.Heard.{HasHeard, HasSeen}
 
 -- one at place k, which has number k + 1
 pub record IsPlaced (e : Engine) (k : ℕ) (s : Session) : Type 0 where
@@ -19,3 +19,7 @@ pub record AreReady (e : Engine) (last : ℕ) (left : ℕ) (list : List Session)
   pub placed : (d : Session) (k : ℕ) → k < length list → IsPlaced e k (get_or list k d)
   pub left_is : (d : Session) (k : ℕ) → k < length list → left ≤ left_of (get_or list k d)
   pub heard : (d : Session) → HasHeard (logs_of list) (view_of (get_or list last d))
+
+-- the one at a place has seen so many groups
+abbrev pub SawAt : ℕ → ℕ → List Session → Type 0
+SawAt n i list = (d : Session) → HasSeen n (view_of (get_or list i d)).sights

@@ -1,18 +1,18 @@
 //! One statement of one session.
 
-ghost use Rattle.std.specs.Prelude.{◌≡◌, ◌+◌, ◌<◌, ◌≤◌, is_some, IfOk};
+ghost use Rattle.std.specs.Prelude.{◌≡◌, ◌+◌, ◌<◌, ◌≤◌, is_some, None, IfOk};
 ghost use Rattle.hg_script.specs.Lawful.{MayStand};
 ghost use Rattle.hg_session.specs.Engines.{engine_sizes};
 ghost use Rattle.hg_session.specs.Sessions.{IsOf, view_of, open_of, left_of};
 ghost use Rattle.hg_session.specs.Replies.{Answers};
-ghost use Rattle.hg_run.specs.Asked.{IsOnTables};
+ghost use Rattle.hg_run.specs.Asked.{IsOnTables, collector_asked};
 
 use crate::reply::{commit_reply, del_reply, get_reply, inside, put_reply, scan_reply};
 use hg_base::{Answer, NoMemory, Reply, Statement};
 use hg_session::{Engine, Session};
 use std::sync::Wait;
 
-/// Answers a statement. A `gc` is not in this version.
+/// Answers a statement of a session's own.
 pub(crate) fn ask<R: Wait>(
     rt: &R,
     engine: &Engine,
@@ -23,6 +23,7 @@ pub(crate) fn ask<R: Wait>(
     requires left { 0 < left_of session.old }
     requires may { MayStand (is_some (open_of session.old)) statement.now }
     requires tables { IsOnTables (engine_sizes engine.now).tables statement.now }
+    requires other { collector_asked statement.now ≡ None }
     ensures answers { IfOk result (λ reply. Answers (engine_sizes engine.now) (view_of session.old) statement.now reply (view_of session.new)) }
     ensures left { left_of session.old ≤ left_of session.new + 1 }
     ensures own { IsOf engine.now session.new }

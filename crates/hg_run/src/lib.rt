@@ -19,6 +19,8 @@
 
 mod ask;
 mod close;
+mod collecting;
+mod gc;
 mod laws;
 mod play;
 mod replay;

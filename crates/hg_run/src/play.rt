@@ -1,20 +1,68 @@
 //! All records of a script.
 
-ghost use Rattle.std.specs.Prelude.{◌≡◌, ℕ, ◌<◌, [], length, map, max, IfOk, OnOk};
+ghost use Rattle.std.specs.Prelude.{◌≡◌, ℕ, suc, ◌+◌, ◌<◌, [], length, map, max, is_some, IfOk, OnOk};
+ghost use Rattle.hg_base.specs.declared.report.Kind.{Kind};
 ghost use Rattle.hg_base.specs.Lists.{greatest};
-ghost use Rattle.hg_script.specs.Lawful.{IsLawful};
-ghost use Rattle.hg_headline.specs.Following.{IsFollowing};
+ghost use Rattle.hg_core.specs.Logs.{current};
+ghost use Rattle.hg_script.specs.Lawful.{IsLawful, MayStand};
 ghost use Rattle.hg_session.specs.Engines.{engine_sizes};
 ghost use Rattle.hg_session.specs.Finished.{logs_of};
-ghost use Rattle.hg_run.specs.Listed.{AreReady};
+ghost use Rattle.hg_run.specs.Listed.{AreReady, SawAt};
+ghost use Rattle.hg_run.specs.Asked.{IsOnTables, HasReplied, collector_asked};
+ghost use Rattle.hg_run.specs.Swept.{told_of};
+ghost use Rattle.hg_run.specs.Collecting.{AreCollectors, removed_of};
+ghost use Rattle.hg_run.specs.Played.{HasPlayed};
 
-use crate::turn::answer;
-use hg_base::{Line, NoMemory};
+use crate::collecting::Collectors;
+use crate::gc::sweep;
+use crate::turn::{answer, turn};
+use hg_base::{Kind, Line, NoMemory, Reply, Statement};
 use hg_report::Transcript;
 use hg_script::Script;
 use hg_session::{Engine, Session};
 use std::alloc::Global;
 use std::sync::Wait;
+
+// The collector that a statement asks for.
+fn asked(statement: &Statement) -> Option<Kind>
+    ensures { result ≡ collector_asked statement.now }
+{
+    match statement {
+        Statement::Gc(kind) => Some(*kind),
+        Statement::Begin(_) => None,
+        Statement::Get(_) => None,
+        Statement::Put(_, _) => None,
+        Statement::Del(_) => None,
+        Statement::Scan { .. } => None,
+        Statement::Commit => None,
+        Statement::Rollback => None,
+    }
+}
+
+// The session at i answers a statement, or a collector does for it.
+fn reply_at<R: Wait>(
+    rt: &R,
+    engine: &Engine,
+    list: &mut Vec<Session>,
+    collectors: &mut Collectors,
+    i: usize,
+    statement: &Statement,
+) -> Result<Reply, NoMemory>
+    requires ready { AreReady engine.now i 1 list.old.items }
+    requires some { 0 < (engine_sizes engine.now).buckets }
+    requires may { MayStand (is_some (current (logs_of list.old.items (suc i)))) statement.now }
+    requires tables { IsOnTables (engine_sizes engine.now).tables statement.now }
+    requires collectors { AreCollectors engine.now collectors.old }
+    ensures replied { IfOk result (λ reply. (seen : ℕ) → SawAt seen i list.old.items → HasReplied engine.now seen list.old.items i statement.now reply list.new.items) }
+    ensures ready { OnOk result ((left : ℕ) → AreReady engine.now i (suc left) list.old.items → AreReady engine.now i left list.new.items) }
+    ensures removed { IfOk result (λ reply. (k : Kind) → removed_of k collectors.new ≡ removed_of k collectors.old + told_of k reply) }
+    ensures collectors { OnOk result (AreCollectors engine.now collectors.new) }
+{
+    match asked(statement) {
+        Some(kind) => sweep(rt, engine, list, collectors, i, kind),
+        None => answer(rt, engine, list, i, statement),
+    }
+}
 
 /// Answers the records of a script in their order. A reply is kept as its text alone.
 pub(crate) fn play<'a, R: Wait>(
@@ -22,6 +70,7 @@ pub(crate) fn play<'a, R: Wait>(
     alloc: Global,
     engine: &Engine,
     list: &mut Vec<Session>,
+    collectors: &mut Collectors,
     script: &'a Script,
 ) -> Result<Transcript<'a>, NoMemory>
     requires lawful { IsLawful script.now }
@@ -30,16 +79,18 @@ pub(crate) fn play<'a, R: Wait>(
     requires some { 0 < (engine_sizes engine.now).buckets }
     requires ready { AreReady engine.now 0 (length script.now.records) list.old.items }
     requires none { (j : ℕ) → logs_of list.old.items j ≡ [] }
+    requires collectors { AreCollectors engine.now collectors.old × ((k : Kind) → removed_of k collectors.old ≡ 0) }
     ensures tables { IfOk result (λ transcript. transcript.tables ≡ script.now.tables) }
-    ensures following { IfOk result (λ transcript. (top : ℕ) × IsFollowing (engine_sizes engine.now).buckets (engine_sizes engine.now).sessions (logs_of list.new.items) 0 top script.now.records transcript.lines) }
-    ensures ready { OnOk result ((last : ℕ) × AreReady engine.now last 0 list.new.items) }
+    ensures played { IfOk result (λ transcript. HasPlayed engine.now (λ k. removed_of k collectors.new) list.new.items script.now transcript.lines) }
+    ensures collectors { OnOk result (AreCollectors engine.now collectors.new) }
 {
     let mut last = 0;
     let mut transcript = Transcript::new(alloc, script);
     for next in 0..script.record_count() {
         let record = script.record(next)?;
         let i = record.session as usize - 1;
-        let reply = answer(rt, engine, list, last, i, &record.statement)?;
+        turn(engine, list, i, last);
+        let reply = reply_at(rt, engine, list, collectors, i, &record.statement)?;
         last = i;
         let line = Line {
             session: record.session,

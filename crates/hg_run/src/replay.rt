@@ -5,11 +5,11 @@ ghost use Rattle.hg_script.specs.Lawful.{IsLawful};
 ghost use Rattle.hg_run.specs.Printing.{IsPrintedFor};
 
 use crate::close::close;
+use crate::collecting::Collectors;
 use crate::play::play;
 use hg_base::{DEFAULT_BUCKETS, NoMemory};
 use hg_script::Script;
 use hg_session::{Engine, TableDecl};
-use hg_tracker::Gathered;
 use std::alloc::Global;
 use std::sync::Wait;
 
@@ -36,11 +36,11 @@ pub(crate) fn replay<R: Wait>(rt: &R, alloc: Global, script: &Script) -> Result<
     let sessions = script.sessions();
     // A session has at most all records, and each begins one transaction and stores one write at most.
     let quota = (script.record_count() as u64).max(1);
-    let mut gathered = Gathered::new(alloc, sessions, tables.len() as u32)?;
     let (engine, list, passes) = Engine::open(alloc, sessions, &tables, DEFAULT_BUCKETS, quota)?;
     let mut list = list.into_vec();
-    let transcript = play(rt, alloc, &engine, &mut list, script)?;
-    let totals = close(rt, &engine, list, passes, &mut gathered);
+    let mut collectors = Collectors::new(alloc, passes, sessions, tables.len() as u32)?;
+    let transcript = play(rt, alloc, &engine, &mut list, &mut collectors, script)?;
+    let totals = close(rt, &engine, list, collectors);
     let text = transcript.with_totals(&totals)?;
     Ok(text)
 }

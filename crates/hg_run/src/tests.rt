@@ -84,6 +84,7 @@ fn scripts_are_refused(rt: HostRuntime) -> Result<(), Fail> {
         ("table,t,2\n1,put,t,1,5\n", 2, "Columns"),
         ("1,fly\n", 1, "Word"),
         ("table,t\n", 1, "Fields"),
+        ("1,gc,all\n", 1, "Name"),
     ] {
         let mut sink = MemorySink::new(rt.alloc(), 4, Vec::new(rt.alloc()));
         sink.reserve(256)?;
@@ -185,6 +186,78 @@ fn scripts_have_their_answers(rt: HostRuntime) -> Result<(), Fail> {
     ] {
         let want = format!(in rt.alloc();
             "{lines}total,made,{made}\ntotal,undone,{undone}\ntotal,group,0\ntotal,table,{table}\ntotal,interval,0\ntotal,left,{left}\n"
+        )?;
+        let mut sink = MemorySink::new(rt.alloc(), 4, Vec::new(rt.alloc()));
+        sink.reserve(4096)?;
+        let bytes = Vec::from_slice(rt.alloc(), script.as_bytes())?;
+        let status = call(&rt, rt.alloc(), "replay", bytes, 8, &[], &mut sink)?;
+        assert_eq!(rt; status, Status::Done);
+        assert_eq!(rt; sink.bytes(), want.as_bytes(), "at {script}");
+    }
+    Ok(())
+}
+
+// Scripts with rounds of the collectors, all that is written for them before the totals, and how many versions were made, undone,
+// removed for groups, for tables and for intervals, and left.
+#[test]
+fn versions_are_collected(rt: HostRuntime) -> Result<(), Fail> {
+    for (script, lines, [made, undone, group, table, interval, left]) in [
+        // over a chain with an old reader
+        (
+            "table,t,1\n1,put,t,5,10\n2,begin\n1,put,t,5,11\n1,put,t,5,12\n1,put,t,5,13\n3,gc,group\n2,get,t,5\n2,commit\n3,gc,group\n3,get,t,5\n",
+            "1,2,at,0,stored,committed,1\n2,3,begun,1\n1,4,at,1,stored,committed,2\n1,5,at,2,stored,committed,3\n1,6,at,3,stored,committed,4\n3,7,swept,group,4,4,0\n3,7,held,2,1,unmoved\n2,8,row,10\n2,9,ended\n3,10,swept,group,4,4,3\n3,11,at,4,row,13\n",
+            [4, 0, 3, 0, 0, 1],
+        ),
+        (
+            "table,t,1\n2,put,t,5,10\n1,begin\n2,put,t,5,20\n2,put,t,5,30\n2,put,t,5,40\n3,gc,group\n1,get,t,5\n1,commit\n",
+            "2,2,at,0,stored,committed,1\n1,3,begun,1\n2,4,at,1,stored,committed,2\n2,5,at,2,stored,committed,3\n2,6,at,3,stored,committed,4\n3,7,swept,group,4,4,0\n3,7,held,1,1,unmoved\n1,8,row,10\n1,9,ended\n",
+            [4, 0, 0, 3, 0, 1],
+        ),
+        // a snapshot that is the number of a successor
+        (
+            "table,t,1\n1,put,t,5,10\n1,put,t,5,11\n2,begin\n1,put,t,5,12\n3,gc,group\n2,get,t,5\n",
+            "1,2,at,0,stored,committed,1\n1,3,at,1,stored,committed,2\n2,4,begun,2\n1,5,at,2,stored,committed,3\n3,6,swept,group,3,3,1\n3,6,held,2,2,unmoved\n2,7,row,11\n",
+            [3, 0, 1, 1, 0, 1],
+        ),
+        // no group yet, and an own open write
+        (
+            "table,t,1\n1,gc,group\n1,begin\n1,put,t,5,10\n1,gc,group\n2,gc,group\n1,get,t,5\n1,commit\n1,del,t,5\n1,gc,group\n",
+            "1,2,swept,group,0,0,0\n1,3,begun,0\n1,4,stored\n1,5,swept,group,0,0,0\n1,5,held,1,0,unmoved\n2,6,swept,group,0,0,0\n2,6,held,1,0,unmoved\n1,7,row,10\n1,8,committed,1\n1,9,at,1,gone,committed,2\n1,10,swept,group,2,2,2\n",
+            [2, 0, 2, 0, 0, 0],
+        ),
+        // the middle of a chain
+        (
+            "table,t,1\n2,put,t,5,10\n1,begin\n2,put,t,5,20\n2,put,t,5,30\n2,put,t,5,40\n3,gc,interval\n1,get,t,5\n1,commit\n",
+            "2,2,at,0,stored,committed,1\n1,3,begun,1\n2,4,at,1,stored,committed,2\n2,5,at,2,stored,committed,3\n2,6,at,3,stored,committed,4\n3,7,swept,interval,4,4,2\n3,7,held,1,1,unmoved\n1,8,row,10\n1,9,ended\n",
+            [4, 0, 0, 1, 2, 1],
+        ),
+        // a snapshot that is the number of a successor, between versions
+        (
+            "table,t,1\n1,put,t,5,10\n1,put,t,5,20\n2,begin\n1,put,t,5,30\n3,gc,interval\n2,get,t,5\n",
+            "1,2,at,0,stored,committed,1\n1,3,at,1,stored,committed,2\n2,4,begun,2\n1,5,at,2,stored,committed,3\n3,6,swept,interval,3,3,1\n3,6,held,2,2,unmoved\n2,7,row,20\n",
+            [3, 0, 0, 1, 1, 1],
+        ),
+        // a long declared snapshot is moved
+        (
+            "table,t,1\ntable,u,1\n2,put,t,1,10\n2,put,u,1,11\n1,begin,u\n2,put,u,1,12\n2,put,t,1,20\n2,put,t,1,30\n2,put,t,1,40\n2,put,t,1,50\n3,gc,table\n1,get,u,1\n",
+            "2,3,at,0,stored,committed,1\n2,4,at,1,stored,committed,2\n1,5,begun,2\n2,6,at,2,stored,committed,3\n2,7,at,3,stored,committed,4\n2,8,at,4,stored,committed,5\n2,9,at,5,stored,committed,6\n2,10,at,6,stored,committed,7\n3,11,swept,table,7,7,4\n3,11,held,1,2,moved\n1,12,row,11\n",
+            [7, 0, 0, 5, 0, 2],
+        ),
+        // one that isn't long
+        (
+            "table,t,1\ntable,u,1\n2,put,t,1,10\n1,begin,u\n2,put,t,1,20\n2,put,t,1,30\n2,put,t,1,40\n3,gc,table\n",
+            "2,3,at,0,stored,committed,1\n1,4,begun,1\n2,5,at,1,stored,committed,2\n2,6,at,2,stored,committed,3\n2,7,at,3,stored,committed,4\n3,8,swept,table,4,4,0\n3,8,held,1,1,unmoved\n",
+            [4, 0, 0, 3, 0, 1],
+        ),
+        // a deletion is kept for an old writer, until that is rolled back
+        (
+            "table,t,1\n2,put,t,5,10\n1,begin\n2,begin\n2,del,t,5\n2,commit\n3,gc,group\n3,gc,table\n3,gc,interval\n1,put,t,5,11\n1,rollback\n3,gc,table\n",
+            "2,2,at,0,stored,committed,1\n1,3,begun,1\n2,4,begun,1\n2,5,gone\n2,6,committed,2\n3,7,swept,group,2,2,0\n3,7,held,1,1,unmoved\n3,8,swept,table,2,2,0\n3,8,held,1,1,unmoved\n3,9,swept,interval,2,2,0\n3,9,held,1,1,unmoved\n1,10,refused,newer,2\n1,11,undone\n3,12,swept,table,2,2,2\n",
+            [2, 0, 0, 2, 0, 0],
+        ),
+    ] {
+        let want = format!(in rt.alloc();
+            "{lines}total,made,{made}\ntotal,undone,{undone}\ntotal,group,{group}\ntotal,table,{table}\ntotal,interval,{interval}\ntotal,left,{left}\n"
         )?;
         let mut sink = MemorySink::new(rt.alloc(), 4, Vec::new(rt.alloc()));
         sink.reserve(4096)?;

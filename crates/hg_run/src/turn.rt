@@ -4,7 +4,7 @@
 //! heard every log as it stands: its snapshot and its commit number are then over all that was printed before. Where its write
 //! is refused for another's, it meets that other session, whose log shows that the write stands open.
 
-ghost use Rattle.std.specs.Prelude.{◌≡◌, ℕ, suc, ◌+◌, ◌-◌, ◌<◌, ◌≤◌, ◌≢◌, length, get_or, is_some, IfOk, OnOk};
+ghost use Rattle.std.specs.Prelude.{◌≡◌, ℕ, suc, ◌+◌, ◌-◌, ◌<◌, ◌≤◌, ◌≢◌, length, get_or, is_some, None, IfOk, OnOk};
 ghost use Rattle.hg_base.specs.declared.writer.Writer.{Writer};
 ghost use Rattle.hg_core.specs.Logs.{current};
 ghost use Rattle.hg_core.specs.Phases.{IsSession};
@@ -16,8 +16,8 @@ ghost use Rattle.hg_session.specs.Engines.{engine_sizes};
 ghost use Rattle.hg_session.specs.Sessions.{IsOf, view_of, open_of, left_of};
 ghost use Rattle.hg_session.specs.Replies.{Answers};
 ghost use Rattle.hg_session.specs.Finished.{logs_of};
-ghost use Rattle.hg_run.specs.Listed.{AreReady};
-ghost use Rattle.hg_run.specs.Asked.{IsOnTables, IsReplied};
+ghost use Rattle.hg_run.specs.Listed.{AreReady, SawAt};
+ghost use Rattle.hg_run.specs.Asked.{IsOnTables, HasReplied, collector_asked};
 
 use crate::ask::ask;
 use hg_base::{Answer, NoMemory, Reply, Statement};
@@ -47,11 +47,12 @@ fn meet_two(engine: &Engine, list: &mut Vec<Session>, i: usize, j: usize)
     }
 }
 
-// The session at i meets the one that ran last, where that is another.
-fn turn(engine: &Engine, list: &mut Vec<Session>, i: usize, last: usize)
+/// The session at i meets the one that ran last, where that is another.
+pub(crate) fn turn(engine: &Engine, list: &mut Vec<Session>, i: usize, last: usize)
     requires ready { AreReady engine.now last 0 list.old.items }
     requires within { i < length list.old.items }
     ensures logs { logs_of list.new.items ≡ logs_of list.old.items }
+    ensures saw { (seen : ℕ) → SawAt seen last list.old.items → SawAt seen i list.new.items }
     ensures ready { (left : ℕ) → AreReady engine.now last left list.old.items → AreReady engine.now i left list.new.items }
 {
     if i != last {
@@ -72,6 +73,7 @@ fn ask_at<R: Wait>(
     requires left { (d : Session) → 0 < left_of (get_or list.old.items i d) }
     requires may { (d : Session) → MayStand (is_some (open_of (get_or list.old.items i d))) statement.now }
     requires tables { IsOnTables (engine_sizes engine.now).tables statement.now }
+    requires other { collector_asked statement.now ≡ None }
     ensures many { length list.new.items ≡ length list.old.items }
     ensures answers { (d : Session) → IfOk result (λ reply. Answers (engine_sizes engine.now) (view_of (get_or list.old.items i d)) statement.now reply (view_of (get_or list.new.items i d))) }
     ensures left { (d : Session) → left_of (get_or list.old.items i d) ≤ left_of (get_or list.new.items i d) + 1 }
@@ -87,6 +89,7 @@ fn show(engine: &Engine, list: &mut Vec<Session>, i: usize, answer: &Answer)
     requires other { (writer : Writer) → answer.now ≡ Answer.OpenBy writer → IsSession (engine_sizes engine.now).sessions writer.session × (writer.session ≢ suc i) }
     ensures backed { (d : Session) (writer : Writer) → answer.now ≡ Answer.OpenBy writer → IsMet (engine_sizes engine.now) (joined (view_of (get_or list.old.items i d)) (view_of (get_or list.old.items (writer.session - 1) d))) }
     ensures logs { logs_of list.new.items ≡ logs_of list.old.items }
+    ensures saw { (seen : ℕ) → SawAt seen i list.old.items → SawAt seen i list.new.items }
     ensures ready { (left : ℕ) → AreReady engine.now i left list.old.items → AreReady engine.now i left list.new.items }
 {
     if let Answer::OpenBy(writer) = answer {
@@ -94,24 +97,22 @@ fn show(engine: &Engine, list: &mut Vec<Session>, i: usize, answer: &Answer)
     }
 }
 
-/// The session at i answers a statement in its turn.
+/// The session at i answers a statement of its own.
 pub(crate) fn answer<R: Wait>(
     rt: &R,
     engine: &Engine,
     list: &mut Vec<Session>,
-    last: usize,
     i: usize,
     statement: &Statement,
 ) -> Result<Reply, NoMemory>
-    requires ready { AreReady engine.now last 1 list.old.items }
+    requires ready { AreReady engine.now i 1 list.old.items }
     requires some { 0 < (engine_sizes engine.now).buckets }
-    requires within { i < length list.old.items }
     requires may { MayStand (is_some (current (logs_of list.old.items (suc i)))) statement.now }
     requires tables { IsOnTables (engine_sizes engine.now).tables statement.now }
-    ensures replied { IfOk result (λ reply. IsReplied (engine_sizes engine.now).buckets (engine_sizes engine.now).sessions (logs_of list.old.items) (suc i) statement.now reply (logs_of list.new.items)) }
-    ensures ready { OnOk result ((left : ℕ) → AreReady engine.now last (suc left) list.old.items → AreReady engine.now i left list.new.items) }
+    requires other { collector_asked statement.now ≡ None }
+    ensures replied { IfOk result (λ reply. (seen : ℕ) → SawAt seen i list.old.items → HasReplied engine.now seen list.old.items i statement.now reply list.new.items) }
+    ensures ready { OnOk result ((left : ℕ) → AreReady engine.now i (suc left) list.old.items → AreReady engine.now i left list.new.items) }
 {
-    turn(engine, list, i, last);
     let reply = ask_at(rt, engine, list, i, statement)?;
     show(engine, list, i, &reply.answer);
     Ok(reply)

@@ -1,4 +1,5 @@
 use Rattle.std.proofs.Common.{◌≡◌, drop}
+use Rattle.hg_run.specs.Collecting.{AreCollectors, removed_of}
 use Rattle.hg_run.proofs.Going.{Going}
 use Rattle.hg_run.proofs.play.play.Given as goal
 
@@ -6,5 +7,6 @@ use Rattle.hg_run.proofs.play.play.Given as goal
 abbrev pub invariant-loop-next : goal.invariant-loop-next
 invariant-loop-next g l = record {
   tables : l.transcript.tables ≡ l.script.tables;
-  going : Going l.engine l.list.items l.last l.transcript.lines (drop l.next l.script.records) l.script;
+  collectors : AreCollectors l.engine l.collectors;
+  going : Going l.engine (λ k. removed_of k l.collectors) l.list.items l.last l.transcript.lines (drop l.next l.script.records) l.script;
 }

@@ -4,56 +4,47 @@ use Rattle.hg_core.specs.Logs.{current}
 use Rattle.hg_script.specs.Lawful.{MayStand}
 use Rattle.hg_session.specs.Engines.{engine_sizes}
 use Rattle.hg_session.specs.Finished.{logs_of}
-use Rattle.hg_run.specs.Listed.{AreReady}
 use Rattle.hg_run.specs.Asked.{IsReplied}
 use Rattle.hg_run.proofs.Listing.{log_at}
-use Rattle.hg_run.proofs.Turns.{HasAsked, some_of, ready_asked, other_asked, replied}
+use Rattle.hg_run.proofs.Turns.{HasAsked, some_of, ready_asked, other_asked, replied, saw_asked}
 use Rattle.hg_run.proofs.turn.answer.Goals as goal
 
-ready : (g : _) (c : goal.After-ask_at-arg-1 g) → AreReady c.args.engine.now c.args.i 1 c.turn.new.list.items
-ready g c = c.turn.ensures.ready 1 c.requires.ready
-
-may : (g : _) (c : goal.After-ask_at-arg-1 g) → MayStand (is_some (current (logs_of c.turn.new.list.items (suc c.args.i)))) c.args.statement.now
-may g c = subst (λ logs. MayStand (is_some (current (logs (suc c.args.i)))) c.args.statement.now) (sym c.turn.ensures.logs) c.requires.may
-
 pub ask_at-requires-clause-within : goal.ask_at-requires-clause-within
-unfolding ready
-ask_at-requires-clause-within g c = (ready g c).within
+ask_at-requires-clause-within g c = c.requires.ready.within
 
 pub ask_at-requires-clause-own : goal.ask_at-requires-clause-own
-unfolding ready
-ask_at-requires-clause-own g c d = ((ready g c).placed d c.args.i (ready g c).within).own
+ask_at-requires-clause-own g c d = (c.requires.ready.placed d c.args.i c.requires.ready.within).own
 
 pub ask_at-requires-clause-left : goal.ask_at-requires-clause-left
-unfolding ready
-ask_at-requires-clause-left g c d = let r = ready g c in let left = r.left_is d c.args.i r.within in omega (arith, left)
+ask_at-requires-clause-left g c d = let left = c.requires.ready.left_is d c.args.i c.requires.ready.within in omega (arith, left)
 
 pub ask_at-requires-clause-may : goal.ask_at-requires-clause-may
-unfolding may
-ask_at-requires-clause-may g c d = subst (λ l. MayStand (is_some (current l)) c.args.statement.now) (log_at d c.turn.new.list.items c.args.i (ready g c).within) (may g c)
+ask_at-requires-clause-may g c d = subst (λ l. MayStand (is_some (current l)) c.args.statement.now) (log_at d c.args.list.now.items c.args.i c.requires.ready.within) c.requires.may
 
 pub show-requires-clause-ready : goal.show-requires-clause-ready
 show-requires-clause-ready g c =
-    let h : HasAsked c.args.engine.now c.args.i c.args.statement.now c.in_ok-reply.reply c.turn.new.list.items c.ask_at.new.list.items = (let m = c.in_ok-reply.ensures in record { many = m.many; answers = m.answers; left = m.left; rest = m.rest; own = m.own }) in
-    ready_asked c.args.engine.now c.args.i 0 c.args.statement.now c.in_ok-reply.reply c.turn.new.list.items c.ask_at.new.list.items h (c.turn.ensures.ready 1 c.requires.ready)
+    let h : HasAsked c.args.engine.now c.args.i c.args.statement.now c.in_ok-reply.reply c.args.list.now.items c.ask_at.new.list.items = (let m = c.in_ok-reply.ensures in record { many = m.many; answers = m.answers; left = m.left; rest = m.rest; own = m.own }) in
+    ready_asked c.args.engine.now c.args.i 0 c.args.statement.now c.in_ok-reply.reply c.args.list.now.items c.ask_at.new.list.items h c.requires.ready
 
 pub show-requires-clause-other : goal.show-requires-clause-other
 show-requires-clause-other g c writer is =
-    let h : HasAsked c.args.engine.now c.args.i c.args.statement.now c.in_ok-reply.reply c.turn.new.list.items c.ask_at.new.list.items = (let m = c.in_ok-reply.ensures in record { many = m.many; answers = m.answers; left = m.left; rest = m.rest; own = m.own }) in
-    other_asked c.args.engine.now c.args.i c.args.statement.now c.in_ok-reply.reply c.turn.new.list.items c.ask_at.new.list.items 1 h (c.turn.ensures.ready 1 c.requires.ready) writer is
+    let h : HasAsked c.args.engine.now c.args.i c.args.statement.now c.in_ok-reply.reply c.args.list.now.items c.ask_at.new.list.items = (let m = c.in_ok-reply.ensures in record { many = m.many; answers = m.answers; left = m.left; rest = m.rest; own = m.own }) in
+    other_asked c.args.engine.now c.args.i c.args.statement.now c.in_ok-reply.reply c.args.list.now.items c.ask_at.new.list.items 1 h c.requires.ready writer is
 
 pub returns-clause-replied : goal.returns-clause-replied
-returns-clause-replied g c =
+returns-clause-replied g c seen saw =
     let z = engine_sizes c.args.engine.now in
-    let h : HasAsked c.args.engine.now c.args.i c.args.statement.now c.in_ok-reply.reply c.turn.new.list.items c.ask_at.new.list.items = (let m = c.in_ok-reply.ensures in record { many = m.many; answers = m.answers; left = m.left; rest = m.rest; own = m.own }) in
-    let r : AreReady c.args.engine.now c.args.i 1 c.turn.new.list.items = c.turn.ensures.ready 1 c.requires.ready in
-    let d = some_of c.turn.new.list.items c.args.i r.within in
-    let may : MayStand (is_some (current (logs_of c.turn.new.list.items (suc c.args.i)))) c.args.statement.now = subst (λ logs. MayStand (is_some (current (logs (suc c.args.i)))) c.args.statement.now) (sym c.turn.ensures.logs) c.requires.may in
-    let told = replied c.args.engine.now c.args.i 0 c.args.statement.now c.in_ok-reply.reply c.turn.new.list.items c.ask_at.new.list.items d c.requires.some may h r (λ w is. c.show.ensures.backed d w is) in
-    subst (λ old. IsReplied z.buckets z.sessions old (suc c.args.i) c.args.statement.now c.in_ok-reply.reply (logs_of c.show.new.list.items)) c.turn.ensures.logs
-    (subst (λ new. IsReplied z.buckets z.sessions (logs_of c.turn.new.list.items) (suc c.args.i) c.args.statement.now c.in_ok-reply.reply new) (sym c.show.ensures.logs) told)
+    let h : HasAsked c.args.engine.now c.args.i c.args.statement.now c.in_ok-reply.reply c.args.list.now.items c.ask_at.new.list.items = (let m = c.in_ok-reply.ensures in record { many = m.many; answers = m.answers; left = m.left; rest = m.rest; own = m.own }) in
+    let r = c.requires.ready in
+    let d = some_of c.args.list.now.items c.args.i r.within in
+    let told = replied c.args.engine.now c.args.i 0 seen c.args.statement.now c.in_ok-reply.reply c.args.list.now.items c.ask_at.new.list.items d c.requires.some c.requires.other h r saw (λ w is. c.show.ensures.backed d w is) in
+    record {
+      later = seen;
+      replied = subst (λ new. IsReplied z.buckets z.sessions (logs_of c.args.list.now.items) seen seen (suc c.args.i) c.args.statement.now c.in_ok-reply.reply new) (sym c.show.ensures.logs) told;
+      saw = c.show.ensures.saw seen (saw_asked c.args.engine.now c.args.i seen c.args.statement.now c.in_ok-reply.reply c.args.list.now.items c.ask_at.new.list.items h saw);
+    }
 
 pub returns-clause-ready : goal.returns-clause-ready
 returns-clause-ready g c left r =
-    let h : HasAsked c.args.engine.now c.args.i c.args.statement.now c.in_ok-reply.reply c.turn.new.list.items c.ask_at.new.list.items = (let m = c.in_ok-reply.ensures in record { many = m.many; answers = m.answers; left = m.left; rest = m.rest; own = m.own }) in
-    c.show.ensures.ready left (ready_asked c.args.engine.now c.args.i left c.args.statement.now c.in_ok-reply.reply c.turn.new.list.items c.ask_at.new.list.items h (c.turn.ensures.ready (suc left) r))
+    let h : HasAsked c.args.engine.now c.args.i c.args.statement.now c.in_ok-reply.reply c.args.list.now.items c.ask_at.new.list.items = (let m = c.in_ok-reply.ensures in record { many = m.many; answers = m.answers; left = m.left; rest = m.rest; own = m.own }) in
+    c.show.ensures.ready left (ready_asked c.args.engine.now c.args.i left c.args.statement.now c.in_ok-reply.reply c.args.list.now.items c.ask_at.new.list.items h r)

@@ -1,5 +1,5 @@
 use Rattle.std.proofs.Common.{◌<◌, ◌-◌, length, arith}
-use Rattle.hg_run.proofs.Turns.{HaveMet, logs_met, ready_shown}
+use Rattle.hg_run.proofs.Turns.{HaveMet, logs_met, ready_shown, saw_shown}
 use Rattle.hg_run.proofs.turn.show.Goals as goal
 
 met : (c : goal.After-meet_two) → HaveMet c.args.engine.now c.args.i (c.in-OpenBy.writer.session - 1) c.args.list.now.items c.meet_two.new.list.items
@@ -18,3 +18,7 @@ returns-in-OpenBy-clause-ready c = λ left r.
     let many = r.many in
     let below : c.in-OpenBy.writer.session - 1 < length c.args.list.now.items = omega (arith, first, last, many) in
     ready_shown c.args.engine.now c.args.i (c.in-OpenBy.writer.session - 1) left c.args.list.now.items c.meet_two.new.list.items below (met c) r
+
+pub returns-in-OpenBy-clause-saw : goal.returns-in-OpenBy-clause-saw
+unfolding met
+returns-in-OpenBy-clause-saw c = λ seen saw. saw_shown c.args.engine.now c.args.i (c.in-OpenBy.writer.session - 1) seen c.args.list.now.items c.meet_two.new.list.items (met c) saw

@@ -1,0 +1,63 @@
+-- What meetings and rounds make of the collectors of a replay.
+use Rattle.std.proofs.Common.{◌≡◌, ℕ, List, [], ◌∷◌, sym, ap, ◌∙◌, subst}
+use Rattle.hg_base.specs.declared.report.Kind.{Kind}
+use Rattle.hg_base.specs.declared.report.Sweep.{Sweep}
+use Rattle.hg_base.specs.Lists.{Each}
+use Rattle.hg_rule.specs.declared.passes.CollectorPass.{CollectorPass}
+use Rattle.hg_rule.specs.declared.view.Part.{Part}
+use Rattle.hg_rule.specs.declared.view.Part.TheVariants.{OfPass}
+use Rattle.hg_rule.specs.declared.view.View.{View}
+use Rattle.hg_rule.specs.Agreed.{AgreesWith, PartAgrees}
+use Rattle.hg_rule.specs.Facts.{IsAmong}
+use Rattle.hg_rule.specs.Moves.{meeting}
+use Rattle.hg_rule.specs.Views.{number, number_in, session, pass, pass_there, first_in, after_first, others}
+use Rattle.hg_rule.specs.Seats.{BoardId, pass_view, IsPassOf}
+use Rattle.hg_core.specs.Counters.{removed_all}
+use Rattle.hg_session.specs.declared.session.Session.{Session}
+use Rattle.hg_session.specs.Sessions.{view_of, number_of, left_of}
+use Rattle.hg_session.specs.Finished.{AreAmong}
+use Rattle.hg_session.specs.Passing.{IsAlonePass}
+use Rattle.hg_run.specs.Swept.{HasSwept, HasMetSessions, HasMetPass}
+use Rattle.hg_run.proofs.Hearing.{among_left, among_right}
+
+-- ---- a session meets a pass
+
+pub met_pass : (p : ℕ) (v w : View) (s t : Session) → v.parts ≡ OfPass p (pass v) ∷ [] → AgreesWith v (number_of s) (session (view_of s)) → w ≡ meeting v (view_of s) → view_of t ≡ meeting (view_of s) w → left_of t ≡ left_of s → HasMetPass v s t
+met_pass p v w s t only agrees this other left = record {
+  parts = ap (λ (x : View). x.parts) other;
+  kept = (w.sights, ap (λ (x : View). x.sights) other);
+  seen = λ a i. subst (IsAmong a) (sym (ap (λ (x : View). x.sights) other)) (among_right a (view_of s).sights w.sights (subst (IsAmong a) (sym (ap (λ (x : View). x.sights) this)) (among_left a v.sights (view_of s).sights i)));
+  left = left;
+  agrees = (subst (Each (PartAgrees (number_of s) (session (view_of s)))) only agrees.parts).0;
+}
+
+pub met_sessions : (v w : View) (s : Session) → w ≡ meeting v (view_of s) → HasMetSessions v w
+met_sessions v w s this = record { parts = ap (λ (x : View). x.parts) this; kept = ((view_of s).sights, ap (λ (x : View). x.sights) this) }
+
+pub heard_session : (v w : View) (s : Session) → w ≡ meeting v (view_of s) → AreAmong (view_of s).sights w.sights
+heard_session v w s this a i = subst (IsAmong a) (sym (ap (λ (x : View). x.sights) this)) (among_right a v.sights (view_of s).sights i)
+
+-- ---- the pass stays alone
+
+pub alone_met : (t : BoardId) (p : ℕ) (c d : CollectorPass) → IsAlonePass t p c → IsPassOf t d → HasMetSessions (pass_view c) (pass_view d) → IsAlonePass t p d
+alone_met t p c d h own m = record {
+  own = own;
+  only = m.parts ∙ (h.only ∙ ap (λ (ps : List Part). OfPass p (pass_there (first_in ps)) ∷ []) (sym m.parts));
+  share = ap (λ (ps : List Part). (pass_there (first_in ps)).share) m.parts ∙ h.share;
+}
+
+pub alone_swept : (t : BoardId) (p : ℕ) (kind : Kind) (sessions : ℕ) (sweep : Sweep) (c d : CollectorPass) → IsAlonePass t p c → IsPassOf t d → HasSwept kind sessions (pass_view c) sweep (pass_view d) → IsAlonePass t p d
+alone_swept t p kind sessions sweep c d h own s = record {
+  own = own;
+  only = s.parts ∙ (λ i. OfPass (number_first i) (pass (pass_view d)) ∷ others_none i);
+  share = s.share ∙ h.share;
+}
+  where
+    number_first : number (pass_view c) ≡ p
+    number_first = ap number_in h.only
+
+    others_none : others (pass_view c) ≡ []
+    others_none = ap after_first h.only
+
+pub visits_met : (k : Kind) (v w : View) → HasMetSessions v w → removed_all k (pass w).visits ≡ removed_all k (pass v).visits
+visits_met k v w m = ap (λ (ps : List Part). removed_all k (pass_there (first_in ps)).visits) m.parts

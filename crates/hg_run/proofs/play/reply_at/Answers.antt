@@ -1,0 +1,24 @@
+use Rattle.std.proofs.Common.{◌≡◌, ℕ, suc, ◌+◌, None, inl, refl, arith, rules}
+use Rattle.hg_base.specs.declared.report.Kind.{Kind}
+use Rattle.hg_run.specs.Asked.{HasReplied, collector_asked}
+use Rattle.hg_run.specs.Collecting.{removed_of}
+use Rattle.hg_run.specs.Listed.{AreReady, SawAt}
+use Rattle.hg_run.specs.Swept.{told_of}
+use Rattle.hg_run.proofs.Asking.{none_told, ready_fewer, if_ok, on_ok}
+use Rattle.hg_run.proofs.play.reply_at.Goals as goal
+
+pub returns-in-Some-clause-ready : goal.returns-in-Some-clause-ready
+returns-in-Some-clause-ready g c =
+    let e = c.args.engine.now in
+    let old = c.args.list.now.items in
+    let new = c.sweep.new.list.items in
+    on_ok ((left : ℕ) → AreReady e c.args.i left old → AreReady e c.args.i left new) ((left : ℕ) → AreReady e c.args.i (suc left) old → AreReady e c.args.i left new) c.sweep.result (λ f left r. f left (ready_fewer e c.args.i left old r)) c.sweep.ensures.ready
+
+pub returns-in-None-clause-removed : goal.returns-in-None-clause-removed
+returns-in-None-clause-removed g c =
+    let e = c.args.engine.now in
+    let old = c.args.list.now.items in
+    let new = c.answer.new.list.items in
+    let other : collector_asked c.args.statement.now ≡ None = search rules in
+    if_ok (λ reply. (seen : ℕ) → SawAt seen c.args.i old → HasReplied e seen old c.args.i c.args.statement.now reply new) (λ reply. (k : Kind) → removed_of k c.args.collectors.now ≡ removed_of k c.args.collectors.now + told_of k reply) c.answer.result
+    (λ reply h k. let none = none_told e 0 old c.args.i c.args.statement.now reply new other (h 0 (λ d. inl refl)) k in omega (arith, none)) c.answer.ensures.replied

@@ -1,0 +1,22 @@
+-- What is known once all records of a script are answered.
+use Rattle.std.specs.Prelude.{◌≡◌, ℕ, List}
+use Rattle.hg_base.specs.declared.report.Kind.{Kind}
+use Rattle.hg_base.specs.declared.line.Line.{Line}
+use Rattle.hg_base.specs.Script.{Script}
+use Rattle.hg_headline.specs.Following.{IsFollowing, told_removed}
+use Rattle.hg_session.specs.declared.engine.Engine.{Engine}
+use Rattle.hg_session.specs.declared.session.Session.{Session}
+use Rattle.hg_session.specs.Engines.{engine_sizes}
+use Rattle.hg_session.specs.Finished.{logs_of}
+use Rattle.hg_run.specs.Listed.{AreReady, SawAt}
+
+-- The lines follow the logs, where so many groups were seen, by the session that ran last too. Their reports tell all that the
+-- collectors removed.
+pub record HasPlayed (e : Engine) (removed : Kind → ℕ) (list : List Session) (script : Script) (lines : List Line) : Type 0 where
+  pub seen : ℕ
+  pub top : ℕ
+  pub following : IsFollowing (engine_sizes e).buckets (engine_sizes e).sessions (logs_of list) seen top script.records lines
+  pub last : ℕ
+  pub ready : AreReady e last 0 list
+  pub saw : SawAt seen last list
+  pub told : (k : Kind) → removed k ≡ told_removed k lines

@@ -1,0 +1,82 @@
+//! A `gc`: one round of a collector.
+//!
+//!     session i meets the pass      the pass has heard every log then, as session i has
+//!     the round                     its record reaches to the end of each log
+//!     each session meets the pass   what was loaded of its register is what its log shows open, and it has seen the mark
+
+ghost use Rattle.std.specs.Prelude.{◌≡◌, ℕ, ◌+◌, ◌<◌, ◌≢◌, length, get_or, IfOk, OnOk};
+ghost use Rattle.hg_base.specs.declared.report.Kind.{Kind};
+ghost use Rattle.hg_base.specs.declared.statement.Statement.TheVariants as say;
+ghost use Rattle.hg_session.specs.declared.session.Session.{Session};
+ghost use Rattle.hg_session.specs.Finished.{AreAmong};
+ghost use Rattle.hg_session.specs.Sessions.{IsOf, seen_by};
+ghost use Rattle.hg_run.specs.Listed.{AreReady, SawAt};
+ghost use Rattle.hg_run.specs.Asked.{HasReplied};
+ghost use Rattle.hg_run.specs.Swept.{HasMetSessions, HasMetPass, told_of};
+ghost use Rattle.hg_run.specs.Collecting.{AreCollectors, removed_of, view_in};
+
+use crate::collecting::Collectors;
+use crate::reply::inside;
+use hg_base::{Answer, Kind, NoMemory, Reply};
+use hg_session::{Engine, Session};
+use std::sync::Wait;
+
+// The session at i meets the pass of that kind of collector.
+fn meet_at(
+    engine: &Engine,
+    list: &mut Vec<Session>,
+    collectors: &mut Collectors,
+    kind: Kind,
+    i: usize,
+)
+    requires within { i < length list.old.items }
+    requires own { (d : Session) → IsOf engine.now (get_or list.old.items i d) }
+    requires collectors { AreCollectors engine.now collectors.old }
+    ensures many { length list.new.items ≡ length list.old.items }
+    ensures met { (d : Session) → HasMetPass (view_in kind collectors.old) (get_or list.old.items i d) (get_or list.new.items i d) }
+    ensures rest { (d : Session) (k : ℕ) → k ≢ i → get_or list.new.items k d ≡ get_or list.old.items k d }
+    ensures own { (d : Session) → IsOf engine.now (get_or list.new.items i d) }
+    ensures pass { HasMetSessions (view_in kind collectors.old) (view_in kind collectors.new) }
+    ensures heard { (d : Session) → AreAmong (seen_by (get_or list.old.items i d)) (view_in kind collectors.new).sights }
+    ensures removed { (k : Kind) → removed_of k collectors.new ≡ removed_of k collectors.old }
+    ensures collectors { AreCollectors engine.now collectors.new }
+{
+    collectors.meet(engine, kind, &mut list[i]);
+}
+
+// Each session does.
+fn meet_all(engine: &Engine, list: &mut Vec<Session>, collectors: &mut Collectors, kind: Kind)
+    requires own { (d : Session) (k : ℕ) → k < length list.old.items → IsOf engine.now (get_or list.old.items k d) }
+    requires collectors { AreCollectors engine.now collectors.old }
+    ensures many { length list.new.items ≡ length list.old.items }
+    ensures met { (d : Session) (k : ℕ) → k < length list.old.items → HasMetPass (view_in kind collectors.old) (get_or list.old.items k d) (get_or list.new.items k d) }
+    ensures own { (d : Session) (k : ℕ) → k < length list.old.items → IsOf engine.now (get_or list.new.items k d) }
+    ensures removed { (k : Kind) → removed_of k collectors.new ≡ removed_of k collectors.old }
+    ensures collectors { AreCollectors engine.now collectors.new }
+{
+    for k in 0..list.len() {
+        meet_at(engine, list, collectors, kind, k);
+    }
+}
+
+/// A round of a collector, which the session at i asks for.
+pub(crate) fn sweep<R: Wait>(
+    rt: &R,
+    engine: &Engine,
+    list: &mut Vec<Session>,
+    collectors: &mut Collectors,
+    i: usize,
+    kind: Kind,
+) -> Result<Reply, NoMemory>
+    requires ready { AreReady engine.now i 0 list.old.items }
+    requires collectors { AreCollectors engine.now collectors.old }
+    ensures replied { IfOk result (λ reply. (seen : ℕ) → SawAt seen i list.old.items → HasReplied engine.now seen list.old.items i (say.Gc kind) reply list.new.items) }
+    ensures ready { OnOk result ((left : ℕ) → AreReady engine.now i left list.old.items → AreReady engine.now i left list.new.items) }
+    ensures removed { IfOk result (λ reply. (k : Kind) → removed_of k collectors.new ≡ removed_of k collectors.old + told_of k reply) }
+    ensures collectors { OnOk result (AreCollectors engine.now collectors.new) }
+{
+    meet_at(engine, list, collectors, kind, i);
+    let swept = collectors.collect(rt, engine, kind)?;
+    meet_all(engine, list, collectors, kind);
+    Ok(inside(Answer::Swept(swept)))
+}
