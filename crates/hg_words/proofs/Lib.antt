@@ -1,0 +1,2 @@
+-- A number that is read of a text.
+pub mod Numbers

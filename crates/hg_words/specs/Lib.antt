@@ -1,0 +1,4 @@
+-- The command, in `clap`'s terms.
+pub mod Line
+-- What the words mean.
+pub mod Options

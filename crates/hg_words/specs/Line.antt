@@ -1,0 +1,44 @@
+-- The one command of the program, in `clap`'s terms.
+use Rattle.std.specs.Prelude.{true, [], ◌∷◌, codes, Some}
+use Rattle.clap.specs.Words.{App, Rule, new_app, new_rule, with_rule}
+use Rattle.clap.specs.declared.builder.value_parser.ValueParser.TheVariants as parser
+
+-- the first positional, which has to be there
+abbrev pub mode_rule : Rule
+mode_rule = record (new_rule (codes "mode")) { required = true }
+
+-- the second positional, any number of 64 bits
+abbrev pub seed_rule : Rule
+seed_rule = record (new_rule (codes "seed")) { parser = Some (parser.Unsigned 0 18446744073709551615) }
+
+abbrev pub buckets_rule : Rule
+buckets_rule = record (new_rule (codes "buckets")) {
+  long = Some (codes "buckets");
+  parser = Some (parser.Unsigned 1 1024);
+  defaults = codes "64" ∷ [];
+}
+
+abbrev pub long_rule : Rule
+long_rule = record (new_rule (codes "long")) {
+  long = Some (codes "long");
+  parser = Some (parser.Unsigned 1 1048576);
+  defaults = codes "4" ∷ [];
+}
+
+abbrev pub rounds_rule : Rule
+rounds_rule = record (new_rule (codes "rounds")) {
+  long = Some (codes "rounds");
+  parser = Some (parser.Unsigned 0 1000);
+  defaults = codes "8" ∷ [];
+}
+
+-- it reads words without the program's name
+abbrev pub bare_line : App
+bare_line = let a = new_app (codes "hybridgc") in record a { top = record a.top { no_binary_name = true } }
+
+-- with what stands at a place alone
+abbrev pub placed_line : App
+placed_line = with_rule (with_rule bare_line mode_rule) seed_rule
+
+abbrev pub command_line : App
+command_line = with_rule (with_rule (with_rule placed_line buckets_rule) long_rule) rounds_rule
