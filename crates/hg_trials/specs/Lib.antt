@@ -1,0 +1,2 @@
+-- What sessions are once they ran.
+pub mod Runs
