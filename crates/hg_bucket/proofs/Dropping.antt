@@ -44,7 +44,7 @@ gone_whole r es fs cs places seats p old h =
       taken = λ q n k. taken_again places seats p h.stay n (seat_apart_of r es fs cs places seats p h q n (was q n k) (apart_of r es fs cs places seats p h q n k)) (old.taken q n (was q n k));
       named = λ n t. let owner = old.named n (before n t) in (owner.0, h.others owner.0 (another owner.0 n t owner.1) ∙ owner.1);
       chained = λ n long. taken_again places seats p h.stay n (filled_apart n long) (old.chained n long);
-      held = λ n t. held_again cs cs places seats p (λ q apart. refl) h.stay n (other n t) (old.held n (other n t) (before n t));
+      held = λ n all t. held_again cs cs places seats p (λ q apart. refl) h.stay n (other n t) (old.held n (other n t) (before n t));
       falls = λ n t. falls_again cs cs places seats p (λ q apart. refl) h.stay n (other n t) (old.falls n (before n t));
       fits = λ n t. old.fits n (before n t);
     }

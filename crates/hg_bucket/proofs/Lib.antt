@@ -1,23 +1,30 @@
+-- What is found in the parts: by the index, and of a record.
 pub mod Reading
-pub mod Changing
 pub mod Entries
+pub mod Bare
+-- A record or its place changes, and the others stay.
+pub mod Seating
 pub mod Turning
 pub mod Dropping
-pub mod Bare
-pub mod Seating
 pub mod Naming
+pub mod Listing
+-- A write: what becomes of it, its number and its end.
+pub mod Changing
 pub mod Installing
 pub mod Stamping
 pub mod Refusing
 pub mod Putting
+-- A record is cut.
 pub mod Cutting
 pub mod Shortening
-pub mod Settling
-pub mod Walking
+-- A record is swept.
 pub mod Sweeps
 pub mod Sweeping
-pub mod Costing
-pub mod Numbers
+pub mod Settling
+-- A walk through a table, and what it costs.
+pub mod Walking
 pub mod Rounds
+pub mod Costing
 pub mod Paying
-pub mod Listing
+-- What the tests know of numbers.
+pub mod Numbers

@@ -84,7 +84,7 @@ come_whole es fs cs ds places seats r p w h =
       taken = λ q n k. taken q n k (same_rid r q) refl;
       named = λ n t. each_place (λ m. IsTaken seats m → (q : Rid) × (place_of fs q ≡ Some m)) p n (λ now. (r, h.here)) (λ apart now. owner n apart now) t;
       chained = λ n long. each_place (IsTaken seats) p n (given_taken places seats p h.given) (λ apart. taken_again places seats p h.given.others n apart (old.chained n (subst (λ vs. 0 < length vs) (h.lists n apart) long)));
-      held = λ n t. each_place (λ m. 0 < length (versions_at ds seats m)) p n long_here (λ apart. held_again cs ds places seats p h.lists h.given.others n apart (old.held n (before n apart t)));
+      held = λ n all t. each_place (λ m. 0 < length (versions_at ds seats m)) p n long_here (λ apart. held_again cs ds places seats p h.lists h.given.others n apart (old.held n tt (before n apart t)));
       falls = λ n t. each_place (λ m. Falls (list_at ds m) (image_at seats m)) p n falls_here (λ apart. falls_again cs ds places seats p h.lists h.given.others n apart (old.falls n (before n apart t)));
       fits = λ n t. each_place (λ m. m < 2 ^ 40) p n h.fits (λ apart. old.fits n (before n apart t));
     }
@@ -130,7 +130,7 @@ stays_whole es cs ds places seats old lists stay =
       taken = λ q n k. again n (old.taken q n k);
       named = λ n t. old.named n (before n t);
       chained = λ n long. again n (old.chained n (subst (λ vs. 0 < length vs) (lists n) long));
-      held = λ n t. subst (λ vs. 0 < length vs) (sym (versions_alike cs ds places seats lists stay n)) (old.held n (before n t));
+      held = λ n all t. subst (λ vs. 0 < length vs) (sym (versions_alike cs ds places seats lists stay n)) (old.held n tt (before n t));
       falls = λ n t. subst (λ vs. Falls vs (image_at seats n)) (sym (lists n)) (subst (Falls (list_at cs n)) (sym (same_image places seats n (stay n))) (old.falls n (before n t)));
       fits = λ n t. old.fits n (before n t);
     }

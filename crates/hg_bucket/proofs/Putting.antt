@@ -80,5 +80,5 @@ unplaced_of es cs places r old bare = go (place_of es r) refl
     go : (o : Option ℕ) → place_of es r ≡ o → o ≡ None
     go None e = refl
     go (Some p) e =
-        let some : 0 < 0 = subst (λ vs. 0 < length {A = Kept} vs) (sym (versions_there es cs places r p e) ∙ bare) (old.held p (old.taken r p e)) in
+        let some : 0 < 0 = subst (λ vs. 0 < length {A = Kept} vs) (sym (versions_there es cs places r p e) ∙ bare) (old.held p tt (old.taken r p e)) in
         absurd (omega (arith, some))

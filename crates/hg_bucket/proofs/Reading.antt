@@ -1,5 +1,5 @@
 -- What is found in a bucket's parts.
-use Rattle.std.proofs.Common.{◌≡◌, ℕ, List, [], ◌∷◌, Bool, true, false, Option, Some, None, refl, sym, ap, ◌∙◌, cond, subst}
+use Rattle.std.proofs.Common.{◌≡◌, ℕ, List, [], ◌∷◌, Bool, true, false, Option, Some, None, refl, sym, ap, ◌∙◌, cond}
 use Rattle.std.specs.Prelude.{is_some, unwrap_or, option_map, find, option_to_list, nat_le}
 use Rattle.std.specs.Option.{option_or}
 use Rattle.std.specs.Map.{lookup}
@@ -50,9 +50,6 @@ there es cs places r = ap is_some (found es cs places r) ∙ mapped (place_of es
 pub next_of_records : (es : List (Rid × ℕ)) (cs : Places) (places : List Seat) (t : TableId) (from : ℕ) (o : Option ℕ) → index.IsNextKey es t from o → IsNextKey (records_of es cs places) t from o
 next_of_records es cs places t from None h = λ k le is. h k le (sym (there es cs places (index.record_at t k)) ∙ is)
 next_of_records es cs places t from (Some n) h = (h.0, there es cs places (index.record_at t n) ∙ h.1, λ k le is. h.2 k le (sym (there es cs places (index.record_at t k)) ∙ is))
-
-pub next_here : (es : List (Rid × ℕ)) (cs : Places) (places : List Seat) (t : TableId) (from : ℕ) (o : Option ℕ) (now : List (Rid × List Kept)) → records_of es cs places ≡ now → index.IsNextKey es t from o → IsNextKey now t from o
-next_here es cs places t from o now is h = subst (λ records. IsNextKey records t from o) is (next_of_records es cs places t from o h)
 
 -- ---- reading a record
 

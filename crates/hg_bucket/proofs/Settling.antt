@@ -1,7 +1,6 @@
 -- Records that can't be shortened, and those that have a chain.
 use Rattle.std.proofs.Common.{◌≡◌, ℕ, List, [], ◌∷◌, ◌++◌, Bool, true, false, Option, Some, None, refl, sym, ap, ◌∙◌, cond, subst, not, ◌<◌, length, arith}
 use Rattle.std.specs.Prelude.{is_some, IsSome, IfSome}
-use Rattle.std.specs.Bool.{OnTrue, OnFalse}
 use Rattle.hg_base.specs.declared.rid.Rid.{Rid}
 use Rattle.hg_base.specs.declared.rid.TableId.{TableId}
 use Rattle.hg_chain.specs.declared.version.Version.{Version}
@@ -62,14 +61,4 @@ some_at es cs places t from (Some k) h next = go (place_of es (record_at t k)) r
   where
     go : (o : Option ℕ) → place_of es (record_at t k) ≡ o → IsSome o → 0 < length (versions_of (records_of es cs places) (record_at t k))
     go None e some = absurd cc
-    go (Some p) e some = subst (λ vs. 0 < length vs) (sym (versions_there es cs places (record_at t k) p e)) (h.held p (h.taken (record_at t k) p e))
-
--- ---- of an answer that is turned
-
-pub on_true : {P : Type 0} (b : Bool) → (b ≡ false → P) → OnTrue (not b) P
-on_true true f = tt
-on_true false f = f refl
-
-pub on_false : {P : Type 0} (b : Bool) → (b ≡ true → P) → OnFalse (not b) P
-on_false true f = f refl
-on_false false f = tt
+    go (Some p) e some = subst (λ vs. 0 < length vs) (sym (versions_there es cs places (record_at t k) p e)) (h.held p tt (h.taken (record_at t k) p e))

@@ -82,7 +82,7 @@ stays bound es cs ds places r p index old has at is lists =
     let same : versions_of (records_of es ds places) r ≡ versions_of (records_of es cs places) r = turned_here es cs ds places places r p ws im turns ∙ ap (λ us. whole us im) none ∙ sym (versions_there es cs places r p has) in
     let long = ap (λ us. length us) same in
     record {
-      whole = filled p es ds places done.bare (subst (λ us. 0 < length us) (ap (λ us. whole us im) (sym none) ∙ sym (turned_at es cs ds places places r p ws im turns)) (old.held p (old.taken r p has)));
+      whole = filled p es ds places done.bare (subst (λ us. 0 < length us) (ap (λ us. whole us im) (sym none) ∙ sym (turned_at es cs ds places places r p ws im turns)) (old.held p tt (old.taken r p has)));
       here = done.here;
       others = done.others;
       same = same;

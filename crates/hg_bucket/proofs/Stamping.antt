@@ -47,7 +47,7 @@ stamps es cs ds places r p by n index old has open_write over is lists =
     let turns = kept_turns es cs ds places r p ws index old has is lists in
     let below = below_behind by n vs im at.begins (subst (λ us. Each (IsBelow n) (drop 1 us)) at.there over) in
     let falls = old.falls p (old.taken r p has) in
-    let long = old.held p (old.taken r p has) in
+    let long = old.held p tt (old.taken r p has) in
     let same : length (whole ws im) ≡ length (whole vs im) = omega (arith, whole_sum vs im, whole_sum ws im, stamped_length by n vs) in
     record {
       whole = turned_whole es cs ds places places r p ws im old turns (record { over = stamped_over by n vs im below.1 falls.over; row = falls.row }) (omega (arith, long, same));

@@ -75,7 +75,7 @@ sweeps horizon xs es cs ds places seats r p b gone old s turns =
     here = now ∙ ap (λ c. whole ws (less_base c im)) s.base ∙ sym (whole_swept horizon xs vs im) ∙ ap (swept horizon xs) (sym there)
 
     some : 0 < length (swept horizon xs (versions_of (records_of es cs places) r))
-    some = some_left horizon xs (versions_of (records_of es cs places) r) (subst (λ us. 0 < length us) (sym there) (old.held p (old.taken r p turns.has)))
+    some = some_left horizon xs (versions_of (records_of es cs places) r) (subst (λ us. 0 < length us) (sym there) (old.held p tt (old.taken r p turns.has)))
 
     many : length (whole ws to) + (gone + cond {A = ℕ} b 1 0) ≡ length (whole vs im)
     many = ap (λ g. length (whole ws to) + (g + cond {A = ℕ} b 1 0)) s.many ∙ swept_gone horizon xs vs im b s.base

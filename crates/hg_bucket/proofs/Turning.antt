@@ -80,7 +80,7 @@ turned es cs ds places seats r p ws im old h falls =
       taken = λ q n k. each_place (IsTaken seats) p n here (λ apart. taken_again places seats p h.stay n apart (old.taken q n k));
       named = λ n t. old.named n (was n t);
       chained = λ n long. each_place (IsTaken seats) p n here (λ apart. taken_again places seats p h.stay n apart (old.chained n (subst (λ vs. 0 < length vs) (h.lists n apart) long)));
-      held = λ n apart t. held_again cs ds places seats p h.lists h.stay n apart (old.held n (was n t));
+      held = λ n apart t. held_again cs ds places seats p h.lists h.stay n apart (old.held n tt (was n t));
       falls = λ n t. each_place (λ m. Falls (list_at ds m) (image_at seats m)) p n falls_here (λ apart. falls_again cs ds places seats p h.lists h.stay n apart (old.falls n (was n t)));
       fits = λ n t. old.fits n (was n t);
     }
@@ -96,7 +96,7 @@ turned es cs ds places seats r p ws im old h falls =
 
 -- there is one
 pub filled : (p : ℕ) (es : List (Rid × ℕ)) (cs : Places) (places : List Seat) → MayBeBare p es cs places → 0 < length (versions_at cs places p) → AreWhole es cs places
-filled p es cs places h some = record { taken = h.taken; named = h.named; chained = h.chained; held = λ n t. each_place (λ m. 0 < length (versions_at cs places m)) p n some (λ apart. h.held n apart t); falls = h.falls; fits = h.fits }
+filled p es cs places h some = record { taken = h.taken; named = h.named; chained = h.chained; held = λ n all t. each_place (λ m. 0 < length (versions_at cs places m)) p n some (λ apart. h.held n apart t); falls = h.falls; fits = h.fits }
 
 pub turned_whole : (es : List (Rid × ℕ)) (cs ds : Places) (places seats : List Seat) (r : Rid) (p : ℕ) (ws : List Version) (im : Oldest) → AreWhole es cs places → Turns es cs ds places seats r p ws im → Falls ws im → 0 < length (whole ws im) → AreWhole es ds seats
 turned_whole es cs ds places seats r p ws im old h falls some = filled p es ds seats (turned es cs ds places seats r p ws im old h falls) (subst (λ vs. 0 < length vs) (sym (turned_at es cs ds places seats r p ws im h)) some)

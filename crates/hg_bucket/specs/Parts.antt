@@ -63,15 +63,19 @@ pub record Falls (vs : List Version) (image : Oldest) : Type 0 where
   pub over : Each (λ v. IsOver v.stamp image) vs
   pub row : IsRow image
 
--- what is always so of the parts: each record's place is taken, and no other; each chain stands at a place that is taken; and at
--- each such place there is a version, and numbers fall
-pub record AreWhole (index : List (Rid × ℕ)) (chains : Places) (places : List Seat) : Type 0 where
+-- what is always so of the parts: each record's place is taken, and no other; each chain stands at a place that is taken; at each
+-- such place numbers fall; and at each that must have one there is a version
+pub record AreWholeWhere (MustHave : ℕ → Type 0) (index : List (Rid × ℕ)) (chains : Places) (places : List Seat) : Type 0 where
   pub taken : AreTaken index places
   pub named : AreNamed index places
   pub chained : (p : ℕ) → 0 < length (list_at chains p) → IsTaken places p
-  pub held : (p : ℕ) → IsTaken places p → 0 < length (versions_at chains places p)
+  pub held : (p : ℕ) → MustHave p → IsTaken places p → 0 < length (versions_at chains places p)
   pub falls : (p : ℕ) → IsTaken places p → Falls (list_at chains p) (image_at places p)
   pub fits : (p : ℕ) → IsTaken places p → p < 2 ^ 40
+
+-- there is a version at each place that is taken
+abbrev pub AreWhole : List (Rid × ℕ) → Places → List Seat → Type 0
+AreWhole index chains places = AreWholeWhere (λ p. ⊤) index chains places
 
 -- ---- the lists of records that can be shortened
 
@@ -138,11 +142,6 @@ pub record IsGiven (old new : List Seat) (p : ℕ) : Type 0 where
   pub now : seat_at new p ≡ seat.taken None
   pub others : SeatsStay p old new
 
--- what is so of whole parts, where at one place there may be no version left
-pub record MayBeBare (p : ℕ) (index : List (Rid × ℕ)) (chains : Places) (places : List Seat) : Type 0 where
-  pub taken : AreTaken index places
-  pub named : AreNamed index places
-  pub chained : (q : ℕ) → 0 < length (list_at chains q) → IsTaken places q
-  pub held : (q : ℕ) → q ≢ p → IsTaken places q → 0 < length (versions_at chains places q)
-  pub falls : (q : ℕ) → IsTaken places q → Falls (list_at chains q) (image_at places q)
-  pub fits : (q : ℕ) → IsTaken places q → q < 2 ^ 40
+-- at one place there may be no version left
+abbrev pub MayBeBare : ℕ → List (Rid × ℕ) → Places → List Seat → Type 0
+MayBeBare p index chains places = AreWholeWhere (λ q. q ≢ p) index chains places

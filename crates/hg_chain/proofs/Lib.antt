@@ -1,16 +1,20 @@
+-- A cut and a sweep, on a list of versions.
 pub mod Cuts
 pub mod Merges
 pub mod Sweeps
 pub mod Turns
 pub mod Cleanness
 pub mod Readers
+-- Chains in the nodes of an arena, and each change of one.
 pub mod Strands
+pub mod Rooms
+pub mod Writes
+pub mod Covers
 pub mod Removals
 pub mod Unlinks
-pub mod Writes
-pub mod Rooms
+-- A walk along a chain, and a sweep along it.
 pub mod Walks
 pub mod Settling
+-- What callers and tests see.
 pub mod Held
 pub mod TestFacts
-pub mod Covers

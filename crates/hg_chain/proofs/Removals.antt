@@ -1,11 +1,11 @@
 -- A version is taken out of a place's chain, and its node is free.
-use Rattle.std.proofs.Common.{◌≡◌, ◌≢◌, ℕ, zero, suc, ◌+◌, ◌-◌, ◌<◌, ◌^◌, List, length, drop, set, false, refl, sym, ap, ◌∙◌, subst, arith, get_or-set_same, get_or-set_other}
+use Rattle.std.proofs.Common.{◌≡◌, ◌≢◌, ℕ, zero, suc, ◌+◌, ◌-◌, ◌<◌, List, length, drop, set, false, refl, sym, ap, ◌∙◌, subst, arith, get_or-set_same, get_or-set_other}
 use Rattle.std.proofs.lemmas.List.{length-set}
 use Rattle.hg_chain.specs.declared.node.Node.{Node}
 use Rattle.hg_chain.specs.declared.node.Strand.{Strand}
 use Rattle.hg_chain.specs.declared.node.Head.{Head}
 use Rattle.hg_chain.specs.Strands.{blank, node_at, freed, head_at, versions, versions_of, IsStrand, AreStrands}
-use Rattle.hg_chain.proofs.Strands.{frame, frame_versions, Given, put, put_apart, gave, gave_others, has_head, count_within, head_here}
+use Rattle.hg_chain.proofs.Strands.{frame, frame_versions, Given, put, put_apart, gave, gave_others, has_head, head_here}
 
 -- ---- the first version
 
@@ -80,10 +80,6 @@ popped_here heads nodes free a p some =
 -- the node of a place's first version is there
 pub first_within : (heads : List Head) (nodes : List Node) (free : Strand) → AreStrands heads nodes free → (p : ℕ) → 0 < (head_at heads p).strand.count → (head_at heads p).strand.first < length nodes
 first_within heads nodes free a p some = (first heads nodes free a p ((head_at heads p).strand.count - 1) (omega (arith, some))).within
-
--- where a place has a version, one more node can be free
-pub free_fits : (heads : List Head) (nodes : List Node) (free : Strand) → AreStrands heads nodes free → (p : ℕ) → 0 < (head_at heads p).strand.count → free.count + 1 < 2 ^ 32
-free_fits heads nodes free a p some = let e = count_within heads p in let all = a.all in let fits = a.fits in omega (arith, e, all, fits, some)
 
 -- the first free node is there
 pub free_within : (heads : List Head) (nodes : List Node) (free : Strand) → AreStrands heads nodes free → (free.count ≡ 0 → ⊥) → free.first < length nodes

@@ -1,7 +1,7 @@
 -- Strands and the versions in them, where nodes change.
 use Rattle.std.proofs.Common.{◌≡◌, ◌≢◌, ℕ, zero, suc, ◌+◌, ◌<◌, ◌≤◌, List, [], ◌∷◌, length, set, get_or, Bool, false, cond, refl, sym, ap, ◌∙◌, subst, arith, get_or-set_same, get_or-set_other, inl, inr}
 use Rattle.std.specs.Prelude.{sum_by, ◌==◌, ◌⊎◌}
-use Rattle.std.proofs.lemmas.List.Sums.{sum_by-set, sum_by-cons, get_or-le-sum_by}
+use Rattle.std.proofs.lemmas.List.Sums.{sum_by-set, sum_by-cons}
 use Rattle.std.proofs.lemmas.Bool.Decides.{Decides-eqb}
 use Rattle.std.proofs.lemmas.Bool.{cases_eq}
 use Rattle.hg_base.proofs.ListFacts.{cases}
@@ -36,17 +36,6 @@ pub has_head : (heads : List Head) (p : ℕ) → 0 < (head_at heads p).strand.co
 has_head [] p h = absurd (omega (arith, h))
 has_head (x ∷ heads) zero h = omega arith
 has_head (x ∷ heads) (suc p) h = let k : p < length heads = has_head heads p h in omega (arith, k)
-
-pub count_within : (heads : List Head) (p : ℕ) → (head_at heads p).strand.count ≤ sum_by (λ h. h.strand.count) heads
-count_within heads p = go (cases_count (head_at heads p).strand.count refl)
-  where
-    cases_count : (n : ℕ) → (head_at heads p).strand.count ≡ n → ((head_at heads p).strand.count ≡ 0) ⊎ (0 < (head_at heads p).strand.count)
-    cases_count zero e = inl e
-    cases_count (suc n) e = inr (omega (arith, e))
-
-    go : ((head_at heads p).strand.count ≡ 0) ⊎ (0 < (head_at heads p).strand.count) → (head_at heads p).strand.count ≤ sum_by (λ h. h.strand.count) heads
-    go (inl e) = omega (arith, e)
-    go (inr some) = get_or-le-sum_by (λ (h : Head). h.strand.count) heads p no_head (has_head heads p some)
 
 -- the counts, where the head of a place is another one
 pub recount : (heads : List Head) (p : ℕ) (h : Head) → p < length heads → sum_by (λ h. h.strand.count) (set heads p h) + (head_at heads p).strand.count ≡ sum_by (λ h. h.strand.count) heads + h.strand.count

@@ -43,9 +43,6 @@ none_below n r (y ∷ ys) is h = go (same_rid r y) refl (none_below n r ys is h.
     go true e rest = absurd (let same : r.table.0 ≡ y.table.0 = ap (λ (x : Rid). x.table.0) (same_rid_equal r y e) in omega (arith, same, is, h.0))
     go false e rest = rest
 
-pub spends_none : (p : PassRecord) (v : View) (before : ℕ) → SpendsTables 0 p v before before
-spends_none p v before = record { looked = []; once = tt; are_below = tt; are_long = tt; few = omega arith }
-
 -- one table more
 module _ (p : PassRecord) (v w : View) (n k before between after : ℕ) (t : TableId) (is : t.0 ≡ n) (many : k ≡ length (recorded t p)) (a : SpendsTables n p v before between) (rest : (r : Rid) → n ≤ r.table.0 → held w r ≡ held v r) (b : Spends w t k between after) where
   number : (r : Rid) → r.table ≡ t → r.table.0 ≡ n

@@ -1,2 +1,3 @@
+-- The rule of a lock, and the values under it.
 pub mod Steps
 pub mod Values

@@ -1,1 +1,2 @@
+-- The rule of the queue.
 pub mod Lining

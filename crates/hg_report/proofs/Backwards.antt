@@ -1,6 +1,6 @@
 -- Bytes that are written from the last to the first.
-use Rattle.std.proofs.Common.{◌≡◌, ◌∙◌, ◌<◌, ◌≤◌, ◌+◌, ◌-◌, ℕ, ℤ, List, [], ◌∷◌, ◌++◌, length, length-take-le, take, drop, set, refl, sym, ap, arith, append_assoc, append-nil}
-use Rattle.std.proofs.lemmas.List.{drop-set, drop-drop, drop_at, drop-append-le}
+use Rattle.std.proofs.Common.{◌≡◌, ◌∙◌, ◌≤◌, ◌+◌, ℕ, ℤ, List, [], ◌∷◌, ◌++◌, length, length-take-le, take, drop, refl, sym, ap, arith, append_assoc, append-nil}
+use Rattle.std.proofs.lemmas.List.{drop-drop, drop_at, drop-append-le}
 use Rattle.std.proofs.lemmas.Slice.{between_to_end}
 use Rattle.std.specs.List.{between}
 use borrow.Rule.Slice.PartMut.{put_mid}
@@ -11,10 +11,6 @@ use Rattle.hg_base.specs.Text.{Field}
 use Rattle.hg_report.specs.Bytes.{field_bytes, further_bytes, record_bytes}
 use Rattle.hg_report.proofs.RecordBytes.{record_is}
 use Rattle.hg_report.proofs.Plain.{plain_value, plain_number, number_bytes}
-
--- one more byte before those that are there
-pub put_byte : (bytes : List ℕ) (at b : ℕ) → 0 < at → at ≤ length bytes → drop (at - 1) (set bytes (at - 1) b) ≡ b ∷ drop at bytes
-put_byte bytes at b some h = let e : at - 1 + 1 ≡ at = omega arith in rw (drop-set bytes (at - 1) b (omega arith), e) refl
 
 pub number_is : (n : ℕ) → further_bytes (decimal n) ≡ 44 ∷ decimal n
 unfolding field_bytes further_bytes

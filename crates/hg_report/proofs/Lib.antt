@@ -1,19 +1,23 @@
+-- Records, their bytes and their values.
 pub mod Walks
 pub mod RecordBytes
 pub mod ValuesIn
 pub mod Places
+-- A record is guessed from the script: the guess fits, and is what was printed.
 pub mod Fitting
+pub mod Asking
 pub mod Stands
 pub mod ReadBack
 pub mod Columns
 pub mod Heads
 pub mod Running
+-- Bytes are parted into fields, and tell which records stand there.
 pub mod Plain
 pub mod Backwards
 pub mod Parted
 pub mod Following
+-- The reader: a record, a turn, the end, and the first that is refused.
 pub mod Taking
 pub mod Looping
 pub mod Answering
 pub mod Shorter
-pub mod Asking

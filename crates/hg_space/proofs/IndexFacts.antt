@@ -27,9 +27,6 @@ changed es fs r w h q = sym (looked_up fs q) ∙ h q ∙ (λ i. cond (at_rid r q
 pub other_stays : (es fs : List (Rid × ℕ)) (r : Rid) (w : Option ℕ) → Changed es fs r w → (q : Rid) → same_rid r q ≡ false → place_of fs q ≡ place_of es q
 other_stays es fs r w h q apart = h q ∙ ap (λ b. cond b w (place_of es q)) apart
 
-pub itself : (es fs : List (Rid × ℕ)) (r : Rid) (w : Option ℕ) → Changed es fs r w → place_of fs r ≡ w
-itself es fs r w h = h r ∙ ap (λ b. cond b w (place_of es r)) (rids_equiv.refl r)
-
 -- places stay distinct
 pub removed_distinct : (es fs : List (Rid × ℕ)) (r : Rid) → Changed es fs r None → AreDistinct es → AreDistinct fs
 removed_distinct es fs r h distinct q s p there here = distinct q s p (was q there) (was s here)

@@ -1,5 +1,8 @@
+-- Places: which are free, and which stay taken.
 pub mod LinkFacts
-pub mod IndexFacts
 pub mod PlaceFacts
+-- The index from records to places.
+pub mod IndexFacts
+-- Lists of records by table.
 pub mod RosterFacts
 pub mod Entering

@@ -1,5 +1,5 @@
 -- Lists by table, and where each record stands.
-use Rattle.std.proofs.Common.{◌≡◌, ℕ, zero, suc, ◌-◌, ◌<◌, ◌≤◌, List, [], ◌∷◌, ◌++◌, length, map, take, set, Result, Ok, Err, Bool, true, false, Option, Some, None, refl, sym, ap, ◌∙◌, subst, arith, slice_get, inl, inr, ◌⊎◌}
+use Rattle.std.proofs.Common.{◌≡◌, ℕ, zero, suc, ◌-◌, ◌<◌, ◌≤◌, List, [], ◌∷◌, ◌++◌, length, take, set, Result, Ok, Err, Bool, true, false, Option, Some, None, refl, sym, ap, ◌∙◌, subst, arith, slice_get, inl, inr, ◌⊎◌}
 use Rattle.std.specs.Prelude.{Vec, slice_index_or, nat_lt, ◌==◌, ◌↔◌, option_map, OnErr}
 use Rattle.std.specs.declared.alloc.Global.{Global}
 use Rattle.std.specs.List.{swap_remove}
@@ -8,7 +8,7 @@ use Rattle.std.proofs.lemmas.List.{take-take, take-set-le}
 use Rattle.std.proofs.lemmas.Option.{none-some, same_Some, slice_get_within, slice_get-get_or, get_or_from_slice_get}
 use Rattle.hg_space.specs.declared.roster.Listed.{Listed}
 use Rattle.hg_space.specs.declared.roster.Standing.{Standing}
-use Rattle.hg_space.specs.Rosters.{list_of, keys_of, lists_in, before, trimmed, Has, StandsIn, StandsNowhere, standing_at, AreStanding, StandOnce}
+use Rattle.hg_space.specs.Rosters.{list_of, lists_in, before, trimmed, Has, StandsIn, StandsNowhere, standing_at, AreStanding, StandOnce}
 use Rattle.hg_space.proofs.LinkFacts.{get_apart, get_same}
 
 -- ---- without the empty lists at the end
@@ -37,12 +37,6 @@ seen_list ls vs t view = sym (trimmed_list ls t) ∙ ap (λ v. list_of v t) view
 
 pub seen_apart : (ls ms vs : List (List Listed)) (t : ℕ) → trimmed ls ≡ vs → list_of ms t ≡ list_of ls t → list_of (trimmed ms) t ≡ list_of vs t
 seen_apart ls ms vs t view same = trimmed_list ms t ∙ same ∙ seen_list ls vs t view
-
--- the keys of a table's list
-pub list_keys : (ls : List (List Listed)) (t : ℕ) → list_of (map keys_of ls) t ≡ keys_of (list_of ls t)
-list_keys [] t = refl
-list_keys (l ∷ ls) zero = refl
-list_keys (l ∷ ls) (suc t) = list_keys ls t
 
 -- ---- the lists themselves
 
@@ -103,11 +97,6 @@ get_push (x ∷ xs) y e (suc at) h = go (get_push xs y e at h)
 -- standings that were added to
 abbrev pub Stay : List Standing → List Standing → Type 0
 Stay old new = (p : ℕ) → p < length old → slice_get new p ≡ slice_get old p
-
-pub still_standing : (ls ms : List (List Listed)) (old new : List Standing) → AreStanding ls old → Stay old new → ((t : ℕ) → list_of ms t ≡ list_of ls t) → AreStanding ms new
-still_standing ls ms old new h stay same = λ t at e there.
-    let was = h t at e (ap (λ xs. slice_get xs at) (sym (same t)) ∙ there) in
-    stay e.place (slice_get_within old e.place (standing_at t at) was) ∙ was
 
 pub entered : (ls ms : List (List Listed)) (old new : List Standing) (t : ℕ) (x : Listed) → AreStanding ls old → Stay old new → StandsNowhere ls x.place → x.place < length new
     → list_of ms t ≡ list_of ls t ++ x ∷ [] → ((u : ℕ) → (u ≡ t → ⊥) → list_of ms u ≡ list_of ls u)

@@ -1,7 +1,6 @@
 -- The answers of a write, and what it leaves.
-use Rattle.std.proofs.Common.{◌≡◌, ℕ, ◌+◌, List, Bool, true, false, Option, Some, None, refl, sym, ap, ◌∙◌, cond, subst}
-use Rattle.std.specs.Prelude.{drop, IfSome, IfErr, OnOk, OnErr, Result, Ok, Err, nat_le, option_map, option_and_then, find}
-use Rattle.std.specs.Option.{option_or}
+use Rattle.std.proofs.Common.{◌≡◌, ℕ, ◌+◌, Bool, true, false, Option, Some, None, refl, sym, ap, ◌∙◌, cond, subst}
+use Rattle.std.specs.Prelude.{IfSome, IfErr, OnOk, OnErr, Result, Ok, Err, nat_le, option_and_then}
 use Rattle.std.proofs.lemmas.Option.{none-some}
 use Rattle.hg_base.specs.declared.rid.Rid.{Rid}
 use Rattle.hg_base.specs.declared.image.Image.{Image}
@@ -13,7 +12,6 @@ use Rattle.hg_core.specs.Versions.{newest_at, unpublished, installed, IsFreeFor}
 use Rattle.hg_core.specs.Ordered.{IsOrdered}
 use Rattle.hg_base.specs.History.{same_writer}
 use Rattle.hg_core.specs.Replies.{refused_over, refused_by, refusal}
-use Rattle.hg_core.proofs.Replies.{writer_itself}
 use Rattle.hg_core.proofs.Versions.{installed_ordered}
 use Rattle.hg_bucket.specs.declared.refusal.WriteRefusal.{WriteRefusal}
 use Rattle.hg_bucket.specs.declared.refusal.WriteRefusal.TheVariants.{Newer}
@@ -91,9 +89,6 @@ pub seen_after : (z : Sizes) (n : ℕ) (v w : View) (r : Rid) → Decided z n v 
 seen_after z n v w r d k none =
     subst (λ x. Each (IsOwnOrSeen x (snapshot w)) (held w r)) (sym (writer_same_after n v w r k))
     (subst (λ x. Each (IsOwnOrSeen (writer v) (snapshot x)) (held x r)) (sym k.after) (free_seen n (writer v) (snapshot v) (held v r) d.ordered d.unstamped d.newest none))
-
-pub read_own : (w : Writer) (at : ℕ) (image : Image) (ks : List Kept) → read_at w at (held_words.installed w image ks) ≡ Some image
-read_own w at image ks = ap (λ b. option_map (λ (k : Kept). k.image) (option_or (cond b (Some (held_words.open_write w image)) (find (is_open_by w) (cond (begins_open w ks) (drop 1 ks) ks))) (find (is_at_most at) (held_words.installed w image ks)))) (writer_itself w)
 
 pub install_holds : (n : ℕ) (v w : View) (h h' : Held) (r : Rid) (image : Image) → Holds v h → held_number h' ≡ held_number h → IsFreeFor n (writer v) (held v r) → IsOrdered n (held v r) → Installs v r image w
     → versions_of (held_records h').records r ≡ held_words.installed (writer v) image (versions_of (held_records h).records r) → OthersStay (held_records h).records (held_records h').records r → held_records h' ≡ record (held_records h) { records = (held_records h').records; long = (held_records h').long; made = (held_records h).made + cond (begins_open (writer v) (versions_of (held_records h).records r)) 0 1 } → Holds w h'

@@ -6,8 +6,8 @@ use Rattle.hg_rule.specs.declared.view.Event.{Event}
 use Rattle.hg_rule.specs.declared.view.Event.TheVariants.{Mark, Sample}
 use Rattle.hg_rule.specs.declared.view.View.{View}
 use Rattle.hg_rule.specs.Views.{number, pass}
-use Rattle.hg_rule.specs.Rounds.{IsNoMark, IsRoundOf, loaded_after, takes_in, gone_in}
-use Rattle.hg_rule.proofs.Rounds.{loaded_append, gone_on, takes_on}
+use Rattle.hg_rule.specs.Rounds.{IsNoMark, IsRoundOf, loaded_after, gone_in}
+use Rattle.hg_rule.proofs.Rounds.{loaded_append, gone_on}
 use Rattle.hg_tracker.specs.Begun.{samples_of, HasGathered}
 
 each_append : (es more : List Event) → Each IsNoMark es → Each IsNoMark more → Each IsNoMark (es ++ more)
@@ -26,10 +26,6 @@ samples_remove : (p : ℕ) (loaded : List (ℕ × Register)) → gone_in (sample
 samples_remove p [] = refl
 samples_remove p (e ∷ loaded) = let o = gone_on (samples_of p loaded) (Sample p e.0 e.1 ∷ []) in omega (arith, o, samples_remove p loaded)
 
-samples_take : (p : ℕ) (loaded : List (ℕ × Register)) → takes_in (samples_of p loaded) ≡ 0
-samples_take p [] = refl
-samples_take p (e ∷ loaded) = let o = takes_on (samples_of p loaded) (Sample p e.0 e.1 ∷ []) in omega (arith, o, samples_take p loaded)
-
 -- what a gather adds to the pass's list
 abbrev pub gather_events : View → View → List Event
 gather_events v w = Mark (number v) (pass w).mark ∷ samples_of (number v) (pass w).loaded
@@ -42,6 +38,3 @@ gather_gains v w sessions h = h.events ∙ append_assoc v.events (Mark (number v
 
 pub gather_removes_none : (v w : View) → gone_in (gather_events v w) ≡ 0
 gather_removes_none v w = samples_remove (number v) (pass w).loaded
-
-pub gather_takes_none : (v w : View) → takes_in (gather_events v w) ≡ 0
-gather_takes_none v w = samples_take (number v) (pass w).loaded

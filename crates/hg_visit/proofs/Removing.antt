@@ -1,5 +1,5 @@
 -- Records of a bucket that a pass holds are reclaimed, one after the other.
-use Rattle.std.proofs.Common.{◌≡◌, ℕ, ◌+◌, List, [], ◌∷◌, ◌++◌, refl, sym, ap, ◌∙◌, subst, arith, append_assoc, append-nil}
+use Rattle.std.proofs.Common.{◌≡◌, ℕ, ◌+◌, List, [], ◌∷◌, ◌++◌, sym, ap, ◌∙◌, subst, arith, append_assoc}
 use Rattle.hg_base.specs.declared.rid.Rid.{Rid}
 use Rattle.hg_base.specs.declared.rid.TableId.{TableId}
 use Rattle.hg_base.specs.declared.report.Kind.{Kind}
@@ -10,12 +10,9 @@ use Rattle.hg_rule.specs.Views.{number}
 use Rattle.hg_rule.specs.Removes.{Reclaims, removed_of}
 use Rattle.hg_rule.proofs.Rounds.{gone_on}
 use Rattle.hg_store.specs.Clearing.{ReclaimsAll, Clears, Counts}
-use Rattle.hg_store.proofs.Clearing.{counts_none, counts_more}
+use Rattle.hg_store.proofs.Clearing.{counts_more}
 use Rattle.hg_visit.specs.Tables.{Removes}
 use Rattle.hg_visit.proofs.Going.{works}
-
-pub removes_none : (kind : Kind) (v : View) → Removes kind 0 v v
-removes_none kind v = record { counts = counts_none v kind; steps = []; work = tt; removed = refl; events = sym (append-nil v.events) }
 
 removes_one : (kind : Kind) (v w x : View) (m : ℕ) (r : Rid) → Removes kind m v w → Reclaims w r kind x → Removes kind (m + removed_of w r kind) v x
 removes_one kind v w x m r a step = record {

@@ -1,17 +1,16 @@
 -- Two lists that have each number as often have the same numbers.
-use Rattle.std.proofs.Common.{◌≡◌, ℕ, zero, suc, ◌+◌, ◌<◌, ◌≤◌, List, [], ◌∷◌, length, Bool, true, false, refl, sym, ap, ◌∙◌, subst, arith}
+use Rattle.std.proofs.Common.{◌≡◌, ℕ, zero, suc, ◌+◌, ◌<◌, ◌≤◌, List, [], ◌∷◌, length, Bool, true, false, refl, sym, subst, arith}
 use Rattle.std.specs.Prelude.{max, ◌==◌, if◌then◌else◌, Contains}
 use Rattle.std.proofs.lemmas.Bool.Decides.{nat_tests}
 use Rattle.hg_base.specs.Lists.{Each}
 use Rattle.hg_core.specs.Sums.{sum_below}
 use Rattle.hg_core.proofs.Sums.{below_none, below_same, below_grown}
-use Rattle.hg_core.specs.Passes.{IsWhole, least_entering}
+use Rattle.hg_core.specs.Passes.{IsWhole}
 use Rattle.hg_rule.specs.declared.view.PassPart.{PassPart}
 use Rattle.hg_rule.specs.Facts.{record_of}
-use Rattle.hg_rule.specs.Rounds.{entries_of}
 use Rattle.hg_tracker.specs.declared.gathered.Gathered.{Gathered}
 use Rattle.hg_tracker.specs.Entries.{times}
-use Rattle.hg_tracker.specs.Gathers.{IsLoaded, IsGatherOf}
+use Rattle.hg_tracker.specs.Gathers.{IsGatherOf}
 use Rattle.hg_tracker.proofs.After.{some_up_to}
 use Rattle.hg_store.specs.Clearing.{HaveSame}
 
@@ -76,13 +75,3 @@ same_length xs ys same =
 -- a gather shows a whole record
 pub whole_record : (sessions : ℕ) (part : PassPart) (g : Gathered) → IsGatherOf sessions part g → IsWhole sessions (record_of part)
 whole_record sessions part g h j inside = some_up_to sessions j part.loaded h.loaded.0 inside.first inside.last
-
--- it shows as well what another part has of the same record
-pub shown_still : (sessions : ℕ) (p q : PassPart) (g : Gathered) → q.mark ≡ p.mark → q.loaded ≡ p.loaded → IsGatherOf sessions p g → IsGatherOf sessions q g
-shown_still sessions p q g mark loaded h = record {
-  noted = (h.noted.0 ∙ sym mark, h.noted.1 ∙ (λ i. least_entering (sym mark i) (sym loaded i)), h.noted.2 ∙ ap entries_of (sym loaded));
-  loaded = subst (IsLoaded sessions) (sym loaded) h.loaded;
-  shuffled = h.shuffled;
-  rises = h.rises;
-  lists = h.lists;
-}

@@ -1,5 +1,5 @@
 -- A pass goes through the tables of a bucket that it holds.
-use Rattle.std.proofs.Common.{◌≡◌, ℕ, suc, ◌+◌, ◌<◌, refl, sym, ap, ◌∙◌, subst, arith}
+use Rattle.std.proofs.Common.{◌≡◌, ℕ, suc, ◌+◌, ◌<◌, sym, ap, ◌∙◌, subst, arith}
 use native.Mathlib.Decide.{dec_le}
 use Rattle.hg_base.specs.declared.rid.Rid.{Rid}
 use Rattle.hg_base.specs.declared.rid.TableId.{TableId}
@@ -14,10 +14,7 @@ use Rattle.hg_rule.specs.Holding.{held}
 use Rattle.hg_store.specs.Clearing.{Clears, Counts}
 use Rattle.hg_store.proofs.Clearing.{same_record}
 use Rattle.hg_visit.specs.Tables.{ClearsTables}
-use Rattle.hg_visit.proofs.Removing.{removes_none, removes_more}
-
-pub tables_none : (kind : Kind) (Q : Rid → List Version → Type 0) (v : View) → ClearsTables kind Q 0 0 v v
-tables_none kind Q v = record { removes = removes_none kind v; left = λ r l. absurd (omega (arith, l)); rest = λ r l. refl }
+use Rattle.hg_visit.proofs.Removing.{removes_more}
 
 -- the pass's record is as it was
 pub record_still : (kind : Kind) (Q : Rid → List Version → Type 0) (n gone : ℕ) (v w : View) → ClearsTables kind Q n gone v w → record_of (pass w) ≡ record_of (pass v)
