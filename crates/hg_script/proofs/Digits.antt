@@ -1,13 +1,11 @@
 -- The value of a numeral, digit by digit.
-use Rattle.std.proofs.Common.{◌≡◌, ◌<◌, ◌≤◌, ◌+◌, ◌-◌, ◌*◌, ◌/◌, ◌^◌, ◌∙◌, ℕ, true, false, List, length, get_or, take, arith, sym, inl, inr, nat_lt, refl, Some, None, length-take}
+use Rattle.std.proofs.Common.{◌≡◌, ◌<◌, ◌≤◌, ◌+◌, ◌-◌, ◌*◌, ◌/◌, ◌^◌, ◌∙◌, ℕ, true, false, List, length, get_or, take, arith, sym, inl, inr, nat_lt, refl, length-take}
 use Rattle.std.proofs.lemmas.Bool.{cases_Bool, false≢true, and_parts as both, le-leb}
-use Rattle.std.proofs.lemmas.List.{take_all}
 use Rattle.std.proofs.lemmas.List.Folds.{list_all_at, list_all_more}
 use Rattle.std.proofs.Math.Nat.{pow-le-pow_right}
 use Rattle.std.proofs.lemmas.Str.{digit_value_digit}
 use Rattle.std.proofs.lemmas.Str.Parse.{digits_value-take-le}
 use Rattle.std.proofs.lemmas.Int.Digits.{digits_value_more, digits_value-lt}
-use Rattle.std.specs.Prelude.{if◌then◌else◌}
 use Rattle.std.specs.List.{list_all}
 use Rattle.std.specs.Str.Parse.{digits_value}
 use Rattle.std.proofs.lemmas.Bool.Decides.{nat_tests}
@@ -69,13 +67,3 @@ room_left text i v l few h =
     let many : length (take i text) ≤ 18 = omega (arith, length-take i text, l, few) in
     let small = pow-le-pow_right some many in
     omega (arith, below, small, h.value)
-
-pub all_read : (text : List ℕ) (i v : ℕ) → length text ≤ i → AreRead text i v → Some v ≡ (if list_all is_digit text then Some (digits_value 10 text) else None)
-all_read text i v all h =
-    let whole = take_all i text all in
-    let digits = rw whole at h.digits in
-    let value = rw whole at h.value in
-    rw (digits, value) refl
-
-pub no_digit : (text : List ℕ) (i : ℕ) → i < length text → is_digit (get_or text i 0) ≡ false → list_all is_digit text ≡ false
-no_digit text i l f = list_all_at is_digit text i 0 l f

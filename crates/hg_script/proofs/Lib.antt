@@ -1,13 +1,20 @@
+-- Numerals.
 pub mod Digits
 pub mod Decimal
-pub mod Open
-pub mod Whole
+-- What the fields of a record say.
 pub mod Rows
 pub mod Names
 pub mod Scopes
 pub mod Sets
 pub mod Taken
 pub mod Widths
+-- A script stays lawful, record by record.
+pub mod Open
 pub mod Lawful
+-- Statements and values as they are stored.
+pub mod Links
 pub mod Packed
 pub mod Numbered
+-- A reader reaches every record.
+pub mod Walk
+pub mod Whole

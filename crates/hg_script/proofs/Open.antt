@@ -1,7 +1,6 @@
 -- Which sessions are in a transaction, statement by statement.
-use Rattle.std.proofs.Common.{◌≡◌, ◌∙◌, ℕ, zero, suc, List, [], ◌∷◌, ◌++◌, Bool, false, get_or, replicate, fold, refl, sym, ap, max, map, arith}
+use Rattle.std.proofs.Common.{◌≡◌, ◌∙◌, ℕ, zero, suc, List, [], ◌∷◌, ◌++◌, Bool, false, get_or, replicate, fold, refl, sym, ap}
 use Rattle.hg_base.specs.declared.statement.Record.{Record}
-use Rattle.hg_base.specs.Lists.{greatest}
 use Rattle.hg_script.specs.Rules.{opened_by}
 use Rattle.hg_script.specs.Sessions.{KnowsOpen}
 
@@ -19,7 +18,3 @@ fold-one j before (x ∷ rs) r = fold-one j (opened_by j before x) rs r
 pub notes : (old new : List Bool) (rs : List Record) (r : Record) → KnowsOpen old rs
     → ((j : ℕ) → get_or new j false ≡ opened_by j (get_or old j false) r) → KnowsOpen new (rs ++ r ∷ [])
 notes old new rs r known noted j h = noted j ∙ ap (λ b. opened_by j b r) (known j h) ∙ sym (fold-one j false rs r)
-
-pub fold-greatest : (n : ℕ) (rs : List Record) → fold (λ (most : ℕ) (r : Record). max most r.session) n rs ≡ max n (greatest (map (λ r. r.session) rs))
-fold-greatest n [] = omega arith
-fold-greatest n (r ∷ rs) = omega (arith, fold-greatest (max n r.session) rs)

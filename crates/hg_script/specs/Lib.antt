@@ -11,3 +11,4 @@ pub mod Asked
 pub mod Sessions
 pub mod Packed
 pub mod Numbered
+pub mod Links

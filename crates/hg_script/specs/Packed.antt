@@ -1,6 +1,6 @@
 -- Statements whose values stand in one list of all values.
 use Rattle.std.specs.Prelude.{ℕ, ℤ, ◌+◌, ◌≤◌, List, [], length, take, drop, ⊤}
-use Rattle.hg_base.specs.declared.limits.TheConstants.{MOST_COLUMNS}
+use Rattle.hg_base.specs.declared.limits.TheConstants.{MOST_COLUMNS, MOST_SESSIONS}
 use Rattle.hg_base.specs.declared.statement.Statement.{Statement}
 use Rattle.hg_base.specs.declared.statement.Statement.TheVariants as say
 use Rattle.hg_script.specs.declared.statements.Entry.{Entry}
@@ -29,6 +29,9 @@ HasRow many _ = ⊤
 
 abbrev pub IsWithin : ℕ → Entry → Type 0
 IsWithin many e = HasRow many e.packed
+
+abbrev pub HasSession : Entry → Type 0
+HasSession e = e.session ≤ MOST_SESSIONS
 
 -- the statement, whose values stand behind so many
 abbrev pub packed_as : ℕ → Statement → Packed

@@ -16,7 +16,8 @@
 //!     3,get,t,5        outside of a transaction: a transaction of its own
 //!
 //! Records are counted from 1, table records included, and a statement's count is its place. So places follow one another, and a
-//! script keeps none of them (`AreNumbered`).
+//! script keeps none of them (`AreNumbered`). Each statement leads to the next of its session, so a script lends the records
+//! of one session (`RecordList`) without going over the others.
 //!
 //! A script that breaks a rule is refused as a whole, with the first record that breaks one and its first code:
 //!
@@ -43,10 +44,12 @@
 mod asked;
 mod code;
 mod draft;
+mod ends;
 mod kind;
 mod law;
 mod number;
 mod reader;
+mod record_list;
 mod refusal;
 mod rules;
 mod scope;
@@ -64,6 +67,7 @@ pub use code::Code;
 pub use law::{numbers_are_decimal, scopes_have_what_is_named};
 pub use number::{Integer, Natural, read_integer, read_natural};
 pub use reader::read_script;
+pub use record_list::RecordList;
 pub use refusal::ScriptRefusal;
 pub use script::Script;
 pub use table::Table;

@@ -2,15 +2,18 @@
 
 ghost use Rattle.std.specs.Prelude.{◌≡◌, ◌≤◌, ◌<◌, ◌+◌, ◌∷◌, ◌++◌, [], IfOk, OnOk, get_or, length, map, max};
 ghost use Rattle.hg_base.specs.Lists.{greatest};
+ghost use Rattle.hg_base.specs.Transcript.{of_session};
 ghost use Rattle.hg_base.specs.declared.statement.Record.{Record};
 ghost use Rattle.hg_script.specs.Asked.{said_by};
+ghost use Rattle.hg_script.specs.Links.{next_from};
 ghost use Rattle.hg_script.specs.Meaning.{nothing};
 ghost use Rattle.hg_script.specs.Numbered.{AreNumbered};
 
 use crate::asked::Asked;
+use crate::record_list::RecordList;
 use crate::statements::StatementList;
 use crate::table::Table;
-use hg_base::{MOST_RECORDS, MOST_TABLES, NoMemory, Record, Statement};
+use hg_base::{MOST_RECORDS, MOST_SESSIONS, MOST_TABLES, NoMemory, Record, Statement};
 use std::alloc::Global;
 use std::marker::Model;
 
@@ -91,6 +94,29 @@ impl Script {
         self.statements.sessions()
     }
 
+    /// The records of a session, in the order in which they stand. This takes no memory and little time.
+    pub fn records_of(&self, session: u32) -> RecordList<'_>
+        ensures { result ≡ of_session session self.now.records }
+    {
+        RecordList::new(self, session)
+    }
+
+    /// Where a session's first statement stands, or `NOWHERE`.
+    pub(crate) fn first_of(&self, session: u32) -> u32
+        ensures first { result ≡ next_from session 0 (map (λ r. r.session) self.now.records) }
+        ensures most { length self.now.records ≤ MOST_RECORDS }
+    {
+        self.statements.first_of(session)
+    }
+
+    /// Where the next statement of the same session stands, or `NOWHERE`.
+    pub(crate) fn after(&self, i: usize) -> u32
+        requires { i < length self.now.records }
+        ensures { (d : Record) → result ≡ next_from (get_or self.now.records i d).session (i + 1) (map (λ r. r.session) self.now.records) }
+    {
+        self.statements.after(i)
+    }
+
     /// Places go on from the tables, so tables come first.
     pub(crate) fn declare(&mut self, table: Table) -> Result<(), NoMemory>
         requires room { length self.old.tables < MOST_TABLES }
@@ -102,7 +128,8 @@ impl Script {
     }
 
     pub(crate) fn add(&mut self, session: u32, statement: Statement) -> Result<(), NoMemory>
-        requires { length self.old.records < MOST_RECORDS }
+        requires session { session ≤ MOST_SESSIONS }
+        requires room { length self.old.records < MOST_RECORDS }
         ensures { OnOk result (self.new ≡ record self.old { records = self.old.records ++ (record { place = length self.old.tables + length self.old.records + 1; session = session; statement = statement }) ∷ [] }) }
     {
         self.statements.push(session, statement)?;

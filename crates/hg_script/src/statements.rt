@@ -1,16 +1,20 @@
 //! Statements with their sessions, in little memory.
 //!
 //! The values of all rows stand in one list, and a put keeps where its own begin and how many they are. So a statement takes
-//! 40 bytes, and 8 more for each value.
+//! 40 bytes, and 8 more for each value. In them it keeps where the next statement of its session stands.
 
 ghost use Rattle.std.specs.Prelude.{◌≡◌, ℕ, ℤ, List, ◌≤◌, ◌<◌, ◌+◌, ◌^◌, ◌∷◌, ◌++◌, [], IfOk, OnErr, OnOk, fold, get_or, length, map, max};
 ghost use Rattle.hg_base.specs.Lists.{greatest};
 ghost use Rattle.hg_base.specs.declared.statement.Statement.{Statement};
 ghost use Rattle.hg_script.specs.Asked.{asked_by};
-ghost use Rattle.hg_script.specs.Packed.{added, packed_as, statement_in};
+ghost use Rattle.hg_script.specs.Links.{led, next_from};
+ghost use Rattle.hg_script.specs.Packed.{HasRow, added, packed_as, statement_in};
 
 use crate::asked::Asked;
-use hg_base::{Kind, MOST_COLUMNS, MOST_RECORDS, NoMemory, Rid, Row, Scope, Statement, TableId};
+use crate::ends::{Ends, NOWHERE};
+use hg_base::{
+    Kind, MOST_COLUMNS, MOST_RECORDS, MOST_SESSIONS, NoMemory, Rid, Row, Scope, Statement, TableId,
+};
 use std::alloc::Global;
 use std::marker::Model;
 use std::mem::size_of;
@@ -55,6 +59,8 @@ impl Packed {
 #[derive(Clone, Copy, Debug)]
 pub(crate) struct Entry {
     session: u32,
+    // the index of the session's next entry, or `NOWHERE`
+    next: u32,
     packed: Packed,
 }
 
@@ -65,20 +71,22 @@ const _: () = prove!(size_of::<Entry>() == 40);
 pub(crate) struct StatementList {
     entries: Vec<Entry>,
     values: Vec<i64>,
+    ends: Ends,
 }
 
 impl Model for StatementList {
     ghost use Rattle.std.specs.Prelude.{ℕ, ◌≤◌, ◌*◌, List, length, map};
     ghost use Rattle.hg_base.specs.Lists.{Each};
-    ghost use Rattle.hg_base.specs.declared.limits.TheConstants.{MOST_COLUMNS};
+    ghost use Rattle.hg_base.specs.declared.limits.TheConstants.{MOST_COLUMNS, MOST_RECORDS};
     ghost use Rattle.hg_base.specs.declared.statement.Statement.{Statement};
-    ghost use Rattle.hg_script.specs.Packed.{IsWithin, unpacked};
+    ghost use Rattle.hg_script.specs.Links.{IsChained};
+    ghost use Rattle.hg_script.specs.Packed.{HasSession, IsWithin, unpacked};
 
     ghost Value = { List (ℕ × Statement) };
 
     ghost view = { λ s. map (unpacked s.values.items) s.entries.items };
 
-    ghost invariant = { λ s. (length s.values.items ≤ MOST_COLUMNS * length s.entries.items) × Each (IsWithin (length s.values.items)) s.entries.items };
+    ghost invariant = { λ s. (length s.entries.items ≤ MOST_RECORDS) × (length s.values.items ≤ MOST_COLUMNS * length s.entries.items) × Each (IsWithin (length s.values.items)) s.entries.items × Each HasSession s.entries.items × IsChained s.ends s.entries.items };
 }
 
 // Takes the statement apart: its values go behind those that are there.
@@ -86,6 +94,7 @@ fn pack(values: &mut Vec<i64>, statement: Statement) -> Result<Packed, NoMemory>
     requires room { length values.old.items < 2 ^ 32 }
     ensures packed { IfOk result (λ packed. packed ≡ packed_as (length values.old.items) statement) }
     ensures values { OnOk result (values.new.items ≡ values.old.items ++ added statement) }
+    ensures within { IfOk result (HasRow (length values.new.items)) }
     ensures few { OnOk result (length (added statement) ≤ MOST_COLUMNS) }
     ensures err { OnErr result (values.new.items ≡ values.old.items) }
 {
@@ -106,6 +115,15 @@ fn pack(values: &mut Vec<i64>, statement: Statement) -> Result<Packed, NoMemory>
     })
 }
 
+// The entry at l leads to the one at i.
+fn lead(entries: &mut Vec<Entry>, l: u32, i: u32)
+    ensures { entries.new.items ≡ led l i entries.old.items }
+{
+    if (l as usize) < entries.len() {
+        entries[l as usize].next = i;
+    }
+}
+
 fn greatest_session(entries: &[Entry]) -> u32
     ensures { result ≡ fold (λ most e. max most e.session) 1 entries.now }
 {
@@ -121,6 +139,7 @@ impl StatementList {
         StatementList {
             entries: Vec::new(alloc),
             values: Vec::new(alloc),
+            ends: Ends::new(),
         }
     }
 
@@ -131,13 +150,21 @@ impl StatementList {
     }
 
     pub(crate) fn push(&mut self, session: u32, statement: Statement) -> Result<(), NoMemory>
-        requires { length self.old < MOST_RECORDS }
+        requires session { session ≤ MOST_SESSIONS }
+        requires room { length self.old < MOST_RECORDS }
         ensures ok { OnOk result (self.new ≡ self.old ++ (session, statement) ∷ []) }
         ensures err { OnErr result (self.new ≡ self.old) }
     {
         self.entries.reserve(1)?;
         let packed = pack(&mut self.values, statement)?;
-        self.entries.push(Entry { session, packed })?;
+        let here = self.entries.len() as u32;
+        self.entries.push(Entry {
+            session,
+            next: NOWHERE,
+            packed,
+        })?;
+        let last = self.ends.note(session, here);
+        lead(&mut self.entries, last, here);
         Ok(())
     }
 
@@ -178,5 +205,20 @@ impl StatementList {
         ensures { result ≡ max 1 (greatest (map (λ said. said.0) self.now)) }
     {
         greatest_session(&self.entries)
+    }
+
+    /// Where a session's first statement stands, or `NOWHERE`.
+    pub(crate) fn first_of(&self, session: u32) -> u32
+        ensures { result ≡ next_from session 0 (map (λ said. said.0) self.now) }
+    {
+        self.ends.first(session)
+    }
+
+    /// Where the next statement of the same session stands, or `NOWHERE`.
+    pub(crate) fn after(&self, i: usize) -> u32
+        requires { i < length self.now }
+        ensures { (d : ℕ × Statement) → result ≡ next_from (get_or self.now i d).0 (i + 1) (map (λ said. said.0) self.now) }
+    {
+        self.entries[i].next
     }
 }

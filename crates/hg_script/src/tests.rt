@@ -209,3 +209,35 @@ fn records_are_counted(rt: HostRuntime) -> Result<(), Fail> {
     assert_eq!(rt; read_script(rt.alloc(), &text).err(), Some(want));
     Ok(())
 }
+
+// The places of each session's records, where a table stands at the first place.
+#[test]
+fn lends_a_sessions_records(rt: HostRuntime) -> Result<(), Fail> {
+    let script = read_script(
+        rt.alloc(),
+        b"table,t,1\n3,begin\n1,get,t,1\n3,get,t,1\n64,put,t,1,9\n1,del,t,1\n3,commit\n3,get,t,2\n",
+    )?;
+    for (session, places) in [
+        (0, ""),
+        (1, "3 6 "),
+        (2, ""),
+        (3, "2 4 7 8 "),
+        (63, ""),
+        (64, "5 "),
+        (65, ""),
+        (4_294_967_295, ""),
+    ] {
+        let mut list = script.records_of(session);
+        let mut found = String::new(rt.alloc());
+        for _ in 0..script.record_count() {
+            let Some(record) = list.take_next()? else {
+                break;
+            };
+            assert_eq!(rt; record.session, session);
+            write!(found, "{} ", record.place)?;
+        }
+        assert_eq!(rt; found.as_str(), places, "of {session}");
+        assert!(rt; list.take_next()?.is_none(), "after {session}");
+    }
+    Ok(())
+}
