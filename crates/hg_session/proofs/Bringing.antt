@@ -41,6 +41,7 @@ pub record Finishes (v : View) (sessions : List Session) (w : View) : Type 0 whe
   pub parts : w.parts ≡ OfPass (number v) (pass v) ∷ (parts_of sessions ++ others v)
   pub seen : Each (λ s. AreAmong (seen_by s) w.sights) sessions
   pub kept : StartsWith w.sights v.sights
+  pub events : w.events ≡ v.events
 
 parts_snoc : (sessions : List Session) (s : Session) → parts_of (sessions ++ s ∷ []) ≡ (view_of s).parts ++ parts_of sessions
 parts_snoc [] s = refl_append (view_of s).parts
@@ -59,6 +60,7 @@ one_finishes v w u sessions s h e =
           (each_map (λ t. AreAmong (seen_by t) w.sights) (λ t. AreAmong (seen_by t) u.sights) (λ t a x i. subst (IsAmong x) (sym sights) (among_first x w.sights _ (a x i))) sessions h.seen)
           (λ x i. subst (IsAmong x) (sym sights) (among_later x w.sights _ (among_first x (seen_by s) _ i)), tt);
       kept = starts_on u.sights w.sights v.sights h.kept (_, sights);
+      events = ap (λ (x : View). x.events) e ∙ h.events;
     }
 
 -- ---- what all of them leave
@@ -94,7 +96,7 @@ own_part e j i (suc k) (s ∷ sessions) rest is row =
     ap (seek (session_key j)) (behind e i s sessions rest row.0) ∙ (own_part e j (suc i) k sessions _ (omega (arith, is)) row.1
     ∙ ap (get_or (map part_of sessions) k) (other_key i j (session (view_of s)) rest (λ t. absurd (omega (arith, is, t)))))
 
-no_part : (j : ℕ) (ps : List Part) → count (session_key j) ps ≡ 0 → seek (session_key j) ps ≡ new_part (session_key j)
+pub no_part : (j : ℕ) (ps : List Part) → count (session_key j) ps ≡ 0 → seek (session_key j) ps ≡ new_part (session_key j)
 no_part j [] none = refl
 no_part j (p ∷ ps) none = go (has (session_key j) p) none (no_part j ps)
   where

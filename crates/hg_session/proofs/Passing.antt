@@ -1,42 +1,33 @@
 -- An engine's passes in one.
 use Rattle.std.proofs.Common.{◌≡◌, ◌⊎◌, inl, inr, ℕ, Bool, true, false, List, [], ◌∷◌, ◌++◌, refl, sym, ap, ◌∙◌, subst, eqb, arith}
 use Rattle.std.specs.Prelude.{if◌then◌else◌}
-use Rattle.hg_rule.specs.declared.passes.CollectorPass.{CollectorPass}
 use Rattle.hg_rule.specs.declared.view.Part.{Part}
 use Rattle.hg_rule.specs.declared.view.Part.TheVariants.{OfPass}
 use Rattle.hg_rule.specs.declared.view.PassPart.{PassPart}
 use Rattle.hg_rule.specs.declared.view.Sight.{Sight}
+use Rattle.hg_rule.specs.declared.view.Sight.TheVariants.{Did}
+use Rattle.hg_rule.specs.declared.view.Event.{Event}
 use Rattle.hg_rule.specs.declared.view.View.{View}
 use Rattle.hg_rule.specs.Keys.{session_key, pass_key, count, shares}
 use Rattle.hg_rule.specs.Facts.{new_part, IsAmong}
-use Rattle.hg_rule.specs.New.{IsNewPass}
-use Rattle.hg_rule.specs.Views.{pass, pass_there, number_in, first_in, after_first}
+use Rattle.hg_rule.specs.Views.{pass, pass_there}
 use Rattle.hg_rule.specs.Moves.{put_in, merged, did}
 use Rattle.hg_rule.specs.Reading.{chosen, seek, passes_in}
-use Rattle.hg_rule.specs.Seats.{BoardId, pass_view}
+use Rattle.hg_rule.specs.Seats.{pass_view}
 use Rattle.hg_rule.proofs.Growing.{among_later}
 use Rattle.hg_session.specs.declared.engine.Engine.{Engine}
 use Rattle.hg_session.specs.declared.opening.Passes.{Passes}
-use Rattle.hg_session.specs.Engines.{engine_board_id}
 use Rattle.hg_session.specs.Ended.{visits_in, HasAllPasses}
 use Rattle.hg_session.specs.Finished.{HasNoSession}
-use Rattle.hg_session.specs.Passing.{IsAlonePass, AreAlone, visits_of}
+use Rattle.hg_session.specs.Passing.{AreAlone, visits_of}
 use Rattle.hg_session.proofs.Meetings.{among_first}
 
--- ---- a new one
+-- ---- what is known to be done
 
-pub new_alone : (t : BoardId) (p : ℕ) (c : CollectorPass) → IsNewPass t p c → IsAlonePass t p c
-new_alone t p c h = record {
-  own = ((h.0, ap (λ m. m.1) h.1), parts ∙ ap (λ ps. OfPass (number_in ps) (pass_there (first_in ps)) ∷ after_first ps) (sym parts));
-  only = parts ∙ ap (λ ps. OfPass p (pass_there (first_in ps)) ∷ []) (sym parts);
-  share = ap (λ ps. (pass_there (first_in ps)).share) parts;
-}
-  where
-    parts : (pass_view c).parts ≡ new_part (pass_key p) ∷ []
-    parts = ap (λ m. m.0.parts) h.1
-
-pub new_passes : (e : Engine) (passes : Passes) → IsNewPass (engine_board_id e) 0 passes.group → IsNewPass (engine_board_id e) 1 passes.table → IsNewPass (engine_board_id e) 2 passes.interval → AreAlone e passes
-new_passes e passes group table interval = record { group = new_alone (engine_board_id e) 0 passes.group group; table = new_alone (engine_board_id e) 1 passes.table table; interval = new_alone (engine_board_id e) 2 passes.interval interval }
+done_among : (x : Event) (events : List Event) → IsAmong x events → IsAmong (Did x) (did events)
+done_among x [] h = h
+done_among x (y ∷ events) (inl e) = inl (ap (λ t. Did t) e)
+done_among x (y ∷ events) (inr i) = inr (done_among x events i)
 
 -- ---- the three
 
@@ -97,3 +88,13 @@ module _ (e : Engine) (passes : Passes) (u w : View) (h : AreAlone e passes) (fi
       go (inl i) = among_first s (own_sights ++ group_sights) interval_sights (among_later s own_sights group_sights (among_first s _ _ i))
       go (inr (inl i)) = among_first s (own_sights ++ group_sights) interval_sights (among_first s own_sights group_sights i)
       go (inr (inr i)) = among_later s (own_sights ++ group_sights) interval_sights (among_first s _ _ i)
+
+  pub all_done : (x : Event) → IsAmong x (pass_view passes.group).events ⊎ IsAmong x (pass_view passes.interval).events → IsAmong (Did x) w.sights
+  all_done x h = subst (IsAmong (Did x)) (sym sights) (go h)
+    where
+      go : IsAmong x (pass_view passes.group).events ⊎ IsAmong x (pass_view passes.interval).events → IsAmong (Did x) ((own_sights ++ group_sights) ++ interval_sights)
+      go (inl i) = among_first (Did x) (own_sights ++ group_sights) interval_sights (among_later (Did x) own_sights group_sights (among_later (Did x) (pass_view passes.group).sights _ (done_among x _ i)))
+      go (inr i) = among_later (Did x) (own_sights ++ group_sights) interval_sights (among_later (Did x) (pass_view passes.interval).sights _ (done_among x _ i))
+
+  pub events_stay : w.events ≡ (pass_view passes.table).events
+  events_stay = ap (λ (v : View). v.events) second ∙ ap (λ (v : View). v.events) first

@@ -1,5 +1,5 @@
 -- What a gather finds where all sessions rest, and were heard to the end of their logs.
-use Rattle.std.proofs.Common.{◌≡◌, ◌⊎◌, inl, inr, ℕ, zero, suc, ◌+◌, ◌<◌, ◌≤◌, Bool, true, false, List, [], ◌∷◌, ◌++◌, length, map, Option, Some, None, refl, sym, ap, ◌∙◌, subst, arith, eqb, length-append, true≢false}
+use Rattle.std.proofs.Common.{◌≡◌, ◌⊎◌, inl, inr, ℕ, zero, suc, ◌+◌, ◌<◌, ◌≤◌, Bool, true, false, List, [], ◌∷◌, ◌++◌, length, map, Option, Some, None, refl, sym, ap, ◌∙◌, subst, arith, eqb, ltb, length-append, true≢false}
 use Rattle.std.specs.Prelude.{◌==◌, if◌then◌else◌, max, IfSome, IsTrue}
 use Rattle.std.proofs.lemmas.Bool.Decides.{nat_tests}
 use Rattle.hg_base.specs.History.{History}
@@ -22,16 +22,18 @@ use Rattle.hg_rule.specs.declared.view.Sight.TheVariants.{Saw, Heard, Took, Did}
 use Rattle.hg_rule.specs.declared.view.View.{View}
 use Rattle.hg_rule.specs.declared.view.Sizes.{Sizes}
 use Rattle.hg_rule.specs.Facts.{IsAmong, StartsWith, groups, heard, record_of, Shown, Known}
-use Rattle.hg_rule.specs.Keys.{session_key, one, count}
+use Rattle.hg_rule.specs.Keys.{session_key, both, one, count}
 use Rattle.hg_rule.specs.Rules.{IsBacked}
 use Rattle.hg_rule.specs.Reading.{chosen, seek}
 use Rattle.hg_rule.specs.Views.{session_there}
 use Rattle.hg_rule.proofs.Counts.{same_number}
+use Rattle.hg_rule.proofs.Found.{inside_is}
 use Rattle.hg_tracker.specs.Begun.{AtMost}
 use Rattle.hg_tracker.specs.Entries.{down_from}
 use Rattle.hg_tracker.proofs.After.{first_key}
 use Rattle.hg_session.specs.Ended.{logs_in, IsEnded}
 use Rattle.hg_session.specs.Ties.{IsHeard}
+use Rattle.hg_session.proofs.Bringing.{no_part}
 
 -- ---- what was heard
 
@@ -242,3 +244,15 @@ module _ (z : Sizes) (n : ℕ) (x : View) (k : IsBacked z n x) (ended : IsEnded 
       let all : length s.history ≡ length (h ++ known.0) = ap length known.1 in
       let mark = k.steady.mark_is_length.is_length in
       omega (arith, told, sum, all, mark)
+
+  -- each log is the one that it has, and a number that is no session's has none
+  pub logs_shown : (j : ℕ) → s.log j ≡ logs_in x j
+  logs_shown j = go (both (ltb 0 j) (ltb j (suc z.sessions))) refl (k.most (session_key j))
+    where
+      go : (b : Bool) → both (ltb 0 j) (ltb j (suc z.sessions)) ≡ b → count (session_key j) x.parts ≤ one b → s.log j ≡ logs_in x j
+      go true e most = (session j (inside_is z j e)).1
+      go false e most =
+          let n : ℕ = count (session_key j) x.parts in
+          let less : n ≤ 0 = most in
+          let none : n ≡ 0 = omega (arith, less) in
+          (k.outside (session_key j) (ap one e)).1.0 ∙ sym (ap (λ p. (session_there p).log) (no_part j x.parts none))

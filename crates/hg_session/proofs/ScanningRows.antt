@@ -8,7 +8,7 @@ use Rattle.hg_base.specs.Lists.{Each, Ascends}
 use Rattle.hg_base.specs.Replies.{AreRows}
 use Rattle.hg_base.proofs.ListFacts.{cases, none_some, append_nil, each_snoc, each_keeps, any_more}
 use Rattle.hg_session.specs.Gains.{rows_at}
-use Rattle.hg_session.specs.Scans.{Rows, IsWithin, LeadsOn, Appends}
+use Rattle.hg_session.specs.Scans.{Rows, IsWithin, LeadsOn}
 
 abbrev pub key_of : ℕ × List ℤ → ℕ
 key_of p = p.0
@@ -134,18 +134,11 @@ module _ (shown : ℕ → Image) (Sought : ℕ → Type 0) (low high : ℕ) (old
   pub one_more : (rows new : Rows) (k : ℕ) (next : Option ℕ) → IsWithin low high (Some k) → IsSoFar shown low high old rows (Some k) → new ≡ rows ++ rows_at k (shown k).row → IsWithin (k + 1) high next → LeadsOn Sought (k + 1) high next → IsSoFar shown low high old new next
   one_more rows new k next here s e within n = goes_on new k next (row_added rows new k here.0 here.1 s e) within n
 
-pub ends : (shown : ℕ → Image) (low high : ℕ) (old rows : Rows) → IsSoFar shown low high old rows None → Appends shown low high old rows
-ends shown low high old rows s = record { more = s.more; is = s.is; rows = record { ascend = s.ascend; each = s.each; every = λ key l h. s.every key l h tt } }
-
 -- ---- how far the next key is from the end
 
 abbrev pub room : ℕ → Option ℕ → ℕ
 room high None = 0
 room high (Some k) = suc high - k
-
-pub falls : (low k high : ℕ) (next : Option ℕ) → IsWithin low high (Some k) → IsWithin (k + 1) high next → room high next < room high (Some k)
-falls low k high None here w = let b = here.1 in omega (arith, b)
-falls low k high (Some m) here w = let b = here.1 in let c = w.0 in let d = w.1 in omega (arith, b, c, d)
 
 pub still_within : (low k high : ℕ) (next : Option ℕ) → IsWithin low high (Some k) → IsWithin (k + 1) high next → IsWithin low high next
 still_within low k high None here w = tt

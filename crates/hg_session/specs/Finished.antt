@@ -2,6 +2,8 @@
 use Rattle.std.specs.Prelude.{◌≡◌, ℕ, zero, suc, List, [], map, get_or, None}
 use Rattle.hg_core.specs.declared.log.LogEntry.{LogEntry}
 use Rattle.hg_rule.specs.declared.view.Sight.{Sight}
+use Rattle.hg_rule.specs.declared.view.Sight.TheVariants.{Did}
+use Rattle.hg_rule.specs.declared.view.Event.{Event}
 use Rattle.hg_rule.specs.declared.view.View.{View}
 use Rattle.hg_rule.specs.Keys.{session_key, count}
 use Rattle.hg_rule.specs.Facts.{IsAmong}
@@ -27,3 +29,7 @@ HasNoSession v = (j : ℕ) → count (session_key j) v.parts ≡ 0
 -- all of the first sights are among the others
 abbrev pub AreAmong : List Sight → List Sight → Type 0
 AreAmong some all = (x : Sight) → IsAmong x some → IsAmong x all
+
+-- all of the steps are known to be done
+abbrev pub AreDone : List Event → List Sight → Type 0
+AreDone events all = (x : Event) → IsAmong x events → IsAmong (Did x) all

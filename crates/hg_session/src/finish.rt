@@ -11,7 +11,7 @@ ghost use Rattle.hg_session.specs.Passing.{AreAlone, passes_with, visits_of};
 ghost use Rattle.hg_session.specs.Ties.{IsHeard};
 ghost use Rattle.hg_session.specs.Sessions.{seen_by};
 ghost use Rattle.hg_session.specs.Ended.{logs_in, visits_in, HasAllPasses, IsEnded};
-ghost use Rattle.hg_session.specs.Finished.{logs_of, IsClosed, HasNoSession, AreAmong};
+ghost use Rattle.hg_session.specs.Finished.{logs_of, IsClosed, HasNoSession, AreAmong, AreDone};
 
 use crate::engine::Engine;
 use crate::session::Session;
@@ -30,6 +30,8 @@ pub fn join_all(
     ensures none { HasNoSession (pass_view pass.new) }
     ensures visits { visits_in (pass_view pass.new) ≡ visits_of (passes_with group pass.old interval) }
     ensures seen { AreAmong (pass_view group).sights (pass_view pass.new).sights × AreAmong (pass_view pass.old).sights (pass_view pass.new).sights × AreAmong (pass_view interval).sights (pass_view pass.new).sights }
+    ensures did { AreDone (pass_view group).events (pass_view pass.new).sights × AreDone (pass_view interval).events (pass_view pass.new).sights }
+    ensures events { (pass_view pass.new).events ≡ (pass_view pass.old).events }
     ensures own { IsPassOf (engine_board_id engine.now) pass.new }
 {
     pass.join(engine.board(), group);
@@ -48,6 +50,7 @@ pub fn finish_all(engine: &Engine, sessions: Vec<Session>, pass: &mut CollectorP
     ensures heard { (j : ℕ) → IsHeard j (logs_of sessions.items j) (pass_view pass.new).sights }
     ensures seen { Each (λ s. AreAmong (seen_by s) (pass_view pass.new).sights) sessions.items }
     ensures kept { StartsWith (pass_view pass.new).sights (pass_view pass.old).sights }
+    ensures events { (pass_view pass.new).events ≡ (pass_view pass.old).events }
     ensures visits { visits_in (pass_view pass.new) ≡ visits_in (pass_view pass.old) }
     ensures passes { passes_in (pass_view pass.new).parts ≡ passes_in (pass_view pass.old).parts }
     ensures own { IsPassOf (engine_board_id engine.now) pass.new }

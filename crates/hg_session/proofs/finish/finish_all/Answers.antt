@@ -78,3 +78,12 @@ returns-clause-passes c =
     let i = c.loop-session.invariant in
     let none : length c.loop-session.session-iterator.rest.items ≡ 0 = search rules in
     passes_finished c.args.engine.now v w all c.requires.own.1 c.requires.sessions c.requires.none (all_finish v w all c.loop-session.yielded _ i.sessions (none_left _ none) i.finishes)
+
+pub returns-clause-events : goal.returns-clause-events
+returns-clause-events c =
+    let v = pass_view c.args.pass.now in
+    let w = pass_view c.loop-session.pass in
+    let all = c.args.sessions.items in
+    let i = c.loop-session.invariant in
+    let none : length c.loop-session.session-iterator.rest.items ≡ 0 = search rules in
+    (all_finish v w all c.loop-session.yielded _ i.sessions (none_left _ none) i.finishes).events
