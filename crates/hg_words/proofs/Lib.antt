@@ -1,2 +1,3 @@
--- A number that is read of a text.
+-- A number that is read of a text, and the range in which it lies.
 pub mod Numbers
+mod Bounds

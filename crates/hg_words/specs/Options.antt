@@ -1,5 +1,5 @@
 -- What the words mean.
-use Rattle.std.specs.Prelude.{ℕ, ◌^◌, ◌&&◌, List, [], ◌∷◌, codes, Option, Some, None, option_and_then, if◌then◌else◌, nat_lt, bytes_eq}
+use Rattle.std.specs.Prelude.{ℕ, ◌≤◌, ◌^◌, ◌&&◌, List, [], ◌∷◌, codes, Option, Some, None, option_and_then, if◌then◌else◌, nat_lt, bytes_eq}
 use Rattle.std.specs.Str.Parse.{digits_value, without_leading_plus}
 use Rattle.clap.specs.ValueTests.{is_numeral}
 use Rattle.clap.specs.Words.{Row, Text, matches_of, one_of, first_of}
@@ -42,3 +42,11 @@ options_unless (fault ∷ faults) rows = None
 -- the options that the words give: none where `clap` finds a fault in them, or where mode and seed do not go together
 abbrev pub options_of : List Text → Option Options
 options_of words = options_unless (fault_of command_line words) (matches_of command_line words)
+
+-- the numbers lie in their ranges
+pub record AreWithin (options : Options) : Type 0 where
+  pub some_buckets : 1 ≤ options.buckets
+  pub most_buckets : options.buckets ≤ 1024
+  pub some_long : 1 ≤ options.long
+  pub most_long : options.long ≤ 1048576
+  pub most_rounds : options.rounds ≤ 1000

@@ -3,7 +3,7 @@
 ghost use Rattle.std.specs.Prelude.{◌≡◌, Some, None, map, codes, IfOk, IsErrOf, string_bytes, option_and_then, option_map};
 ghost use Rattle.clap.specs.Words.{one_of, first_of, found_of, rows_of};
 ghost use Rattle.hg_words.specs.declared.options.WordsRefusal.TheVariants.{Usage};
-ghost use Rattle.hg_words.specs.Options.{options_of, options_in, command_of, number_of};
+ghost use Rattle.hg_words.specs.Options.{AreWithin, options_of, options_in, command_of, number_of};
 
 use crate::line::line;
 use crate::options::{Command, Options, WordsRefusal};
@@ -65,6 +65,7 @@ fn options_from(matches: &ArgMatches) -> Option<Options>
 /// Reads the words. A number's bounds, and what stands where an option is not given, are in the crate's head.
 pub fn read_words(alloc: Global, words: &[String]) -> Result<Options, WordsRefusal>
     ensures taken { IfOk result (λ options. options_of (map string_bytes words.now) ≡ Some options) }
+    ensures bounds { IfOk result AreWithin }
     ensures usage { IsErrOf result Usage → options_of (map string_bytes words.now) ≡ None }
 {
     match line(alloc)?.try_get_matches_from(words) {

@@ -6,6 +6,7 @@ use Rattle.clap.specs.declared.error.kind.ErrorKind.{ErrorKind}
 use Rattle.clap.proofs.OnLiterals.{clap_on_literals}
 use Rattle.hg_words.specs.Line.{command_line}
 use Rattle.hg_words.specs.Options.{options_unless}
+use Rattle.hg_words.proofs.Bounds.{are_within}
 use Rattle.hg_words.proofs.reading.read_words.Goals as goal
 
 free : is_simple_and_free command_line ≡ true
@@ -24,6 +25,9 @@ returns-in-Some-clause-taken c =
     let rows = (c.in-Ok.ensures.matches (ap is_simple app ∙ simple)).0 in
     ap₂ options_unless (ap (λ (a : App). fault_of a words) (sym app) ∙ faults) (ap (λ (a : App). matches_of a words) (sym app) ∙ sym rows)
     ∙ sym c.options_from.ensures ∙ c.in-Some.is
+
+pub returns-in-Some-clause-bounds : goal.returns-in-Some-clause-bounds
+returns-in-Some-clause-bounds c = are_within c.in_ok-line.field-0 c.in-Ok.matches c.in_ok-line.ensures c.in-Ok.ensures.parsed c.in-Some.options (sym c.options_from.ensures ∙ c.in-Some.is)
 
 pub returns-in-Ok-clause-usage : goal.returns-in-Ok-clause-usage
 returns-in-Ok-clause-usage c e =
@@ -45,6 +49,7 @@ returns c =
     let faults = c.in-Err.ensures.kinds (ap is_simple_and_free app ∙ free) in
     record {
       taken = tt;
+      bounds = tt;
       usage = λ e. elim faults [
         | inl memory ↦ absurd (c.in_default.not-OutOfMemory (c.kind.ensures ∙ memory))
         | inr among ↦ ap (λ (a : App). options_unless (fault_of a words) (matches_of command_line words)) (sym app)
