@@ -104,7 +104,7 @@ numbers_ascend n zero = tt
 numbers_ascend n (suc zero) = tt
 numbers_ascend n (suc (suc many)) = (omega arith, numbers_ascend (suc n) (suc many))
 
-as_many_numbers : (n many : ℕ) → length (numbers_from n many) ≡ many
+pub as_many_numbers : (n many : ℕ) → length (numbers_from n many) ≡ many
 as_many_numbers n zero = refl
 as_many_numbers n (suc many) = ap suc (as_many_numbers (suc n) many)
 

@@ -1,7 +1,7 @@
 -- What is sound for a lawful script fits it.
 use Rattle.std.proofs.Common.{◌≡◌, ℕ, ℤ, ◌+◌, ◌<◌, ◌≤◌, ◌^◌, List, [], ◌∷◌, ◌++◌, length, Bool, true, false, Option, Some, None, refl, sym, ap, ◌∙◌, subst, arith, append_assoc}
-use Rattle.std.specs.Prelude.{cond, filter, find, map, sum_by, if◌then◌else◌, is_some, unwrap_or, IfSome, IsSome, IsTrue, MatchOption, ⊤, ◌==◌, ◌&&◌, ◌||◌}
-use Rattle.std.specs.List.{cons_option, filter_map, list_any}
+use Rattle.std.specs.Prelude.{cond, filter, find, map, sum_by, if◌then◌else◌, is_none, is_some, unwrap_or, IfSome, IsSome, IsTrue, MatchOption, ⊤, ◌==◌, ◌&&◌, ◌||◌}
+use Rattle.std.specs.List.{filter_map, list_any}
 use Rattle.std.specs.Bool.{MatchBool}
 use Rattle.std.specs.Option.{option_map_or}
 use Rattle.std.proofs.lemmas.Bool.{and_parts}
@@ -11,11 +11,12 @@ use Rattle.std.proofs.lemmas.List.Sums.{sum_by-cons}
 use Rattle.hg_base.specs.declared.rid.Rid.{Rid}
 use Rattle.hg_base.specs.declared.rid.TableId.{TableId}
 use Rattle.hg_base.specs.declared.image.Image.{Image}
+use Rattle.hg_base.specs.declared.scope.Scope.{Scope}
 use Rattle.hg_base.specs.declared.statement.Statement.{Statement}
 use Rattle.hg_base.specs.declared.statement.Statement.TheVariants.{Begin, Get, Put, Del, Scan, Commit as CommitIt, Rollback, Gc}
 use Rattle.hg_base.specs.declared.statement.Record.{Record}
 use Rattle.hg_base.specs.declared.line.Answer.{Answer}
-use Rattle.hg_base.specs.declared.line.Answer.TheVariants.{Begun, Stored, Found, Nothing, Gone, Rows, Committed, Ended, Undone, Newer, OpenBy, Undeclared, Swept}
+use Rattle.hg_base.specs.declared.line.Answer.TheVariants.{Begun, Stored, Found, Nothing, Gone, Rows, Committed, Ended, Undone, Newer, OpenBy, Undeclared, Swept, Beside}
 use Rattle.hg_base.specs.declared.line.Line.{Line}
 use Rattle.hg_base.specs.declared.line.Printed.{Printed}
 use Rattle.hg_base.specs.declared.line.Totals.{Totals}
@@ -26,24 +27,28 @@ use Rattle.hg_base.specs.declared.report.Told.{Told}
 use Rattle.hg_base.specs.Counts.{AreTotals, removed_by}
 use Rattle.hg_base.specs.Freshness.{IsHeld, IsReported, prints, snapshot_of}
 use Rattle.hg_base.specs.Lists.{Each, EachAfter, Ascends, greatest}
-use Rattle.hg_base.specs.Script.{Declaration, Script, replay}
-use Rattle.hg_base.specs.History.{History, image_in}
-use Rattle.hg_base.specs.Transcript.{Said, said, said_from, has, is_of, last_of, stored, stored_by, stored_in, committed, committed_by, greatest_commit, table_of, history_of}
+use Rattle.hg_base.specs.Script.{Mode, Declaration, Script, replay, run}
+use Rattle.hg_base.specs.History.{History, image_in, seen}
+use Rattle.hg_base.specs.Transcript.{Said, said, said_from, has, is_of, last_of, own_writes, stored, stored_by, stored_in, committed, committed_by, table_of, history_of, in_order, said_after}
 use Rattle.hg_base.specs.Shape.{HasShape, IsLineOf, report_of, same_kind}
-use Rattle.hg_base.specs.Replies.{IsBegun, IsGot, IsPut, IsDeleted, IsScanned, IsCommitted, IsUndone, IsSwept, IsUndeclared, IsAnswer}
+use Rattle.hg_base.specs.Replies.{IsBegun, IsGot, IsPut, IsDeleted, IsScanned, IsCommitted, IsUndone, IsSwept, IsBeside, IsCollected, IsUndeclared, IsAnswer, is_written}
 use Rattle.hg_base.specs.Conflicts.{ShowsCause, target}
 use Rattle.hg_base.specs.Sound.{IsRight, IsSound, all_said}
-use Rattle.hg_base.specs.Text.{Fits64, Fits32, FitsRow, FitsBegin, FitsGet, FitsPut, FitsDel, FitsScan, FitsCommit, FitsRollback, FitsSweep, FitsGc, FitsAnswer, FitsReply, FitTotals, Fits, IsFit, IsReport, asked, is_write}
-use Rattle.hg_base.proofs.ListFacts.{false_true, not_equal, each_keeps, if_some_keeps}
+use Rattle.hg_base.specs.Text.{Fits64, Fits32, FitsRow, FitsBegin, FitsGet, FitsPut, FitsDel, FitsScan, FitsCommit, FitsRollback, FitsSweep, FitsReport, FitsGc, FitsAnswer, FitsReply, FitTotals, Fits, IsFit, IsReport, asked, is_write}
+use Rattle.hg_base.proofs.ListFacts.{false_true, not_equal, each_keeps}
 use Rattle.hg_headline.proofs.Orderly.{orderly_nothing}
 use Rattle.hg_headline.proofs.Parts.{ascends_over, ascends_rest}
 use Rattle.hg_headline.proofs.Whole.{said_says}
 use Rattle.hg_headline.proofs.Words.{same_number}
+use Rattle.hg_core.specs.Answered.{is_gc}
 use Rattle.hg_script.specs.Lawful.{IsLawful, IsStatement, FitsTables, HasWidths}
+use Rattle.hg_run.specs.Printing.{rounds_beside}
 use Rattle.hg_run.specs.Rows.{AsksRow, FoundRow, FoundRows, PrintsRow}
 use Rattle.hg_run.proofs.Rows.{all_ask, rows_put}
 use Rattle.hg_run.proofs.Counts.{IsIn, no_more, lines_few, groups_few, numbers_within, transactions_few, totals_fit}
-use Rattle.hg_run.proofs.Opens.{IsStanding, all_stand}
+use Rattle.hg_run.proofs.InOrder.{each_in_order, few_in_order, stand_in_order}
+use Rattle.hg_run.proofs.Going.{sessions_within}
+use Rattle.hg_run.proofs.Opens.{IsStanding, all_stand, gc_of}
 
 -- ---- lists
 
@@ -79,10 +84,12 @@ asks_row : (script : Script) (place j : ℕ) (s : Statement) → FitsTables scri
 asks_row script place j (Put r row) fits widths among = ((fits.1, widths.1), among)
 asks_row script place j _ fits widths among = tt
 
-all_rows : (script : Script) (lines : List Line) → IsLawful script → Each (λ now. AsksRow (IsPutRow script) now.statement) (all_said replay script lines)
-all_rows script lines lawful = all_ask (IsPutRow script) [] script.records lines
+all_rows : (mode : Mode) (script : Script) (lines : List Line) → IsLawful script → Each (λ now. AsksRow (IsPutRow script) now.statement) (all_said mode script lines)
+all_rows mode script lines lawful = all_ask (IsPutRow script) [] (in_order mode script.records) lines
+    (each_in_order (λ r. AsksRow (IsPutRow script) r.statement) mode script.records
     (both_each (IsStatement script.tables) (λ r. IsIn (map key_put script.records) (key_put r)) (λ r. AsksRow (IsPutRow script) r.statement)
     (λ r is among. asks_row script r.place r.session r.statement is.fits is.widths among) script.records lawful.statements (each_among key_put script.records))
+    (λ kind m k. tt))
 
 -- ---- answers
 
@@ -137,6 +144,31 @@ rollback_fits : (a : Answer) → IsUndone a → FitsRollback a
 rollback_fits Undone u = tt
 rollback_fits _ u = absurd u
 
+either : {P Q R : Type 0} (b : Bool) → (P → R) → (Q → R) → MatchBool b P Q → R
+either true f g p = f p
+either false f g q = g q
+
+-- a `gc` record that is run is answered by its report, and one that is left out is told so
+collected_fits : (mode : Mode) (session : ℕ) (a : Answer) → IsCollected mode session a → (IsSwept a → FitsReport a) → FitsGc a
+collected_fits mode session a c f = go mode c
+  where
+    wide : (a : Answer) → FitsReport a → FitsGc a
+    wide (Swept sweep) r = r
+    wide _ r = absurd r
+
+    beside : (a : Answer) → IsBeside a → FitsGc a
+    beside Beside b = tt
+    beside _ b = absurd b
+
+    go : (mode : Mode) → IsCollected mode session a → FitsGc a
+    go replay c = wide a (f c)
+    go (run rounds) c = either (session == 0) (λ s. wide a (f s)) (λ b. beside a b) c
+
+-- of session 0 it is run
+is_reported : (mode : Mode) (session : ℕ) (a : Answer) → (session == 0) ≡ true → IsCollected mode session a → IsSwept a
+is_reported replay session a e c = c
+is_reported (run rounds) session a e c = subst (λ b. MatchBool b (IsSwept a) (IsBeside a)) e c
+
 written : (s : Statement) (a : Answer) → is_some (stored_by s a) ≡ true → is_write a ≡ true
 written (Put r row) Stored e = refl
 written (Del r) Gone e = refl
@@ -146,10 +178,6 @@ written _ _ e = absurd (false_true e)
 no_commit : (s : Statement) (a : Answer) → is_some (table_of s) ≡ true → committed_by s a ≡ None
 no_commit CommitIt a e = absurd (false_true e)
 no_commit _ a e = refl
-
-either : {P Q R : Type 0} (b : Bool) → (P → R) → (Q → R) → MatchBool b P Q → R
-either true f g p = f p
-either false f g q = g q
 
 -- ---- one line, where there are so few groups, and each line is of a session and a transaction that are few
 
@@ -168,21 +196,41 @@ kind_itself kinds.Group = refl
 kind_itself kinds.Table = refl
 kind_itself kinds.Interval = refl
 
-greatest_commits : (h : History) (xs : List Said) → Each (CommitsWithin h) xs → greatest_commit xs ≤ length h
-greatest_commits h [] e = omega arith
-greatest_commits h (x ∷ xs) e = go (committed x) e.0 (greatest_commits h xs e.1)
-  where
-    go : (o : Option ℕ) → IfSome o (λ c. c ≤ length h) → greatest (filter_map committed xs) ≤ length h → greatest (cons_option o (filter_map committed xs)) ≤ length h
-    go None k m = m
-    go (Some c) k m = omega (arith, k, m)
+-- only a `begin` is answered `begun`
+begun_alone : (mode : Mode) (look : Rid → Image) (wrote : Bool) (now : Said) (s : Statement) (n : ℕ) → now.reply.answer ≡ Begun n → IsAnswer mode look wrote now s → (scope : Scope) × (s ≡ Begin scope)
+begun_alone mode look wrote now (Begin scope) n e a = (scope, refl)
+begun_alone mode look wrote now (Get r) n e a = absurd (either (has now.scope r.table) (subst (IsGot (look r)) e) (subst (IsUndeclared r.table) e) a)
+begun_alone mode look wrote now (Put r row) n e a = absurd (either (has now.scope r.table) (subst IsPut e) (subst (IsUndeclared r.table) e) a)
+begun_alone mode look wrote now (Del r) n e a = absurd (either (has now.scope r.table) (subst (IsDeleted (look r)) e) (subst (IsUndeclared r.table) e) a)
+begun_alone mode look wrote now (Scan table low high) n e a =
+    absurd (either (has now.scope table) (subst (IsScanned (λ key. look (record { table = table; key = key })) low high) e) (subst (IsUndeclared table) e) a)
+begun_alone mode look wrote now CommitIt n e a = absurd (subst (IsCommitted wrote) e a)
+begun_alone mode look wrote now Rollback n e a = absurd (subst IsUndone e a)
+begun_alone mode look wrote now (Gc kind) n e a = absurd (subst FitsGc e (collected_fits mode now.session now.reply.answer a (λ s. absurd (subst IsSwept e s))))
 
--- in a replay each snapshot is the greatest commit before
-snapshots_within : (h : History) (all earlier xs : List Said) → Each (CommitsWithin h) earlier → Each (CommitsWithin h) xs → EachAfter (IsRight replay h all) earlier xs → Each (PrintsWithin h) xs
-snapshots_within h all earlier [] e x r = tt
-snapshots_within h all earlier (now ∷ later) e x r = (
-  if_some_keeps (snapshot_of now) (λ s. s ≡ greatest_commit earlier) (λ s. s ≤ length h) (λ s k. let m = greatest_commits h earlier e in omega (arith, k, m)) r.0.fresh.exact.snapshot,
-  snapshots_within h all (now ∷ earlier) later (x.0, e) x.1 r.1,
-)
+snapshot_within : (mode : Mode) (h : History) (all earlier : List Said) (now : Said) → IsRight mode h all earlier now → IsStanding now → PrintsWithin h now
+snapshot_within mode h all earlier now right stands = go now.reply.answer refl
+  where
+    alone : (o : Option ℕ) → now.reply.at ≡ o → IfSome o (λ s. s ≤ length h)
+    alone None is = tt
+    alone (Some s) is =
+        let same : now.at ≡ s = (stands.alone (sym right.reply.at ∙ ap is_some is)).0 ∙ ap (λ o. unwrap_or o 0) is in
+        subst (λ n. n ≤ length h) same right.reply.snapshot
+
+    at : IfSome now.reply.at (λ s. s ≤ length h)
+    at = alone now.reply.at refl
+
+    go : (a : Answer) → now.reply.answer ≡ a → IfSome (elim a [ Begun s ↦ Some s | _ ↦ now.reply.at ]) (λ s. s ≤ length h)
+    go (Begun n) is =
+        let k = begun_alone mode _ _ now now.statement n is right.reply.answer in
+        let same : now.at ≡ n = stands.begun k.0 k.1 ∙ ap (λ (a : Answer). elim a [ Begun s ↦ s | _ ↦ 0 ]) is in
+        subst (λ n. n ≤ length h) same right.reply.snapshot
+    go _ is = at
+
+-- each snapshot is one of the history
+snapshots_within : (mode : Mode) (h : History) (all earlier xs : List Said) → EachAfter (IsRight mode h all) earlier xs → Each IsStanding xs → Each (PrintsWithin h) xs
+snapshots_within mode h all earlier [] right stand = tt
+snapshots_within mode h all earlier (now ∷ later) right stand = (snapshot_within mode h all earlier now right.0 stand.0, snapshots_within mode h all (now ∷ earlier) later right.1 stand.1)
 
 summed : (k : Kind) (xs : List Said) → Each (λ now. removed_by k now ≤ sum_by (removed_by k) xs) xs
 summed k [] = tt
@@ -207,7 +255,20 @@ removed_few all h t a f = each_every (λ k now. Fits64 (removed_by k now)) all
     (each_keeps (λ now. removed_by kinds.Table now ≤ sum_by (removed_by kinds.Table) all) (λ now. Fits64 (removed_by kinds.Table now)) (λ now m. let e = a.table in let w = f.table in omega (arith, m, e, w)) all (summed kinds.Table all))
     (each_keeps (λ now. removed_by kinds.Interval now ≤ sum_by (removed_by kinds.Interval) all) (λ now. Fits64 (removed_by kinds.Interval now)) (λ now m. let e = a.interval in let w = f.interval in omega (arith, m, e, w)) all (summed kinds.Interval all))
 
-module _ (script : Script) (h : History) (all : List Said) (few : length h < 2 ^ 64) (short : length script.records < 2 ^ 64) (writers : Each IsFew all) where
+-- a line of a collector beside the sessions
+record IsBesideThem (now : Said) : Type 0 where
+  alone : now.alone ≡ false
+  statement : (kind : Kind) × (now.statement ≡ Gc kind)
+
+-- a report of session 0 stands alone, and another reply is one to its statement
+abbrev FitsSaid : Script → Said → Type 0
+FitsSaid script now = MatchBool (now.session == 0) (IsReport now.reply) (FitsReply script.tables now.statement now.reply)
+
+nothing_there : {X : Type 0} (o : Option X) → is_some o ≡ false → is_none o ≡ true
+nothing_there None e = refl
+nothing_there (Some x) e = absurd (false_true (sym e))
+
+module _ (mode : Mode) (script : Script) (h : History) (all : List Said) (few : length h < 2 ^ 64) (short : length script.records < 2 ^ 64) (writers : Each IsFew all) where
   writer_fits : (r : Rid) (j x : ℕ) (xs : List Said) → IsSome (image_in r (stored_in j x xs)) → Each IsFew xs → Fits32 j × Fits64 x
   writer_fits r j x [] some e = absurd (false_true some)
   writer_fits r j x (s ∷ ss) some e = go (is_of j x s) refl some (λ some. writer_fits r j x ss some e.1)
@@ -220,7 +281,7 @@ module _ (script : Script) (h : History) (all : List Said) (few : length h < 2 ^
           (subst Fits32 session e.0.0, subst Fits64 transaction e.0.1)
       go false is some later = later some
 
-  cause_fits : (earlier : List Said) (now : Said) (r : Rid) (a : Answer) → ShowsCause replay h all earlier now r a → FitsCause a
+  cause_fits : (earlier : List Said) (now : Said) (r : Rid) (a : Answer) → ShowsCause mode h all earlier now r a → FitsCause a
   cause_fits earlier now r (Newer c) k = omega (arith, k.1.within, few)
   cause_fits earlier now r (OpenBy writer) k = writer_fits r writer.session writer.transaction all k.1.does writers
   cause_fits earlier now r _ k = tt
@@ -257,8 +318,8 @@ module _ (script : Script) (h : History) (all : List Said) (few : length h < 2 ^
       go true is = subst (λ o. IfSome o Fits64) (sym (no_commit now.statement now.reply.answer (k.alone is).1)) tt
       go false is = wide (committed_by now.statement now.reply.answer) (subst (λ o. IfSome o (λ c. c ≤ length h)) (ap (λ b. cond b now.reply.number (committed_by now.statement now.reply.answer)) is) within)
 
-  answer_fits : (look : Rid → Image) (wrote : Bool) (now : Said) (s : Statement) → now.statement ≡ s → IsStanding now → now.at ≤ length h → IsAnswer replay look wrote now s → IfSome (target s) (λ r. FitsCause now.reply.answer) →
-      PrintsRow (IsPutRow script) s now.reply.answer → HasWidths s → (IsSwept now.reply.answer → FitsGc now.reply.answer) → IfSome (committed_by s now.reply.answer) Fits64 → FitsAnswer script.tables s now.reply.answer
+  answer_fits : (look : Rid → Image) (wrote : Bool) (now : Said) (s : Statement) → now.statement ≡ s → IsStanding now → now.at ≤ length h → IsAnswer mode look wrote now s → IfSome (target s) (λ r. FitsCause now.reply.answer) →
+      PrintsRow (IsPutRow script) s now.reply.answer → HasWidths s → (IsSwept now.reply.answer → FitsReport now.reply.answer) → IfSome (committed_by s now.reply.answer) Fits64 → FitsAnswer script.tables s now.reply.answer
   answer_fits look wrote now (Begin scope) is k most a cause rows wide quiet number =
       let same = k.begun scope is in
       let fits : Fits64 now.at = omega (arith, most, few) in
@@ -274,9 +335,9 @@ module _ (script : Script) (h : History) (all : List Said) (few : length h < 2 ^
       (λ u. (out_fits script.tables table now.reply.answer u).3) a
   answer_fits look wrote now CommitIt is k most a cause rows wide quiet number = commit_fits wrote now.reply.answer a number
   answer_fits look wrote now Rollback is k most a cause rows wide quiet number = rollback_fits now.reply.answer a
-  answer_fits look wrote now (Gc kind) is k most a cause rows wide swept number = swept a
+  answer_fits look wrote now (Gc kind) is k most a cause rows wide swept number = collected_fits mode now.session now.reply.answer a swept
 
-  causes_fit : (earlier : List Said) (now : Said) (s : Statement) → IfSome (target s) (λ r. ShowsCause replay h all earlier now r now.reply.answer) → IfSome (target s) (λ r. FitsCause now.reply.answer)
+  causes_fit : (earlier : List Said) (now : Said) (s : Statement) → IfSome (target s) (λ r. ShowsCause mode h all earlier now r now.reply.answer) → IfSome (target s) (λ r. FitsCause now.reply.answer)
   causes_fit earlier now (Put r row) k = cause_fits earlier now r now.reply.answer k
   causes_fit earlier now (Del r) k = cause_fits earlier now r now.reply.answer k
   causes_fit earlier now _ k = tt
@@ -305,7 +366,7 @@ module _ (script : Script) (h : History) (all : List Said) (few : length h < 2 ^
     each_keeps (IsHeld all) (λ told. Fits32 told.session × Fits64 told.number) (λ told k. held_fits told all k.printed writers shown) sweep.held r.held,
   )
 
-  gc_fits : (earlier : List Said) (now : Said) (a : Answer) → now.reply.answer ≡ a → IsSwept a → IfSome (report_of now.reply) (IsReported h all earlier) → Each (PrintsWithin h) all → ((k : Kind) → Fits64 (removed_by k now)) → FitsGc a
+  gc_fits : (earlier : List Said) (now : Said) (a : Answer) → now.reply.answer ≡ a → IsSwept a → IfSome (report_of now.reply) (IsReported h all earlier) → Each (PrintsWithin h) all → ((k : Kind) → Fits64 (removed_by k now)) → FitsReport a
   gc_fits earlier now (Swept sweep) is s report shown gone =
       let said : report_of now.reply ≡ Some sweep = ap (λ (a : Answer). elim a [ Swept x ↦ Some x | _ ↦ None ]) is in
       let own : removed_by sweep.kind now ≡ sweep.removed = ap (λ (o : Option Sweep). option_map_or (λ (x : Sweep). if same_kind x.kind sweep.kind then x.removed else 0) o 0) said ∙ ap (λ b. if b then sweep.removed else 0) (kind_itself sweep.kind) in
@@ -318,18 +379,39 @@ module _ (script : Script) (h : History) (all : List Said) (few : length h < 2 ^
     rows : PrintsRow (IsPutRow script) now.statement now.reply.answer
     number : IfSome (committed now) (λ c. c ≤ length h)
     gone : (k : Kind) → Fits64 (removed_by k now)
+    beside : (now.session == 0) ≡ true → IsBesideThem now
 
-  reply_fits : (earlier : List Said) (now : Said) → Each (PrintsWithin h) all → IsRight replay h all earlier now → IsKnown now → FitsReply script.tables now.statement now.reply
+  report_fits : (earlier : List Said) (now : Said) → Each (PrintsWithin h) all → IsRight mode h all earlier now → IsKnown now → IsSwept now.reply.answer → FitsReport now.reply.answer
+  report_fits earlier now shown right known s = gc_fits earlier now now.reply.answer refl s right.fresh.report shown known.gone
+
+  reply_fits : (earlier : List Said) (now : Said) → Each (PrintsWithin h) all → IsRight mode h all earlier now → IsKnown now → FitsReply script.tables now.statement now.reply
   reply_fits earlier now shown right known = record {
     at = at_fits now right.reply.at right.reply.snapshot known.standing;
     answer = answer_fits _ _ now now.statement refl known.standing right.reply.snapshot right.reply.answer (causes_fit earlier now now.statement right.conflict) known.rows known.standing.widths
-        (λ s. gc_fits earlier now now.reply.answer refl s right.fresh.report shown known.gone) (number_in now known.standing known.number);
+        (report_fits earlier now shown right known) (number_in now known.standing known.number);
     number = number_fits now right.reply.number known.number;
   }
 
-  replies_fit : (earlier xs : List Said) → Each (PrintsWithin h) all → EachAfter (IsRight replay h all) earlier xs → Each IsKnown xs → Each (λ now. FitsReply script.tables now.statement now.reply) xs
-  replies_fit earlier [] shown right known = tt
-  replies_fit earlier (now ∷ later) shown right known = (reply_fits earlier now shown right.0 known.0, replies_fit (now ∷ earlier) later shown right.1 known.1)
+  -- a report of session 0 stands alone
+  stands_alone : (earlier : List Said) (now : Said) → Each (PrintsWithin h) all → IsRight mode h all earlier now → IsKnown now → (now.session == 0) ≡ true → IsReport now.reply
+  stands_alone earlier now shown right known e =
+      let k = known.beside e in
+      let answer : IsCollected mode now.session now.reply.answer = subst (IsAnswer mode (seen h (own_writes earlier now) now.at) (is_written (own_writes earlier now)) now) k.statement.1 right.reply.answer in record {
+        at = nothing_there now.reply.at (right.reply.at ∙ k.alone);
+        answer = report_fits earlier now shown right known (is_reported mode now.session now.reply.answer e answer);
+        number = nothing_there now.reply.number (right.reply.number ∙ ap (λ b. b && is_some (stored now)) k.alone);
+      }
+
+  said_fits : (earlier : List Said) (now : Said) → Each (PrintsWithin h) all → IsRight mode h all earlier now → IsKnown now → FitsSaid script now
+  said_fits earlier now shown right known = go (now.session == 0) refl
+    where
+      go : (b : Bool) → (now.session == 0) ≡ b → MatchBool b (IsReport now.reply) (FitsReply script.tables now.statement now.reply)
+      go true is = stands_alone earlier now shown right known is
+      go false is = reply_fits earlier now shown right known
+
+  all_fit : (earlier xs : List Said) → Each (PrintsWithin h) all → EachAfter (IsRight mode h all) earlier xs → Each IsKnown xs → Each (FitsSaid script) xs
+  all_fit earlier [] shown right known = tt
+  all_fit earlier (now ∷ later) shown right known = (said_fits earlier now shown right.0 known.0, all_fit (now ∷ earlier) later shown right.1 known.1)
 
 -- ---- the record of a line
 
@@ -355,61 +437,126 @@ is_asked (q ∷ qs) rs r place session p s e =
     ap (λ b. cond (b && (q.session == session)) (Some q) (find (λ (q : Record). (q.place == place) && (q.session == session)) (qs ++ r ∷ rs))) apart
     ∙ is_asked qs rs r place session p s e.1
 
--- ---- all lines
+-- the record is the script's at its place
+record IsAsked (script : Script) (r : Record) : Type 0 where
+  session : Fits32 r.session
+  place : Fits64 r.place
+  found : find (λ q. (q.place == r.place) && (q.session == r.session)) script.records ≡ Some r
+
+-- a round of a collector beside the sessions
+record IsRound (r : Record) : Type 0 where
+  place : Fits64 r.place
+  collects : is_gc r.statement ≡ true
+
+abbrev IsOwn : Script → Record → Type 0
+IsOwn script r = MatchBool (r.session == 0) (IsRound r) (IsAsked script r)
 
 module _ (script : Script) (lawful : IsLawful script) where
-  line_fits : (before rs : List Record) (r : Record) (line : Line) → script.records ≡ before ++ r ∷ rs → IsLineOf r line → IsStatement script.tables r → FitsReply script.tables r.statement line.reply → Fits script line
-  line_fits before rs r line e shape is fits =
+  owned : (before rs : List Record) → script.records ≡ before ++ rs → Each (IsStatement script.tables) rs → Each (IsOwn script) rs
+  owned before [] e are = tt
+  owned before (r ∷ rs) e are =
       let places : Ascends (map (λ (r : Record). r.place) (before ++ r ∷ rs)) = subst (λ (rs : List Record). Ascends (map (λ (r : Record). r.place) rs)) e lawful.places in
-      let found = ap (find (λ (q : Record). (q.place == line.place) && (q.session == line.session))) e ∙ is_asked before rs r line.place line.session shape.place shape.session (lower before rs r places) in
-      let asks : asked script.records line ≡ Some r.statement = ap (λ o. option_map_or (λ r. Some r.statement) o None) found in
-      let session : line.session ≡ r.session = shape.session in
-      let some : (line.session == 0) ≡ false = grind (arith, nat_tests, session, is.some) in
-      record {
-        session = omega (arith, session, is.most);
-        place = omega (arith, shape.place, is.place);
-        reply = subst (λ b. MatchBool b (IsReport line.reply) (MatchOption (asked script.records line) ⊥ (λ s. FitsReply script.tables s line.reply))) (sym some)
-            (subst (λ o. MatchOption o ⊥ (λ s. FitsReply script.tables s line.reply)) (sym asks) fits);
-      }
-
-  lines_fit : (before rs : List Record) (lines : List Line) (earlier : List Said) → script.records ≡ before ++ rs → HasShape rs lines → Each (IsStatement script.tables) rs → Each (λ now. FitsReply script.tables now.statement now.reply) (said_from earlier rs lines) → Each (Fits script) lines
-  lines_fit before [] [] earlier e shape are fits = tt
-  lines_fit before [] (line ∷ lines) earlier e shape are fits = absurd shape
-  lines_fit before (r ∷ rs) [] earlier e shape are fits = absurd shape
-  lines_fit before (r ∷ rs) (line ∷ lines) earlier e shape are fits =
-      let says = said_says (last_of r.session earlier) r line.reply r.statement in
-      let here : FitsReply script.tables r.statement line.reply = subst (λ s. FitsReply script.tables s line.reply) says.1 (subst (FitsReply script.tables (said earlier r line.reply).statement) says.2 fits.0) in (
-        line_fits before rs r line e shape.0 are.0 here,
-        lines_fit (before ++ r ∷ []) rs lines (said earlier r line.reply ∷ earlier) (e ∙ sym (append_assoc before (r ∷ []) rs)) shape.1 are.1 fits.1,
+      let some : (r.session == 0) ≡ false = grind (arith, nat_tests, are.0.some) in
+      let asks : IsAsked script r = record {
+        session = omega (arith, are.0.most);
+        place = omega (arith, are.0.place);
+        found = ap (find (λ (q : Record). (q.place == r.place) && (q.session == r.session))) e ∙ is_asked before rs r r.place r.session refl refl (lower before rs r places);
+      } in (
+        subst (λ b. MatchBool b (IsRound r) (IsAsked script r)) (sym some) asks,
+        owned (before ++ r ∷ []) rs (e ∙ sym (append_assoc before (r ∷ []) rs)) are.1,
       )
 
-all_of_sessions : (tables : List Declaration) (rs : List Record) (lines : List Line) (earlier : List Said) → Each (IsStatement tables) rs → Each (λ s. Fits32 s.session) (said_from earlier rs lines)
-all_of_sessions tables [] lines earlier are = tt
-all_of_sessions tables (r ∷ rs) [] earlier are = tt
-all_of_sessions tables (r ∷ rs) (line ∷ lines) earlier are =
-    let by = (said_says (last_of r.session earlier) r line.reply r.statement).0 in
-    (omega (arith, by, are.0.most), all_of_sessions tables rs lines (said earlier r line.reply ∷ earlier) are.1)
+  line_fits : (r : Record) (line : Line) → IsLineOf r line → IsOwn script r → MatchBool (r.session == 0) (IsReport line.reply) (FitsReply script.tables r.statement line.reply) → Fits script line
+  line_fits r line shape own fits = go (r.session == 0) refl own fits
+    where
+      go : (b : Bool) → (r.session == 0) ≡ b → MatchBool b (IsRound r) (IsAsked script r) → MatchBool b (IsReport line.reply) (FitsReply script.tables r.statement line.reply) → Fits script line
+      go true is own fits =
+          let none : r.session ≡ 0 = (Decides-eqb r.session 0).0 is in record {
+            session = omega (arith, shape.session, none);
+            place = subst Fits64 (sym shape.place) own.place;
+            reply = subst (λ b. MatchBool b (IsReport line.reply) (MatchOption (asked script.records line) ⊥ (λ s. FitsReply script.tables s line.reply))) (sym (ap (λ n. n == 0) shape.session ∙ is)) fits;
+          }
+      go false is own fits =
+          let at : (λ (q : Record). (q.place == line.place) && (q.session == line.session)) ≡ (λ (q : Record). (q.place == r.place) && (q.session == r.session)) = (λ i (q : Record). (q.place == shape.place i) && (q.session == shape.session i)) in
+          let asks : asked script.records line ≡ Some r.statement = ap (λ test. option_map_or (λ r. Some r.statement) (find test script.records) None) at ∙ ap (λ o. option_map_or (λ r. Some r.statement) o None) own.found in record {
+            session = subst Fits32 (sym shape.session) own.session;
+            place = subst Fits64 (sym shape.place) own.place;
+            reply = subst (λ b. MatchBool b (IsReport line.reply) (MatchOption (asked script.records line) ⊥ (λ s. FitsReply script.tables s line.reply))) (sym (ap (λ n. n == 0) shape.session ∙ is))
+                (subst (λ o. MatchOption o ⊥ (λ s. FitsReply script.tables s line.reply)) (sym asks) fits);
+          }
 
-pub sound_fits : (script : Script) (printed : Printed) → IsLawful script → IsSound replay script printed → IsFit script printed
-sound_fits script printed lawful sound =
-    let all : List Said = all_said replay script printed.lines in
+  lines_fit : (rs : List Record) (lines : List Line) (earlier : List Said) → HasShape rs lines → Each (IsOwn script) rs → Each (FitsSaid script) (said_from earlier rs lines) → Each (Fits script) lines
+  lines_fit [] [] earlier shape own fits = tt
+  lines_fit [] (line ∷ lines) earlier shape own fits = absurd shape
+  lines_fit (r ∷ rs) [] earlier shape own fits = absurd shape
+  lines_fit (r ∷ rs) (line ∷ lines) earlier shape own fits =
+      let says = said_says (last_of r.session earlier) r line.reply r.statement in
+      let now : Said = said earlier r line.reply in
+      let here : MatchBool (r.session == 0) (IsReport line.reply) (FitsReply script.tables r.statement line.reply) =
+      subst (λ j. MatchBool (j == 0) (IsReport line.reply) (FitsReply script.tables r.statement line.reply)) says.0
+      (subst (λ s. MatchBool (now.session == 0) (IsReport line.reply) (FitsReply script.tables s line.reply)) says.1
+      (subst (λ reply. MatchBool (now.session == 0) (IsReport reply) (FitsReply script.tables now.statement reply)) says.2 fits.0)) in (
+        line_fits r line shape.0 own.0 here,
+        lines_fit rs lines (now ∷ earlier) shape.1 own.1 fits.1,
+      )
+
+-- ---- all lines
+
+all_of_sessions : (rs : List Record) (lines : List Line) (earlier : List Said) → Each (λ r. Fits32 r.session) rs → Each (λ s. Fits32 s.session) (said_from earlier rs lines)
+all_of_sessions [] lines earlier are = tt
+all_of_sessions (r ∷ rs) [] earlier are = tt
+all_of_sessions (r ∷ rs) (line ∷ lines) earlier are =
+    let by = (said_says (last_of r.session earlier) r line.reply r.statement).0 in
+    (subst Fits32 (sym by) are.0, all_of_sessions rs lines (said earlier r line.reply ∷ earlier) are.1)
+
+-- the lines of session 0 are reports
+all_beside : (script : Script) (rs : List Record) (lines : List Line) (earlier : List Said) → Each (IsOwn script) rs → Each (λ now. (now.session == 0) ≡ true → IsBesideThem now) (said_from earlier rs lines)
+all_beside script [] lines earlier own = tt
+all_beside script (r ∷ rs) [] earlier own = tt
+all_beside script (r ∷ rs) (line ∷ lines) earlier own =
+    let last = last_of r.session earlier in
+    let says = said_says last r line.reply r.statement in
+    (go last says.0 says.1, all_beside script rs lines (said earlier r line.reply ∷ earlier) own.1)
+  where
+    go : (last : Option Said) → (said earlier r line.reply).session ≡ r.session → (said earlier r line.reply).statement ≡ r.statement → ((said earlier r line.reply).session == 0) ≡ true → IsBesideThem (said earlier r line.reply)
+    go last session statement e =
+        let round : IsRound r = subst (λ b. MatchBool b (IsRound r) (IsAsked script r)) (sym (ap (λ n. n == 0) session) ∙ e) own.0 in
+        let k = gc_of r.statement round.collects in record {
+          alone = ap (λ s. (said_after (last_of r.session earlier) r line.reply s).alone) k.1;
+          statement = (k.0, statement ∙ k.1);
+        }
+
+pub sound_fits : (mode : Mode) (script : Script) (printed : Printed) → rounds_beside mode < 2 ^ 32 → IsLawful script → IsSound mode script printed → IsFit script printed
+sound_fits mode script printed rounds lawful sound =
+    let all : List Said = all_said mode script printed.lines in
+    let rs : List Record = in_order mode script.records in
     let h : History = history_of all in
     let right = sound.lines.right in
-    let many : length all ≤ length script.records = lines_few [] script.records printed.lines in
+    let own : Each (IsOwn script) rs = each_in_order (IsOwn script) mode script.records (owned script lawful [] script.records refl lawful.statements) (λ kind m k. record { place = omega (arith, k, rounds); collects = refl }) in
+    let sessions : Each (λ (r : Record). Fits32 r.session) rs = each_in_order (λ r. Fits32 r.session) mode script.records
+    (each_keeps (IsStatement script.tables) (λ r. Fits32 r.session) (λ r is. omega (arith, is.most)) script.records lawful.statements) (λ kind m k. omega arith) in
+    let widths : Each (λ (r : Record). HasWidths r.statement) rs = each_in_order (λ r. HasWidths r.statement) mode script.records
+    (each_keeps (IsStatement script.tables) (λ r. HasWidths r.statement) (λ r is. is.widths) script.records lawful.statements) (λ kind m k. tt) in
+    let most = sessions_within script lawful in
+    let least : greatest (map (λ (r : Record). r.session) script.records) ≤ 64 = omega (arith, most) in
     let short : length script.records < 2 ^ 64 = omega (arith, lawful.records) in
-    let few : length h < 2 ^ 64 = omega (arith, groups_few all right.whole.history, many, short) in
-    let transactions : Each (λ (s : Said). s.transaction ≤ 0 + length script.records) all = transactions_few script.records printed.lines [] 0 tt in
-    let writers : Each IsFew all = both_each (λ (s : Said). Fits32 s.session) (λ (s : Said). s.transaction ≤ 0 + length script.records) IsFew (λ s session n. (session, omega (arith, n, short))) all
-    (all_of_sessions script.tables script.records printed.lines [] lawful.statements) transactions in
-    let standing : Each IsStanding all = all_stand script.tables [] script.records printed.lines [] lawful.order lawful.statements orderly_nothing (λ j. refl) in
-    let rows = rows_put (IsPutRow script) replay all (all_rows script printed.lines lawful) right in
-    let totals : FitTotals printed.totals = totals_fit all h printed.totals sound.totals (omega (arith, many, short)) in
+    let asks : length rs < 2 ^ 64 = few_in_order mode script.records (omega (arith, lawful.records)) least (omega (arith, rounds)) in
+    let many : length all ≤ length rs = lines_few [] rs printed.lines in
+    let few : length h < 2 ^ 64 = omega (arith, groups_few all right.whole.history, many, asks) in
+    let transactions : Each (λ (s : Said). s.transaction ≤ 0 + length rs) all = transactions_few rs printed.lines [] 0 tt in
+    let writers : Each IsFew all = both_each (λ (s : Said). Fits32 s.session) (λ (s : Said). s.transaction ≤ 0 + length rs) IsFew (λ s session n. (session, omega (arith, n, asks))) all
+    (all_of_sessions rs printed.lines [] sessions) transactions in
+    let standing : Each IsStanding all = all_stand [] rs printed.lines [] (stand_in_order mode script.records lawful.order) widths orderly_nothing (λ j. refl) in
+    let rows = rows_put (IsPutRow script) mode all (all_rows mode script printed.lines lawful) right in
+    let totals : FitTotals printed.totals = totals_fit all h printed.totals sound.totals (omega (arith, many, asks)) in
     let gone : Each (λ (now : Said). (k : Kind) → Fits64 (removed_by k now)) all = removed_few all h printed.totals sound.totals totals in
-    let shown : Each (PrintsWithin h) all = snapshots_within h all [] all tt (numbers_within all) right.lines in
-    let known : Each (IsKnown script h all few short writers) all = both_each _ (λ (now : Said). IfSome (committed now) (λ c. c ≤ length h) × ((k : Kind) → Fits64 (removed_by k now))) (IsKnown script h all few short writers) (λ now k n. record { standing = k.0; rows = k.1; number = n.0; gone = n.1 }) all
-    (both_each IsStanding (λ (now : Said). PrintsRow (IsPutRow script) now.statement now.reply.answer) (λ (now : Said). IsStanding now × PrintsRow (IsPutRow script) now.statement now.reply.answer) (λ now k rows. (k, rows)) all standing rows)
-    (both_each (CommitsWithin h) (λ (now : Said). (k : Kind) → Fits64 (removed_by k now)) (λ (now : Said). CommitsWithin h now × ((k : Kind) → Fits64 (removed_by k now))) (λ now n g. (n, g)) all (numbers_within all) gone) in
+    let beside : Each (λ (now : Said). (now.session == 0) ≡ true → IsBesideThem now) all = all_beside script rs printed.lines [] own in
+    let shown : Each (PrintsWithin h) all = snapshots_within mode h all [] all right.lines standing in
+    let one : Each (λ (now : Said). IsStanding now × PrintsRow (IsPutRow script) now.statement now.reply.answer) all = both_each IsStanding (λ (now : Said). PrintsRow (IsPutRow script) now.statement now.reply.answer) (λ (now : Said). IsStanding now × PrintsRow (IsPutRow script) now.statement now.reply.answer) (λ now k rows. (k, rows)) all standing rows in
+    let two : Each (λ (now : Said). CommitsWithin h now × ((k : Kind) → Fits64 (removed_by k now))) all = both_each (CommitsWithin h) (λ (now : Said). (k : Kind) → Fits64 (removed_by k now)) (λ (now : Said). CommitsWithin h now × ((k : Kind) → Fits64 (removed_by k now))) (λ now n g. (n, g)) all (numbers_within all) gone in
+    let three : Each (λ (now : Said). IsStanding now × PrintsRow (IsPutRow script) now.statement now.reply.answer × ((now.session == 0) ≡ true → IsBesideThem now)) all = both_each _ (λ (now : Said). (now.session == 0) ≡ true → IsBesideThem now) (λ (now : Said). IsStanding now × PrintsRow (IsPutRow script) now.statement now.reply.answer × ((now.session == 0) ≡ true → IsBesideThem now)) (λ now k b. (k.0, k.1, b)) all one beside in
+    let known : Each (IsKnown mode script h all few short writers) all = both_each _ (λ (now : Said). CommitsWithin h now × ((k : Kind) → Fits64 (removed_by k now))) (IsKnown mode script h all few short writers) (λ now k n. record { standing = k.0; rows = k.1; number = n.0; gone = n.1; beside = k.2 }) all three two in
     record {
-      lines = lines_fit script lawful [] script.records printed.lines [] refl sound.lines.shape lawful.statements (replies_fit script h all few short writers [] all shown right.lines known);
+      lines = lines_fit script lawful rs printed.lines [] sound.lines.shape own (all_fit mode script h all few short writers [] all shown right.lines known);
       totals = totals;
     }

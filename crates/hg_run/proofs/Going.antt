@@ -1,6 +1,6 @@
 -- A replay amid a script that breaks no rule.
 use Rattle.std.proofs.Common.{◌≡◌, ℕ, suc, ◌+◌, ◌≤◌, inl, List, [], ◌∷◌, ◌++◌, length, refl, sym, ap, ◌∙◌, subst, arith, append_assoc}
-use Rattle.std.specs.Prelude.{map, max, is_some}
+use Rattle.std.specs.Prelude.{map, max, is_some, ⊤}
 use Rattle.std.proofs.lemmas.List.Sums.{sum_by-cons, sum_by-append}
 use Rattle.hg_base.specs.declared.limits.TheConstants.{MOST_SESSIONS}
 use Rattle.hg_base.specs.declared.statement.Statement.{Statement}
@@ -15,19 +15,26 @@ use Rattle.hg_base.specs.Script.{Declaration, Script}
 use Rattle.hg_base.proofs.ListFacts.{append_nil}
 use Rattle.hg_core.specs.declared.log.LogEntry.{LogEntry}
 use Rattle.hg_core.specs.Logs.{current}
+use Rattle.hg_core.specs.Reading.{Follows}
 use Rattle.hg_core.specs.Words.{IsBelow}
 use Rattle.hg_script.specs.Lawful.{AreInOrder, FitsTables, IsScope, IsLawful, IsStatement, MayStand}
 use Rattle.hg_script.specs.Rules.{is_open}
+use Rattle.hg_headline.specs.Counted.{Closes}
+use Rattle.hg_headline.specs.Met.{IsMet}
 use Rattle.hg_headline.specs.Following.{IsFollowing, top_after, told_by, told_removed}
 use Rattle.hg_headline.proofs.Following.{following_opened, following_more}
 use Rattle.hg_session.specs.declared.engine.Engine.{Engine}
 use Rattle.hg_session.specs.declared.session.Session.{Session}
 use Rattle.hg_session.specs.Engines.{engine_sizes}
 use Rattle.hg_session.specs.Finished.{logs_of}
-use Rattle.hg_run.specs.Listed.{AreReady, SawAt}
+use Rattle.hg_run.specs.Listed.{ArePlaced, AreReady, SawAt}
 use Rattle.hg_run.specs.Asked.{IsOnTables, IsReplied, HasReplied}
 use Rattle.hg_run.specs.Swept.{told_of}
-use Rattle.hg_run.specs.Played.{HasPlayed}
+use Rattle.hg_run.specs.Played.{HasPlayed, HasPlayedOut}
+use Rattle.hg_run.specs.declared.collecting.Collectors.{Collectors}
+use Rattle.hg_run.specs.Collecting.{HaveMade, removed_of}
+use Rattle.hg_run.specs.Driven.{HasDrivenOne, sweeps_in, sweeps_of}
+use Rattle.hg_run.proofs.Driving.{made_first, made_more}
 use Rattle.hg_run.proofs.OpenAfter.{opened_more}
 
 -- of a record that is still to come: a statement of a session that there is
@@ -35,8 +42,8 @@ pub record IsToCome (script : Script) (sessions : ℕ) (r : Record) : Type 0 whe
   pub stands : IsStatement script.tables r
   pub most : r.session ≤ sessions
 
--- the records that were answered, and those that are left; and what the collectors have removed, by kind
-pub record Going (e : Engine) (removed : Kind → ℕ) (list : List Session) (last : ℕ) (lines : List Line) (rest : List Record) (script : Script) : Type 0 where
+-- the records that were answered, and those that are left; and what the collectors have made of what they were
+pub record Going (e : Engine) (long : ℕ) (before now : Collectors) (list : List Session) (last : ℕ) (lines : List Line) (rest : List Record) (script : Script) : Type 0 where
   pub done : List Record
   pub seen : ℕ
   pub top : ℕ
@@ -45,7 +52,8 @@ pub record Going (e : Engine) (removed : Kind → ℕ) (list : List Session) (la
   pub opened : (j : ℕ) → is_open j done ≡ is_some (current (logs_of list j))
   pub ready : AreReady e last (length rest) list
   pub saw : SawAt seen last list
-  pub told : (k : Kind) → removed k ≡ told_removed k lines
+  pub told : (k : Kind) → removed_of k now ≡ removed_of k before + told_removed k lines
+  pub rounds : HaveMade (engine_sizes e) long before (λ k. sweeps_of k lines) now
   pub order : AreInOrder done rest
   pub coming : Each (IsToCome script (engine_sizes e).sessions) rest
 
@@ -70,8 +78,8 @@ sessions_within script h = let most = greatest_within script script.records h.st
 
 -- ---- one turn
 
-pub going_first : (e : Engine) (removed : Kind → ℕ) (list : List Session) (script : Script) → (engine_sizes e).sessions ≡ max 1 (greatest (map (λ r. r.session) script.records)) → IsLawful script → AreReady e 0 (length script.records) list → ((j : ℕ) → logs_of list j ≡ []) → ((k : Kind) → removed k ≡ 0) → Going e removed list 0 [] script.records script
-going_first e removed list script sessions h ready none gone =
+pub going_first : (e : Engine) (long : ℕ) (c : Collectors) (list : List Session) (script : Script) → (engine_sizes e).sessions ≡ max 1 (greatest (map (λ r. r.session) script.records)) → IsLawful script → AreReady e 0 (length script.records) list → ((j : ℕ) → logs_of list j ≡ []) → Going e long c c list 0 [] script.records script
+going_first e long c list script sessions h ready none =
     let most : greatest (map (λ (r : Record). r.session) script.records) ≤ (engine_sizes e).sessions = omega (arith, sessions) in
     let same : (λ j. []) ≡ logs_of list = (λ p j. sym (none j) p) in
     record {
@@ -83,14 +91,15 @@ going_first e removed list script sessions h ready none gone =
       opened = λ j. ap (λ l. is_some (current l)) (sym (none j));
       ready = ready;
       saw = λ d. inl refl;
-      told = gone;
+      told = λ k. (let nothing : told_removed k [] ≡ 0 = refl in omega (arith, nothing));
+      rounds = made_first (engine_sizes e) long c;
       order = h.order;
       coming = to_come script (engine_sizes e).sessions script.records h.statements most;
     }
 
 -- the session of the next record has met the one that ran last
-pub going_turned : (e : Engine) (removed : Kind → ℕ) (old mid : List Session) (last i : ℕ) (lines : List Line) (rest : List Record) (script : Script) → Going e removed old last lines rest script → logs_of mid ≡ logs_of old → ((seen : ℕ) → SawAt seen last old → SawAt seen i mid) → ((left : ℕ) → AreReady e last left old → AreReady e i left mid) → Going e removed mid i lines rest script
-going_turned e removed old mid last i lines rest script g same saw ready = record {
+pub going_turned : (e : Engine) (long : ℕ) (before now : Collectors) (old mid : List Session) (last i : ℕ) (lines : List Line) (rest : List Record) (script : Script) → Going e long before now old last lines rest script → logs_of mid ≡ logs_of old → ((seen : ℕ) → SawAt seen last old → SawAt seen i mid) → ((left : ℕ) → AreReady e last left old → AreReady e i left mid) → Going e long before now mid i lines rest script
+going_turned e long before now old mid last i lines rest script g same saw ready = record {
   done = g.done;
   seen = g.seen;
   top = g.top;
@@ -100,6 +109,7 @@ going_turned e removed old mid last i lines rest script g same saw ready = recor
   ready = ready (length rest) g.ready;
   saw = saw g.seen g.saw;
   told = g.told;
+  rounds = g.rounds;
   order = g.order;
   coming = g.coming;
 }
@@ -112,9 +122,10 @@ told_more k lines line =
     let same : told_by k line ≡ told_of k line.reply = refl in
     omega (arith, all, one, none, same)
 
-pub going_on : (e : Engine) (removed later : Kind → ℕ) (old new : List Session) (i : ℕ) (lines : List Line) (r : Record) (rest : List Record) (script : Script) (line : Line) → (g : Going e removed old i lines (r ∷ rest) script) → suc i ≡ r.session → line.session ≡ r.session → line.place ≡ r.place →
-    HasReplied e g.seen old i r.statement line.reply new → ((left : ℕ) → AreReady e i (suc left) old → AreReady e i left new) → ((k : Kind) → later k ≡ removed k + told_of k line.reply) → Going e later new i (lines ++ line ∷ []) rest script
-going_on e removed later old new i lines r rest script line g is session place h ready gone =
+pub going_on : (e : Engine) (long : ℕ) (before now later : Collectors) (old new : List Session) (i : ℕ) (lines : List Line) (r : Record) (rest : List Record) (script : Script) (line : Line) → (g : Going e long before now old i lines (r ∷ rest) script) → suc i ≡ r.session → line.session ≡ r.session → line.place ≡ r.place →
+    HasReplied e g.seen old i r.statement line.reply new → ((left : ℕ) → AreReady e i (suc left) old → AreReady e i left new) → ((k : Kind) → removed_of k later ≡ removed_of k now + told_of k line.reply) → HaveMade (engine_sizes e) long now (λ k. sweeps_in k line.reply) later →
+    Going e long before later new i (lines ++ line ∷ []) rest script
+going_on e long before now later old new i lines r rest script line g is session place h ready gone made =
     let z = engine_sizes e in
     let a : IsReplied z.buckets z.sessions (logs_of old) g.seen h.later r.session r.statement line.reply (logs_of new) = subst (λ j. IsReplied z.buckets z.sessions (logs_of old) g.seen h.later j r.statement line.reply (logs_of new)) is h.replied in
     let top : ℕ = top_after g.top r.statement line.reply in
@@ -128,13 +139,14 @@ going_on e removed later old new i lines r rest script line g is session place h
       opened = opened_more z.buckets (logs_of old) (logs_of new) g.done r a.u line.reply a.logs a.fits g.opened;
       ready = ready (length rest) g.ready;
       saw = h.saw;
-      told = λ k. let before = g.told k in let now = gone k in let more = told_more k lines line in omega (arith, before, now, more);
+      told = λ k. let first = g.told k in let here = gone k in let more = told_more k lines line in omega (arith, first, here, more);
+      rounds = made_more z long before now later lines line g.rounds made;
       order = g.order.1;
       coming = g.coming.1;
     }
 
-pub going_last : (e : Engine) (removed : Kind → ℕ) (list : List Session) (last : ℕ) (lines : List Line) (script : Script) → Going e removed list last lines [] script → HasPlayed e removed list script lines
-going_last e removed list last lines script g = record {
+pub going_last : (e : Engine) (long : ℕ) (before now : Collectors) (list : List Session) (last : ℕ) (lines : List Line) (script : Script) → Going e long before now list last lines [] script → HasPlayed e long before now list script lines
+going_last e long before now list last lines script g = record {
   seen = g.seen;
   top = g.top;
   following = subst (λ rs. IsFollowing (engine_sizes e).buckets (engine_sizes e).sessions (logs_of list) g.seen g.top rs lines) (sym (g.all ∙ append_nil g.done)) g.following;
@@ -142,9 +154,49 @@ going_last e removed list last lines script g = record {
   ready = g.ready;
   saw = g.saw;
   told = g.told;
+  rounds = g.rounds;
+}
+
+-- ---- what is known at the end
+
+-- whatever holds of each record besides
+follows_any : (buckets : ℕ) (P : (ℕ → List LogEntry) → Record → Line → Type 0) (final : ℕ → List LogEntry) (rs : List Record) (lines : List Line) (logs : ℕ → List LogEntry) → Follows buckets P logs rs lines final → Follows buckets (λ _ _ _. ⊤) logs rs lines final
+follows_any buckets P final [] [] logs h = h
+follows_any buckets P final [] (line ∷ lines) logs h = absurd h
+follows_any buckets P final (r ∷ rs) [] logs h = absurd h
+follows_any buckets P final (r ∷ rs) (line ∷ lines) logs (p, (u, fits, rest)) = (tt, (u, fits, follows_any buckets P final rs lines _ rest))
+
+pub driven_one : (e : Engine) (long : ℕ) (before after : Collectors) (old played closed : List Session) (script : Script) (lines : List Line) → ((j : ℕ) → logs_of old j ≡ []) → HasPlayed e long before after played script lines → ((j : ℕ) → Closes (logs_of played j) (logs_of closed j)) →
+    HasDrivenOne (engine_sizes e) long script.records old before lines closed after
+driven_one e long before after old played closed script lines none p closes = record {
+  logs = logs_of played;
+  shape = p.following.shape;
+  follows = subst (λ logs. Follows (engine_sizes e).buckets (λ _ _ _. ⊤) logs script.records lines (logs_of played)) same (follows_any (engine_sizes e).buckets (IsMet (engine_sizes e).sessions) (logs_of played) script.records lines (λ j. []) p.following.follows);
+  closes = closes;
+  rounds = p.rounds;
+}
+  where
+    same : (λ j. []) ≡ logs_of old
+    same = λ i j. sym (none j) i
+
+pub played_out : (e : Engine) (long : ℕ) (before after : Collectors) (played closed : List Session) (script : Script) (lines : List Line) (p : HasPlayed e long before after played script lines) → ((j : ℕ) → Closes (logs_of played j) (logs_of closed j)) → length closed ≡ length played →
+    ((seen : ℕ) → SawAt seen p.last played → SawAt seen p.last closed) → HasPlayedOut e before after closed script lines
+played_out e long before after played closed script lines p closes many saw = record {
+  logs = logs_of played;
+  closes = closes;
+  seen = p.seen;
+  top = p.top;
+  following = p.following;
+  last = p.last;
+  within = (let within = p.ready.within in omega (arith, within, many));
+  saw = saw p.seen p.saw;
+  told = p.told;
 }
 
 -- ---- what the next record asks for
+
+pub are_placed : (e : Engine) (last left : ℕ) (list : List Session) → AreReady e last left list → ArePlaced e list
+are_placed e last left list r = record { many = r.many; placed = r.placed }
 
 pub ready_less : (e : Engine) (last left more : ℕ) (list : List Session) → left ≤ more → AreReady e last more list → AreReady e last left list
 ready_less e last left more list less r = record {
@@ -155,8 +207,8 @@ ready_less e last left more list less r = record {
   heard = r.heard;
 }
 
-pub may_stand : (e : Engine) (removed : Kind → ℕ) (list : List Session) (last : ℕ) (lines : List Line) (r : Record) (rest : List Record) (script : Script) → Going e removed list last lines (r ∷ rest) script → MayStand (is_some (current (logs_of list r.session))) r.statement
-may_stand e removed list last lines r rest script g = subst (λ b. MayStand b r.statement) (g.opened r.session) g.order.0
+pub may_stand : (e : Engine) (long : ℕ) (before now : Collectors) (list : List Session) (last : ℕ) (lines : List Line) (r : Record) (rest : List Record) (script : Script) → Going e long before now list last lines (r ∷ rest) script → MayStand (is_some (current (logs_of list r.session))) r.statement
+may_stand e long before now list last lines r rest script g = subst (λ b. MayStand b r.statement) (g.opened r.session) g.order.0
 
 scope_below : (tables : List Declaration) (scope : Scope) → IsScope tables scope → IsBelow (length tables) scope
 scope_below tables All h = tt

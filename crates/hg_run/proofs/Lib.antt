@@ -8,18 +8,27 @@ mod Told
 -- The sessions of a list: one answers, and two meet.
 mod Listing
 mod Turns
+mod Refused
 -- A round of a collector: what it found, and what meetings with its pass leave.
 mod Gathering
 mod Rounds
 mod Meetings
+mod Driving
 mod Sweeping
+mod Reported
 -- A whole script.
 mod OpenAfter
 mod Going
 mod Asking
+mod Begun
 mod Closes
--- What is printed fits the script: its rows, how many there are of all, and each line.
-mod Rows
+mod WholeRun
+-- A session's worker, and rounds beside it.
+mod Working
+mod Hiring
+-- What is printed fits the script: how many there are of all, the records in the order of their lines, the rows, and each line.
 mod Counts
+mod InOrder
+mod Rows
 mod Opens
 mod Fits

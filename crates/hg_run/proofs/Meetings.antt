@@ -1,8 +1,10 @@
 -- What meetings and rounds make of the collectors of a replay.
-use Rattle.std.proofs.Common.{◌≡◌, ℕ, List, [], ◌∷◌, sym, ap, ◌∙◌, subst}
+use Rattle.std.proofs.Common.{◌≡◌, ℕ, List, [], ◌∷◌, refl, sym, ap, ◌∙◌, subst}
 use Rattle.hg_base.specs.declared.report.Kind.{Kind}
+use Rattle.hg_base.specs.declared.report.Kind.TheVariants.{Group, Table, Interval}
 use Rattle.hg_base.specs.declared.report.Sweep.{Sweep}
 use Rattle.hg_base.specs.Lists.{Each}
+use Rattle.hg_base.proofs.ListFacts.{append_nil}
 use Rattle.hg_rule.specs.declared.passes.CollectorPass.{CollectorPass}
 use Rattle.hg_rule.specs.declared.view.Part.{Part}
 use Rattle.hg_rule.specs.declared.view.Part.TheVariants.{OfPass}
@@ -19,6 +21,7 @@ use Rattle.hg_session.specs.Finished.{AreAmong}
 use Rattle.hg_session.specs.Passing.{IsAlonePass}
 use Rattle.hg_run.specs.Swept.{HasSwept, HasMetSessions, HasMetPass}
 use Rattle.hg_run.proofs.Hearing.{among_left, among_right}
+use Rattle.hg_run.proofs.Rounds.{starts_more}
 
 -- ---- a session meets a pass
 
@@ -32,10 +35,24 @@ met_pass p v w s t only agrees this other left = record {
 }
 
 pub met_sessions : (v w : View) (s : Session) → w ≡ meeting v (view_of s) → HasMetSessions v w
-met_sessions v w s this = record { parts = ap (λ (x : View). x.parts) this; kept = ((view_of s).sights, ap (λ (x : View). x.sights) this) }
+met_sessions v w s this = record { parts = ap (λ (x : View). x.parts) this; events = ap (λ (x : View). x.events) this; kept = ((view_of s).sights, ap (λ (x : View). x.sights) this) }
 
 pub heard_session : (v w : View) (s : Session) → w ≡ meeting v (view_of s) → AreAmong (view_of s).sights w.sights
 heard_session v w s this a i = subst (IsAmong a) (sym (ap (λ (x : View). x.sights) this)) (among_right a v.sights (view_of s).sights i)
+
+-- ---- none or more meetings
+
+pub met_none : (v : View) → HasMetSessions v v
+met_none v = record { parts = refl; events = refl; kept = ([], sym (append_nil v.sights)) }
+
+pub met_more : (u v w : View) → HasMetSessions u v → HasMetSessions v w → HasMetSessions u w
+met_more u v w a b = record { parts = b.parts ∙ a.parts; events = b.events ∙ a.events; kept = starts_more u.sights v.sights w.sights a.kept b.kept }
+
+-- of each kind
+pub met_kinds : (old new : Kind → View) → HasMetSessions (old Group) (new Group) → HasMetSessions (old Table) (new Table) → HasMetSessions (old Interval) (new Interval) → (k : Kind) → HasMetSessions (old k) (new k)
+met_kinds old new group table interval Group = group
+met_kinds old new group table interval Table = table
+met_kinds old new group table interval Interval = interval
 
 -- ---- the pass stays alone
 

@@ -11,14 +11,13 @@ use Rattle.hg_base.specs.declared.statement.Record.{Record}
 use Rattle.hg_base.specs.declared.line.Line.{Line}
 use Rattle.hg_base.specs.declared.line.Reply.{Reply}
 use Rattle.hg_base.specs.Lists.{Each}
-use Rattle.hg_base.specs.Script.{Declaration}
 use Rattle.hg_base.specs.Transcript.{Said, said, said_after, said_from, standing, last_of, open_of, open_after, next_after, ends, is_end, begun, table_of}
 use Rattle.hg_base.proofs.ListFacts.{cases, false_true}
 use Rattle.hg_core.specs.Answered.{is_gc}
 use Rattle.hg_headline.proofs.Orderly.{Orderly, orderly_step, last_is_now, next_over}
 use Rattle.hg_headline.proofs.Whole.{said_says}
 use Rattle.hg_headline.proofs.Words.{none_is_not_some, same_number}
-use Rattle.hg_script.specs.Lawful.{AreInOrder, HasWidths, IsStatement, MayStand}
+use Rattle.hg_script.specs.Lawful.{AreInOrder, HasWidths, MayStand}
 use Rattle.hg_script.specs.Rules.{is_open, opened}
 use Rattle.hg_run.proofs.OpenAfter.{open_snoc}
 
@@ -150,7 +149,7 @@ shows_gc done earlier r reply kind is shows j =
     either_way true x = refl
     either_way false x = refl
 
-gc_of : (s : Statement) → is_gc s ≡ true → (kind : Kind) × (s ≡ Gc kind)
+pub gc_of : (s : Statement) → is_gc s ≡ true → (kind : Kind) × (s ≡ Gc kind)
 gc_of (Gc kind) e = (kind, refl)
 gc_of (Begin scope) e = absurd (false_true e)
 gc_of (Get x) e = absurd (false_true e)
@@ -189,12 +188,12 @@ shows_more done earlier r reply orderly may shows =
 
 -- ---- all lines
 
-pub all_stand : (tables : List Declaration) (before rs : List Record) (lines : List Line) (earlier : List Said) → AreInOrder before rs → Each (IsStatement tables) rs → ((j : ℕ) → Orderly j earlier) → ShowsOpen before earlier → Each IsStanding (said_from earlier rs lines)
-all_stand tables before [] lines earlier order are orderly shows = tt
-all_stand tables before (r ∷ rs) [] earlier order are orderly shows = tt
-all_stand tables before (r ∷ rs) (line ∷ lines) earlier order are orderly shows =
+pub all_stand : (before rs : List Record) (lines : List Line) (earlier : List Said) → AreInOrder before rs → Each (λ r. HasWidths r.statement) rs → ((j : ℕ) → Orderly j earlier) → ShowsOpen before earlier → Each IsStanding (said_from earlier rs lines)
+all_stand before [] lines earlier order widths orderly shows = tt
+all_stand before (r ∷ rs) [] earlier order widths orderly shows = tt
+all_stand before (r ∷ rs) (line ∷ lines) earlier order widths orderly shows =
     let may : MayStand (is_some (open_of r.session earlier)) r.statement = subst (λ b. MayStand b r.statement) (shows r.session) order.0 in (
-      line_stands earlier r line.reply (orderly r.session) may are.0.widths,
-      all_stand tables (before ++ r ∷ []) rs lines (said earlier r line.reply ∷ earlier) order.1 are.1 (orderly_step earlier r line.reply orderly)
+      line_stands earlier r line.reply (orderly r.session) may widths.0,
+      all_stand (before ++ r ∷ []) rs lines (said earlier r line.reply ∷ earlier) order.1 widths.1 (orderly_step earlier r line.reply orderly)
           (shows_more before earlier r line.reply (orderly r.session) may shows),
     )

@@ -57,12 +57,13 @@ module _ (kind : Kind) (v y w : View) (report : Report) (mark sessions : ℕ) (l
   own : pass w ≡ part
   own = ap (λ ps. pass_there (first_in ps)) parts
 
-  pub swept : (steps : List Event) → IsRoundOf (number v) (pass w) steps → IsReportOf kind steps report → Each (AtMost report.mark) v.sights → report.removed ≡ gone_in on.steps → IsLoaded sessions loaded → SawGroups mark y.sights → StartsWith y.sights v.sights → HasSwept kind sessions v (sweep_of report) w
-  swept steps round report_is most gone is saw kept =
+  pub swept : (steps : List Event) → w.events ≡ v.events ++ steps → IsRoundOf (number v) (pass w) steps → IsReportOf kind steps report → Each (AtMost report.mark) v.sights → report.removed ≡ gone_in on.steps → IsLoaded sessions loaded → SawGroups mark y.sights → StartsWith y.sights v.sights → HasSwept kind sessions v (sweep_of report) w
+  swept steps events round report_is most gone is saw kept =
       let same : mark ≡ report.mark = sym (ap (λ (p : PassPart). p.mark) own) ∙ (round.mark_is ∙ sym report_is.mark_is) in
       let held : (pass w).loaded ≡ loaded = ap (λ (p : PassPart). p.loaded) own in
       record {
         steps = steps;
+        events = events;
         round = round;
         told = told_is kind steps report report_is;
         parts = parts ∙ ap (λ (p : PassPart). OfPass (number v) p ∷ others v) (sym own);
@@ -82,7 +83,7 @@ module _ (kind : Kind) (v y w : View) (report : Report) (mark sessions : ℕ) (l
 -- ---- each collector's
 
 pub group_swept : (z : Sizes) (v w : View) (report : Report) → Collects z v report w → HasSwept Group z.sessions v (sweep_of report) w
-group_swept z v w report c = swept Group v c.gathered w report (pass c.gathered).mark z.sessions (pass c.gathered).loaded c.gathers.parts c.takes.some.on c.steps c.round c.report_is c.most c.takes.some.gone_is (c.gathers.keys, c.gathers.registers) c.gathers.saw c.gathers.kept
+group_swept z v w report c = swept Group v c.gathered w report (pass c.gathered).mark z.sessions (pass c.gathered).loaded c.gathers.parts c.takes.some.on c.steps c.events c.round c.report_is c.most c.takes.some.gone_is (c.gathers.keys, c.gathers.registers) c.gathers.saw c.gathers.kept
 
 pub table_swept : (z : Sizes) (long : ℕ) (v w : View) (report : Report) → Cuts z long v report w → HasSwept Table z.sessions v (sweep_of report) w
 table_swept z long v w report c =
@@ -91,7 +92,7 @@ table_swept z long v w report c =
     let moved : List (ℕ × Register) = moved_by (filter (is_long (pass c.gathered).mark long) (entries_of gathered)) c.moves.outcomes gathered in
     let there : c.moved.parts ≡ OfPass (number v) (gathering (pass c.gathered).mark moved v) ∷ others v = c.moves.parts ∙ ap F c.gathers.parts in
     let same : (pass c.moved).loaded ≡ moved = ap (λ ps. (pass_there (first_in ps)).loaded) there in
-    swept Table v c.moved w report (pass c.gathered).mark z.sessions moved there c.visits.on r.steps r.round r.report_is r.most c.visits.gone_is (subst (IsLoaded z.sessions) same c.loaded)
+    swept Table v c.moved w report (pass c.gathered).mark z.sessions moved there c.visits.on r.steps r.events r.round r.report_is r.most c.visits.gone_is (subst (IsLoaded z.sessions) same c.loaded)
     (subst (SawGroups (pass c.gathered).mark) (sym c.moves.sights) c.gathers.saw) (subst (λ xs. StartsWith xs v.sights) (sym c.moves.sights) c.gathers.kept)
   where
     F : List Part → List Part
@@ -100,4 +101,4 @@ table_swept z long v w report c =
 pub interval_swept : (z : Sizes) (v w : View) (report : Report) → Sweeps z v report w → HasSwept Interval z.sessions v (sweep_of report) w
 interval_swept z v w report c =
     let r = c.reports in
-    swept Interval v c.gathered w report (pass c.gathered).mark z.sessions (pass c.gathered).loaded c.gathers.parts c.visits.on r.steps r.round r.report_is r.most c.visits.gone_is (c.gathers.keys, c.gathers.registers) c.gathers.saw c.gathers.kept
+    swept Interval v c.gathered w report (pass c.gathered).mark z.sessions (pass c.gathered).loaded c.gathers.parts c.visits.on r.steps r.events r.round r.report_is r.most c.visits.gone_is (c.gathers.keys, c.gathers.registers) c.gathers.saw c.gathers.kept

@@ -15,9 +15,9 @@ use Rattle.hg_base.specs.declared.line.Answer.TheVariants.{Begun, Stored, Found,
 use Rattle.hg_base.specs.declared.line.Line.{Line}
 use Rattle.hg_base.specs.declared.line.Printed.{Printed}
 use Rattle.hg_base.specs.Lists.{Each, EachAfter}
-use Rattle.hg_base.specs.Script.{Mode, Declaration, Script, replay}
+use Rattle.hg_base.specs.Script.{Mode, Declaration, Script}
 use Rattle.hg_base.specs.History.{Write, Commit, Group, History, same_rid, image_in, group_image, writes_from, writes, last_image, visible, seen}
-use Rattle.hg_base.specs.Transcript.{Said, has, said, said_from, last_of, is_of, stored, stored_by, stored_in, own_writes, committed, last_images, commit_by, commits_from, commits, put_by_session, group_of, history_of}
+use Rattle.hg_base.specs.Transcript.{Said, has, said, said_from, last_of, is_of, stored, stored_by, stored_in, own_writes, committed, last_images, commit_by, commits_from, commits, put_by_session, group_of, history_of, in_order}
 use Rattle.hg_base.specs.Replies.{IsGot, IsScanned, IsUndeclared, IsAnswer}
 use Rattle.hg_base.specs.Sound.{IsSound, AreRight, IsRight, all_said}
 use Rattle.hg_base.proofs.ListFacts.{each_keeps}
@@ -27,6 +27,7 @@ use Rattle.hg_headline.proofs.Same.{each_filter}
 use Rattle.hg_headline.proofs.Whole.{said_says}
 use Rattle.hg_script.specs.Lawful.{IsLawful, IsStatement, FitsTables}
 use Rattle.hg_run.specs.Rows.{AsksRow, FoundRow, FoundRows, PrintsRow, HasColumns, PrintsColumns}
+use Rattle.hg_run.proofs.InOrder.{each_in_order}
 
 -- ---- lists
 
@@ -261,9 +262,10 @@ lawful_row : (tables : List Declaration) (s : Statement) → FitsTables tables s
 lawful_row tables (Put r row) fits = fits.1
 lawful_row tables _ fits = tt
 
-pub rows_have_columns : (script : Script) (printed : Printed) → IsLawful script → IsSound replay script printed → Each (PrintsColumns script.tables) (all_said replay script printed.lines)
-rows_have_columns script printed lawful sound =
+pub rows_have_columns : (mode : Mode) (script : Script) (printed : Printed) → IsLawful script → IsSound mode script printed → Each (PrintsColumns script.tables) (all_said mode script printed.lines)
+rows_have_columns mode script printed lawful sound =
     let P = HasColumns script.tables in
-    rows_put P replay (all_said replay script printed.lines)
-    (all_ask P [] script.records printed.lines (each_keeps (IsStatement script.tables) (λ r. AsksRow P r.statement) (λ r is. lawful_row script.tables r.statement is.fits) script.records lawful.statements))
+    rows_put P mode (all_said mode script printed.lines)
+    (all_ask P [] (in_order mode script.records) printed.lines
+    (each_in_order (λ r. AsksRow P r.statement) mode script.records (each_keeps (IsStatement script.tables) (λ r. AsksRow P r.statement) (λ r is. lawful_row script.tables r.statement is.fits) script.records lawful.statements) (λ kind m k. tt)))
     sound.lines.right

@@ -10,7 +10,6 @@ use Rattle.hg_base.specs.declared.line.Answer.TheVariants.{Swept}
 use Rattle.hg_base.specs.Lists.{Each}
 use Rattle.hg_base.specs.Shape.{same_kind}
 use Rattle.hg_base.specs.Transcript.{stored_by}
-use Rattle.hg_base.proofs.ListFacts.{append_nil}
 use Rattle.hg_core.specs.declared.log.LogEntry.{LogEntry}
 use Rattle.hg_core.specs.declared.register.Register.{Register}
 use Rattle.hg_core.specs.Events.{put}
@@ -45,7 +44,7 @@ use Rattle.hg_run.specs.Swept.{HasSwept, HasMetSessions, HasMetPass}
 use Rattle.hg_run.proofs.Gathering.{ShowsLog, ShowLogs, reached, at_rest, all_show, none_enters, held_are, moved_are}
 use Rattle.hg_run.proofs.Hearing.{heard_kept, over_at_most, seen_among, among_left}
 use Rattle.hg_run.proofs.Listing.{by_two, log_at, logs_same}
-use Rattle.hg_run.proofs.Rounds.{starts_more}
+use Rattle.hg_run.proofs.Meetings.{met_none, met_more}
 use Rattle.hg_run.proofs.Turns.{some_of}
 
 kind_is_itself : (k : Kind) → same_kind k k ≡ true
@@ -80,7 +79,7 @@ pub record HavePartlyMet (e : Engine) (v u : View) (old now : List Session) (n :
 pub partly_none : (e : Engine) (v : View) (old : List Session) → HavePartlyMet e v v old old 0
 partly_none e v old = record {
   many = refl;
-  pass = record { parts = refl; kept = ([], sym (append_nil v.sights)) };
+  pass = met_none v;
   below = λ d k less within. absurd (omega (arith, less));
   above = λ d k more. refl;
 }
@@ -101,7 +100,7 @@ met_back v u s t h m = record {
 pub partly_next : (e : Engine) (v u w : View) (i n : ℕ) (old now new : List Session) → n ≡ i + 1 → i < length old → HasOneMet e u w i now new → HavePartlyMet e v u old now i → HavePartlyMet e v w old new n
 partly_next e v u w i n old now new is within h p = record {
   many = h.many ∙ p.many;
-  pass = record { parts = h.pass.parts ∙ p.pass.parts; kept = starts_more v.sights u.sights w.sights p.pass.kept h.pass.kept };
+  pass = met_more v u w p.pass h.pass;
   below = λ d k less inside. by_two i i k (λ k. k < n → k < length old → HasMetPass v (get_or old k d) (get_or new k d) × IsOf e (get_or new k d)) (here d) (here d)
       (λ apart _ less inside. let lower : k < i = omega (arith, less, is, apart) in
       subst (λ s. HasMetPass v (get_or old k d) s × IsOf e s) (sym (h.rest d k apart)) (p.below d k lower inside)) less inside;

@@ -27,7 +27,7 @@ use Rattle.hg_session.specs.Ties.{IsHeard}
 use Rattle.hg_session.specs.Replies.{Answers, GoesOn}
 use Rattle.hg_run.specs.Heard.{HasHeard}
 use Rattle.hg_session.specs.Finished.{logs_of}
-use Rattle.hg_run.specs.Listed.{IsPlaced, AreReady, SawAt}
+use Rattle.hg_run.specs.Listed.{IsPlaced, ArePlaced, AreReady, SawAt}
 use Rattle.hg_run.specs.Asked.{IsReplied, collector_asked}
 use Rattle.hg_run.proofs.Hearing.{among_right, heard_met, heard_kept, heard_more, heard_goes, met_open, seen_among, seen_kept}
 use Rattle.hg_run.proofs.Listing.{by_two, log_at, logs_same, logs_put}
@@ -120,6 +120,17 @@ ready_asked e i left s reply old new h r = record {
         let l : List LogEntry = log_after (engine_sizes e).buckets (h.answers d).u s reply (logs_of old (suc i)) in
         let is : (session w).log ≡ l = (h.answers d).log ∙ ap (λ l. log_after (engine_sizes e).buckets (h.answers d).u s reply l) (sym (log_at d old i r.within)) in
         heard_more (logs_of old) v w (suc i) l (r.heard d) (h.answers d).kept (subst (λ m. IsHeard (suc i) m w.sights) is (subst (λ j. IsHeard j (session w).log w.sights) (here d).number_is (h.own d).heard))
+
+-- also where it was refused
+pub placed_asked : (e : Engine) (i : ℕ) (old new : List Session) → length new ≡ length old → ((d : Session) → number_of (get_or new i d) ≡ number_of (get_or old i d)) → ((d : Session) (k : ℕ) → k ≢ i → get_or new k d ≡ get_or old k d) → ((d : Session) → IsOf e (get_or new i d)) → i < length old → ArePlaced e old → ArePlaced e new
+placed_asked e i old new many number rest own within r = record {
+  many = many ∙ r.many;
+  placed = λ d k inside. by_two i i k (λ k. IsPlaced e k (get_or new k d)) (here d) (here d)
+      (λ p q. subst (IsPlaced e k) (sym (rest d k p)) (r.placed d k (omega (arith, many, inside))));
+}
+  where
+    here : (d : Session) → IsPlaced e i (get_or new i d)
+    here d = record { own = own d; number_is = number d ∙ (r.placed d i within).number_is }
 
 -- whom an answer names that has the record open
 pub other_asked : (e : Engine) (i : ℕ) (s : Statement) (reply : Reply) (old new : List Session) (left : ℕ) → HasAsked e i s reply old new → AreReady e i left old → (w : Writer) → reply.answer ≡ OpenBy w → IsSession (engine_sizes e).sessions w.session × (w.session ≢ suc i)

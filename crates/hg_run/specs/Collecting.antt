@@ -1,9 +1,11 @@
 -- What is known of the collectors of a replay.
-use Rattle.std.specs.Prelude.{ℕ, ◌+◌}
+use Rattle.std.specs.Prelude.{ℕ, ◌+◌, List}
 use Rattle.hg_base.specs.declared.report.Kind.{Kind}
 use Rattle.hg_base.specs.declared.report.Kind.TheVariants.{Group, Table, Interval}
+use Rattle.hg_base.specs.declared.report.Sweep.{Sweep}
 use Rattle.hg_rule.specs.declared.passes.CollectorPass.{CollectorPass}
 use Rattle.hg_rule.specs.declared.view.View.{View}
+use Rattle.hg_rule.specs.declared.view.Sizes.{Sizes}
 use Rattle.hg_rule.specs.Views.{pass}
 use Rattle.hg_rule.specs.Seats.{pass_view}
 use Rattle.hg_gc_group.specs.Collectors as group
@@ -14,6 +16,7 @@ use Rattle.hg_session.specs.declared.engine.Engine.{Engine}
 use Rattle.hg_session.specs.declared.opening.Passes.{Passes}
 use Rattle.hg_session.specs.Engines.{engine_board_id, engine_sizes}
 use Rattle.hg_session.specs.Passing.{AreAlone}
+use Rattle.hg_run.specs.Rounding.{IsRoundBy, AreRounds}
 use Rattle.hg_run.specs.declared.collecting.Collectors.{Collectors}
 
 -- their passes
@@ -42,3 +45,7 @@ pub record AreCollectors (e : Engine) (c : Collectors) : Type 0 where
   pub table_is : table.IsCollectorOf (engine_board_id e) (engine_sizes e) c.table
   pub interval_is : interval.IsCollectorOf (engine_board_id e) (engine_sizes e) c.interval
   pub alone : AreAlone e (passes_of c)
+
+-- each collector made the rounds of its kind in their order, and no other; between them its pass may have met sessions
+abbrev pub HaveMade : Sizes → ℕ → Collectors → (Kind → List Sweep) → Collectors → Type 0
+HaveMade z long before sweeps after = (kind : Kind) → AreRounds (IsRoundBy kind z long) (view_in kind before) (sweeps kind) (view_in kind after)

@@ -5,7 +5,10 @@ pub mod Heard
 pub mod Listed
 pub mod Asked
 pub mod Swept
+pub mod Rounding
 pub mod Collecting
+pub mod Working
+pub mod Driven
 pub mod Played
 pub mod Closed
 pub mod Rows

@@ -12,6 +12,11 @@ pub record IsPlaced (e : Engine) (k : ℕ) (s : Session) : Type 0 where
   pub own : IsOf e s
   pub number_is : number_of s ≡ suc k
 
+-- all sessions of the engine, each in its place
+pub record ArePlaced (e : Engine) (list : List Session) : Type 0 where
+  pub many : length list ≡ (engine_sizes e).sessions
+  pub placed : (d : Session) (k : ℕ) → k < length list → IsPlaced e k (get_or list k d)
+
 -- All sessions of the engine, each in its place, which may run `left` statements more. The last one that ran has heard every log.
 pub record AreReady (e : Engine) (last : ℕ) (left : ℕ) (list : List Session) : Type 0 where
   pub many : length list ≡ (engine_sizes e).sessions

@@ -1,14 +1,20 @@
 -- What a script may print.
 use Rattle.std.specs.Prelude.{◌≡◌, ℕ, List}
 use Rattle.hg_base.specs.declared.line.Printed.{Printed}
-use Rattle.hg_base.specs.Script.{Script, replay}
+use Rattle.hg_base.specs.Script.{Mode, Script, replay, run}
 use Rattle.hg_base.specs.Sound.{IsSound}
 use Rattle.hg_base.specs.Text.{IsFit, text_of}
 use Rattle.hg_report.specs.Bytes.{record_bytes}
 
--- A text that a script may print: that of a printed value which is sound for it and fits it. So the text determines the value.
-pub record IsPrintedFor (script : Script) (text : List ℕ) : Type 0 where
+-- A text that a script may print under a command: that of a printed value which is sound for it and fits it. So the text
+-- determines the value.
+pub record IsPrintedFor (mode : Mode) (script : Script) (text : List ℕ) : Type 0 where
   pub printed : Printed
-  pub sound : IsSound replay script printed
+  pub sound : IsSound mode script printed
   pub fit : IsFit script printed
   pub same : text ≡ text_of record_bytes script printed
+
+-- how many rounds each collector makes beside the sessions
+abbrev pub rounds_beside : Mode → ℕ
+rounds_beside replay = 0
+rounds_beside (run rounds) = rounds

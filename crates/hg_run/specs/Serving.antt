@@ -1,14 +1,16 @@
 -- When each status comes.
-use Rattle.std.specs.Prelude.{◌≡◌, ℕ, ◌+◌, ◌<◌, ◌≤◌, ◌⊎◌, List, length, take, Bool, true, false, Option, Some, None, IsTrue, IsFalse, ⊤}
+use Rattle.std.specs.Prelude.{◌≡◌, ℕ, ◌+◌, ◌<◌, ◌≤◌, ◌⊎◌, List, length, take, Bool, true, false, Option, Some, None, ⊤}
 use Rattle.std.specs.Io.KnownBytes.{Appends, Consumes, IsAtEnd}
 use Rattle.hg_base.specs.declared.limits.TheConstants.{MOST_SCRIPT_BYTES}
 use Rattle.hg_base.specs.Faults.{Rose}
+use Rattle.hg_base.specs.Script.{Mode}
 use Rattle.hg_script.specs.declared.code.Code.{Code}
 use Rattle.hg_script.specs.Fields.{rows_of}
 use Rattle.hg_script.specs.Meaning.{refusal_of, script_of}
+use Rattle.hg_words.specs.declared.options.Options.{Options}
 use Rattle.hg_run.specs.declared.status.Status.{Status}
 use Rattle.hg_run.specs.declared.status.Status.TheVariants.{Done, Usage, BadScript, ReadFault, WriteFault, TooLong, NoMemory}
-use Rattle.hg_run.specs.Words.{are_accepted}
+use Rattle.hg_run.specs.Words.{asked_in, mode_of}
 use Rattle.hg_run.specs.Printing.{IsPrintedFor}
 
 -- ---- what a source and a sink tell of a call
@@ -35,10 +37,10 @@ pub record Gives (source : Change) (bytes : List ℕ) : Type 0 where
 
 -- ---- what the bytes of a script mean
 
--- a text that the script which the bytes mean may print
-pub record IsTextFor (bytes text : List ℕ) : Type 0 where
+-- a text that the script which the bytes mean may print under a command
+pub record IsTextFor (mode : Mode) (bytes text : List ℕ) : Type 0 where
   pub valid : refusal_of (rows_of bytes) ≡ None
-  pub printed : IsPrintedFor (script_of (rows_of bytes)) text
+  pub printed : IsPrintedFor mode (script_of (rows_of bytes)) text
 
 -- the bytes are all that the source had, and no more than a script may have
 pub record ReadsAll (source : Change) (bytes : List ℕ) : Type 0 where
@@ -46,11 +48,11 @@ pub record ReadsAll (source : Change) (bytes : List ℕ) : Type 0 where
   pub end : IsAtEnd source.after
   pub short : length bytes ≤ MOST_SCRIPT_BYTES
 
--- a text that the script in the source may print
-pub record Answers (source : Change) (text : List ℕ) : Type 0 where
+-- a text that the script in the source may print under a command
+pub record Answers (mode : Mode) (source : Change) (text : List ℕ) : Type 0 where
   pub bytes : List ℕ
   pub all : ReadsAll source bytes
-  pub text_for : IsTextFor bytes text
+  pub text_for : IsTextFor mode bytes text
 
 -- ---- what was done with them
 
@@ -67,28 +69,34 @@ pub record IsTooLong (source : Change) : Type 0 where
   pub long : length bytes ≡ MOST_SCRIPT_BYTES + 1
 
 -- the sink took the whole text
-pub record WritesAll (source sink : Change) : Type 0 where
+pub record WritesAll (mode : Mode) (source sink : Change) : Type 0 where
   pub text : List ℕ
-  pub answers : Answers source text
+  pub answers : Answers mode source text
   pub taken : Appends sink.before sink.after text
 
 -- the sink failed, and took no more than a front of the text
-pub record WritesPart (source sink : Change) : Type 0 where
+pub record WritesPart (mode : Mode) (source sink : Change) : Type 0 where
   pub failed : HasFailed sink
   pub text : List ℕ
-  pub answers : Answers source text
+  pub answers : Answers mode source text
   pub count : ℕ
   pub less : count < length text
   pub taken : Appends sink.before sink.after (take count text)
 
+-- the words ask for something, and P holds of the command by which a script is run then
+pub record AsksFor (words : List (List ℕ)) (P : Mode → Type 0) : Type 0 where
+  pub options : Options
+  pub asked : asked_in words ≡ Some options
+  pub holds : P (mode_of options)
+
 -- when each status comes; want of memory says nothing
 abbrev pub Comes : List (List ℕ) → Change → Change → Status → Type 0
-Comes words source sink Done = IsTrue (are_accepted words) × WritesAll source sink
-Comes words source sink Usage = IsFalse (are_accepted words)
-Comes words source sink (BadScript line code) = IsTrue (are_accepted words) × Refuses source line code
-Comes words source sink ReadFault = IsTrue (are_accepted words) × HasFailed source
-Comes words source sink WriteFault = IsTrue (are_accepted words) × WritesPart source sink
-Comes words source sink TooLong = IsTrue (are_accepted words) × IsTooLong source
+Comes words source sink Done = AsksFor words (λ mode. WritesAll mode source sink)
+Comes words source sink Usage = asked_in words ≡ None
+Comes words source sink (BadScript line code) = AsksFor words (λ mode. Refuses source line code)
+Comes words source sink ReadFault = AsksFor words (λ mode. HasFailed source)
+Comes words source sink WriteFault = AsksFor words (λ mode. WritesPart mode source sink)
+Comes words source sink TooLong = AsksFor words (λ mode. IsTooLong source)
 Comes words source sink NoMemory = ⊤
 
 -- whether a sink may have taken something
@@ -102,6 +110,12 @@ abbrev pub IsUnlessNoMemory : Status → Status → Type 0
 IsUnlessNoMemory status wanted = (status ≡ wanted) ⊎ (status ≡ NoMemory)
 
 -- ---- what the steps refuse
+
+-- why words ask for nothing
+abbrev pub RefusesWords : List (List ℕ) → Status → Type 0
+RefusesWords words Usage = asked_in words ≡ None
+RefusesWords words NoMemory = ⊤
+RefusesWords words _ = ⊥
 
 -- why bytes have no text
 abbrev pub RefusesBytes : List ℕ → Status → Type 0

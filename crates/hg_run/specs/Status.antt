@@ -4,6 +4,8 @@ use Rattle.hg_base.specs.declared.limits.TheConstants.{MOST_SCRIPT_BYTES}
 use Rattle.hg_script.specs.Codes.{code_text}
 use Rattle.hg_script.specs.declared.refusal.ScriptRefusal.{ScriptRefusal}
 use Rattle.hg_script.specs.declared.refusal.ScriptRefusal.TheVariants as refusal
+use Rattle.hg_words.specs.declared.options.WordsRefusal.{WordsRefusal}
+use Rattle.hg_words.specs.declared.options.WordsRefusal.TheVariants as words
 use Rattle.hg_run.specs.declared.source.ReadError.{ReadError}
 use Rattle.hg_run.specs.declared.source.ReadError.TheVariants as error
 use Rattle.hg_run.specs.declared.status.Status.{Status}
@@ -27,6 +29,10 @@ said_of ReadFault = codes "read fault"
 said_of WriteFault = codes "write fault"
 said_of TooLong = codes "script longer than " ++ decimal MOST_SCRIPT_BYTES ++ codes " bytes"
 said_of NoMemory = codes "out of memory"
+
+abbrev pub status_of_words : WordsRefusal → Status
+status_of_words words.Usage = Usage
+status_of_words words.NoMemory = NoMemory
 
 abbrev pub status_of_read : ReadError → Status
 status_of_read error.Fault = ReadFault

@@ -1,5 +1,5 @@
 -- A round of a collector, whichever it is, and what is known of its pass.
-use Rattle.std.specs.Prelude.{◌≡◌, ℕ, ◌+◌, List, ◌∷◌, map, if◌then◌else◌}
+use Rattle.std.specs.Prelude.{◌≡◌, ℕ, ◌+◌, List, ◌∷◌, ◌++◌, map, if◌then◌else◌}
 use Rattle.std.specs.Option.{option_map_or}
 use Rattle.hg_base.specs.declared.report.Kind.{Kind}
 use Rattle.hg_base.specs.declared.report.Sweep.{Sweep}
@@ -33,6 +33,7 @@ told_of kind reply = option_map_or (swept_by kind) (report_of reply) 0
 -- seen before; it loaded the register of each session; and all that it removed is told. Its part stays alone, with its share.
 pub record HasSwept (kind : Kind) (sessions : ℕ) (v : View) (sweep : Sweep) (w : View) : Type 0 where
   pub steps : List Event
+  pub events : w.events ≡ v.events ++ steps
   pub round : IsRoundOf (number v) (pass w) steps
   pub told : sweep ≡ round_told kind steps
   pub parts : w.parts ≡ OfPass (number v) (pass w) ∷ others v
@@ -47,9 +48,10 @@ pub record HasSwept (kind : Kind) (sessions : ℕ) (v : View) (sweep : Sweep) (w
 
 -- ---- meetings
 
--- a pass that met sessions keeps its part, and has seen more
+-- a pass that met sessions keeps its part and its steps, and has seen more
 pub record HasMetSessions (v w : View) : Type 0 where
   pub parts : w.parts ≡ v.parts
+  pub events : w.events ≡ v.events
   pub kept : StartsWith w.sights v.sights
 
 -- A session that met a collector's pass keeps its part, and has seen all that the pass had seen. The pass's record agrees with it.

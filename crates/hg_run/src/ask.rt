@@ -3,7 +3,7 @@
 ghost use Rattle.std.specs.Prelude.{◌≡◌, ◌+◌, ◌<◌, ◌≤◌, is_some, None, IfOk};
 ghost use Rattle.hg_script.specs.Lawful.{MayStand};
 ghost use Rattle.hg_session.specs.Engines.{engine_sizes};
-ghost use Rattle.hg_session.specs.Sessions.{IsOf, view_of, open_of, left_of};
+ghost use Rattle.hg_session.specs.Sessions.{IsOf, view_of, number_of, open_of, left_of};
 ghost use Rattle.hg_session.specs.Replies.{Answers};
 ghost use Rattle.hg_run.specs.Asked.{IsOnTables, collector_asked};
 
@@ -26,6 +26,7 @@ pub(crate) fn ask<R: Wait>(
     requires other { collector_asked statement.now ≡ None }
     ensures answers { IfOk result (λ reply. Answers (engine_sizes engine.now) (view_of session.old) statement.now reply (view_of session.new)) }
     ensures left { left_of session.old ≤ left_of session.new + 1 }
+    ensures number { number_of session.new ≡ number_of session.old }
     ensures own { IsOf engine.now session.new }
 {
     let alone = !session.is_open();

@@ -1,4 +1,4 @@
-//! The end of a replay.
+//! The end of a replay or a run.
 //!
 //!     roll back    each transaction that is open, in the order of sessions
 //!     finish       every session's part goes to one pass, to which the others were joined
@@ -8,6 +8,7 @@
 ghost use Rattle.std.specs.Prelude.{◌≡◌, ℕ, ◌<◌, ◌≢◌, length, get_or, None};
 ghost use Rattle.hg_rule.specs.Facts.{StartsWith};
 ghost use Rattle.hg_rule.specs.New.{EachFrom};
+ghost use Rattle.hg_base.specs.declared.report.Kind.{Kind};
 ghost use Rattle.hg_base.specs.Lists.{Each};
 ghost use Rattle.hg_rule.specs.Reading.{passes_in};
 ghost use Rattle.hg_rule.specs.Rules.{IsBacked};
@@ -20,9 +21,9 @@ ghost use Rattle.hg_session.specs.Ended.{logs_in, visits_in, IsEnded};
 ghost use Rattle.hg_session.specs.Finished.{logs_of, AreAmong, IsClosed};
 ghost use Rattle.hg_session.specs.Passing.{visits_of};
 ghost use Rattle.hg_session.specs.Settled.{HasHeardAll};
-ghost use Rattle.hg_run.specs.Listed.{IsPlaced, SawAt};
-ghost use Rattle.hg_run.specs.Collecting.{AreCollectors, passes_of, removed_of};
-ghost use Rattle.hg_run.specs.Closed.{IsClosedBy};
+ghost use Rattle.hg_run.specs.Listed.{IsPlaced};
+ghost use Rattle.hg_run.specs.Collecting.{AreCollectors, passes_of, view_in};
+ghost use Rattle.hg_run.specs.Closed.{HasCome, IsClosedBy};
 
 use crate::collecting::Collectors;
 use hg_base::Totals;
@@ -30,8 +31,8 @@ use hg_gc_table::TableCollector;
 use hg_session::{Engine, Session, finish_all, join_all, settle};
 use std::sync::Wait;
 
-// Rolls the session's transaction back, if one is open.
-fn close_one<R: Wait>(rt: &R, engine: &Engine, session: &mut Session)
+/// Rolls the session's transaction back, if one is open.
+pub(crate) fn close_one<R: Wait>(rt: &R, engine: &Engine, session: &mut Session)
     requires { IsOf engine.now session.old }
     ensures closed { open_of session.new ≡ None }
     ensures closes { Closes (log_of session.old) (log_of session.new) }
@@ -59,8 +60,8 @@ fn close_at<R: Wait>(rt: &R, engine: &Engine, list: &mut Vec<Session>, i: usize)
     close_one(rt, engine, &mut list[i]);
 }
 
-// Rolls every open transaction back, in the order of sessions.
-fn close_all<R: Wait>(rt: &R, engine: &Engine, list: &mut Vec<Session>)
+/// Rolls every open transaction back, in the order of sessions.
+pub(crate) fn close_all<R: Wait>(rt: &R, engine: &Engine, list: &mut Vec<Session>)
     requires { (d : Session) (k : ℕ) → k < length list.old.items → IsPlaced engine.now k (get_or list.old.items k d) }
     ensures many { length list.new.items ≡ length list.old.items }
     ensures closed { EachFrom (IsClosed engine.now) 1 list.new.items }
@@ -72,7 +73,8 @@ fn close_all<R: Wait>(rt: &R, engine: &Engine, list: &mut Vec<Session>)
     }
 }
 
-// All passes and all sessions go to the table collector's pass, which has seen then all that any of them had seen.
+// All passes and all sessions go to the table collector's pass, which has seen then all that any of them had seen, and knows
+// what each pass did.
 fn bring_all(engine: &Engine, list: Vec<Session>, collectors: Collectors) -> TableCollector
     requires closed { EachFrom (IsClosed engine.now) 1 list.items }
     requires many { length list.items ≡ (engine_sizes engine.now).sessions }
@@ -84,6 +86,7 @@ fn bring_all(engine: &Engine, list: Vec<Session>, collectors: Collectors) -> Tab
     ensures three { passes_in (view_of result).parts ≡ 3 }
     ensures visits { visits_in (view_of result) ≡ visits_of (passes_of collectors) }
     ensures seen { Each (λ s. AreAmong (seen_by s) (view_of result).sights) list.items }
+    ensures come { (kind : Kind) → HasCome (view_in kind collectors) (view_of result) }
     ensures backed { (mark : ℕ) × IsBacked (engine_sizes engine.now) mark (view_of result) }
 {
     let Collectors {
@@ -102,7 +105,7 @@ fn bring_all(engine: &Engine, list: Vec<Session>, collectors: Collectors) -> Tab
     table
 }
 
-/// Ends a replay, and counts. It takes no memory.
+/// Ends a replay or a run once no transaction is open, and counts. It takes no memory.
 pub(crate) fn close<R: Wait>(
     rt: &R,
     engine: &Engine,
@@ -110,12 +113,10 @@ pub(crate) fn close<R: Wait>(
     collectors: Collectors,
 ) -> Totals
     requires many { length list.items ≡ (engine_sizes engine.now).sessions }
-    requires placed { (d : Session) (k : ℕ) → k < length list.items → IsPlaced engine.now k (get_or list.items k d) }
+    requires closed { EachFrom (IsClosed engine.now) 1 list.items }
     requires collectors { AreCollectors engine.now collectors }
-    ensures { (seen last : ℕ) → last < length list.items → SawAt seen last list.items → IsClosedBy (engine_sizes engine.now).buckets (engine_sizes engine.now).sessions seen (logs_of list.items) (λ kind. removed_of kind collectors) result }
+    ensures { IsClosedBy engine.now list.items collectors result }
 {
-    let mut list = list;
-    close_all(rt, engine, &mut list);
     let mut collector = bring_all(engine, list, collectors);
     settle(rt, engine, &mut collector);
     engine.totals(rt, collector.lend())

@@ -1,30 +1,26 @@
 //! The collectors of a replay.
 
-ghost use Rattle.std.specs.Prelude.{◌≡◌, ◌+◌, ◌≤◌, ◌<◌, IfOk};
+ghost use Rattle.std.specs.Prelude.{◌≡◌, ◌≢◌, ◌+◌, ◌≤◌, IfOk};
 ghost use Rattle.hg_session.specs.Engines.{engine_sizes};
 ghost use Rattle.hg_session.specs.Finished.{AreAmong};
 ghost use Rattle.hg_session.specs.Passing.{AreAlone};
 ghost use Rattle.hg_session.specs.Sessions.{IsOf, seen_by};
 
-use hg_base::{Kind, NoMemory, Steps, Sweep};
+use crate::collect::Collect;
+use hg_base::{Kind, NoMemory, Sweep};
 use hg_gc_group::GroupCollector;
 use hg_gc_interval::IntervalCollector;
 use hg_gc_table::TableCollector;
 use hg_session::{Engine, Passes, Session};
 use std::alloc::Global;
-use std::marker::Brand;
 use std::sync::Wait;
-use std::sync::ledger::{Blank, Ledger};
-
-// So many commits behind the mark a snapshot is long in use.
-const LONG: u64 = 4;
 
 /// Each with the room that its rounds need.
 #[derive(Drop)]
-pub(crate) struct Collectors {
-    pub(crate) group: GroupCollector,
-    pub(crate) table: TableCollector,
-    pub(crate) interval: IntervalCollector,
+pub struct Collectors {
+    pub group: GroupCollector,
+    pub table: TableCollector,
+    pub interval: IntervalCollector,
 }
 
 impl Collectors {
@@ -32,10 +28,11 @@ impl Collectors {
     ghost use Rattle.hg_base.specs.declared.report.Kind.{Kind};
     ghost use Rattle.hg_base.specs.declared.report.Kind.TheVariants as kinds;
     ghost use Rattle.hg_run.specs.Swept.{HasSwept, HasMetSessions, HasMetPass, swept_by};
+    ghost use Rattle.hg_run.specs.Rounding.{IsRoundBy};
     ghost use Rattle.hg_run.specs.Collecting.{AreCollectors, passes_of, removed_of, view_in};
 
     /// The collectors of an engine.
-    pub(crate) fn new(
+    pub fn new(
         alloc: Global,
         passes: Passes,
         sessions: u32,
@@ -70,7 +67,7 @@ impl Collectors {
     pub(crate) fn meet(&mut self, engine: &Engine, kind: Kind, session: &mut Session)
         requires own { AreCollectors engine.now self.old × IsOf engine.now session.old }
         ensures met { HasMetPass (view_in kind self.old) session.old session.new }
-        ensures pass { HasMetSessions (view_in kind self.old) (view_in kind self.new) }
+        ensures pass { (k : Kind) → HasMetSessions (view_in k self.old) (view_in k self.new) }
         ensures heard { AreAmong (seen_by session.old) (view_in kind self.new).sights }
         ensures removed { (k : Kind) → removed_of k self.new ≡ removed_of k self.old }
         ensures own { AreCollectors engine.now self.new × IsOf engine.now session.new }
@@ -86,7 +83,7 @@ impl Collectors {
     fn meet_group(&mut self, engine: &Engine, session: &mut Session)
         requires own { AreCollectors engine.now self.old × IsOf engine.now session.old }
         ensures met { HasMetPass (view_in kinds.Group self.old) session.old session.new }
-        ensures pass { HasMetSessions (view_in kinds.Group self.old) (view_in kinds.Group self.new) }
+        ensures pass { (k : Kind) → HasMetSessions (view_in k self.old) (view_in k self.new) }
         ensures heard { AreAmong (seen_by session.old) (view_in kinds.Group self.new).sights }
         ensures removed { (k : Kind) → removed_of k self.new ≡ removed_of k self.old }
         ensures own { AreCollectors engine.now self.new × IsOf engine.now session.new }
@@ -98,7 +95,7 @@ impl Collectors {
     fn meet_table(&mut self, engine: &Engine, session: &mut Session)
         requires own { AreCollectors engine.now self.old × IsOf engine.now session.old }
         ensures met { HasMetPass (view_in kinds.Table self.old) session.old session.new }
-        ensures pass { HasMetSessions (view_in kinds.Table self.old) (view_in kinds.Table self.new) }
+        ensures pass { (k : Kind) → HasMetSessions (view_in k self.old) (view_in k self.new) }
         ensures heard { AreAmong (seen_by session.old) (view_in kinds.Table self.new).sights }
         ensures removed { (k : Kind) → removed_of k self.new ≡ removed_of k self.old }
         ensures own { AreCollectors engine.now self.new × IsOf engine.now session.new }
@@ -110,7 +107,7 @@ impl Collectors {
     fn meet_interval(&mut self, engine: &Engine, session: &mut Session)
         requires own { AreCollectors engine.now self.old × IsOf engine.now session.old }
         ensures met { HasMetPass (view_in kinds.Interval self.old) session.old session.new }
-        ensures pass { HasMetSessions (view_in kinds.Interval self.old) (view_in kinds.Interval self.new) }
+        ensures pass { (k : Kind) → HasMetSessions (view_in k self.old) (view_in k self.new) }
         ensures heard { AreAmong (seen_by session.old) (view_in kinds.Interval self.new).sights }
         ensures removed { (k : Kind) → removed_of k self.new ≡ removed_of k self.old }
         ensures own { AreCollectors engine.now self.new × IsOf engine.now session.new }
@@ -124,61 +121,19 @@ impl Collectors {
         rt: &R,
         engine: &Engine,
         kind: Kind,
+        long: u64,
     ) -> Result<Sweep, NoMemory>
         requires own { AreCollectors engine.now self.old }
+        ensures round { IfOk result (λ sweep. IsRoundBy kind (engine_sizes engine.now) long (view_in kind self.old) sweep (view_in kind self.new)) }
+        ensures others { (k : Kind) → k ≢ kind → view_in k self.new ≡ view_in k self.old }
         ensures swept { IfOk result (λ sweep. HasSwept kind (engine_sizes engine.now).sessions (view_in kind self.old) sweep (view_in kind self.new)) }
         ensures removed { IfOk result (λ sweep. (k : Kind) → removed_of k self.new ≡ removed_of k self.old + swept_by k sweep) }
         ensures own { AreCollectors engine.now self.new }
     {
         match kind {
-            Kind::Group => self.collect_groups(rt, engine),
-            Kind::Table => self.collect_tables(rt, engine),
-            Kind::Interval => self.collect_intervals::<R, Brand>(rt, engine, Blank::new(1)),
+            Kind::Group => self.group.round(rt, engine, long),
+            Kind::Table => self.table.round(rt, engine, long),
+            Kind::Interval => self.interval.round(rt, engine, long),
         }
-    }
-
-    // A round of the group collector.
-    fn collect_groups<R: Wait>(&mut self, rt: &R, engine: &Engine) -> Result<Sweep, NoMemory>
-        requires own { AreCollectors engine.now self.old }
-        ensures swept { IfOk result (λ sweep. HasSwept kinds.Group (engine_sizes engine.now).sessions (view_in kinds.Group self.old) sweep (view_in kinds.Group self.new)) }
-        ensures removed { IfOk result (λ sweep. (k : Kind) → removed_of k self.new ≡ removed_of k self.old + swept_by k sweep) }
-        ensures own { AreCollectors engine.now self.new }
-    {
-        self.group
-            .collect(rt, engine.trackers(), engine.store(), engine.groups());
-        self.group.report().told()
-    }
-
-    // A round of the table collector.
-    fn collect_tables<R: Wait>(&mut self, rt: &R, engine: &Engine) -> Result<Sweep, NoMemory>
-        requires own { AreCollectors engine.now self.old }
-        ensures swept { IfOk result (λ sweep. HasSwept kinds.Table (engine_sizes engine.now).sessions (view_in kinds.Table self.old) sweep (view_in kinds.Table self.new)) }
-        ensures removed { IfOk result (λ sweep. (k : Kind) → removed_of k self.new ≡ removed_of k self.old + swept_by k sweep) }
-        ensures own { AreCollectors engine.now self.new }
-    {
-        self.table
-            .collect(rt, engine.trackers(), engine.store(), LONG);
-        self.table.report().told()
-    }
-
-    // A round of the interval collector, whose steps nobody reads.
-    fn collect_intervals<R: Wait, L: Ledger>(
-        &mut self,
-        rt: &R,
-        engine: &Engine,
-        blank: Blank,
-    ) -> Result<Sweep, NoMemory>
-        requires own { AreCollectors engine.now self.old }
-        requires name { blank.name ≡ L.name }
-        requires parts { blank.parts ≡ L.parts }
-        requires some { 0 < blank.parts }
-        ensures swept { IfOk result (λ sweep. HasSwept kinds.Interval (engine_sizes engine.now).sessions (view_in kinds.Interval self.old) sweep (view_in kinds.Interval self.new)) }
-        ensures removed { IfOk result (λ sweep. (k : Kind) → removed_of k self.new ≡ removed_of k self.old + swept_by k sweep) }
-        ensures own { AreCollectors engine.now self.new }
-    {
-        let mut steps: Steps<L> = Steps::new(blank);
-        self.interval
-            .collect(rt, engine.trackers(), engine.store(), &mut steps);
-        self.interval.report().told()
     }
 }

@@ -8,12 +8,14 @@ ghost use Rattle.std.specs.Prelude.{◌≡◌, ℕ, ◌+◌, ◌<◌, ◌≢◌,
 ghost use Rattle.hg_base.specs.declared.report.Kind.{Kind};
 ghost use Rattle.hg_base.specs.declared.statement.Statement.TheVariants as say;
 ghost use Rattle.hg_session.specs.declared.session.Session.{Session};
+ghost use Rattle.hg_session.specs.Engines.{engine_sizes};
 ghost use Rattle.hg_session.specs.Finished.{AreAmong};
 ghost use Rattle.hg_session.specs.Sessions.{IsOf, seen_by};
-ghost use Rattle.hg_run.specs.Listed.{AreReady, SawAt};
+ghost use Rattle.hg_run.specs.Listed.{ArePlaced, AreReady, SawAt};
 ghost use Rattle.hg_run.specs.Asked.{HasReplied};
 ghost use Rattle.hg_run.specs.Swept.{HasMetSessions, HasMetPass, told_of};
-ghost use Rattle.hg_run.specs.Collecting.{AreCollectors, removed_of, view_in};
+ghost use Rattle.hg_run.specs.Collecting.{AreCollectors, HaveMade, removed_of, view_in};
+ghost use Rattle.hg_run.specs.Driven.{sweeps_in};
 
 use crate::collecting::Collectors;
 use crate::reply::inside;
@@ -36,7 +38,7 @@ fn meet_at(
     ensures met { (d : Session) → HasMetPass (view_in kind collectors.old) (get_or list.old.items i d) (get_or list.new.items i d) }
     ensures rest { (d : Session) (k : ℕ) → k ≢ i → get_or list.new.items k d ≡ get_or list.old.items k d }
     ensures own { (d : Session) → IsOf engine.now (get_or list.new.items i d) }
-    ensures pass { HasMetSessions (view_in kind collectors.old) (view_in kind collectors.new) }
+    ensures pass { (k : Kind) → HasMetSessions (view_in k collectors.old) (view_in k collectors.new) }
     ensures heard { (d : Session) → AreAmong (seen_by (get_or list.old.items i d)) (view_in kind collectors.new).sights }
     ensures removed { (k : Kind) → removed_of k collectors.new ≡ removed_of k collectors.old }
     ensures collectors { AreCollectors engine.now collectors.new }
@@ -51,6 +53,7 @@ fn meet_all(engine: &Engine, list: &mut Vec<Session>, collectors: &mut Collector
     ensures many { length list.new.items ≡ length list.old.items }
     ensures met { (d : Session) (k : ℕ) → k < length list.old.items → HasMetPass (view_in kind collectors.old) (get_or list.old.items k d) (get_or list.new.items k d) }
     ensures own { (d : Session) (k : ℕ) → k < length list.old.items → IsOf engine.now (get_or list.new.items k d) }
+    ensures pass { (k : Kind) → HasMetSessions (view_in k collectors.old) (view_in k collectors.new) }
     ensures removed { (k : Kind) → removed_of k collectors.new ≡ removed_of k collectors.old }
     ensures collectors { AreCollectors engine.now collectors.new }
 {
@@ -67,16 +70,19 @@ pub(crate) fn sweep<R: Wait>(
     collectors: &mut Collectors,
     i: usize,
     kind: Kind,
+    long: u64,
 ) -> Result<Reply, NoMemory>
     requires ready { AreReady engine.now i 0 list.old.items }
     requires collectors { AreCollectors engine.now collectors.old }
     ensures replied { IfOk result (λ reply. (seen : ℕ) → SawAt seen i list.old.items → HasReplied engine.now seen list.old.items i (say.Gc kind) reply list.new.items) }
     ensures ready { OnOk result ((left : ℕ) → AreReady engine.now i left list.old.items → AreReady engine.now i left list.new.items) }
     ensures removed { IfOk result (λ reply. (k : Kind) → removed_of k collectors.new ≡ removed_of k collectors.old + told_of k reply) }
-    ensures collectors { OnOk result (AreCollectors engine.now collectors.new) }
+    ensures rounds { IfOk result (λ reply. HaveMade (engine_sizes engine.now) long collectors.old (λ k. sweeps_in k reply) collectors.new) }
+    ensures placed { ArePlaced engine.now list.new.items }
+    ensures collectors { AreCollectors engine.now collectors.new }
 {
     meet_at(engine, list, collectors, kind, i);
-    let swept = collectors.collect(rt, engine, kind)?;
+    let swept = collectors.collect(rt, engine, kind, long)?;
     meet_all(engine, list, collectors, kind);
     Ok(inside(Answer::Swept(swept)))
 }

@@ -1,32 +1,33 @@
 //! Laws of what is printed, each the contract of a function with no body.
 
-ghost use Rattle.std.specs.Prelude.{◌≡◌, ℕ, List};
+ghost use Rattle.std.specs.Prelude.{◌≡◌, ◌<◌, ◌^◌, ℕ, List};
 ghost use Rattle.hg_base.specs.declared.line.Printed.{Printed};
 ghost use Rattle.hg_base.specs.Lists.{Each};
-ghost use Rattle.hg_base.specs.Script.{Script, replay};
+ghost use Rattle.hg_base.specs.Script.{Mode, Script};
 ghost use Rattle.hg_base.specs.Sound.{IsSound, all_said};
 ghost use Rattle.hg_base.specs.Text.{IsFit};
 ghost use Rattle.hg_script.specs.Lawful.{IsLawful};
 ghost use Rattle.hg_report.specs.Readable.{IsTextOf};
-ghost use Rattle.hg_run.specs.Printing.{IsPrintedFor};
+ghost use Rattle.hg_run.specs.Printing.{IsPrintedFor, rounds_beside};
 ghost use Rattle.hg_run.specs.Rows.{PrintsColumns};
 ghost use Rattle.hg_run.specs.Serving.{IsTextFor};
 
 /// What is sound for a script prints rows that were put. So where each put has a value for each column, each row that is
 /// printed has one too.
 pub fn rows_have_their_columns()
-    ensures { (script : Script) (printed : Printed) → IsLawful script → IsSound replay script printed → Each (PrintsColumns script.tables) (all_said replay script printed.lines) }
+    ensures { (mode : Mode) (script : Script) (printed : Printed) → IsLawful script → IsSound mode script printed → Each (PrintsColumns script.tables) (all_said mode script printed.lines) }
 {}
 
 /// What is sound for a script also fits it: each number has its width, each line answers the record of its place as the
-/// format has it, and each row its table.
+/// format has it, or is the report of a round beside the sessions, and each row has its table's columns. Rounds are counted
+/// in 32 bits.
 pub fn what_is_sound_fits()
-    ensures { (script : Script) (printed : Printed) → IsLawful script → IsSound replay script printed → IsFit script printed }
+    ensures { (mode : Mode) (script : Script) (printed : Printed) → rounds_beside mode < 2 ^ 32 → IsLawful script → IsSound mode script printed → IsFit script printed }
 {}
 
-/// The bytes of a text determine what was printed: whatever fits the script and has these bytes is the value that was
-/// printed. So the bytes of a script and those that a sink took for it leave no choice.
+/// The bytes of a text determine what was printed, under whichever command: whatever fits the script and has these bytes is
+/// the value that was printed. So the bytes of a script and those that a sink took for it leave no choice.
 pub fn text_determines_what_was_printed()
-    ensures only { (script : Script) (text : List ℕ) (other : Printed) → IsLawful script → (p : IsPrintedFor script text) → IsTextOf script text other → other ≡ p.printed }
-    ensures served { (bytes text : List ℕ) → (a b : IsTextFor bytes text) → a.printed.printed ≡ b.printed.printed }
+    ensures only { (mode : Mode) (script : Script) (text : List ℕ) (other : Printed) → IsLawful script → (p : IsPrintedFor mode script text) → IsTextOf script text other → other ≡ p.printed }
+    ensures served { (mode other : Mode) (bytes text : List ℕ) → (a : IsTextFor mode bytes text) → (b : IsTextFor other bytes text) → a.printed.printed ≡ b.printed.printed }
 {}

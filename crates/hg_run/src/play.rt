@@ -7,10 +7,11 @@ ghost use Rattle.hg_core.specs.Logs.{current};
 ghost use Rattle.hg_script.specs.Lawful.{IsLawful, MayStand};
 ghost use Rattle.hg_session.specs.Engines.{engine_sizes};
 ghost use Rattle.hg_session.specs.Finished.{logs_of};
-ghost use Rattle.hg_run.specs.Listed.{AreReady, SawAt};
+ghost use Rattle.hg_run.specs.Listed.{ArePlaced, AreReady, SawAt};
 ghost use Rattle.hg_run.specs.Asked.{IsOnTables, HasReplied, collector_asked};
 ghost use Rattle.hg_run.specs.Swept.{told_of};
-ghost use Rattle.hg_run.specs.Collecting.{AreCollectors, removed_of};
+ghost use Rattle.hg_run.specs.Collecting.{AreCollectors, HaveMade, removed_of};
+ghost use Rattle.hg_run.specs.Driven.{sweeps_in};
 ghost use Rattle.hg_run.specs.Played.{HasPlayed};
 
 use crate::collecting::Collectors;
@@ -24,7 +25,7 @@ use std::alloc::Global;
 use std::sync::Wait;
 
 // The collector that a statement asks for.
-fn asked(statement: &Statement) -> Option<Kind>
+pub(crate) fn asked(statement: &Statement) -> Option<Kind>
     ensures { result ≡ collector_asked statement.now }
 {
     match statement {
@@ -47,6 +48,7 @@ fn reply_at<R: Wait>(
     collectors: &mut Collectors,
     i: usize,
     statement: &Statement,
+    long: u64,
 ) -> Result<Reply, NoMemory>
     requires ready { AreReady engine.now i 1 list.old.items }
     requires some { 0 < (engine_sizes engine.now).buckets }
@@ -56,10 +58,12 @@ fn reply_at<R: Wait>(
     ensures replied { IfOk result (λ reply. (seen : ℕ) → SawAt seen i list.old.items → HasReplied engine.now seen list.old.items i statement.now reply list.new.items) }
     ensures ready { OnOk result ((left : ℕ) → AreReady engine.now i (suc left) list.old.items → AreReady engine.now i left list.new.items) }
     ensures removed { IfOk result (λ reply. (k : Kind) → removed_of k collectors.new ≡ removed_of k collectors.old + told_of k reply) }
-    ensures collectors { OnOk result (AreCollectors engine.now collectors.new) }
+    ensures rounds { IfOk result (λ reply. HaveMade (engine_sizes engine.now) long collectors.old (λ k. sweeps_in k reply) collectors.new) }
+    ensures placed { ArePlaced engine.now list.new.items }
+    ensures collectors { AreCollectors engine.now collectors.new }
 {
     match asked(statement) {
-        Some(kind) => sweep(rt, engine, list, collectors, i, kind),
+        Some(kind) => sweep(rt, engine, list, collectors, i, kind, long),
         None => answer(rt, engine, list, i, statement),
     }
 }
@@ -72,6 +76,7 @@ pub(crate) fn play<'a, R: Wait>(
     list: &mut Vec<Session>,
     collectors: &mut Collectors,
     script: &'a Script,
+    long: u64,
 ) -> Result<Transcript<'a>, NoMemory>
     requires lawful { IsLawful script.now }
     requires sessions { (engine_sizes engine.now).sessions ≡ max 1 (greatest (map (λ r. r.session) script.now.records)) }
@@ -79,10 +84,11 @@ pub(crate) fn play<'a, R: Wait>(
     requires some { 0 < (engine_sizes engine.now).buckets }
     requires ready { AreReady engine.now 0 (length script.now.records) list.old.items }
     requires none { (j : ℕ) → logs_of list.old.items j ≡ [] }
-    requires collectors { AreCollectors engine.now collectors.old × ((k : Kind) → removed_of k collectors.old ≡ 0) }
+    requires collectors { AreCollectors engine.now collectors.old }
     ensures tables { IfOk result (λ transcript. transcript.tables ≡ script.now.tables) }
-    ensures played { IfOk result (λ transcript. HasPlayed engine.now (λ k. removed_of k collectors.new) list.new.items script.now transcript.lines) }
-    ensures collectors { OnOk result (AreCollectors engine.now collectors.new) }
+    ensures played { IfOk result (λ transcript. HasPlayed engine.now long collectors.old collectors.new list.new.items script.now transcript.lines) }
+    ensures placed { ArePlaced engine.now list.new.items }
+    ensures collectors { AreCollectors engine.now collectors.new }
 {
     let mut last = 0;
     let mut transcript = Transcript::new(alloc, script);
@@ -90,7 +96,7 @@ pub(crate) fn play<'a, R: Wait>(
         let record = script.record(next)?;
         let i = record.session as usize - 1;
         turn(engine, list, i, last);
-        let reply = reply_at(rt, engine, list, collectors, i, &record.statement)?;
+        let reply = reply_at(rt, engine, list, collectors, i, &record.statement, long)?;
         last = i;
         let line = Line {
             session: record.session,

@@ -1,46 +1,97 @@
 //! The run of a script on one thread.
 
-ghost use Rattle.std.specs.Prelude.{◌≡◌, length, map, IfOk};
+ghost use Rattle.std.specs.Prelude.{◌≡◌, ◌<◌, ◌≤◌, length, map, max, IfOk};
+ghost use Rattle.hg_base.specs.Lists.{greatest};
+ghost use Rattle.hg_base.specs.Script.{replay};
+ghost use Rattle.hg_rule.specs.New.{EachFrom};
 ghost use Rattle.hg_script.specs.Lawful.{IsLawful};
+ghost use Rattle.hg_session.specs.Engines.{engine_sizes};
+ghost use Rattle.hg_session.specs.Finished.{IsClosed};
+ghost use Rattle.hg_session.specs.Opened.{IsNewOf};
+ghost use Rattle.hg_words.specs.Options.{AreWithin};
+ghost use Rattle.hg_run.specs.Collecting.{AreCollectors};
+ghost use Rattle.hg_run.specs.Driven.{HasDrivenOne};
+ghost use Rattle.hg_run.specs.Played.{HasPlayedOut};
 ghost use Rattle.hg_run.specs.Printing.{IsPrintedFor};
 
-use crate::close::close;
+use crate::close::{close, close_all};
 use crate::collecting::Collectors;
+use crate::opening::open_for;
 use crate::play::play;
-use hg_base::{DEFAULT_BUCKETS, NoMemory};
+use hg_base::NoMemory;
+use hg_report::Transcript;
 use hg_script::Script;
-use hg_session::{Engine, TableDecl};
+use hg_session::{Engine, SessionList};
+use hg_words::Options;
 use std::alloc::Global;
+use std::mem;
 use std::sync::Wait;
 
-// The tables that a script declares, each with its columns. An engine counts them, and reads no columns.
-fn declared(alloc: Global, script: &Script) -> Result<Vec<TableDecl>, NoMemory>
-    ensures many { IfOk result (λ tables. length tables.items ≡ length script.now.tables) }
-    ensures columns { IfOk result (λ tables. map (λ t. t.columns) tables.items ≡ map (λ d. d.columns) script.now.tables) }
+/// The driver of `replay`: answers a script on one thread, record by record, and rolls back what is open at its end. Want of
+/// memory ends it early, and leaves no transaction open either.
+pub fn replay_on<'a, R: Wait>(
+    rt: &R,
+    alloc: Global,
+    script: &'a Script,
+    options: &Options,
+    engine: &Engine,
+    sessions: &mut SessionList,
+    collectors: &mut Collectors,
+) -> Result<Transcript<'a>, NoMemory>
+    requires lawful { IsLawful script.now }
+    requires sessions { (engine_sizes engine.now).sessions ≡ max 1 (greatest (map (λ r. r.session) script.now.records)) }
+    requires tables { (engine_sizes engine.now).tables ≡ length script.now.tables }
+    requires some { 0 < (engine_sizes engine.now).buckets }
+    requires quota { length script.now.records ≤ (engine_sizes engine.now).quota }
+    requires all { length sessions.old ≡ (engine_sizes engine.now).sessions }
+    requires new { EachFrom (IsNewOf engine.now (engine_sizes engine.now).quota) 1 sessions.old }
+    requires collectors { AreCollectors engine.now collectors.old }
+    ensures driven { IfOk result (λ transcript. HasDrivenOne (engine_sizes engine.now) options.now.long script.now.records sessions.old collectors.old transcript.lines sessions.new collectors.new) }
+    ensures played { IfOk result (λ transcript. HasPlayedOut engine.now collectors.old collectors.new sessions.new script.now transcript.lines) }
+    ensures tables { IfOk result (λ transcript. transcript.tables ≡ script.now.tables) }
+    ensures many { length sessions.new ≡ length sessions.old }
+    ensures closed { EachFrom (IsClosed engine.now) 1 sessions.new }
+    ensures collectors { AreCollectors engine.now collectors.new }
 {
-    let mut tables = Vec::new(alloc);
-    for table in script.tables() {
-        tables.push(TableDecl {
-            columns: table.columns(),
-        })?;
-    }
-    Ok(tables)
+    let mut list = mem::replace(sessions, SessionList::from(Vec::new(alloc))).into_vec();
+    let transcript = play(
+        rt,
+        alloc,
+        engine,
+        &mut list,
+        collectors,
+        script,
+        options.long,
+    );
+    close_all(rt, engine, &mut list);
+    *sessions = SessionList::from(list);
+    transcript
 }
 
 /// Runs a script on one thread, record by record, and gives the text that is printed for it.
-pub(crate) fn replay<R: Wait>(rt: &R, alloc: Global, script: &Script) -> Result<Vec<u8>, NoMemory>
-    requires { IsLawful script.now }
-    ensures { IfOk result (λ text. IsPrintedFor script.now text.items) }
+pub(crate) fn replay<R: Wait>(
+    rt: &R,
+    alloc: Global,
+    script: &Script,
+    options: &Options,
+) -> Result<Vec<u8>, NoMemory>
+    requires lawful { IsLawful script.now }
+    requires within { AreWithin options.now }
+    ensures { IfOk result (λ text. IsPrintedFor replay script.now text.items) }
 {
-    let tables = declared(alloc, script)?;
-    let sessions = script.sessions();
-    // A session has at most all records, and each begins one transaction and stores one write at most.
-    let quota = (script.record_count() as u64).max(1);
-    let (engine, list, passes) = Engine::open(alloc, sessions, &tables, DEFAULT_BUCKETS, quota)?;
-    let mut list = list.into_vec();
-    let mut collectors = Collectors::new(alloc, passes, sessions, tables.len() as u32)?;
-    let transcript = play(rt, alloc, &engine, &mut list, &mut collectors, script)?;
-    let totals = close(rt, &engine, list, collectors);
+    let (engine, list, collectors) = open_for(alloc, script, options)?;
+    let mut list = list;
+    let mut collectors = collectors;
+    let transcript = replay_on(
+        rt,
+        alloc,
+        script,
+        options,
+        &engine,
+        &mut list,
+        &mut collectors,
+    )?;
+    let totals = close(rt, &engine, list.into_vec(), collectors);
     let text = transcript.with_totals(&totals)?;
     Ok(text)
 }

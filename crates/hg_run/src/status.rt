@@ -6,6 +6,7 @@ ghost use Rattle.hg_run.specs.Status.{exit_code_of};
 use crate::source::ReadError;
 use hg_base::{MOST_SCRIPT_BYTES, NoMemory};
 use hg_script::{Code, ScriptRefusal};
+use hg_words::WordsRefusal;
 use std::fmt;
 
 /// How a call of `serve` ended.
@@ -13,7 +14,7 @@ use std::fmt;
 pub enum Status {
     /// The whole text was written.
     Done,
-    /// The words are not accepted.
+    /// The words ask for nothing that there is.
     Usage,
     /// The first record that breaks a rule, counted from 1, and the rule.
     BadScript { line: u64, code: Code },
@@ -60,6 +61,20 @@ impl fmt::Display for Status {
             Status::WriteFault => write!(f, "write fault"),
             Status::TooLong => write!(f, "script longer than {MOST_SCRIPT_BYTES} bytes"),
             Status::NoMemory => write!(f, "out of memory"),
+        }
+    }
+}
+
+impl From<WordsRefusal> for Status {
+    ghost use Rattle.std.specs.Prelude.{◌≡◌};
+    ghost use Rattle.hg_run.specs.Status.{status_of_words};
+
+    ghost from_gives = { λ e s. s ≡ status_of_words e };
+
+    fn from(e: WordsRefusal) -> Status {
+        match e {
+            WordsRefusal::Usage => Status::Usage,
+            WordsRefusal::NoMemory => Status::NoMemory,
         }
     }
 }

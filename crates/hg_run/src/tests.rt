@@ -19,6 +19,9 @@ const OWN_WRITE: &str = "table,t,1\n1,begin\n1,put,t,5,7\n1,get,t,5\n1,commit\n"
 const USAGE: &str =
     "usage: hybridgc replay or run or load SEED, with --buckets N, --long N, --rounds N";
 
+const NO_TOTALS: &str =
+    "total,made,0\ntotal,undone,0\ntotal,group,0\ntotal,table,0\ntotal,interval,0\ntotal,left,0\n";
+
 // Words, as they stand between spaces, from a source whose listed calls fail.
 fn call<R: Threads + Wait + Sync>(
     rt: &R,
@@ -43,8 +46,6 @@ fn call<R: Threads + Wait + Sync>(
 #[test]
 fn nothing_is_written(rt: HostRuntime) -> Result<(), Fail> {
     for (words, text, failing, exit, said) in [
-        ("", OWN_WRITE, 0, 2, USAGE),
-        ("run", OWN_WRITE, 0, 2, USAGE),
         ("replay replay", OWN_WRITE, 0, 2, USAGE),
         (
             "replay",
@@ -64,6 +65,52 @@ fn nothing_is_written(rt: HostRuntime) -> Result<(), Fail> {
             said.as_bytes()
         );
         assert_eq!(rt; status.exit_code(), exit);
+        assert!(rt; sink.bytes().is_empty());
+    }
+    Ok(())
+}
+
+// Options stand before and behind the mode. An empty script prints totals of nothing.
+#[test]
+fn words_are_taken(rt: HostRuntime) -> Result<(), Fail> {
+    for words in [
+        "replay",
+        "replay --buckets 1",
+        "replay --buckets=1024",
+        "--long 1048576 replay",
+        "replay --rounds 3",
+    ] {
+        let mut sink = MemorySink::new(rt.alloc(), 4, Vec::new(rt.alloc()));
+        sink.reserve(256)?;
+        let text = Vec::new(rt.alloc());
+        let status = call(&rt, rt.alloc(), words, text, 8, &[], &mut sink)?;
+        assert_eq!(rt; status, Status::Done, "at {words}");
+        assert_eq!(rt; sink.bytes(), NO_TOTALS.as_bytes(), "at {words}");
+    }
+    Ok(())
+}
+
+// Words that ask for nothing are told before anything is read: the first call of the source would fail.
+#[test]
+fn words_are_refused(rt: HostRuntime) -> Result<(), Fail> {
+    for words in [
+        "",
+        "replay --buckets 0",
+        "replay --buckets 1025",
+        "replay --long 0",
+        "run --rounds 1001",
+        "replay 7",
+        "load",
+        "load 7",
+        "walk",
+        "--help",
+        "replay --fast",
+    ] {
+        let mut sink = MemorySink::new(rt.alloc(), 4, Vec::new(rt.alloc()));
+        sink.reserve(256)?;
+        let text = Vec::new(rt.alloc());
+        let status = call(&rt, rt.alloc(), words, text, 8, &[1], &mut sink)?;
+        assert_eq!(rt; status, Status::Usage, "at {words}");
         assert!(rt; sink.bytes().is_empty());
     }
     Ok(())
@@ -266,6 +313,39 @@ fn versions_are_collected(rt: HostRuntime) -> Result<(), Fail> {
         assert_eq!(rt; status, Status::Done);
         assert_eq!(rt; sink.bytes(), want.as_bytes(), "at {script}");
     }
+    Ok(())
+}
+
+// The declared snapshot that is moved above is 5 groups behind, which is not long where the words say so.
+#[test]
+fn words_say_what_is_long(rt: HostRuntime) -> Result<(), Fail> {
+    let script =
+        "table,t,1\ntable,u,1\n2,put,t,1,10\n2,put,u,1,11\n1,begin,u\n2,put,u,1,12\n2,put,t,1,20\n2,put,t,1,30\n2,put,t,1,40\n2,put,t,1,50\n3,gc,table\n1,get,u,1\n";
+    let mut sink = MemorySink::new(rt.alloc(), 4, Vec::new(rt.alloc()));
+    sink.reserve(4096)?;
+    let bytes = Vec::from_slice(rt.alloc(), script.as_bytes())?;
+    let words = "replay --long 6";
+    let status = call(&rt, rt.alloc(), words, bytes, 8, &[], &mut sink)?;
+    let want = b"2,3,at,0,stored,committed,1
+2,4,at,1,stored,committed,2
+1,5,begun,2
+2,6,at,2,stored,committed,3
+2,7,at,3,stored,committed,4
+2,8,at,4,stored,committed,5
+2,9,at,5,stored,committed,6
+2,10,at,6,stored,committed,7
+3,11,swept,table,7,7,0
+3,11,held,1,2,unmoved
+1,12,row,11
+total,made,7
+total,undone,0
+total,group,0
+total,table,5
+total,interval,0
+total,left,2
+";
+    assert_eq!(rt; status, Status::Done);
+    assert_eq!(rt; sink.bytes(), want.as_slice());
     Ok(())
 }
 

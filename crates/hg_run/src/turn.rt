@@ -13,10 +13,10 @@ ghost use Rattle.hg_rule.specs.Agreed.{IsMet};
 ghost use Rattle.hg_script.specs.Lawful.{MayStand};
 ghost use Rattle.hg_session.specs.declared.session.Session.{Session};
 ghost use Rattle.hg_session.specs.Engines.{engine_sizes};
-ghost use Rattle.hg_session.specs.Sessions.{IsOf, view_of, open_of, left_of};
+ghost use Rattle.hg_session.specs.Sessions.{IsOf, view_of, number_of, open_of, left_of};
 ghost use Rattle.hg_session.specs.Replies.{Answers};
 ghost use Rattle.hg_session.specs.Finished.{logs_of};
-ghost use Rattle.hg_run.specs.Listed.{AreReady, SawAt};
+ghost use Rattle.hg_run.specs.Listed.{ArePlaced, AreReady, SawAt};
 ghost use Rattle.hg_run.specs.Asked.{IsOnTables, HasReplied, collector_asked};
 
 use crate::ask::ask;
@@ -75,6 +75,7 @@ fn ask_at<R: Wait>(
     requires tables { IsOnTables (engine_sizes engine.now).tables statement.now }
     requires other { collector_asked statement.now ≡ None }
     ensures many { length list.new.items ≡ length list.old.items }
+    ensures number { (d : Session) → number_of (get_or list.new.items i d) ≡ number_of (get_or list.old.items i d) }
     ensures answers { (d : Session) → IfOk result (λ reply. Answers (engine_sizes engine.now) (view_of (get_or list.old.items i d)) statement.now reply (view_of (get_or list.new.items i d))) }
     ensures left { (d : Session) → left_of (get_or list.old.items i d) ≤ left_of (get_or list.new.items i d) + 1 }
     ensures rest { (d : Session) (k : ℕ) → k ≢ i → get_or list.new.items k d ≡ get_or list.old.items k d }
@@ -112,6 +113,7 @@ pub(crate) fn answer<R: Wait>(
     requires other { collector_asked statement.now ≡ None }
     ensures replied { IfOk result (λ reply. (seen : ℕ) → SawAt seen i list.old.items → HasReplied engine.now seen list.old.items i statement.now reply list.new.items) }
     ensures ready { OnOk result ((left : ℕ) → AreReady engine.now i (suc left) list.old.items → AreReady engine.now i left list.new.items) }
+    ensures placed { ArePlaced engine.now list.new.items }
 {
     let reply = ask_at(rt, engine, list, i, statement)?;
     show(engine, list, i, &reply.answer);

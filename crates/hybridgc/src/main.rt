@@ -1,6 +1,7 @@
 //! The program: standard input and output as source and sink of one call.
 //!
 //!     hybridgc replay < script.csv
+//!     hybridgc run --rounds 4 < script.csv
 //!
 //! What is said beside the answers goes to standard error. The exit status tells how the call ended.
 #![tactic(auto)]
@@ -14,7 +15,7 @@ use hg_run::{Status, serve};
 use std::process::ExitCode;
 use std::{env, io};
 
-// How the call ends where the words can't be had. Those that are not text are not accepted.
+// How the call ends where the words can't be had. Those that are not text ask for nothing.
 fn status_of(error: &io::Error) -> Status
     ensures memory { (result ≡ Status.NoMemory) ↔ (error_kind error.now ≡ OutOfMemory) }
     ensures usage { (result ≡ Status.Usage) ↔ ¬ (error_kind error.now ≡ OutOfMemory) }

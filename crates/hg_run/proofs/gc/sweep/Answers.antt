@@ -1,9 +1,14 @@
 use Rattle.std.proofs.Common.{◌≡◌, sym, ap, subst, arith}
 use Rattle.hg_base.specs.declared.statement.Statement.TheVariants.{Gc}
 use Rattle.hg_base.specs.declared.line.Reply.{Reply}
+use Rattle.hg_base.specs.declared.report.Sweep.{Sweep}
+use Rattle.hg_session.specs.Engines.{engine_sizes}
 use Rattle.hg_run.specs.Asked.{HasReplied}
-use Rattle.hg_run.specs.Collecting.{view_in}
+use Rattle.hg_run.specs.Collecting.{HaveMade, view_in}
+use Rattle.hg_run.specs.Driven.{sweeps_in}
 use Rattle.hg_run.specs.Swept.{told_of, swept_by}
+use Rattle.hg_run.proofs.Driving.{made_one}
+use Rattle.hg_run.proofs.Going.{are_placed}
 use Rattle.hg_run.proofs.Sweeping.{HasOneMet, HaveAllMet, ready_one, swept_reply, swept_ready}
 use Rattle.hg_run.proofs.gc.sweep.Goals as goal
 
@@ -17,7 +22,7 @@ pub meet_all-requires-clause-own : goal.meet_all-requires-clause-own
 meet_all-requires-clause-own g c d k within =
     let m = c.meet_at.ensures in
     let e = c.args.engine.now in
-    let one : HasOneMet e (view_in c.args.kind c.args.collectors.now) (view_in c.args.kind c.meet_at.new.collectors) c.args.i c.args.list.now.items c.meet_at.new.list.items = record { many = m.many; met = m.met; rest = m.rest; own = m.own; pass = m.pass; heard = m.heard } in
+    let one : HasOneMet e (view_in c.args.kind c.args.collectors.now) (view_in c.args.kind c.meet_at.new.collectors) c.args.i c.args.list.now.items c.meet_at.new.list.items = record { many = m.many; met = m.met; rest = m.rest; own = m.own; pass = m.pass c.args.kind; heard = m.heard } in
     ((ready_one e _ _ c.args.i 0 c.args.list.now.items c.meet_at.new.list.items one c.requires.ready).placed d k within).own
 
 pub returns-clause-replied : goal.returns-clause-replied
@@ -30,7 +35,7 @@ returns-clause-replied g c seen saw =
     let old = c.args.list.now.items in
     let mid = c.meet_at.new.list.items in
     let new = c.meet_all.new.list.items in
-    let one : HasOneMet e v v1 c.args.i old mid = record { many = m.many; met = m.met; rest = m.rest; own = m.own; pass = m.pass; heard = m.heard } in
+    let one : HasOneMet e v v1 c.args.i old mid = record { many = m.many; met = m.met; rest = m.rest; own = m.own; pass = m.pass c.args.kind; heard = m.heard } in
     let all : HaveAllMet e w mid new = record { many = c.meet_all.ensures.many; met = c.meet_all.ensures.met; own = c.meet_all.ensures.own } in
     subst (λ (reply : Reply). HasReplied e seen old c.args.i (Gc c.args.kind) reply new) (sym c.inside.ensures)
     (swept_reply e c.args.kind c.args.i v v1 w c.in_ok-swept.swept old mid new one c.in_ok-swept.ensures.swept all c.requires.ready seen saw)
@@ -45,7 +50,7 @@ returns-clause-ready g c left ready =
     let old = c.args.list.now.items in
     let mid = c.meet_at.new.list.items in
     let new = c.meet_all.new.list.items in
-    let one : HasOneMet e v v1 c.args.i old mid = record { many = m.many; met = m.met; rest = m.rest; own = m.own; pass = m.pass; heard = m.heard } in
+    let one : HasOneMet e v v1 c.args.i old mid = record { many = m.many; met = m.met; rest = m.rest; own = m.own; pass = m.pass c.args.kind; heard = m.heard } in
     let all : HaveAllMet e w mid new = record { many = c.meet_all.ensures.many; met = c.meet_all.ensures.met; own = c.meet_all.ensures.own } in
     swept_ready e c.args.kind c.args.i v v1 w c.in_ok-swept.swept old mid new one c.in_ok-swept.ensures.swept all c.requires.ready left ready
 
@@ -56,3 +61,19 @@ returns-clause-removed g c k =
     let now = c.in_ok-swept.ensures.removed k in
     let last = c.meet_all.ensures.removed k in
     omega (arith, told, first, now, last)
+
+pub returns-clause-rounds : goal.returns-clause-rounds
+returns-clause-rounds g c =
+    let told : c.in_ok-swept.swept.kind ≡ c.args.kind = ap (λ (s : Sweep). s.kind) c.in_ok-swept.ensures.swept.told in
+    subst (λ (reply : Reply). HaveMade (engine_sizes c.args.engine.now) c.args.long c.args.collectors.now (λ k. sweeps_in k reply) c.meet_all.new.collectors) (sym c.inside.ensures)
+    (made_one (engine_sizes c.args.engine.now) c.args.long c.args.kind c.args.collectors.now c.meet_at.new.collectors c.collect.new.self c.meet_all.new.collectors c.in_ok-swept.swept told c.meet_at.ensures.pass c.in_ok-swept.ensures.round c.collect.ensures.others c.meet_all.ensures.pass)
+
+pub returns-in_err-swept-clause-placed : goal.returns-in_err-swept-clause-placed
+returns-in_err-swept-clause-placed g c =
+    let m = c.meet_at.ensures in
+    let e = c.args.engine.now in
+    let one : HasOneMet e (view_in c.args.kind c.args.collectors.now) (view_in c.args.kind c.meet_at.new.collectors) c.args.i c.args.list.now.items c.meet_at.new.list.items = record { many = m.many; met = m.met; rest = m.rest; own = m.own; pass = m.pass c.args.kind; heard = m.heard } in
+    are_placed e c.args.i 0 c.meet_at.new.list.items (ready_one e _ _ c.args.i 0 c.args.list.now.items c.meet_at.new.list.items one c.requires.ready)
+
+pub returns-clause-placed : goal.returns-clause-placed
+returns-clause-placed g c = are_placed c.args.engine.now c.args.i 0 c.meet_all.new.list.items (returns-clause-ready g c 0 c.requires.ready)

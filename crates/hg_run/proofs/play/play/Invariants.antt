@@ -1,5 +1,5 @@
 use Rattle.std.proofs.Common.{◌≡◌, drop}
-use Rattle.hg_run.specs.Collecting.{AreCollectors, removed_of}
+use Rattle.hg_run.specs.Collecting.{AreCollectors}
 use Rattle.hg_run.proofs.Going.{Going}
 use Rattle.hg_run.proofs.play.play.Given as goal
 
@@ -8,5 +8,5 @@ abbrev pub invariant-loop-next : goal.invariant-loop-next
 invariant-loop-next g l = record {
   tables : l.transcript.tables ≡ l.script.tables;
   collectors : AreCollectors l.engine l.collectors;
-  going : Going l.engine (λ k. removed_of k l.collectors) l.list.items l.last l.transcript.lines (drop l.next l.script.records) l.script;
+  going : Going l.engine l.long l.initial.collectors l.collectors l.list.items l.last l.transcript.lines (drop l.next l.script.records) l.script;
 }

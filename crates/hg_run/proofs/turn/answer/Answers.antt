@@ -6,7 +6,8 @@ use Rattle.hg_session.specs.Engines.{engine_sizes}
 use Rattle.hg_session.specs.Finished.{logs_of}
 use Rattle.hg_run.specs.Asked.{IsReplied}
 use Rattle.hg_run.proofs.Listing.{log_at}
-use Rattle.hg_run.proofs.Turns.{HasAsked, some_of, ready_asked, other_asked, replied, saw_asked}
+use Rattle.hg_run.proofs.Going.{are_placed}
+use Rattle.hg_run.proofs.Turns.{HasAsked, some_of, ready_asked, placed_asked, other_asked, replied, saw_asked}
 use Rattle.hg_run.proofs.turn.answer.Goals as goal
 
 pub ask_at-requires-clause-within : goal.ask_at-requires-clause-within
@@ -48,3 +49,12 @@ pub returns-clause-ready : goal.returns-clause-ready
 returns-clause-ready g c left r =
     let h : HasAsked c.args.engine.now c.args.i c.args.statement.now c.in_ok-reply.reply c.args.list.now.items c.ask_at.new.list.items = (let m = c.in_ok-reply.ensures in record { many = m.many; answers = m.answers; left = m.left; rest = m.rest; own = m.own }) in
     c.show.ensures.ready left (ready_asked c.args.engine.now c.args.i left c.args.statement.now c.in_ok-reply.reply c.args.list.now.items c.ask_at.new.list.items h r)
+
+pub returns-in_err-reply-clause-placed : goal.returns-in_err-reply-clause-placed
+returns-in_err-reply-clause-placed g c =
+    let m = c.ask_at.ensures in
+    let r = c.requires.ready in
+    placed_asked c.args.engine.now c.args.i c.args.list.now.items c.ask_at.new.list.items m.many m.number m.rest m.own r.within (are_placed c.args.engine.now c.args.i 1 c.args.list.now.items r)
+
+pub returns-clause-placed : goal.returns-clause-placed
+returns-clause-placed g c = are_placed c.args.engine.now c.args.i 0 c.show.new.list.items (returns-clause-ready g c 0 c.requires.ready)

@@ -5,7 +5,7 @@ use Rattle.hg_rule.specs.Moves.{meeting}
 use Rattle.hg_rule.specs.Seats.{pass_view}
 use Rattle.hg_rule.specs.Views.{session}
 use Rattle.hg_session.specs.Sessions.{view_of, number_of}
-use Rattle.hg_run.proofs.Meetings.{met_pass, heard_session}
+use Rattle.hg_run.proofs.Meetings.{met_pass, met_sessions, met_none, met_kinds, heard_session}
 use Rattle.hg_run.proofs.collecting.Collectors.meet_interval.Goals as goal
 
 pub returns-clause-met : goal.returns-clause-met
@@ -18,3 +18,7 @@ pub returns-clause-heard : goal.returns-clause-heard
 returns-clause-heard c =
     heard_session (pass_view c.args.self.now.interval.pass) (pass_view c.meet_pass.new.pass) c.args.session.now
     (subst (λ (p : CollectorPass). pass_view c.meet_pass.new.pass ≡ meeting (pass_view p) (view_of c.args.session.now)) c.lend.ensures.pass c.meet_pass.ensures.pass)
+
+pub returns-clause-pass : goal.returns-clause-pass
+returns-clause-pass c = met_kinds _ _ (met_none _) (met_none _) (met_sessions (pass_view c.args.self.now.interval.pass) (pass_view c.meet_pass.new.pass) c.args.session.now
+    (subst (λ (p : CollectorPass). pass_view c.meet_pass.new.pass ≡ meeting (pass_view p) (view_of c.args.session.now)) c.lend.ensures.pass c.meet_pass.ensures.pass))

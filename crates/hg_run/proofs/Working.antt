@@ -1,0 +1,173 @@
+-- A session's worker: statement by statement.
+use Rattle.std.proofs.Common.{◌≡◌, ℕ, suc, ◌<◌, List, [], ◌∷◌, ◌++◌, length, Bool, true, false, Option, Some, None, refl, sym, ap, ◌∙◌, subst, arith, append_assoc}
+use Rattle.std.specs.Prelude.{◌&&◌, is_some, Result, Ok, Err, IfOk, IfSome}
+use Rattle.hg_base.specs.declared.fault.NoMemory.{NoMemory}
+use Rattle.hg_base.specs.declared.report.Kind.{Kind}
+use Rattle.hg_base.specs.declared.report.Kind.TheVariants.{Group, Table, Interval}
+use Rattle.hg_base.specs.declared.scope.Snapshot.{Snapshot}
+use Rattle.hg_base.specs.declared.statement.Statement.{Statement}
+use Rattle.hg_base.specs.declared.statement.Statement.TheVariants.{Gc}
+use Rattle.hg_base.specs.declared.statement.Record.{Record}
+use Rattle.hg_base.specs.declared.line.Answer.{Answer}
+use Rattle.hg_base.specs.declared.line.Answer.TheVariants.{Beside}
+use Rattle.hg_base.specs.declared.line.Reply.{Reply}
+use Rattle.hg_base.specs.declared.line.Line.{Line}
+use Rattle.hg_base.specs.Lists.{Each}
+use Rattle.hg_base.specs.Shape.{HasShape}
+use Rattle.hg_base.proofs.ListFacts.{append_nil}
+use Rattle.hg_core.specs.declared.log.LogEntry.{LogEntry}
+use Rattle.hg_core.specs.Logs.{current}
+use Rattle.hg_core.specs.Reading.{Unprinted, FitsScope, Tells, is_alone, log_with}
+use Rattle.hg_core.proofs.Answering.{not_alone}
+use Rattle.hg_rule.specs.declared.view.View.{View}
+use Rattle.hg_rule.specs.declared.view.Sizes.{Sizes}
+use Rattle.hg_rule.specs.Views.{session}
+use Rattle.hg_headline.specs.Ran.{LeavesGc}
+use Rattle.hg_headline.proofs.Loops.{line_of}
+use Rattle.hg_session.specs.declared.engine.Engine.{Engine}
+use Rattle.hg_gc_group.specs.Collectors as groups
+use Rattle.hg_gc_table.specs.Collectors as tables
+use Rattle.hg_gc_interval.specs.Collectors as intervals
+use Rattle.hg_session.specs.Engines.{engine_board_id, engine_sizes}
+use Rattle.hg_session.specs.Replies.{Answers, inside}
+use Rattle.hg_session.specs.Sessions.{IsOf, log_of, number_of, open_of, left_of}
+use Rattle.hg_script.specs.Lawful.{MayStand}
+use Rattle.hg_run.specs.declared.beside.RoundLists.{RoundLists}
+use Rattle.hg_run.specs.declared.collecting.Collectors.{Collectors}
+use Rattle.hg_run.specs.declared.work.Worker.{Worker}
+use Rattle.hg_run.specs.Asked.{IsOnTables, collector_asked}
+use Rattle.hg_run.specs.Collecting.{AreCollectors}
+use Rattle.hg_run.specs.Working.{HaveMadeAll, MayFollow, IsAskedOf, IsStep, IsReady, IsHired, HasStepped, HasRun}
+use Rattle.hg_run.proofs.Driving.{alone_rounds}
+use Rattle.hg_run.proofs.OpenAfter.{open_after}
+
+-- ---- one statement
+
+nothing_unprinted : Unprinted
+nothing_unprinted = record { found = []; part = λ b. []; undone = [] }
+
+-- a `gc` is left to the collectors
+pub beside_step : (buckets : ℕ) (log : List LogEntry) (s : Statement) (kind : Kind) → collector_asked s ≡ Some kind → IsStep buckets log s (inside Beside) log
+beside_step buckets log (Gc k) kind e = record {
+  u = nothing_unprinted;
+  fits = record {
+    at = sym (not_alone (current log) (Gc k) refl);
+    number = number (is_alone (current log) (Gc k));
+    answer = tt;
+    scope = scope (current log);
+  };
+  leaves = tt;
+  log = sym (ap (λ b. log_with b buckets nothing_unprinted (Gc k) (inside Beside) log) (not_alone (current log) (Gc k) refl));
+}
+  where
+    number : (b : Bool) → false ≡ (b && false)
+    number true = refl
+    number false = refl
+
+    scope : (o : Option Snapshot) → IfSome o (λ snapshot. FitsScope snapshot.scope (Gc k) Beside)
+    scope None = tt
+    scope (Some snapshot) = tt
+beside_step buckets log _ kind e = absurd (let z : Some kind ≡ None = sym e in cc)
+
+leaves_none : (s : Statement) (a : Answer) → collector_asked s ≡ None → LeavesGc s a
+leaves_none (Gc kind) a h = absurd (let z : Some kind ≡ None = h in cc)
+leaves_none _ a h = tt
+
+pub asked_step : (z : Sizes) (v w : View) (s : Statement) (reply : Reply) → collector_asked s ≡ None → Answers z v s reply w → IsStep z.buckets (session v).log s reply (session w).log
+asked_step z v w s reply none a = record { u = a.u; fits = a.fits; leaves = leaves_none s reply.answer none; log = a.log }
+
+pub asked_steps : (z : Sizes) (v w : View) (s : Statement) (result : Result Reply NoMemory) → collector_asked s ≡ None → IfOk result (λ reply. Answers z v s reply w) → IfOk result (λ reply. IsStep z.buckets (session v).log s reply (session w).log)
+asked_steps z v w s (Ok reply) none a = asked_step z v w s reply none a
+asked_steps z v w s (Err e) none a = tt
+
+-- ---- one record after the other
+
+-- The worker has run its first records, and the rest of them may come. Whatever the rest is answered, the lines so far and those
+-- are the lines of all.
+pub record IsRunning (e : Engine) (first now : Worker) : Type 0 where
+  pub ready : IsReady e now
+  pub number_is : number_of now.session ≡ number_of first.session
+  pub tables : now.transcript.tables ≡ first.transcript.tables
+  pub willing : now.refused ≡ false
+  pub shape : (more : List Line) → HasShape now.records more → HasShape first.records (now.transcript.lines ++ more)
+  pub tells : (more : List Line) (final : List LogEntry) → Tells (engine_sizes e).buckets (λ r line. LeavesGc r.statement line.reply.answer) (log_of now.session) now.records more final →
+      Tells (engine_sizes e).buckets (λ r line. LeavesGc r.statement line.reply.answer) (log_of first.session) first.records (now.transcript.lines ++ more) final
+
+pub running_first : (e : Engine) (w : Worker) → IsHired e w → IsRunning e w w
+running_first e w h = record {
+  ready = h.ready;
+  number_is = refl;
+  tables = refl;
+  willing = h.willing;
+  shape = λ more s. subst (HasShape w.records) (sym (none more)) s;
+  tells = λ more final t. subst (λ lines. Tells (engine_sizes e).buckets (λ r line. LeavesGc r.statement line.reply.answer) (log_of w.session) w.records lines final) (sym (none more)) t;
+}
+  where
+    none : (more : List Line) → w.transcript.lines ++ more ≡ more
+    none more = ap (λ lines. lines ++ more) h.none
+
+pub running_more : (e : Engine) (r : Record) (first old new : Worker) → HasStepped e r old new → IsOf e new.session → number_of new.session ≡ number_of old.session → new.transcript.tables ≡ old.transcript.tables → new.refused ≡ old.refused → IsRunning e first old → IsRunning e first new
+running_more e r first old new h own number tables refused g =
+    let asked : Each (IsAskedOf (engine_sizes e).tables) (r ∷ new.records) = subst (Each (IsAskedOf (engine_sizes e).tables)) h.records g.ready.asked in
+    let may : MayFollow (is_some (open_of old.session)) (r ∷ new.records) = subst (MayFollow (is_some (open_of old.session))) h.records g.ready.may in
+    let many : length old.records ≡ suc (length new.records) = ap (λ rs. length rs) h.records in
+    record {
+      ready = record {
+        own = own;
+        asked = asked.1;
+        may = subst (λ b. MayFollow b new.records) (sym (ap (λ log. is_some (current log)) step.log ∙ open_after (engine_sizes e).buckets step.u r.statement line.reply (log_of old.session) step.fits)) may.1;
+        left = (let a = g.ready.left in let b = h.left in omega (arith, a, b, many));
+      };
+      number_is = number ∙ g.number_is;
+      tables = tables ∙ g.tables;
+      willing = refused ∙ g.willing;
+      shape = λ more s. subst (HasShape first.records) (joins more) (g.shape (line ∷ more) (subst (λ rs. HasShape rs (line ∷ more)) (sym h.records) (line_of r line asked.0.some refl refl, s)));
+      tells = λ more final t. subst (λ lines. Tells (engine_sizes e).buckets P (log_of first.session) first.records lines final) (joins more)
+          (g.tells (line ∷ more) final (subst (λ rs. Tells (engine_sizes e).buckets P (log_of old.session) rs (line ∷ more) final) (sym h.records)
+          (step.leaves, (step.u, step.fits, subst (λ log. Tells (engine_sizes e).buckets P log new.records more final) step.log t))));
+    }
+  where
+    line : Line
+    line = record { session = r.session; place = r.place; reply = h.answered.reply }
+
+    step : IsStep (engine_sizes e).buckets (log_of old.session) r.statement h.answered.reply (log_of new.session)
+    step = h.answered.step
+
+    P : Record → Line → Type 0
+    P q l = LeavesGc q.statement l.reply.answer
+
+    joins : (more : List Line) → old.transcript.lines ++ (line ∷ more) ≡ new.transcript.lines ++ more
+    joins more = sym (append_assoc old.transcript.lines (line ∷ []) more) ∙ ap (λ lines. lines ++ more) (sym h.answered.lines)
+
+pub running_last : (e : Engine) (first now : Worker) → now.records ≡ [] → IsRunning e first now → HasRun (engine_sizes e).buckets first now
+running_last e first now over g = record {
+  shape = subst (HasShape first.records) (append_nil now.transcript.lines) (g.shape [] (subst (λ rs. HasShape rs []) (sym over) tt));
+  tells = subst (λ lines. Tells (engine_sizes e).buckets P (log_of first.session) first.records lines (log_of now.session)) (append_nil now.transcript.lines)
+      (g.tells [] (log_of now.session) (subst (λ rs. Tells (engine_sizes e).buckets P (log_of now.session) rs [] (log_of now.session)) (sym over) refl));
+}
+  where
+    P : Record → Line → Type 0
+    P r line = LeavesGc r.statement line.reply.answer
+
+-- ---- the next record
+
+pub next_asked : (e : Engine) (w : Worker) (r : Record) (rest : List Record) → w.records ≡ r ∷ rest → IsReady e w → (0 < left_of w.session) × (MayStand (is_some (open_of w.session)) r.statement × IsOnTables (engine_sizes e).tables r.statement)
+next_asked e w r rest is h =
+    let many : length w.records ≡ suc (length rest) = ap (λ rs. length rs) is in
+    ((let left = h.left in omega (arith, many, left)), ((subst (MayFollow (is_some (open_of w.session))) is h.may).0, (subst (Each (IsAskedOf (engine_sizes e).tables)) is h.asked).0.on))
+
+-- ---- all collectors
+
+-- collectors that made rounds have their passes alone
+pub collectors_made : (e : Engine) (long rounds : ℕ) (old new : Collectors) (told : RoundLists) → AreCollectors e old → groups.IsCollectorOf (engine_board_id e) (engine_sizes e) new.group → tables.IsCollectorOf (engine_board_id e) (engine_sizes e) new.table → intervals.IsCollectorOf (engine_board_id e) (engine_sizes e) new.interval →
+    HaveMadeAll (engine_sizes e) long rounds old told new → AreCollectors e new
+collectors_made e long rounds old new told own group table interval made = record {
+  group_is = group;
+  table_is = table;
+  interval_is = interval;
+  alone = record {
+    group = alone_rounds (engine_board_id e) 0 Group (engine_sizes e) long (made Group).sweeps (groups.pass_of old.group) (groups.pass_of new.group) own.alone.group group.0 (made Group).made;
+    table = alone_rounds (engine_board_id e) 1 Table (engine_sizes e) long (made Table).sweeps (tables.pass_of old.table) (tables.pass_of new.table) own.alone.table table.0 (made Table).made;
+    interval = alone_rounds (engine_board_id e) 2 Interval (engine_sizes e) long (made Interval).sweeps (intervals.pass_of old.interval) (intervals.pass_of new.interval) own.alone.interval interval.0 (made Interval).made;
+  };
+}

@@ -1,0 +1,59 @@
+use Rattle.std.proofs.Common.{◌≡◌, ◌+◌, sym, subst}
+use Rattle.std.specs.Prelude.{IfOk}
+use Rattle.hg_base.specs.declared.report.Kind.{Kind}
+use Rattle.hg_base.specs.declared.report.Kind.TheVariants as kinds
+use Rattle.hg_gc_group.specs.Collectors as group
+use Rattle.hg_gc_table.specs.Collectors as table
+use Rattle.hg_gc_interval.specs.Collectors as interval
+use Rattle.hg_session.specs.Engines.{engine_sizes}
+use Rattle.hg_run.specs.Collecting.{removed_of, view_in}
+use Rattle.hg_run.specs.Rounding.{IsRoundBy}
+use Rattle.hg_run.specs.Swept.{HasSwept, swept_by}
+use Rattle.hg_run.proofs.Asking.{if_ok}
+use Rattle.hg_run.proofs.Driving.{swept_of, removed_group, removed_table, removed_interval}
+use Rattle.hg_run.proofs.collecting.Collectors.collect.Goals as goal
+
+pub returns-in-Group-clause-swept : goal.returns-in-Group-clause-swept
+returns-in-Group-clause-swept g c =
+    let z = engine_sizes c.args.engine.now in
+    let old = c.args.self.now in
+    let new = c.round.new.self in
+    subst (λ kind. IfOk c.round.result (λ sweep. HasSwept kind z.sessions (view_in kind old) sweep (view_in kind (record old { group = new })))) (sym c.in-Group.is)
+    (if_ok (λ sweep. IsRoundBy kinds.Group z c.args.long (view_in kinds.Group old) sweep (group.view_of new)) (λ sweep. HasSwept kinds.Group z.sessions (view_in kinds.Group old) sweep (group.view_of new)) c.round.result (λ sweep round. swept_of kinds.Group z c.args.long (view_in kinds.Group old) (group.view_of new) sweep round) c.round.ensures.round)
+
+pub returns-in-Group-clause-removed : goal.returns-in-Group-clause-removed
+returns-in-Group-clause-removed g c =
+    let z = engine_sizes c.args.engine.now in
+    let old = c.args.self.now in
+    let new = c.round.new.self in
+    if_ok (λ sweep. IsRoundBy kinds.Group z c.args.long (view_in kinds.Group old) sweep (group.view_of new)) (λ sweep. (k : Kind) → removed_of k (record old { group = new }) ≡ removed_of k old + swept_by k sweep) c.round.result (λ sweep round. removed_group z c.args.long old new sweep round) c.round.ensures.round
+
+pub returns-in-Table-clause-swept : goal.returns-in-Table-clause-swept
+returns-in-Table-clause-swept g c =
+    let z = engine_sizes c.args.engine.now in
+    let old = c.args.self.now in
+    let new = c.round-in-Table.new.self in
+    subst (λ kind. IfOk c.round-in-Table.result (λ sweep. HasSwept kind z.sessions (view_in kind old) sweep (view_in kind (record old { table = new })))) (sym c.in-Table.is)
+    (if_ok (λ sweep. IsRoundBy kinds.Table z c.args.long (view_in kinds.Table old) sweep (table.view_of new)) (λ sweep. HasSwept kinds.Table z.sessions (view_in kinds.Table old) sweep (table.view_of new)) c.round-in-Table.result (λ sweep round. swept_of kinds.Table z c.args.long (view_in kinds.Table old) (table.view_of new) sweep round) c.round-in-Table.ensures.round)
+
+pub returns-in-Table-clause-removed : goal.returns-in-Table-clause-removed
+returns-in-Table-clause-removed g c =
+    let z = engine_sizes c.args.engine.now in
+    let old = c.args.self.now in
+    let new = c.round-in-Table.new.self in
+    if_ok (λ sweep. IsRoundBy kinds.Table z c.args.long (view_in kinds.Table old) sweep (table.view_of new)) (λ sweep. (k : Kind) → removed_of k (record old { table = new }) ≡ removed_of k old + swept_by k sweep) c.round-in-Table.result (λ sweep round. removed_table z c.args.long old new sweep round) c.round-in-Table.ensures.round
+
+pub returns-in-Interval-clause-swept : goal.returns-in-Interval-clause-swept
+returns-in-Interval-clause-swept g c =
+    let z = engine_sizes c.args.engine.now in
+    let old = c.args.self.now in
+    let new = c.round-in-Interval.new.self in
+    subst (λ kind. IfOk c.round-in-Interval.result (λ sweep. HasSwept kind z.sessions (view_in kind old) sweep (view_in kind (record old { interval = new })))) (sym c.in-Interval.is)
+    (if_ok (λ sweep. IsRoundBy kinds.Interval z c.args.long (view_in kinds.Interval old) sweep (interval.view_of new)) (λ sweep. HasSwept kinds.Interval z.sessions (view_in kinds.Interval old) sweep (interval.view_of new)) c.round-in-Interval.result (λ sweep round. swept_of kinds.Interval z c.args.long (view_in kinds.Interval old) (interval.view_of new) sweep round) c.round-in-Interval.ensures.round)
+
+pub returns-in-Interval-clause-removed : goal.returns-in-Interval-clause-removed
+returns-in-Interval-clause-removed g c =
+    let z = engine_sizes c.args.engine.now in
+    let old = c.args.self.now in
+    let new = c.round-in-Interval.new.self in
+    if_ok (λ sweep. IsRoundBy kinds.Interval z c.args.long (view_in kinds.Interval old) sweep (interval.view_of new)) (λ sweep. (k : Kind) → removed_of k (record old { interval = new }) ≡ removed_of k old + swept_by k sweep) c.round-in-Interval.result (λ sweep round. removed_interval z c.args.long old new sweep round) c.round-in-Interval.ensures.round

@@ -1,0 +1,65 @@
+-- What the two drivers make of an engine's sessions and collectors.
+use Rattle.std.specs.Prelude.{◌≡◌, ℕ, ◌≤◌, ◌++◌, List, [], length, map, max, filter, filter_map, ⊤}
+use Rattle.std.specs.List.{cons_option, flat_map}
+use Rattle.hg_base.specs.declared.line.Line.{Line}
+use Rattle.hg_base.specs.declared.line.Reply.{Reply}
+use Rattle.hg_base.specs.declared.report.Kind.{Kind}
+use Rattle.hg_base.specs.declared.report.Kind.TheVariants.{Group, Table, Interval}
+use Rattle.hg_base.specs.declared.report.Sweep.{Sweep}
+use Rattle.hg_base.specs.declared.statement.Record.{Record}
+use Rattle.hg_base.specs.Lists.{greatest, numbers_from}
+use Rattle.hg_base.specs.Script.{Script}
+use Rattle.hg_base.specs.Shape.{HasShape, same_kind, report_of}
+use Rattle.hg_base.specs.Transcript.{of_session}
+use Rattle.hg_core.specs.declared.log.LogEntry.{LogEntry}
+use Rattle.hg_core.specs.Reading.{Follows}
+use Rattle.hg_rule.specs.declared.view.Sizes.{Sizes}
+use Rattle.hg_rule.specs.New.{EachFrom}
+use Rattle.hg_headline.specs.Counted.{Closes}
+use Rattle.hg_session.specs.declared.engine.Engine.{Engine}
+use Rattle.hg_session.specs.declared.session.Session.{Session}
+use Rattle.hg_session.specs.Engines.{engine_sizes}
+use Rattle.hg_session.specs.Finished.{logs_of}
+use Rattle.hg_session.specs.Opened.{IsNewOf}
+use Rattle.hg_run.specs.declared.collecting.Collectors.{Collectors}
+use Rattle.hg_run.specs.Collecting.{AreCollectors, removed_of, view_in}
+use Rattle.hg_run.specs.Rounding.{IsRoundBy, AreRounds, sweep_lines}
+use Rattle.hg_run.specs.Working.{HasWorked}
+
+-- an engine for the tables and the sessions of a script, whose sessions and collectors have done nothing yet
+pub record IsOpenedFor (script : Script) (buckets : ℕ) (e : Engine) (list : List Session) (collectors : Collectors) : Type 0 where
+  pub sessions : (engine_sizes e).sessions ≡ max 1 (greatest (map (λ (r : Record). r.session) script.records))
+  pub tables : (engine_sizes e).tables ≡ length script.tables
+  pub buckets_are : (engine_sizes e).buckets ≡ buckets
+  pub quota : length script.records ≤ (engine_sizes e).quota
+  pub all : length list ≡ (engine_sizes e).sessions
+  pub new : EachFrom (IsNewOf e (engine_sizes e).quota) 1 list
+  pub collectors_are : AreCollectors e collectors
+  pub none : (kind : Kind) → removed_of kind collectors ≡ 0
+
+-- what a reply tells of a round of one kind of collector
+abbrev pub sweeps_in : Kind → Reply → List Sweep
+sweeps_in kind reply = filter (λ sweep. same_kind sweep.kind kind) (cons_option (report_of reply) [])
+
+-- and what the lines tell of such rounds
+abbrev pub sweeps_of : Kind → List Line → List Sweep
+sweeps_of kind lines = filter (λ sweep. same_kind sweep.kind kind) (filter_map (λ line. report_of line.reply) lines)
+
+-- On one thread: the lines are the replies that the logs give, record by record, and each log gained their entries alone, and
+-- then what rolls an open transaction back. Each collector made a round for each `gc` of its kind, and no other.
+pub record HasDrivenOne (z : Sizes) (long : ℕ) (records : List Record) (old : List Session) (before : Collectors) (lines : List Line) (new : List Session) (after : Collectors) : Type 0 where
+  pub logs : ℕ → List LogEntry
+  pub shape : HasShape records lines
+  pub follows : Follows z.buckets (λ _ _ _. ⊤) (logs_of old) records lines logs
+  pub closes : (j : ℕ) → Closes (logs j) (logs_of new j)
+  pub rounds : (kind : Kind) → AreRounds (IsRoundBy kind z long) (view_in kind before) (sweeps_of kind lines) (view_in kind after)
+
+-- Beside each other: the lines are those of each session by number, and then those of the group, the table and the interval
+-- collector, each of which made so many rounds, and no other.
+pub record HasDrivenAll (z : Sizes) (long rounds : ℕ) (records : List Record) (old : List Session) (before : Collectors) (all : List Line) (new : List Session) (after : Collectors) : Type 0 where
+  pub lines : ℕ → List Line
+  pub sweeps : Kind → List Sweep
+  pub told : all ≡ flat_map lines (numbers_from 1 z.sessions) ++ (sweep_lines 1 (sweeps Group) ++ (sweep_lines 1 (sweeps Table) ++ sweep_lines 1 (sweeps Interval)))
+  pub worked : (j : ℕ) → HasWorked z.buckets (logs_of old j) (of_session j records) (lines j) (logs_of new j)
+  pub count : (kind : Kind) → length (sweeps kind) ≡ rounds
+  pub made : (kind : Kind) → AreRounds (IsRoundBy kind z long) (view_in kind before) (sweeps kind) (view_in kind after)

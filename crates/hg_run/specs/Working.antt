@@ -1,0 +1,140 @@
+-- What a session's worker makes of its records.
+use Rattle.std.specs.Prelude.{◌≡◌, ℕ, suc, ◌+◌, ◌≤◌, List, [], ◌∷◌, ◌++◌, length, map, Bool, false, is_some, None, ⊤}
+use Rattle.std.specs.List.{flat_map}
+use Rattle.hg_base.specs.declared.report.Kind.{Kind}
+use Rattle.hg_base.specs.declared.report.Kind.TheVariants.{Group, Table, Interval}
+use Rattle.hg_base.specs.declared.limits.TheConstants.{MOST_RECORDS}
+use Rattle.hg_base.specs.declared.line.Line.{Line}
+use Rattle.hg_base.specs.declared.line.Reply.{Reply}
+use Rattle.hg_base.specs.declared.statement.Record.{Record}
+use Rattle.hg_base.specs.declared.statement.Statement.{Statement}
+use Rattle.hg_base.specs.Lists.{Each}
+use Rattle.hg_base.specs.Script.{Script}
+use Rattle.hg_base.specs.Shape.{HasShape}
+use Rattle.hg_base.specs.Transcript.{of_session}
+use Rattle.hg_core.specs.declared.log.LogEntry.{LogEntry}
+use Rattle.hg_core.specs.Reading.{Unprinted, Fits, Tells, log_after}
+use Rattle.hg_rule.specs.declared.view.Sizes.{Sizes}
+use Rattle.hg_script.specs.Lawful.{MayStand}
+use Rattle.hg_script.specs.Rules.{opened}
+use Rattle.hg_headline.specs.Counted.{Closes}
+use Rattle.hg_headline.specs.Ran.{LeavesGc}
+use Rattle.hg_session.specs.declared.engine.Engine.{Engine}
+use Rattle.hg_session.specs.declared.session.Session.{Session}
+use Rattle.hg_session.specs.Engines.{engine_sizes}
+use Rattle.hg_session.specs.Sessions.{IsOf, number_of, log_of, open_of, left_of}
+use Rattle.hg_run.specs.declared.beside.RoundLists.{RoundLists}
+use Rattle.hg_run.specs.declared.round_list.RoundList.{RoundList}
+use Rattle.hg_run.specs.declared.work.Worker.{Worker}
+use Rattle.hg_run.specs.declared.collecting.Collectors.{Collectors}
+use Rattle.hg_run.specs.Asked.{IsOnTables}
+use Rattle.hg_run.specs.Collecting.{view_in}
+use Rattle.hg_run.specs.Rounding.{HasMadeAll}
+
+-- ---- what is asked
+
+-- one session's records, each of which may stand after those before it, where a transaction is open at first or not
+abbrev pub MayFollow : Bool → List Record → Type 0
+MayFollow within [] = ⊤
+MayFollow within (r ∷ rs) = MayStand within r.statement × MayFollow (opened within r.statement) rs
+
+-- a record of a session, on tables that there are
+pub record IsAskedOf (tables : ℕ) (r : Record) : Type 0 where
+  pub some : 1 ≤ r.session
+  pub on : IsOnTables tables r.statement
+
+-- ---- what is answered
+
+-- One session answers a statement: the reply is what its log gives, and a `gc` is left to the collectors.
+pub record IsStep (buckets : ℕ) (old : List LogEntry) (statement : Statement) (reply : Reply) (new : List LogEntry) : Type 0 where
+  pub u : Unprinted
+  pub fits : Fits buckets u old statement reply
+  pub leaves : LeavesGc statement reply.answer
+  pub log : new ≡ log_after buckets u statement reply old
+
+-- The lines of one session are the replies that its log gives to its records, with each `gc` left to the collectors. The log
+-- gained their entries alone, and then what rolls an open transaction back.
+pub record HasWorked (buckets : ℕ) (old : List LogEntry) (records : List Record) (lines : List Line) (new : List LogEntry) : Type 0 where
+  pub log : List LogEntry
+  pub shape : HasShape records lines
+  pub tells : Tells buckets (λ r line. LeavesGc r.statement line.reply.answer) old records lines log
+  pub closes : Closes log new
+
+-- ---- a worker
+
+-- it may run the records that it has
+pub record IsReady (e : Engine) (w : Worker) : Type 0 where
+  pub own : IsOf e w.session
+  pub asked : Each (IsAskedOf (engine_sizes e).tables) w.records
+  pub may : MayFollow (is_some (open_of w.session)) w.records
+  pub left : length w.records ≤ left_of w.session
+
+-- and has written nothing yet
+pub record IsHired (e : Engine) (w : Worker) : Type 0 where
+  pub ready : IsReady e w
+  pub most : length w.records ≤ MOST_RECORDS
+  pub none : w.transcript.lines ≡ []
+  pub willing : w.refused ≡ false
+
+-- it answered a record, and wrote the line
+pub record HasAnswered (buckets : ℕ) (r : Record) (old new : Worker) : Type 0 where
+  pub reply : Reply
+  pub lines : new.transcript.lines ≡ old.transcript.lines ++ (record { session = r.session; place = r.place; reply = reply }) ∷ []
+  pub step : IsStep buckets (log_of old.session) r.statement reply (log_of new.session)
+
+-- the first of its records
+pub record HasStepped (e : Engine) (r : Record) (old new : Worker) : Type 0 where
+  pub records : old.records ≡ r ∷ new.records
+  pub answered : HasAnswered (engine_sizes e).buckets r old new
+  pub left : left_of old.session ≤ left_of new.session + 1
+
+-- it has run all of its records
+pub record HasRun (buckets : ℕ) (old new : Worker) : Type 0 where
+  pub shape : HasShape old.records new.transcript.lines
+  pub tells : Tells buckets (λ r line. LeavesGc r.statement line.reply.answer) (log_of old.session) old.records new.transcript.lines (log_of new.session)
+
+-- it is done: no transaction is open, and unless it was refused memory it has the lines of its records
+pub record HasEnded (e : Engine) (old new : Worker) : Type 0 where
+  pub own : IsOf e new.session
+  pub number_is : number_of new.session ≡ number_of old.session
+  pub closed : open_of new.session ≡ None
+  pub tables : new.transcript.tables ≡ old.transcript.tables
+  pub worked : new.refused ≡ false → HasWorked (engine_sizes e).buckets (log_of old.session) old.records new.transcript.lines (log_of new.session)
+
+-- ---- all workers
+
+-- the workers of sessions in their order, the first one being session j
+abbrev pub hired : Script → ℕ → List Session → List Worker
+hired script j [] = []
+hired script j (s ∷ ss) = record { session = s; records = of_session j script.records; transcript = record { tables = script.tables; lines = [] }; refused = false } ∷ hired script (suc j) ss
+
+abbrev pub sessions_in : List Worker → List Session
+sessions_in workers = map (λ (w : Worker). w.session) workers
+
+-- the lines of all, those of the first one first
+abbrev pub lines_in : List Worker → List Line
+lines_in workers = flat_map (λ (w : Worker). w.transcript.lines) workers
+
+-- each is done that was hired
+abbrev pub AreEnded : Engine → List Worker → List Worker → Type 0
+AreEnded e [] [] = ⊤
+AreEnded e [] (w ∷ ws) = ⊥
+AreEnded e (w ∷ ws) [] = ⊥
+AreEnded e (v ∷ vs) (w ∷ ws) = HasEnded e v w × AreEnded e vs ws
+
+-- no worker and no collector was refused memory
+pub record AreWilling (workers : List Worker) (told : RoundLists) : Type 0 where
+  pub each : Each (λ (w : Worker). w.refused ≡ false) workers
+  pub group : told.group.refused ≡ false
+  pub table : told.table.refused ≡ false
+  pub interval : told.interval.refused ≡ false
+
+-- what a collector's rounds were told as
+abbrev pub told_in : Kind → RoundLists → RoundList
+told_in Group told = told.group
+told_in Table told = told.table
+told_in Interval told = told.interval
+
+-- each collector made its rounds
+abbrev pub HaveMadeAll : Sizes → ℕ → ℕ → Collectors → RoundLists → Collectors → Type 0
+HaveMadeAll z long rounds before told after = (kind : Kind) → HasMadeAll kind z long rounds (view_in kind before) (told_in kind told) (view_in kind after)

@@ -1,0 +1,47 @@
+//! An engine for a script.
+
+ghost use Rattle.std.specs.Prelude.{◌≡◌, length, map, IfOk};
+ghost use Rattle.hg_script.specs.Lawful.{IsLawful};
+ghost use Rattle.hg_words.specs.Options.{AreWithin};
+ghost use Rattle.hg_run.specs.Driven.{IsOpenedFor};
+
+use crate::collecting::Collectors;
+use hg_base::NoMemory;
+use hg_script::Script;
+use hg_session::{Engine, SessionList, TableDecl};
+use hg_words::Options;
+use std::alloc::Global;
+
+// The tables that a script declares, each with its columns. An engine counts them, and reads no columns.
+fn declared(alloc: Global, script: &Script) -> Result<Vec<TableDecl>, NoMemory>
+    ensures many { IfOk result (λ tables. length tables.items ≡ length script.now.tables) }
+    ensures columns { IfOk result (λ tables. map (λ t. t.columns) tables.items ≡ map (λ d. d.columns) script.now.tables) }
+{
+    let mut tables = Vec::new(alloc);
+    for table in script.tables() {
+        tables.push(TableDecl {
+            columns: table.columns(),
+        })?;
+    }
+    Ok(tables)
+}
+
+/// An engine for the tables and the sessions of a script, with the sessions and the collectors. A session may run as many
+/// statements as the script has.
+pub(crate) fn open_for(
+    alloc: Global,
+    script: &Script,
+    options: &Options,
+) -> Result<(Engine, SessionList, Collectors), NoMemory>
+    requires lawful { IsLawful script.now }
+    requires within { AreWithin options.now }
+    ensures { IfOk result (λ o. IsOpenedFor script.now options.now.buckets o.0 o.1 o.2) }
+{
+    let tables = declared(alloc, script)?;
+    let sessions = script.sessions();
+    // A session has at most all records, and each begins one transaction and stores one write at most.
+    let quota = (script.record_count() as u64).max(1);
+    let (engine, list, passes) = Engine::open(alloc, sessions, &tables, options.buckets, quota)?;
+    let collectors = Collectors::new(alloc, passes, sessions, tables.len() as u32)?;
+    Ok((engine, list, collectors))
+}

@@ -1,0 +1,69 @@
+//! A collector's worker.
+//!
+//! It makes its rounds one after the other, and asks the gate before each. What its reports tell is kept in places that were
+//! taken before. Where memory for what a report tells is wanting it goes no further, and says so.
+
+ghost use Rattle.hg_session.specs.Engines.{engine_sizes};
+ghost use Rattle.hg_run.specs.Rounding.{HasPlaces, HasMadeAll};
+
+use crate::collect::Collect;
+use hg_base::{Gate, NoMemory, Sweep};
+use hg_session::Engine;
+use std::alloc::Global;
+use std::sync::Wait;
+
+/// What a worker asks before each step, how many rounds each collector makes, and how far behind the mark a snapshot is long in
+/// use.
+#[derive(Drop)]
+pub(crate) struct Plan<'a, G> {
+    pub(crate) gate: &'a G,
+    pub(crate) rounds: u32,
+    pub(crate) long: u64,
+}
+
+/// What a collector's rounds were told as, in their order.
+#[derive(Drop)]
+pub(crate) struct RoundList {
+    pub(crate) sweeps: Vec<Sweep>,
+    pub(crate) refused: bool,
+}
+
+impl RoundList {
+    ghost use Rattle.std.specs.Prelude.{IfOk};
+    ghost use Rattle.hg_run.specs.Rounding.{HasPlaces};
+
+    /// None yet, with places for so many.
+    pub(crate) fn with_places(alloc: Global, rounds: u32) -> Result<RoundList, NoMemory>
+        ensures { IfOk result (HasPlaces rounds) }
+    {
+        let sweeps = Vec::with_capacity(alloc, rounds as usize)?;
+        Ok(RoundList {
+            sweeps,
+            refused: false,
+        })
+    }
+}
+
+/// Makes the rounds of a plan.
+pub(crate) fn make_rounds<C: Collect, G: Gate, R: Wait>(
+    rt: &R,
+    engine: &Engine,
+    plan: &Plan<G>,
+    worker: u32,
+    collector: &mut C,
+    told: &mut RoundList,
+)
+    requires own { C.is_of engine.now collector.old }
+    requires places { HasPlaces plan.now.rounds told.old }
+    ensures made { HasMadeAll C.kind (engine_sizes engine.now) plan.now.long plan.now.rounds (C.view_of collector.old) told.new (C.view_of collector.new) }
+    ensures own { C.is_of engine.now collector.new }
+{
+    for round in 0..plan.rounds {
+        plan.gate.at(rt, worker, round + 1);
+        let Ok(sweep) = collector.round(rt, engine, plan.long) else {
+            told.refused = true;
+            return;
+        };
+        told.sweeps.push_reserved(sweep);
+    }
+}
