@@ -2,6 +2,7 @@
 use Rattle.std.proofs.Common.{◌≡◌, ℕ, zero, suc, ◌-◌, ◌<◌, ◌≤◌, List, [], ◌∷◌, length, drop, slice_index, Bool, true, false, not, ◌||◌, Option, Some, None, refl, sym, ◌∙◌, subst, arith}
 use Rattle.std.specs.Prelude.{nat_le}
 use Rattle.std.proofs.lemmas.Bool.Decides.{nat_tests}
+use Rattle.std.proofs.lemmas.Bool.{or_right}
 use Rattle.hg_base.specs.Lists.{Each}
 use Rattle.hg_base.proofs.ListFacts.{cases, each_keeps}
 use Rattle.hg_chain.specs.Sweeps.{Rises}
@@ -37,15 +38,11 @@ none_left n up (x ∷ xs) (suc k) r h e p =
 here : (n up s : ℕ) (b : Bool) → n ≤ s → s < up → (is_within n up s || b) ≡ true
 here n up s b h e = grind (arith, nat_tests)
 
-there : (a b : Bool) → b ≡ true → (a || b) ≡ true
-there true b e = refl
-there false b e = e
-
 -- where the last is at or over n, it lies there
 pub last_lies : (n up : ℕ) (xs : List ℕ) (k : ℕ) → k < length xs → n ≤ slice_index xs k → slice_index xs k < up → is_in_use xs n up ≡ true
 last_lies n up [] k h a b = absurd (omega (arith, h))
 last_lies n up (x ∷ xs) zero h a b = here n up x (is_in_use xs n up) a b
-last_lies n up (x ∷ xs) (suc k) h a b = let less : k < length xs = omega (arith, h) in there (is_within n up x) (is_in_use xs n up) (last_lies n up xs k less a b)
+last_lies n up (x ∷ xs) (suc k) h a b = let less : k < length xs = omega (arith, h) in or_right (is_within n up x) (is_in_use xs n up) (last_lies n up xs k less a b)
 
 le_of : (m n : ℕ) → nat_le m n ≡ true → m ≤ n
 le_of m n e = grind (arith, nat_tests)

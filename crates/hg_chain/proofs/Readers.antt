@@ -3,6 +3,7 @@ use Rattle.std.proofs.Common.{◌≡◌, ℕ, zero, suc, inl, inr, ◌<◌, ◌�
 use Rattle.std.specs.Prelude.{cond, ⊤, find, option_map, Contains}
 use Rattle.std.proofs.lemmas.Bool.Decides.{nat_tests}
 use Rattle.std.specs.Prelude.{nat_le}
+use Rattle.std.proofs.lemmas.Bool.{or_right}
 use Rattle.hg_base.proofs.ListFacts.{cases}
 use Rattle.hg_chain.specs.declared.version.Stamp.{Stamp}
 use Rattle.hg_chain.specs.declared.version.Stamp.TheVariants.{Written, Numbered}
@@ -21,14 +22,10 @@ IsBefore s (Some up) = s < up
 pub lies_here : (n up s : ℕ) (b : Bool) → n ≤ s → s < up → (is_within n up s || b) ≡ true
 lies_here n up s b h e = grind (arith, nat_tests)
 
-pub lies_there : (a b : Bool) → b ≡ true → (a || b) ≡ true
-lies_there true b e = refl
-lies_there false b e = e
-
 pub lies : (n up s : ℕ) (xs : List ℕ) → n ≤ s → s < up → Contains xs s → is_in_use xs n up ≡ true
 lies n up s [] a b (k, within, e) = absurd (omega (arith, within))
 lies n up s (x ∷ xs) a b (zero, within, e) = subst (λ y. (is_within n up y || is_in_use xs n up) ≡ true) (sym e) (lies_here n up s (is_in_use xs n up) a b)
-lies n up s (x ∷ xs) a b (suc k, within, e) = let less : k < length xs = omega (arith, within) in lies_there (is_within n up x) (is_in_use xs n up) (lies n up s xs a b (k, less, e))
+lies n up s (x ∷ xs) a b (suc k, within, e) = let less : k < length xs = omega (arith, within) in or_right (is_within n up x) (is_in_use xs n up) (lies n up s xs a b (k, less, e))
 
 pub over_horizon : (horizon up n s : ℕ) (xs : List ℕ) → horizon ≤ s → s < up → goes horizon xs (Some up) (Some n) ≡ false
 over_horizon horizon up n s xs a b = grind (arith, nat_tests)

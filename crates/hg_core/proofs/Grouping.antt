@@ -1,6 +1,7 @@
 -- A new group is one of its number: no session and no record occurs twice in it, and each commit writes something.
 use Rattle.std.proofs.Common.{◌≡◌, ℕ, suc, ◌+◌, ◌<◌, ◌≤◌, List, [], ◌∷◌, ◌++◌, length, Option, None, Some, Bool, true, false, not, ◌||◌, ◌&&◌, ◌==◌, refl, sym, ap, ◌∙◌, subst, arith}
 use Rattle.std.specs.Prelude.{cond, filter, map, IsSome, IfSome, IsTrue, IsFalse}
+use Rattle.std.proofs.lemmas.Bool.{or_parts}
 use Rattle.hg_base.specs.declared.rid.Rid.{Rid}
 use Rattle.hg_base.specs.declared.image.Image.{Image}
 use Rattle.hg_base.specs.declared.scope.Snapshot.{Snapshot}
@@ -17,10 +18,6 @@ use Rattle.hg_core.proofs.Replies.{current_within}
 use Rattle.hg_core.proofs.Updates.{each_last, own_open}
 
 -- ---- records of a list of writes
-
-or_false : (a b : Bool) → (a || b) ≡ false → (a ≡ false) × (b ≡ false)
-or_false true b e = cc
-or_false false b e = (refl, e)
 
 among_append : (r : Rid) (xs ys : List Rid) → is_among r (xs ++ ys) ≡ (is_among r xs || is_among r ys)
 among_append r [] ys = refl
@@ -40,7 +37,7 @@ none_append (x ∷ xs) ys a b e = (among_append x xs ys ∙ step (is_among x xs)
 -- a part of the writes has no more records
 among_less : (r : Rid) (p : Write → Bool) (ws : List Write) → is_among r (rids_of ws) ≡ false → is_among r (rids_of (filter p ws)) ≡ false
 among_less r p [] e = refl
-among_less r p (w ∷ ws) e = go (p w) (or_false (same_rid r w.rid) (is_among r (rids_of ws)) e) (λ k. among_less r p ws k)
+among_less r p (w ∷ ws) e = go (p w) (or_parts (same_rid r w.rid) (is_among r (rids_of ws)) e) (λ k. among_less r p ws k)
   where
     go : (b : Bool) → (same_rid r w.rid ≡ false) × (is_among r (rids_of ws) ≡ false) → (is_among r (rids_of ws) ≡ false → is_among r (rids_of (filter p ws)) ≡ false) → is_among r (rids_of (cond b (w ∷ filter p ws) (filter p ws))) ≡ false
     go true q later = ap (λ b. b || is_among r (rids_of (filter p ws))) q.0 ∙ later q.1

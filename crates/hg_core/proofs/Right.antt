@@ -4,6 +4,7 @@ use Rattle.std.specs.Prelude.{◌==◌, ◌||◌, ◌+◌, ◌*◌, ◌%◌, if�
 use Rattle.std.specs.List.{list_any}
 use Rattle.std.specs.Bool.{MatchBool}
 use Rattle.std.proofs.lemmas.Bool.Decides.{Decides-eqb, nat_tests}
+use Rattle.std.proofs.lemmas.Bool.{or_left, or_right}
 use Rattle.hg_base.specs.declared.rid.Rid.{Rid}
 use Rattle.hg_base.specs.declared.rid.TableId.{TableId}
 use Rattle.hg_base.specs.declared.image.Image.{Image}
@@ -29,14 +30,6 @@ use Rattle.hg_core.proofs.OwnKeys.{reached, saws_keep}
 
 true_false : true ≡ false → ⊥
 true_false e = cc
-
-pub or_first : (a b : Bool) → a ≡ true → (a || b) ≡ true
-or_first true b e = refl
-or_first false b e = absurd (true_false (sym e))
-
-pub or_with : (a b : Bool) → b ≡ true → (a || b) ≡ true
-or_with true b e = refl
-or_with false b e = e
 
 same_number : (n : ℕ) → (n == n) ≡ true
 same_number n = (Decides-eqb n n).1 refl
@@ -158,8 +151,8 @@ saws_replied buckets h logs j t low high part (suc n) l c e g b k has =
 
 pub contains_any : {X : Type 0} (p : X → Bool) (x : X) (xs : List X) → Contains xs x → p x ≡ true → list_any p xs ≡ true
 contains_any p x [] (k, within, e) h = absurd (omega (arith, within))
-contains_any p x (z ∷ zs) (zero, within, e) h = or_first (p z) (list_any p zs) (ap p e ∙ h)
-contains_any p x (z ∷ zs) (suc k, within, e) h = let less : k < length zs = omega (arith, within) in or_with (p z) (list_any p zs) (contains_any p x zs (k, less, e) h)
+contains_any p x (z ∷ zs) (zero, within, e) h = or_left (p z) (list_any p zs) (ap p e ∙ h)
+contains_any p x (z ∷ zs) (suc k, within, e) h = let less : k < length zs = omega (arith, within) in or_right (p z) (list_any p zs) (contains_any p x zs (k, less, e) h)
 
 -- where one of the list passes, and all of it are among others, one of the others passes
 pub any_contained : {X : Type 0} (p : X → Bool) (xs ys : List X) → Each (λ x. Contains ys x) xs → list_any p xs ≡ true → list_any p ys ≡ true

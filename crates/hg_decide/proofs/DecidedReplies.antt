@@ -4,6 +4,7 @@ use Rattle.std.specs.Prelude.{◌==◌, filter, cond, IsTrue, IsFalse, is_some, 
 use Rattle.std.specs.List.{list_any, flat_map, cons_option}
 use Rattle.std.specs.Option.{option_or}
 use Rattle.std.proofs.lemmas.Bool.Decides.{Decides-eqb}
+use Rattle.std.proofs.lemmas.Bool.{or_parts}
 use Rattle.hg_base.specs.declared.rid.Rid.{Rid}
 use Rattle.hg_base.specs.declared.rid.TableId.{TableId}
 use Rattle.hg_base.specs.declared.image.Image.{Image}
@@ -76,31 +77,23 @@ decide_scope scope table answer d = decide_match (has scope table) d (decide_und
 abbrev pub NoneHas : ℕ → List Rid → Type 0
 NoneHas key rids = IsFalse (list_any (λ r. r.key == key) rids)
 
-pub or_left : (a b : Bool) → (a || b) ≡ false → a ≡ false
-or_left true b e = e
-or_left false b e = refl
-
-pub or_right : (a b : Bool) → (a || b) ≡ false → b ≡ false
-or_right true b e = cc
-or_right false b e = e
-
 pub and_none : (a b : Bool) → b ≡ false → (a && b) ≡ false
 and_none true b e = e
 and_none false b e = refl
 
 pub none_left : (key : ℕ) (xs ys : List Rid) → NoneHas key (xs ++ ys) → NoneHas key xs
 none_left key [] ys e = refl
-none_left key (x ∷ xs) ys e = let h : (x.key == key) ≡ false = or_left (x.key == key) _ e in rw h (none_left key xs ys (or_right (x.key == key) _ e))
+none_left key (x ∷ xs) ys e = let h : (x.key == key) ≡ false = (or_parts (x.key == key) _ e).0 in rw h (none_left key xs ys (or_parts (x.key == key) _ e).1)
 
 pub none_right : (key : ℕ) (xs ys : List Rid) → NoneHas key (xs ++ ys) → NoneHas key ys
 none_right key [] ys e = e
-none_right key (x ∷ xs) ys e = none_right key xs ys (or_right (x.key == key) _ e)
+none_right key (x ∷ xs) ys e = none_right key xs ys (or_parts (x.key == key) _ e).1
 
 pub none_written : (r : Rid) (images : List Write) → NoneHas r.key (rids_of images) → image_in r images ≡ None
 none_written r [] e = refl
 none_written r (w ∷ ws) e =
-    ap (λ b. cond b (Some w.image) (image_in r ws)) (and_none (w.rid.table.0 == r.table.0) (w.rid.key == r.key) (or_left (w.rid.key == r.key) _ e))
-    ∙ none_written r ws (or_right (w.rid.key == r.key) _ e)
+    ap (λ b. cond b (Some w.image) (image_in r ws)) (and_none (w.rid.table.0 == r.table.0) (w.rid.key == r.key) (or_parts (w.rid.key == r.key) _ e).0)
+    ∙ none_written r ws (or_parts (w.rid.key == r.key) _ e).1
 
 pub none_in_group : (r : Rid) (group : Group) → NoneHas r.key (group_rids group) → group_image r group ≡ None
 none_in_group r [] e = refl

@@ -1,21 +1,18 @@
 -- A list of records, each once, gone through one by one.
 use Rattle.std.proofs.Common.{◌≡◌, ℕ, zero, suc, ◌+◌, ◌<◌, List, [], ◌∷◌, ◌++◌, length, take, get_or, Bool, true, false, refl, sym, ap, ◌∙◌, arith}
 use Rattle.std.specs.Prelude.{◌||◌}
+use Rattle.std.proofs.Math.Bool.{or-true}
 use Rattle.hg_base.specs.declared.rid.Rid.{Rid}
 use Rattle.hg_base.specs.History.{NoneTwice, same_rid, is_among}
 use Rattle.hg_base.proofs.ListFacts.{cases, false_true}
 use Rattle.hg_base.proofs.HistoryFacts.{same_rid_equal, same_rid_itself}
 use Rattle.hg_base.proofs.RidOrder.{same_back}
 
-or_true : (a : Bool) → (a || true) ≡ true
-or_true true = refl
-or_true false = refl
-
 -- the record at a place is among them
 pub among_at : (xs : List Rid) (i : ℕ) (d : Rid) → i < length xs → is_among (get_or xs i d) xs ≡ true
 among_at [] i d h = absurd (omega (arith, h))
 among_at (x ∷ xs) zero d h = ap (λ b. b || is_among x xs) (same_rid_itself x)
-among_at (x ∷ xs) (suc i) d h = let less : i < length xs = omega (arith, h) in ap (λ b. same_rid (get_or xs i d) x || b) (among_at xs i d less) ∙ or_true (same_rid (get_or xs i d) x)
+among_at (x ∷ xs) (suc i) d h = let less : i < length xs = omega (arith, h) in ap (λ b. same_rid (get_or xs i d) x || b) (among_at xs i d less) ∙ or-true (same_rid (get_or xs i d) x)
 
 -- and not among those before it
 pub among_before : (xs : List Rid) (i : ℕ) (d : Rid) → i < length xs → NoneTwice xs → is_among (get_or xs i d) (take i xs) ≡ false

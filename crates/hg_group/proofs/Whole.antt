@@ -1,6 +1,7 @@
 -- A batch that is stamped may be published as one group.
 use Rattle.std.proofs.Common.{◌≡◌, ℕ, suc, ◌<◌, Bool, true, false, List, [], ◌∷◌, length, get_or, refl, sym, ap, ◌∙◌, subst, arith}
 use Rattle.std.specs.Prelude.{◌==◌, ◌&&◌, ◌||◌, IsSome, IsTrue}
+use Rattle.std.proofs.lemmas.Bool.{or_left, or_right}
 use Rattle.hg_base.specs.declared.rid.Rid.{Rid}
 use Rattle.hg_base.specs.Lists.{Each}
 use Rattle.hg_base.specs.History.{same_rid}
@@ -54,13 +55,6 @@ taken_says P (tx ∷ txs) (m ∷ ms) f h = (f tx m h.0, taken_says P txs ms f h.
 -- each open write was stamped
 abbrev Covers : List (ℕ × Rid) → ℕ → Phase → List LogEntry → Type 0
 Covers done j phase log = (r : Rid) → IsSome (open_in r log) → is_stamped j r done ≡ true
-
-or_left : (a b : Bool) → a ≡ true → (a || b) ≡ true
-or_left a b e = ap (λ x. x || b) e
-
-or_right : (a b : Bool) → b ≡ true → (a || b) ≡ true
-or_right true b e = refl
-or_right false b e = e
 
 covered : (txs : List OpenTx) (ms : Members) → AreTaken txs ms → Says (Covers (all_pairs txs)) ms
 covered [] [] h = tt

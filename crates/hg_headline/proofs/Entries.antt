@@ -4,6 +4,7 @@ use Rattle.std.specs.Prelude.{◌==◌, ◌&&◌, cond, if◌then◌else◌, IsT
 use Rattle.std.specs.List.{cons_option}
 use Rattle.std.specs.Option.{option_map_or}
 use Rattle.std.proofs.lemmas.Bool.Decides.{Decides-ltb}
+use Rattle.std.proofs.lemmas.Bool.{or_cases}
 use Rattle.hg_base.specs.declared.rid.Rid.{Rid}
 use Rattle.hg_base.specs.declared.scope.Scope.{Scope}
 use Rattle.hg_base.specs.declared.scope.Snapshot.{Snapshot}
@@ -26,7 +27,7 @@ use Rattle.hg_core.specs.Logs.{current, begans, own_writes, number_in, commit_in
 use Rattle.hg_core.specs.Replies.{writes_in, numbers_in}
 use Rattle.hg_core.specs.Reading.{Unprinted, own_entries, is_access, close, FitsAnswer, IsGcAnswer}
 use Rattle.hg_headline.specs.Gathered.{began_at}
-use Rattle.hg_headline.proofs.Words.{cond_same, same_number, differs, none_is_not_some, or_either}
+use Rattle.hg_headline.proofs.Words.{cond_same, same_number, differs, none_is_not_some}
 use Rattle.hg_headline.proofs.Ties.{Says, Stands, StandsIn, shows_begun, made_at}
 use Rattle.hg_headline.proofs.Adds.{Adds, adds_access, adds_nothing, access_answer, access_commits, access_snapshot, access_newer, access_no_end, IsAccessAnswer}
 
@@ -203,7 +204,7 @@ says_outside buckets u l r s a number nxt e f tr =
       each_present (λ i. i ≤ n) (snapshot_of now) (committed now ∷ newer_of now ∷ []) (each_some (λ i. i ≤ n) (snapshot_of now) s snap m.0.0)
           (each_present (λ i. i ≤ n) (committed now) (newer_of now ∷ []) (subst (λ o. Each (λ i. i ≤ n) (cons_option o [])) (sym ends_by) k) (each_present (λ i. i ≤ n) (newer_of now) [] (access_newer n a m.1) tt)),
     ))
-    (λ d told k h. go d told k snap (or_either ((s == told.number) && (if d then is_declared (only (table_of r.statement)) else true)) (began_at d told.number l) (sym (adds.begun d told.number) ∙ h)))
+    (λ d told k h. go d told k snap (or_cases ((s == told.number) && (if d then is_declared (only (table_of r.statement)) else true)) (began_at d told.number l) (sym (adds.begun d told.number) ∙ h)))
     (λ n. adds.made n r.session)
   where
     go : (d : Bool) (told : Told) → told.session ≡ r.session → snapshot_of (standing None nxt r (reply_of (Some s) a number)) ≡ Some s → (((s == told.number) && (if d then is_declared (only (table_of r.statement)) else true)) ≡ true) ⊎ (began_at d told.number l ≡ true) → (shows_begun d told (standing None nxt r (reply_of (Some s) a number)) ≡ true) ⊎ (began_at d told.number l ≡ true)
@@ -236,7 +237,7 @@ says_begin last l place j scope at s number =
       own = λ x. sym (cond_same (now.transaction == x) (writes_in x l));
       numbers = λ x. sym (ap (λ o. cond (now.transaction == x) (cons_option o (numbers_in x l)) (numbers_in x l)) none ∙ cond_same (now.transaction == x) (numbers_in x l));
       known = λ n h. (h.1, (h.0, each_present (λ m. m ≤ n) (committed now) (None ∷ []) (each_none (λ m. m ≤ n) (committed now) none) tt));
-      begun = λ d told k h. go d told k (or_either ((s == told.number) && (if d then is_declared scope else true)) (began_at d told.number l) h);
+      begun = λ d told k h. go d told k (or_cases ((s == told.number) && (if d then is_declared scope else true)) (began_at d told.number l) h);
       published = λ n. sym (ap (λ o. published n j l ++ made_at n o (record { session = now.session; transaction = now.transaction; at = now.at; images = last_images (writes_in now.transaction (Began s scope ∷ l)) })) none ∙ append_nil (published n j l));
     }
   where

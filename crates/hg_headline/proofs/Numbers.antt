@@ -4,6 +4,7 @@ use Rattle.std.proofs.Common.{◌≡◌, ℕ, zero, suc, ◌+◌, ◌<◌, ◌�
 use Rattle.std.specs.Prelude.{◌==◌, ◌||◌, filter_map, option_map, if◌then◌else◌, IfSome}
 use Rattle.std.specs.List.{list_any, flat_map, cons_option}
 use Rattle.std.proofs.lemmas.Bool.Decides.{Decides-eqb, nat_tests}
+use Rattle.std.proofs.lemmas.Bool.{or_left, or_right}
 use Rattle.hg_base.specs.declared.report.Kind.{Kind}
 use Rattle.hg_base.specs.declared.report.Sweep.{Sweep}
 use Rattle.hg_base.specs.declared.statement.Record.{Record}
@@ -15,7 +16,6 @@ use Rattle.hg_base.specs.Transcript.{Said, said, said_from, last_of, committed, 
 use Rattle.hg_base.specs.Shape.{report_of, same_kind}
 use Rattle.hg_base.specs.Freshness.{mark_of}
 use Rattle.hg_base.proofs.ListFacts.{cases, each_keeps, each_append, if_some_keeps}
-use Rattle.hg_core.proofs.Right.{or_first, or_with}
 use Rattle.hg_headline.specs.Timely.{reads_in, commit_in, mark_in, newer_in, snapshot_in, IsTimely, Rises}
 use Rattle.hg_headline.proofs.Words.{true_false, any_onto, any_to_onto, each_left, each_cons, equal_both}
 use Rattle.hg_headline.proofs.Commits.{Matches, picked_onto, pick_other, first_picked, commits_numbers, greatest_within, group_some, max_has, max_keeps}
@@ -152,7 +152,7 @@ any_below n (x ∷ xs) e = cases (x == n) (λ q. max_has n x (greatest xs) ((Dec
 pub any_from_onto : {X : Type 0} (p : X → Bool) (xs es : List X) → list_any p xs ≡ true → list_any p (onto xs es) ≡ true
 any_from_onto p [] es e = absurd (true_false (sym e))
 any_from_onto p (x ∷ xs) es e = cases (p x)
-    (λ q. any_to_onto p xs (x ∷ es) (or_first (p x) (list_any p es) q))
+    (λ q. any_to_onto p xs (x ∷ es) (or_left (p x) (list_any p es) q))
     (λ q. any_from_onto p xs (x ∷ es) (sym (ap (λ b. b || list_any p xs) q) ∙ e))
 
 -- ---- each number up to the last is printed
@@ -160,8 +160,8 @@ any_from_onto p (x ∷ xs) es e = cases (p x)
 pub picked_any : (n j : ℕ) (ps : List (ℕ × Commit)) → (filter_map (pick n j) ps ≡ [] → ⊥) → list_any (λ m. m == n) (map (λ p. p.0) ps) ≡ true
 picked_any n j [] f = absurd (f refl)
 picked_any n j (p ∷ ps) f = cases (p.0 == n)
-    (λ e. or_first (p.0 == n) (list_any (λ m. m == n) (map (λ q. q.0) ps)) e)
-    (λ e. or_with (p.0 == n) (list_any (λ m. m == n) (map (λ q. q.0) ps)) (picked_any n j ps (λ k. f (ap (λ o. cons_option o (filter_map (pick n j) ps)) (pick_other n j p e) ∙ k))))
+    (λ e. or_left (p.0 == n) (list_any (λ m. m == n) (map (λ q. q.0) ps)) e)
+    (λ e. or_right (p.0 == n) (list_any (λ m. m == n) (map (λ q. q.0) ps)) (picked_any n j ps (λ k. f (ap (λ o. cons_option o (filter_map (pick n j) ps)) (pick_other n j p e) ∙ k))))
 
 -- every number up to the mark is printed, of lines newest first
 abbrev pub AllPrinted : ℕ → List Said → Type 0

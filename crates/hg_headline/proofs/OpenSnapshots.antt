@@ -3,6 +3,7 @@ use Rattle.std.proofs.Common.{◌≡◌, ℕ, zero, suc, ◌+◌, ◌<◌, ◌�
 use Rattle.std.specs.Prelude.{◌==◌, ◌&&◌, cond, filter_map, if◌then◌else◌, nat_lt, option_map, IsTrue, IsFalse, ⊤}
 use Rattle.std.specs.Bool.{MatchBool}
 use Rattle.std.specs.List.{cons_option}
+use Rattle.std.proofs.lemmas.Bool.{or_left, or_right}
 use Rattle.hg_base.specs.declared.scope.Snapshot.{Snapshot}
 use Rattle.hg_base.specs.declared.report.Told.{Told}
 use Rattle.hg_base.specs.Lists.{Each, Ascends, numbers_from, greatest}
@@ -13,7 +14,7 @@ use Rattle.hg_base.proofs.Growth.{left_below, right_below}
 use Rattle.hg_core.specs.declared.log.LogEntry.{LogEntry}
 use Rattle.hg_core.specs.declared.log.LogEntry.TheVariants.{Began, Saw, Refused, Outside, Wrote, Undid, Published, Over}
 use Rattle.hg_core.specs.Logs.{current, begans}
-use Rattle.hg_core.proofs.Right.{or_first, or_with, of_some}
+use Rattle.hg_core.proofs.Right.{of_some}
 use Rattle.hg_headline.specs.Gathered.{began_at, WasLive}
 use Rattle.hg_headline.specs.Met.{live_in, HasDeclared}
 use Rattle.hg_headline.proofs.Words.{same_number, differs, none_is_not_some, some_is_some, ascends_cons}
@@ -113,7 +114,7 @@ pub began_open : (d : Bool) (l : List LogEntry) (c : Snapshot) → current l ≡
 began_open d [] c e k = absurd (none_is_not_some c e)
 began_open d (Began at scope ∷ l) c e k =
     let same : c ≡ record { at = at; scope = scope } = sym (some_is_some (record { at = at; scope = scope }) c e) in
-    or_first _ (began_at d c.at l) (subst (λ (x : Snapshot). ((x.at == c.at) && (if d then is_declared x.scope else true)) ≡ true) same (ap (λ b. b && (if d then is_declared c.scope else true)) (same_number c.at) ∙ k))
+    or_left _ (began_at d c.at l) (subst (λ (x : Snapshot). ((x.at == c.at) && (if d then is_declared x.scope else true)) ≡ true) same (ap (λ b. b && (if d then is_declared c.scope else true)) (same_number c.at) ∙ k))
 began_open d (Saw t low high b rows ∷ l) c e k = began_open d l c e k
 began_open d (Refused r a ∷ l) c e k = began_open d l c e k
 began_open d (Outside t ∷ l) c e k = began_open d l c e k
@@ -127,7 +128,7 @@ abbrev pub Begins : (ℕ → List LogEntry) → ℕ → List LogEntry → Type 0
 Begins final j l = (d : Bool) (n : ℕ) → began_at d n l ≡ true → began_at d n (final j) ≡ true
 
 pub begins_less : (final : ℕ → List LogEntry) (j : ℕ) (e : LogEntry) (l : List LogEntry) → Begins final j (e ∷ l) → Begins final j l
-begins_less final j (Began at scope) l q d n k = q d n (or_with _ (began_at d n l) k)
+begins_less final j (Began at scope) l q d n k = q d n (or_right _ (began_at d n l) k)
 begins_less final j (Saw t low high b rows) l q d n k = q d n k
 begins_less final j (Refused r a) l q d n k = q d n k
 begins_less final j (Outside t) l q d n k = q d n k

@@ -3,6 +3,7 @@ use Rattle.std.proofs.Common.{◌≡◌, ℕ, suc, ◌<◌, ◌≤◌, ◌⊎◌
 use Rattle.std.specs.Prelude.{◌==◌, ◌||◌, cond, filter, if◌then◌else◌, IsTrue, Contains}
 use Rattle.std.specs.List.{list_any}
 use Rattle.std.proofs.lemmas.Bool.Decides.{Decides-eqb}
+use Rattle.std.proofs.lemmas.Bool.{or_left, or_right}
 use Rattle.hg_base.specs.declared.rid.Rid.{Rid}
 use Rattle.hg_base.specs.declared.rid.TableId.{TableId}
 use Rattle.hg_base.specs.declared.image.Image.{Image}
@@ -14,7 +15,6 @@ use Rattle.hg_core.specs.Contents.{bucket_of}
 use Rattle.hg_core.specs.Replies.{in_bucket}
 use Rattle.hg_core.specs.Reading.{IsReached, Joins}
 use Rattle.hg_core.proofs.OwnKeys.{reached}
-use Rattle.hg_core.proofs.Right.{or_first, or_with}
 use Rattle.hg_headline.proofs.Words.{same_number, ascends_cons}
 
 pub contains_first : {X : Type 0} (x : X) (xs : List X) → Contains (x ∷ xs) x
@@ -120,14 +120,14 @@ part_rows buckets b table f low high rows a = record {
     any_kept key (x ∷ xs) e h = go (x.0 == key) refl h (any_kept key xs e)
       where
         more : (t : Bool) → list_any (λ (p : ℕ × List ℤ). p.0 == key) (part_of buckets table xs b) ≡ true → list_any (λ (p : ℕ × List ℤ). p.0 == key) (cond t (x ∷ part_of buckets table xs b) (part_of buckets table xs b)) ≡ true
-        more true k = or_with (x.0 == key) (list_any (λ (p : ℕ × List ℤ). p.0 == key) (part_of buckets table xs b)) k
+        more true k = or_right (x.0 == key) (list_any (λ (p : ℕ × List ℤ). p.0 == key) (part_of buckets table xs b)) k
         more false k = k
 
         go : (t : Bool) → (x.0 == key) ≡ t → (t || list_any (λ (p : ℕ × List ℤ). p.0 == key) xs) ≡ true → (list_any (λ (p : ℕ × List ℤ). p.0 == key) xs ≡ true → list_any (λ (p : ℕ × List ℤ). p.0 == key) (part_of buckets table xs b) ≡ true) → list_any (λ (p : ℕ × List ℤ). p.0 == key) (part_of buckets table (x ∷ xs) b) ≡ true
         go true q k f =
             let same : x.0 ≡ key = (Decides-eqb x.0 key).0 q in
             let mine : (bucket_in buckets table x == b) ≡ true = ap (λ n. bucket_of buckets (record { table = table; key = n }) == b) same ∙ e in
-            ap (λ t. list_any (λ (p : ℕ × List ℤ). p.0 == key) (cond t (x ∷ part_of buckets table xs b) (part_of buckets table xs b))) mine ∙ or_first (x.0 == key) (list_any (λ (p : ℕ × List ℤ). p.0 == key) (part_of buckets table xs b)) q
+            ap (λ t. list_any (λ (p : ℕ × List ℤ). p.0 == key) (cond t (x ∷ part_of buckets table xs b) (part_of buckets table xs b))) mine ∙ or_left (x.0 == key) (list_any (λ (p : ℕ × List ℤ). p.0 == key) (part_of buckets table xs b)) q
         go false q k f = more (bucket_in buckets table x == b) (f k)
 
     here : (key : ℕ) (t : Bool) → (bucket_of buckets (record { table = table; key = key }) == b) ≡ t → IsTrue (list_any (λ (p : ℕ × List ℤ). p.0 == key) rows) ⊎ ((f (record { table = table; key = key })).row ≡ None) → IsTrue (list_any (λ (p : ℕ × List ℤ). p.0 == key) (part_of buckets table rows b)) ⊎ ((if t then f (record { table = table; key = key }) else nothing).row ≡ None)

@@ -2,6 +2,7 @@
 use Rattle.std.proofs.Common.{◌≡◌, ℕ, zero, suc, ◌≤◌, ◌⊎◌, inl, inr, List, [], ◌∷◌, ◌++◌, length, map, Bool, true, false, Option, Some, None, refl, sym, ap, ◌∙◌, subst}
 use Rattle.std.specs.Prelude.{◌==◌, ◌&&◌, ◌||◌, filter_map, if◌then◌else◌, ⊤}
 use Rattle.std.specs.List.{flat_map, cons_option}
+use Rattle.std.proofs.lemmas.Bool.{or_left, or_right, or_cases}
 use Rattle.hg_base.specs.declared.scope.Scope.TheVariants.{All}
 use Rattle.hg_base.specs.declared.report.Kind.{Kind}
 use Rattle.hg_base.specs.declared.report.Kind.TheVariants as kinds
@@ -27,10 +28,10 @@ use Rattle.hg_core.specs.declared.log.LogEntry.{LogEntry}
 use Rattle.hg_core.specs.declared.log.LogEntry.TheVariants.{Began, Saw, Refused, Outside, Wrote, Undid, Published, Over}
 use Rattle.hg_core.specs.Logs.{own_writes}
 use Rattle.hg_core.specs.Reading.{log_after, Tells}
-use Rattle.hg_core.proofs.Right.{or_first, or_with, if_any, if_none, places_of}
+use Rattle.hg_core.proofs.Right.{if_any, if_none, places_of}
 use Rattle.hg_headline.specs.Gathered.{began_at, WasLive, IsGathered}
 use Rattle.hg_headline.specs.Ran.{WasMet, IsPassReport, NotFalling, AreReports, report_lines, run_lines, HasRun}
-use Rattle.hg_headline.proofs.Words.{append_assoc, or_either, each_pairs}
+use Rattle.hg_headline.proofs.Words.{append_assoc, each_pairs}
 use Rattle.hg_headline.proofs.Ties.{ties_nothing}
 use Rattle.hg_headline.proofs.Whole.{IsTold, AtLine, IsKnown, said_says, lines_told, told_right}
 use Rattle.hg_headline.proofs.OpenSnapshots.{each_unmap}
@@ -105,15 +106,15 @@ sessions_known rounds buckets h logs records lines more later t f n (suc many) e
 
 pub begun_at_all : (d : Bool) (n : ℕ) (l : List LogEntry) → began_at d n l ≡ true → began_at false n l ≡ true
 begun_at_all d n [] e = e
-begun_at_all d n (Began at scope ∷ l) e = go (or_either ((at == n) && (if d then is_declared scope else true)) (began_at d n l) e) (λ k. begun_at_all d n l k)
+begun_at_all d n (Began at scope ∷ l) e = go (or_cases ((at == n) && (if d then is_declared scope else true)) (began_at d n l) e) (λ k. begun_at_all d n l k)
   where
     first : (a b : Bool) → (a && b) ≡ true → (a && true) ≡ true
     first true b k = refl
     first false b k = k
 
     go : (((at == n) && (if d then is_declared scope else true)) ≡ true) ⊎ (began_at d n l ≡ true) → (began_at d n l ≡ true → began_at false n l ≡ true) → (((at == n) && true) || began_at false n l) ≡ true
-    go (inl k) f = or_first ((at == n) && true) (began_at false n l) (first (at == n) (if d then is_declared scope else true) k)
-    go (inr k) f = or_with ((at == n) && true) (began_at false n l) (f k)
+    go (inl k) f = or_left ((at == n) && true) (began_at false n l) (first (at == n) (if d then is_declared scope else true) k)
+    go (inr k) f = or_right ((at == n) && true) (began_at false n l) (f k)
 begun_at_all d n (Saw t low high b rows ∷ l) e = begun_at_all d n l e
 begun_at_all d n (Refused r a ∷ l) e = begun_at_all d n l e
 begun_at_all d n (Outside t ∷ l) e = begun_at_all d n l e

@@ -1,6 +1,7 @@
 -- The logs of a replay are tidy, also as they are closed.
 use Rattle.std.proofs.Common.{◌≡◌, inl, inr, ℕ, zero, suc, ℤ, List, [], ◌∷◌, ◌++◌, map, Bool, true, false, Option, Some, None, refl, sym, ap, ◌∙◌, subst}
 use Rattle.std.specs.Prelude.{◌||◌, if◌then◌else◌, is_some, unwrap_or, ⊤}
+use Rattle.std.proofs.lemmas.Bool.{or_right}
 use Rattle.hg_base.specs.declared.rid.Rid.{Rid}
 use Rattle.hg_base.specs.declared.rid.TableId.{TableId}
 use Rattle.hg_base.specs.declared.scope.Scope.{Scope}
@@ -27,7 +28,6 @@ use Rattle.hg_core.specs.Events.{put}
 use Rattle.hg_core.specs.Reading.{Unprinted, saws, own_entries, begin_entries, commit_entries, is_access, is_alone, close, log_with, log_after, UndoesAll, FitsAnswer, Fits, Follows}
 use Rattle.hg_core.proofs.Indices.{by_number, put_here}
 use Rattle.hg_core.proofs.NewGroup.{image_open}
-use Rattle.hg_core.proofs.Right.{or_with}
 use Rattle.hg_headline.specs.Counted.{Closes}
 use Rattle.hg_headline.proofs.Words.{true_false}
 use Rattle.hg_headline.proofs.Lines.{close_judged, append_judged, close_replied, plain_after}
@@ -44,7 +44,7 @@ each_among more (r ∷ rids) = (among_later more r rids, subst (λ all. Each (λ
   where
     among_later : (xs : List Rid) (r : Rid) (rest : List Rid) → is_among r (xs ++ r ∷ rest) ≡ true
     among_later [] r rest = ap (λ b. b || is_among r rest) (same_rid_itself r)
-    among_later (x ∷ xs) r rest = or_with (same_rid r x) (is_among r (xs ++ r ∷ rest)) (among_later xs r rest)
+    among_later (x ∷ xs) r rest = or_right (same_rid r x) (is_among r (xs ++ r ∷ rest)) (among_later xs r rest)
 
     one_by_one : (xs : List Rid) (r : Rid) (rest : List Rid) → (xs ++ r ∷ []) ++ rest ≡ xs ++ r ∷ rest
     one_by_one [] r rest = refl

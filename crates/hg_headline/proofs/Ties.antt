@@ -3,6 +3,7 @@ use Rattle.std.proofs.Common.{◌≡◌, ℕ, suc, ◌≤◌, ◌⊎◌, inl, in
 use Rattle.std.specs.Prelude.{◌==◌, ◌&&◌, filter, filter_map, cond, if◌then◌else◌, nat_lt, option_map}
 use Rattle.std.proofs.lemmas.List.Elements.{filter_map-append}
 use Rattle.std.specs.List.{list_any, cons_option, flat_map}
+use Rattle.std.proofs.lemmas.Bool.{or_left, or_right}
 use Rattle.hg_base.specs.declared.report.Told.{Told}
 use Rattle.hg_base.specs.declared.scope.Snapshot.{Snapshot}
 use Rattle.hg_base.specs.Lists.{Each, onto}
@@ -14,7 +15,6 @@ use Rattle.hg_base.proofs.ListFacts.{each_append, cons_option_append, append_nil
 use Rattle.hg_core.specs.declared.log.LogEntry.{LogEntry}
 use Rattle.hg_core.specs.Logs.{current, begans, published, UpTo}
 use Rattle.hg_core.specs.Replies.{writes_in, numbers_in}
-use Rattle.hg_core.proofs.Right.{or_first, or_with}
 use Rattle.hg_headline.specs.Gathered.{began_at}
 use Rattle.hg_headline.proofs.Words.{append_assoc, same_number}
 
@@ -91,7 +91,7 @@ ties_other j earlier now l e t =
       own = λ x. ap (λ b. filter_map stored (cond (b && (now.transaction == x)) (now ∷ filter (is_of j x) earlier) (filter (is_of j x) earlier))) e ∙ t.own x;
       numbers = λ x. ap (λ b. filter_map committed (cond (b && (now.transaction == x)) (now ∷ filter (is_of j x) earlier) (filter (is_of j x) earlier))) e ∙ t.numbers x;
       known = λ n h. subst (λ b. Each (λ m. m ≤ n) (flat_map numbers_of (cond b (now ∷ filter (λ said. said.session == j) earlier) (filter (λ said. said.session == j) earlier)))) (sym e) (t.known n h);
-      begun = λ d told k h. or_with (shows_begun d told now) (list_any (shows_begun d told) earlier) (t.begun d told k h);
+      begun = λ d told k h. or_right (shows_begun d told now) (list_any (shows_begun d told) earlier) (t.begun d told k h);
       published = λ n. picks_with n j earlier now ∙ ap (λ xs. filter_map (pick n j) (commits_back earlier) ++ xs) (other_pick n j earlier now (committed now) e) ∙ append_nil (filter_map (pick n j) (commits_back earlier)) ∙ t.published n;
     }
 
@@ -162,8 +162,8 @@ ties_own j earlier now l after t s next standing =
     }
   where
     go : (d : Bool) (told : Told) → told.session ≡ j → (shows_begun d told now ≡ true) ⊎ (began_at d told.number l ≡ true) → list_any (shows_begun d told) (now ∷ earlier) ≡ true
-    go d told k (inl e) = or_first (shows_begun d told now) (list_any (shows_begun d told) earlier) e
-    go d told k (inr e) = or_with (shows_begun d told now) (list_any (shows_begun d told) earlier) (t.begun d told k e)
+    go d told k (inl e) = or_left (shows_begun d told now) (list_any (shows_begun d told) earlier) e
+    go d told k (inr e) = or_right (shows_begun d told now) (list_any (shows_begun d told) earlier) (t.begun d told k e)
 
     mine_together : ℕ → own_writes (now ∷ earlier) now ≡ writes_in now.transaction after
     mine_together n = subst (λ i. stored_in i now.transaction (now ∷ earlier) ≡ writes_in now.transaction after) (sym s.mine) (own_step j now.transaction earlier now l after t s)

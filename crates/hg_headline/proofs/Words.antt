@@ -3,20 +3,16 @@ use Rattle.std.proofs.Common.{◌≡◌, ℕ, ◌<◌, ◌≤◌, ◌⊎◌, inl
 use Rattle.std.specs.Prelude.{◌==◌, ◌||◌, ◌&&◌, cond, IfSome, is_some}
 use Rattle.std.specs.List.{list_any, cons_option}
 use Rattle.std.proofs.lemmas.Bool.Decides.{Decides-eqb, nat_tests}
+use Rattle.std.proofs.lemmas.Bool.{or_right}
 use Rattle.hg_base.specs.declared.rid.Rid.{Rid}
 use Rattle.hg_base.specs.Lists.{Each, Ascends, onto}
 use Rattle.hg_base.specs.History.{same_rid, is_among}
 use Rattle.hg_base.proofs.HistoryFacts.{same_rid_equal}
-use Rattle.hg_core.proofs.Right.{or_with}
 
 -- ---- tests
 
 pub true_false : true ≡ false → ⊥
 true_false e = cc
-
-pub or_either : (a b : Bool) → (a || b) ≡ true → (a ≡ true) ⊎ (b ≡ true)
-or_either true b e = inl refl
-or_either false b e = inr e
 
 pub and_true : (a : Bool) → (a && true) ≡ a
 and_true true = refl
@@ -97,7 +93,7 @@ any_of_onto p xs h = go (any_onto p xs [] h)
 
 pub any_to_onto : {X : Type 0} (p : X → Bool) (xs es : List X) → list_any p es ≡ true → list_any p (onto xs es) ≡ true
 any_to_onto p [] es e = e
-any_to_onto p (x ∷ xs) es e = any_to_onto p xs (x ∷ es) (or_with (p x) (list_any p es) e)
+any_to_onto p (x ∷ xs) es e = any_to_onto p xs (x ∷ es) (or_right (p x) (list_any p es) e)
 
 pub any_same : {X : Type 0} (p q : X → Bool) → ((x : X) → p x ≡ q x) → (xs : List X) → list_any p xs ≡ list_any q xs
 any_same p q f [] = refl

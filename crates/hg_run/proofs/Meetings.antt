@@ -56,13 +56,6 @@ met_kinds old new group table interval Interval = interval
 
 -- ---- the pass stays alone
 
-pub alone_met : (t : BoardId) (p : ℕ) (c d : CollectorPass) → IsAlonePass t p c → IsPassOf t d → HasMetSessions (pass_view c) (pass_view d) → IsAlonePass t p d
-alone_met t p c d h own m = record {
-  own = own;
-  only = m.parts ∙ (h.only ∙ ap (λ (ps : List Part). OfPass p (pass_there (first_in ps)) ∷ []) (sym m.parts));
-  share = ap (λ (ps : List Part). (pass_there (first_in ps)).share) m.parts ∙ h.share;
-}
-
 pub alone_swept : (t : BoardId) (p : ℕ) (kind : Kind) (sessions : ℕ) (sweep : Sweep) (c d : CollectorPass) → IsAlonePass t p c → IsPassOf t d → HasSwept kind sessions (pass_view c) sweep (pass_view d) → IsAlonePass t p d
 alone_swept t p kind sessions sweep c d h own s = record {
   own = own;
@@ -75,6 +68,3 @@ alone_swept t p kind sessions sweep c d h own s = record {
 
     others_none : others (pass_view c) ≡ []
     others_none = ap after_first h.only
-
-pub visits_met : (k : Kind) (v w : View) → HasMetSessions v w → removed_all k (pass w).visits ≡ removed_all k (pass v).visits
-visits_met k v w m = ap (λ (ps : List Part). removed_all k (pass_there (first_in ps)).visits) m.parts

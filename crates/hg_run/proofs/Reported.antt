@@ -4,6 +4,7 @@ use Rattle.std.specs.Prelude.{◌==◌, ◌&&◌, ◌||◌, if◌then◌else◌,
 use Rattle.std.proofs.lemmas.List.{map-append}
 use Rattle.std.proofs.lemmas.List.Sums.{sum_by-cons}
 use Rattle.std.proofs.lemmas.Bool.Decides.{nat_tests}
+use Rattle.std.proofs.lemmas.Bool.{or_right}
 use Rattle.hg_base.specs.declared.line.Answer.TheVariants.{Swept}
 use Rattle.hg_base.specs.declared.line.Line.{Line}
 use Rattle.hg_base.specs.declared.report.Kind.{Kind}
@@ -23,7 +24,6 @@ use Rattle.hg_core.specs.declared.register.Register.TheVariants.{Idle, Entering,
 use Rattle.hg_core.specs.Events.{moved, moved_in}
 use Rattle.hg_core.specs.Passes.{lower, least_entering}
 use Rattle.hg_core.specs.Words.{IsRegister}
-use Rattle.hg_core.proofs.Right.{or_with}
 use Rattle.hg_rule.specs.declared.view.Event.{Event}
 use Rattle.hg_rule.specs.declared.view.Event.TheVariants.{Sample, Move}
 use Rattle.hg_rule.specs.declared.view.Sight.TheVariants.{Saw}
@@ -61,7 +61,7 @@ began_in n scope (Began at other ∷ log) (inl e) =
     itself : (b : Bool) → (if b then b else true) ≡ true
     itself true = refl
     itself false = refl
-began_in n scope (Began at other ∷ log) (inr i) = or_with ((at == n) && (if is_declared scope then is_declared other else true)) (began_at (is_declared scope) n log) (began_in n scope log i)
+began_in n scope (Began at other ∷ log) (inr i) = or_right ((at == n) && (if is_declared scope then is_declared other else true)) (began_at (is_declared scope) n log) (began_in n scope log i)
 began_in n scope (_ ∷ log) (inl e) = absurd (cc)
 began_in n scope (_ ∷ log) (inr i) = began_in n scope log i
 

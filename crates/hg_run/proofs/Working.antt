@@ -149,13 +149,6 @@ running_last e first now over g = record {
     P : Record → Line → Type 0
     P r line = LeavesGc r.statement line.reply.answer
 
--- ---- the next record
-
-pub next_asked : (e : Engine) (w : Worker) (r : Record) (rest : List Record) → w.records ≡ r ∷ rest → IsReady e w → (0 < left_of w.session) × (MayStand (is_some (open_of w.session)) r.statement × IsOnTables (engine_sizes e).tables r.statement)
-next_asked e w r rest is h =
-    let many : length w.records ≡ suc (length rest) = ap (λ rs. length rs) is in
-    ((let left = h.left in omega (arith, many, left)), ((subst (MayFollow (is_some (open_of w.session))) is h.may).0, (subst (Each (IsAskedOf (engine_sizes e).tables)) is h.asked).0.on))
-
 -- ---- all collectors
 
 -- collectors that made rounds have their passes alone

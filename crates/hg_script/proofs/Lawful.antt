@@ -1,6 +1,6 @@
 -- A record that breaks no rule keeps the script lawful.
 use Rattle.std.proofs.Common.{◌≡◌, ◌<◌, ◌≤◌, ◌+◌, ℕ, Bool, true, false, not, ◌||◌, ◌==◌, nat_lt, nat_le, List, [], ◌∷◌, ◌++◌, length, map, drop, Option, Some, None, if◌then◌else◌, refl, sym, subst, arith, length-append, append_assoc, option_map}
-use Rattle.std.proofs.lemmas.Bool.{and_parts as and-parts}
+use Rattle.std.proofs.lemmas.Bool.{and_parts as and-parts, or_parts}
 use Rattle.std.proofs.lemmas.Bool.Decides.{nat_tests}
 use Rattle.std.specs.Option.{option_map_or}
 use Rattle.hg_base.specs.declared.limits.TheConstants.{MOST_SESSIONS, MOST_RECORDS}
@@ -96,14 +96,6 @@ lies low high n.No e = absurd (let bad : ⊥ = cc e in bad)
 lies low high n.Over e = absurd (let bad : ⊥ = cc e in bad)
 lies low high (n.Is k) e = record { some = grind (arith, nat_tests, e); most = grind (arith, nat_tests, e) }
 
-left : (a b : Bool) → (a || b) ≡ false → a ≡ false
-left true b e = absurd (let bad : ⊥ = cc e in bad)
-left false b e = refl
-
-right : (a b : Bool) → (a || b) ≡ false → b ≡ false
-right true b e = absurd (let bad : ⊥ = cc e in bad)
-right false b e = e
-
 -- ---- tables
 
 -- a row of as many values as its table has columns
@@ -174,7 +166,7 @@ within-most place h = grind (arith, nat_tests, h)
 asked-more : (place : ℕ) (s : Script) (session : Natural) (ask : Ask) → Grown place s → place ≤ MOST_RECORDS → range_breaks (Session session ask) ≡ false → ask_order_breaks (is_open (value_of session) s.records) ask ≡ false
     → FitsTables s.tables (statement_of ask) → HasWidths (statement_of ask) → Grown (place + 1) (with-statement place s (value_of session) (statement_of ask))
 asked-more place s session ask g room range order fits widths =
-    statement-more place s (value_of session) (statement_of ask) g room (lies 1 MOST_SESSIONS session (left _ _ range)) fits widths (may-stand (is_open (value_of session) s.records) ask order)
+    statement-more place s (value_of session) (statement_of ask) g room (lies 1 MOST_SESSIONS session (or_parts _ _ range).0) fits widths (may-stand (is_open (value_of session) s.records) ask order)
 
 declared-more : (place : ℕ) (s : Script) (name : Field) (columns : Natural) → Grown place s → place ≤ MOST_RECORDS → nat_le 16 (length s.tables) ≡ false
     → Keeps s (Table (is_fresh s.tables name) columns)
@@ -187,11 +179,11 @@ declared-more place s name columns g free count k =
 
 -- a record that is not one too many
 room : (place : ℕ) (b : Bool) → (nat_lt MOST_RECORDS place || b) ≡ false → place ≤ MOST_RECORDS
-room place b h = within-most place (left _ b h)
+room place b h = within-most place (or_parts _ b h).0
 
 by-word : (place : ℕ) (s : Script) (r : Fields) (w : Word) → Grown place s → count_breaks place s.tables (Some w) ≡ false
     → Keeps s (draft_of s.tables w r) → Grown (place + 1) (with_draft place s r (draft_of s.tables w r))
-by-word place s r word.Table g count k = declared-more place s (nth r 1) (natural_of (nth r 2)) g (room place _ count) (right _ _ count) k
+by-word place s r word.Table g count k = declared-more place s (nth r 1) (natural_of (nth r 2)) g (room place _ count) (or_parts _ _ count).1 k
 by-word place s r word.Begin g count k =
     asked-more place s (natural_of (nth r 0)) (Begin (scope_named s.tables (drop 2 r))) g (room place _ count) k.range k.order (scope-fits s.tables (drop 2 r) k.name) tt
 by-word place s r word.Get g count k =

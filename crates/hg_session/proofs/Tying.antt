@@ -2,6 +2,7 @@
 use Rattle.std.proofs.Common.{◌≡◌, ℕ, suc, ◌+◌, ◌≤◌, List, [], ◌∷◌, ◌++◌, Bool, true, false, not, cond, Option, Some, None, refl, sym, ap, ◌∙◌, subst, arith}
 use Rattle.std.specs.Prelude.{is_some, ◌||◌, Err, ⊤}
 use Rattle.std.specs.List.{list_any}
+use Rattle.std.proofs.Math.Bool.{or-false, or-true}
 use Rattle.hg_base.specs.declared.rid.Rid.{Rid}
 use Rattle.hg_base.specs.declared.image.Image.{Image}
 use Rattle.hg_base.specs.declared.scope.Snapshot.{Snapshot}
@@ -70,14 +71,6 @@ list_any-append f (x ∷ xs) ys = ap (λ b. f x || b) (list_any-append f xs ys) 
     assoc true b c = refl
     assoc false b c = refl
 
-or_false : (b : Bool) → (b || false) ≡ b
-or_false true = refl
-or_false false = refl
-
-or_true : (b : Bool) → (b || true) ≡ true
-or_true true = refl
-or_true false = refl
-
 none_twice_snoc : (rids : List Rid) (r : Rid) → NoneTwice rids → is_among r rids ≡ false → NoneTwice (rids ++ r ∷ [])
 none_twice_snoc [] r h e = (refl, tt)
 none_twice_snoc (q ∷ rids) r h e =
@@ -91,7 +84,7 @@ none_twice_snoc (q ∷ rids) r h e =
     or_parts false b e = (refl, e)
 
 among_snoc : (q r : Rid) (rids : List Rid) → is_among q (rids ++ r ∷ []) ≡ (is_among q rids || same_rid q r)
-among_snoc q r rids = list_any-append (same_rid q) rids (r ∷ []) ∙ ap (λ b. is_among q rids || b) (or_false (same_rid q r))
+among_snoc q r rids = list_any-append (same_rid q) rids (r ∷ []) ∙ ap (λ b. is_among q rids || b) (or-false (same_rid q r))
 
 -- a write, which adds its record to the list where none was open
 abbrev pub with_written : Bool → Rid → List Rid → List Rid
@@ -109,8 +102,8 @@ written_more r image written log true e a = record {
     not_false false k = refl
 
     go : (q : Rid) (b : Bool) → same_rid r q ≡ b → (c : Bool) → c ≡ same_rid r q → (is_some (open_in q log) || c) ≡ is_some (cond (same_rid r q) (Some image) (open_in q log))
-    go q true f c g = ap (λ x. is_some (open_in q log) || x) (g ∙ f) ∙ (or_true (is_some (open_in q log)) ∙ ap (λ x. is_some (cond x (Some image) (open_in q log))) (sym f))
-    go q false f c g = ap (λ x. is_some (open_in q log) || x) (g ∙ f) ∙ (or_false (is_some (open_in q log)) ∙ ap (λ x. is_some (cond x (Some image) (open_in q log))) (sym f))
+    go q true f c g = ap (λ x. is_some (open_in q log) || x) (g ∙ f) ∙ (or-true (is_some (open_in q log)) ∙ ap (λ x. is_some (cond x (Some image) (open_in q log))) (sym f))
+    go q false f c g = ap (λ x. is_some (open_in q log) || x) (g ∙ f) ∙ (or-false (is_some (open_in q log)) ∙ ap (λ x. is_some (cond x (Some image) (open_in q log))) (sym f))
 written_more r image written log false e a = record {
   once = a.once;
   each = λ q. a.each q ∙ go q (same_rid r q) refl;

@@ -1,4 +1,4 @@
--- A collector's round keeps its own pass alone, with its share, and so does a look at a bucket's counts.
+-- A collector's round keeps its own pass alone, with its share.
 use Rattle.std.proofs.Common.{◌≡◌, ℕ, [], ◌∷◌, refl, sym, ap, ◌∙◌}
 use Rattle.hg_base.specs.declared.report.Report.{Report}
 use Rattle.hg_rule.specs.declared.passes.CollectorPass.{CollectorPass}
@@ -35,22 +35,6 @@ step n v w q l kept is =
     let same : pass w ≡ q = ap (λ ps. pass_there (first_in ps)) parts in record {
       only = parts ∙ ap (λ x. OfPass n x ∷ []) (sym same);
       share = ap (λ (x : PassPart). x.share) same ∙ (kept ∙ l.share);
-    }
-
--- a bucket was taken, and given back
-pub alone_counted : (t : BoardId) (n b : ℕ) (c d : CollectorPass) (x : View) → IsAlonePass t n c → IsPassOf t d → Takes (pass_view c) b x → pass_view d ≡ without_bucket x → IsAlonePass t n d
-alone_counted t n b c d x a own takes after =
-    let v = pass_view c in
-    let part = takes.part in
-    let begun = arriving b (pass v) in
-    let between : x.parts ≡ OfPass n begun ∷ OfBucket b part ∷ [] = ap (λ (y : View). y.parts) takes.after ∙ (λ i. put_in (arrive_first b (a.only i)) (OfBucket b part ∷ [])) in
-    let over = departing part.content begun in
-    let parts : (pass_view d).parts ≡ OfPass n over ∷ [] = ap (λ (y : View). y.parts) after ∙ (λ i. depart (bucket_there (first_in (after_first (between i)))).content (first_in (between i)) ∷ after_first (after_first (between i))) in
-    let same : pass (pass_view d) ≡ over = ap (λ ps. pass_there (first_in ps)) parts in
-    record {
-      own = own;
-      only = parts ∙ ap (λ p. OfPass n p ∷ []) (sym same);
-      share = ap (λ (p : PassPart). p.share) same ∙ a.share;
     }
 
 module _ (t : BoardId) (z : Sizes) (n : ℕ) (r : Report) (c d : CollectorPass) (a : IsAlonePass t n c) (own : IsPassOf t d) where

@@ -18,14 +18,3 @@ closed_from e each i (s ∷ old) (t ∷ new) many row ran =
 
 pub all_closed : (e : Engine) (each i : ℕ) (old new : List Session) → EachFrom (IsNewOf e each) i old → AllRan e old new → EachFrom (IsClosed e) i new
 all_closed e each i old new row ran = closed_from e each i old new ran.count row ran.each
-
--- what stayed and then ran has run
-pub ran_after : (e : Engine) (a b c : List Session) → AllStayed e a b → AllRan e b c → AllRan e a c
-ran_after e a b c s r = record {
-  count = r.count ∙ s.count;
-  each = λ k d l. let x = s.each k d l in let y = r.each k d (omega (arith, l, s.count)) in record { number_is = y.number_is ∙ x.number_is; closed = y.closed; own = y.own };
-}
-
--- what stayed is the engine's
-pub stayed_own : (e : Engine) (a b : List Session) → AllStayed e a b → (k : ℕ) (d : Session) → k < length b → IsOf e (slice_index_or b k d)
-stayed_own e a b s k d l = (s.each k d (omega (arith, l, s.count))).own
