@@ -12,3 +12,5 @@ pub mod TextFits
 pub mod TextReading
 pub mod TextReplies
 pub mod TextLines
+-- What a source in memory gives.
+pub mod Fronts

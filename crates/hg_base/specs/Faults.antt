@@ -1,9 +1,13 @@
 -- When a call of a source or a sink may fail.
 use Rattle.std.specs.Prelude.{◌+◌, ◌-◌, ◌<◌, ◌≤◌, ◌^◌, ℕ, min, List, length, Result, OnErr, IfOk}
 
--- a counter of 64 bits after one more, which stays at its last value
+-- a counter of 64 bits after so many more, which stays at its last value
+abbrev pub counted : ℕ → ℕ → ℕ
+counted n more = min (n + more) (2 ^ 64 - 1)
+
+-- the same after one more
 abbrev pub next_count : ℕ → ℕ
-next_count n = min (n + 1) (2 ^ 64 - 1)
+next_count n = counted n 1
 
 -- a count of faults rose, or stands at its last value
 abbrev pub Rose : ℕ → ℕ → Type 0

@@ -9,6 +9,11 @@ pub record Feed : Type 0 where
   pub calls : ℕ
   pub faults : ℕ
 
+-- the same of a source that never fails
+pub record SteadyFeed : Type 0 where
+  pub left : List ℕ
+  pub most : ℕ
+
 -- the bytes that were taken, for how many more there is room, at most how many a call takes, and the rest as of a source
 pub record Tray : Type 0 where
   pub taken : List ℕ
@@ -17,3 +22,10 @@ pub record Tray : Type 0 where
   pub failing : List ℕ
   pub calls : ℕ
   pub faults : ℕ
+
+-- the bytes that were kept, for how many more there is room, at most how many a call takes, and how many came past the room
+pub record SteadyTray : Type 0 where
+  pub kept : List ℕ
+  pub room : ℕ
+  pub most : ℕ
+  pub past : ℕ

@@ -28,6 +28,7 @@ mod row;
 mod scope;
 mod standard;
 mod statement;
+mod steady;
 mod steps;
 mod writer;
 
@@ -51,6 +52,7 @@ pub use row::{Row, RowList};
 pub use scope::{Scope, Snapshot};
 pub use standard::{StdinSource, StdoutSink};
 pub use statement::{Record, Statement};
+pub use steady::{SteadySink, SteadySource};
 pub use steps::Steps;
 pub use writer::Writer;
 

@@ -33,6 +33,16 @@ impl Model for MemorySource {
     ghost invariant = { λ s. (s.at ≤ length s.bytes.items) × (0 < s.most) };
 }
 
+/// Copies the front of what is left to the front of a buffer, as much as one call may give, and says how much.
+pub(crate) fn copy_front(left: &[u8], most: usize, into: &mut [u8]) -> usize
+    ensures count { result ≡ min (min (length left.now) most) (length into.old) }
+    ensures copied { into.new ≡ take result left.now ++ drop result into.old }
+{
+    let count = left.len().min(most).min(into.len());
+    into[..count].copy_from_slice(&left[..count]);
+    count
+}
+
 fn is_listed(failing: &[u64], call: u64) -> bool
     ensures { result ≡ list_any (λ k. k == call) failing.now }
 {
@@ -76,9 +86,7 @@ impl Source for MemorySource {
             self.faults = self.faults.saturating_add(1);
             return Err(Failed);
         }
-        let rest = &self.bytes[self.at..];
-        let count = rest.len().min(self.most).min(into.len());
-        into[..count].copy_from_slice(&rest[..count]);
+        let count = copy_front(&self.bytes[self.at..], self.most, into);
         self.at += count;
         Ok(count)
     }
