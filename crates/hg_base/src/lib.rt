@@ -55,6 +55,3 @@ pub use statement::{Record, Statement};
 pub use steady::{SteadySink, SteadySource};
 pub use steps::Steps;
 pub use writer::Writer;
-
-#[cfg(test)]
-mod tests;

@@ -26,5 +26,3 @@ pub mod Walking
 pub mod Rounds
 pub mod Costing
 pub mod Paying
--- What the tests know of numbers.
-pub mod Numbers

@@ -25,6 +25,3 @@ mod refusal;
 
 pub use bucket::Bucket;
 pub use refusal::WriteRefusal;
-
-#[cfg(test)]
-mod tests;

@@ -15,6 +15,5 @@ pub mod Unlinks
 -- A walk along a chain, and a sweep along it.
 pub mod Walks
 pub mod Settling
--- What callers and tests see.
+-- What callers see.
 pub mod Held
-pub mod TestFacts

@@ -63,6 +63,3 @@ mod version;
 pub use chain::{Chain, Cut, Swept};
 pub use chains::Chains;
 pub use version::{Stamp, Version};
-
-#[cfg(test)]
-mod tests;

@@ -79,6 +79,3 @@ pub use theorems::{
 };
 pub use version::{Stamp, Version};
 pub use visit::{Counters, Removed, Visit};
-
-#[cfg(test)]
-mod tests;

@@ -52,6 +52,3 @@ pub use laid::{Laid, Outcome};
 pub use pusher::Pusher;
 pub use receipt::Receipt;
 pub use submitted::Submitted;
-
-#[cfg(test)]
-mod tests;

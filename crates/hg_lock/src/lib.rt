@@ -31,6 +31,3 @@ mod locks;
 pub use fits::Fits;
 pub use loan::Loan;
 pub use locks::Locks;
-
-#[cfg(test)]
-mod tests;

@@ -32,6 +32,3 @@ pub use line::{InOrder, LinePass};
 pub use open_tx::OpenTx;
 pub use queue::Queue;
 pub use rid_list::RidList;
-
-#[cfg(test)]
-mod tests;

@@ -32,8 +32,6 @@ mod progress;
 mod reading;
 mod refusal;
 mod row_start;
-#[cfg(test)]
-mod tests;
 mod told;
 mod transcript;
 mod writing;

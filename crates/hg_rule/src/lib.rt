@@ -78,6 +78,3 @@ pub use pass::Pass;
 pub use passes::{BucketSeat, CollectorPass, CommitSeat, SessionPass, TxSeat};
 pub use seats::{BucketSeatList, Seats, SessionPassList};
 pub use view::{BucketPart, CommitPart, Event, Part, PassPart, SessionPart, Sight, Sizes, View};
-
-#[cfg(test)]
-mod tests;

@@ -19,9 +19,9 @@
 
 mod ask;
 mod beside;
-mod close;
 mod collect;
 mod collecting;
+mod ending;
 mod gc;
 mod laws;
 mod opening;
@@ -39,15 +39,10 @@ mod words;
 mod work;
 
 pub use collecting::Collectors;
+pub use ending::close;
 pub use laws::{rows_have_their_columns, text_determines_what_was_printed, what_is_sound_fits};
+pub use opening::open_for;
 pub use replay::replay_on;
 pub use run::run_on;
 pub use serving::serve;
 pub use status::Status;
-
-#[cfg(test)]
-mod order;
-#[cfg(test)]
-mod run_tests;
-#[cfg(test)]
-mod tests;

@@ -28,7 +28,7 @@ fn declared(alloc: Global, script: &Script) -> Result<Vec<TableDecl>, NoMemory>
 
 /// An engine for the tables and the sessions of a script, with the sessions and the collectors. A session may run as many
 /// statements as the script has.
-pub(crate) fn open_for(
+pub fn open_for(
     alloc: Global,
     script: &Script,
     options: &Options,

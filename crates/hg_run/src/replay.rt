@@ -14,8 +14,8 @@ ghost use Rattle.hg_run.specs.Driven.{HasDrivenOne};
 ghost use Rattle.hg_run.specs.Played.{HasPlayedOut};
 ghost use Rattle.hg_run.specs.Printing.{IsPrintedFor};
 
-use crate::close::{close, close_all};
 use crate::collecting::Collectors;
+use crate::ending::{close, close_all};
 use crate::opening::open_for;
 use crate::play::play;
 use hg_base::NoMemory;

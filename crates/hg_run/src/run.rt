@@ -22,8 +22,8 @@ ghost use Rattle.hg_run.specs.Rounding.{sweep_lines};
 ghost use Rattle.hg_run.specs.Working.{AreWilling, hired, lines_in, sessions_in};
 
 use crate::beside::{RoundLists, run_beside};
-use crate::close::close;
 use crate::collecting::Collectors;
+use crate::ending::close;
 use crate::opening::open_for;
 use crate::reply::inside;
 use crate::round_list::{Plan, RoundList};

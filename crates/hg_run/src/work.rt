@@ -11,7 +11,7 @@ ghost use Rattle.hg_run.specs.Asked.{IsOnTables};
 ghost use Rattle.hg_run.specs.Working.{IsStep};
 
 use crate::ask::ask;
-use crate::close::close_one;
+use crate::ending::close_one;
 use crate::play::asked;
 use crate::reply::inside;
 use hg_base::{Answer, Gate, Line, NoMemory, Record, Reply, Statement};

@@ -57,8 +57,6 @@ mod script;
 mod sessions;
 mod statements;
 mod table;
-#[cfg(test)]
-mod tests;
 mod values;
 mod word;
 

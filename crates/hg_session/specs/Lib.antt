@@ -22,5 +22,5 @@ pub mod Finished
 pub mod Visited
 -- What it makes of the buckets then.
 pub mod Settled
--- A session at rest, as tests hand it on.
+-- A session at rest, as callers hand it on.
 pub mod Resting

@@ -35,12 +35,6 @@ mod scan;
 mod session;
 mod session_list;
 mod settlement;
-#[cfg(test)]
-mod settlement_tests;
-#[cfg(test)]
-mod tests;
-#[cfg(test)]
-mod threads_tests;
 mod totals;
 
 pub use answers::{Deleted, Ended, GetRefusal, PutRefusal, Read, Scanned, Written};

@@ -33,6 +33,3 @@ pub use index::RidIndex;
 pub use laws::named_is_not_given;
 pub use roster::Roster;
 pub use space::TableSpace;
-
-#[cfg(test)]
-mod tests;

@@ -27,6 +27,3 @@ mod write;
 
 pub use held::Held;
 pub use store::{Place, Store};
-
-#[cfg(test)]
-mod tests;

@@ -3,6 +3,3 @@ pub mod Rounds
 pub mod Noting
 pub mod After
 pub mod Trying
--- What the tests know of a new board.
-pub mod Readiness
-pub mod Resting

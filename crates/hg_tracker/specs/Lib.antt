@@ -5,6 +5,3 @@ pub mod Gathers
 pub mod Begun
 pub mod Tries
 pub mod Boards
-pub mod Ready
--- What seats are between two commits of a test.
-pub mod Resting

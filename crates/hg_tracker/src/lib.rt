@@ -24,8 +24,3 @@ mod trackers;
 
 pub use gathered::Gathered;
 pub use trackers::Trackers;
-
-#[cfg(test)]
-mod entering_tests;
-#[cfg(test)]
-mod tests;

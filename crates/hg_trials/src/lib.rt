@@ -1,5 +1,6 @@
-//! Trials: tests of several crates at once, as a program over them would call them.
+//! Trials of what threads share: locks, snapshots, commits, and several crates at once, as a program over them would call them.
 //!
+//!     locks, seats, snapshots, stores, queues, batches, sessions    each by its own calls
 //!     engine     sessions put and commit          in one thread, and in four
 //!     readers    read, stay, and read again       beside the commits
 //!     collector  makes its rounds                 between the commits, and beside them
@@ -10,9 +11,13 @@
 #![tactic(auto)]
 
 #[cfg(test)]
+mod batch_tests;
+#[cfg(test)]
 mod cuts;
 #[cfg(test)]
 mod ending;
+#[cfg(test)]
+mod entering_tests;
 #[cfg(test)]
 mod held;
 #[cfg(test)]
@@ -22,13 +27,29 @@ mod interval_tests;
 #[cfg(test)]
 mod keys;
 #[cfg(test)]
+mod lock_tests;
+#[cfg(test)]
+mod queue_tests;
+#[cfg(test)]
 mod readers;
 #[cfg(test)]
 mod reads;
 #[cfg(test)]
+mod register_tests;
+#[cfg(test)]
 mod round_tests;
 #[cfg(test)]
 mod rounds;
+#[cfg(test)]
+mod seat_tests;
+#[cfg(test)]
+mod session_tests;
+#[cfg(test)]
+mod sharing_tests;
+#[cfg(test)]
+mod snapshot_tests;
+#[cfg(test)]
+mod store_tests;
 #[cfg(test)]
 mod sweeps;
 #[cfg(test)]

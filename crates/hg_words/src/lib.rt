@@ -17,8 +17,6 @@
 mod line;
 mod options;
 mod reading;
-#[cfg(test)]
-mod tests;
 
 pub use options::{Command, Options, WordsRefusal};
 pub use reading::read_words;

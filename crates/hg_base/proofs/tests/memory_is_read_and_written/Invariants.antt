@@ -1,4 +1,0 @@
-use Rattle.hg_base.proofs.tests.memory_is_read_and_written.Given as goal
-
-abbrev pub ghosts-count_twice : goal.ghosts-count_twice
-ghosts-count_twice g a = record { name = a.blank.name; parts = a.blank.parts }

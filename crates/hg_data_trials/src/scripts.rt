@@ -1,0 +1,241 @@
+//! Scripts, and what is answered to them.
+
+use hg_script::{Code, ScriptRefusal, read_script};
+use std::test::Fail;
+
+// Each statement, behind a table `t` of one column and a table `u` of eight.
+#[test]
+fn reads_every_statement(rt: HostRuntime) -> Result<(), Fail> {
+    for (text, statement) in [
+        ("1,begin", "Begin(All)"),
+        ("1,begin,u", "Begin(Declared(2))"),
+        ("64,begin,u,t,u", "Begin(Declared(3))"),
+        (
+            "1,get,t,18446744073709551615",
+            "Get(Rid { table: TableId(0), key: 18446744073709551615 })",
+        ),
+        (
+            "1,put,t,5,-9223372036854775808",
+            "Put(Rid { table: TableId(0), key: 5 }, Row { values: [-9223372036854775808] })",
+        ),
+        (
+            "1,put,u,0,1,2,3,4,5,6,7,8",
+            "Put(Rid { table: TableId(1), key: 0 }, Row { values: [1, 2, 3, 4, 5, 6, 7, 8] })",
+        ),
+        ("1,del,u,5", "Del(Rid { table: TableId(1), key: 5 })"),
+        (
+            "1,scan,u,9,3",
+            "Scan { table: TableId(1), low: 9, high: 3 }",
+        ),
+        ("1,begin\n1,commit", "Commit"),
+        ("2,begin\n1,begin\n2,rollback", "Rollback"),
+        ("1,begin\n1,rollback\n1,begin,t,t", "Begin(Declared(1))"),
+    ] {
+        let text = format!(in rt.alloc(); "table,t,1\ntable,u,8\n{text}\n")?;
+        let script = read_script(rt.alloc(), text.as_bytes())?;
+        let count = script.record_count();
+        assert!(rt; count > 0, "at {text}");
+        let last = script.record(count - 1)?;
+        let found = format!(in rt.alloc(); "{:?}", last.statement)?;
+        assert_eq!(rt; found.as_str(), statement, "at {text}");
+        assert_eq!(rt; last.place, 2 + count as u64);
+    }
+    Ok(())
+}
+
+// Scripts at the ends of what the rules take, and how many statements each has.
+#[test]
+fn takes_scripts(rt: HostRuntime) -> Result<(), Fail> {
+    for (text, statements) in [
+        ("", 0),
+        ("table,t,1\n", 0),
+        (
+            "table,abcdefghijklmnopqrstuvwxyz_019AZ,8\n1,get,abcdefghijklmnopqrstuvwxyz_019AZ,0",
+            1,
+        ),
+        ("1,begin\n1,commit", 2),
+        (
+            "table,t,1\n1,put,t,5,7\n1,get,t,5\n1,scan,t,0,9\n1,del,t,5",
+            4,
+        ),
+        ("table,t,1\n1,begin\n2,begin,t\n2,rollback\n1,commit", 4),
+        (
+            "1,gc,group\n1,begin\n1,gc,table\n1,commit\n1,gc,interval",
+            5,
+        ),
+        ("table,t,1\n\n\"1\",\"get\",t,5\r\n", 1),
+    ] {
+        let script = read_script(rt.alloc(), text.as_bytes())?;
+        assert_eq!(rt; script.record_count(), statements, "at {text}");
+    }
+    let script = read_script(rt.alloc(), b"table,t,1\n7,get,t,1\n64,begin\n")?;
+    assert_eq!(rt; script.sessions(), 64);
+    let table = script.tables().first().expect(&rt, "a table");
+    assert_eq!(rt; table.name(), b"t".as_slice());
+    assert_eq!(rt; table.columns(), 1);
+    Ok(())
+}
+
+const SIXTEEN: &str =
+    "table,a,1\ntable,b,1\ntable,c,1\ntable,d,1\ntable,e,1\ntable,f,1\ntable,g,1\ntable,h,1\ntable,i,1\ntable,j,1\ntable,k,1\ntable,l,1\ntable,m,1\ntable,n,1\ntable,o,1\ntable,p,1\n";
+
+// Each of them breaks a rule, and some break several.
+#[test]
+fn refuses_scripts(rt: HostRuntime) -> Result<(), Fail> {
+    for (before, text, line, code) in [
+        ("", "table", 1, Code::Fields),
+        ("", "table,t", 1, Code::Fields),
+        ("", "table,t,9", 1, Code::Range),
+        ("", "65,begin", 1, Code::Range),
+        ("", "1,commit", 1, Code::Order),
+        ("", "1,fly", 1, Code::Word),
+        ("", "1,Begin", 1, Code::Word),
+        ("", "1,gc", 1, Code::Fields),
+        ("", "1,gc,all", 1, Code::Name),
+        ("", "1,gc,Table", 1, Code::Name),
+        ("", "1,gc,intervals", 1, Code::Name),
+        ("", "1,begin,t", 1, Code::Name),
+        ("", "table,a-b,1", 1, Code::Name),
+        (
+            "",
+            "table,abcdefghijklmnopqrstuvwxyz_019AZx,1",
+            1,
+            Code::Name,
+        ),
+        ("table,t,2\n", "1,put,t,1,5", 2, Code::Columns),
+        (SIXTEEN, "table,q,1", 17, Code::Count),
+        (SIXTEEN, "table", 17, Code::Count),
+        (
+            SIXTEEN,
+            "1,begin,a,b,c,d,e,f,g,h,i,j,k,l,m,n,o,p,a",
+            17,
+            Code::Fields,
+        ),
+        ("table,t,1\n", "table,v,0", 2, Code::Range),
+        ("table,t,1\n", "table,v,01", 2, Code::Number),
+        ("table,t,1\n", "table,,1", 2, Code::Name),
+        ("table,t,1\n", "table,t,1", 2, Code::Name),
+        ("table,t,1\n", "x", 2, Code::Word),
+        ("table,t,1\n", "01,begin", 2, Code::Number),
+        ("table,t,1\n", "0,begin", 2, Code::Range),
+        ("table,t,1\n", "65,get,v,x", 2, Code::Number),
+        ("table,t,1\n", "65,get,v,1", 2, Code::Range),
+        ("table,t,1\n", "1,get,t", 2, Code::Fields),
+        ("table,t,1\n", "1,get,v,1", 2, Code::Name),
+        ("table,t,1\n", "1,put,t,07,1", 2, Code::Number),
+        ("table,t,1\n", "1,put,t,1,-0", 2, Code::Number),
+        ("table,t,1\n", "1,put,t,1,+1", 2, Code::Number),
+        ("table,t,1\n", "1,put,t,-1,1", 2, Code::Number),
+        (
+            "table,t,1\n",
+            "1,put,t,1,9223372036854775808",
+            2,
+            Code::Range,
+        ),
+        (
+            "table,t,1\n",
+            "1,put,t,1,-9223372036854775809",
+            2,
+            Code::Range,
+        ),
+        (
+            "table,t,1\n",
+            "1,put,t,1,9223372036854775808,x",
+            2,
+            Code::Number,
+        ),
+        (
+            "table,t,1\n",
+            "1,get,t,18446744073709551616",
+            2,
+            Code::Range,
+        ),
+        (
+            "table,t,1\n",
+            "1,scan,v,0,18446744073709551616",
+            2,
+            Code::Range,
+        ),
+        ("table,t,1\n", "1,scan,v,0,9", 2, Code::Name),
+        ("table,t,1\n", "1,begin,t,v", 2, Code::Name),
+        ("table,t,1\n", "1,begin\n1,begin", 3, Code::Order),
+        ("table,t,1\n", "1,begin\n1,begin,v", 3, Code::Name),
+        ("table,t,1\n", "1,begin\ntable,u,1", 3, Code::Order),
+        ("table,t,1\n", "1,get,t,1\ntable,u,1", 3, Code::Order),
+        ("table,t,1\n", "1,rollback", 2, Code::Order),
+        ("table,t,1\n", "1,begin\n2,commit", 3, Code::Order),
+        (
+            "table,t,1\n",
+            "1,begin\n1,commit\n1,rollback",
+            4,
+            Code::Order,
+        ),
+    ] {
+        let text = format!(in rt.alloc(); "{before}{text}\n")?;
+        let want = ScriptRefusal::At { line, code };
+        assert_eq!(rt;
+            read_script(rt.alloc(), text.as_bytes()).err(),
+            Some(want),
+            "at {text}"
+        );
+    }
+    let text = format!(in rt.alloc();
+        "{}",
+        ScriptRefusal::At {
+            line: 2,
+            code: Code::Name
+        }
+    )?;
+    assert_eq!(rt; text.as_str(), "record 2: Name");
+    Ok(())
+}
+
+// As many records as a script may have, and one more.
+#[test]
+fn records_are_counted(rt: HostRuntime) -> Result<(), Fail> {
+    let mut text = Vec::new(rt.alloc());
+    for _ in 0..524_288 {
+        text.extend_from_slice(b"1,begin\n1,commit\n")?;
+    }
+    let script = read_script(rt.alloc(), &text)?;
+    assert_eq!(rt; script.record_count(), 1_048_576);
+    text.extend_from_slice(b"1,begin\n")?;
+    let want = ScriptRefusal::At {
+        line: 1_048_577,
+        code: Code::Count,
+    };
+    assert_eq!(rt; read_script(rt.alloc(), &text).err(), Some(want));
+    Ok(())
+}
+
+// The places of each session's records, where a table stands at the first place.
+#[test]
+fn lends_a_sessions_records(rt: HostRuntime) -> Result<(), Fail> {
+    let script = read_script(
+        rt.alloc(),
+        b"table,t,1\n3,begin\n1,get,t,1\n3,get,t,1\n64,put,t,1,9\n1,del,t,1\n3,commit\n3,get,t,2\n",
+    )?;
+    for (session, places) in [
+        (0, ""),
+        (1, "3 6 "),
+        (2, ""),
+        (3, "2 4 7 8 "),
+        (63, ""),
+        (64, "5 "),
+        (65, ""),
+        (4_294_967_295, ""),
+    ] {
+        let mut list = script.records_of(session);
+        let mut found = String::new(rt.alloc());
+        for _ in 0..script.record_count() {
+            let Some(record) = list.take_next()? else {
+                break;
+            };
+            assert_eq!(rt; record.session, session);
+            write!(found, "{} ", record.place)?;
+        }
+        assert_eq!(rt; found.as_str(), places, "of {session}");
+        assert!(rt; list.take_next()?.is_none(), "after {session}");
+    }
+    Ok(())
+}

@@ -1,0 +1,141 @@
+//! Texts, read and written again.
+
+use hg_base::{Printed, Totals};
+use hg_report::{TextRefusal, Transcript, read_text, reply_text, text_of, totals_text};
+use hg_script::{Script, read_script};
+use std::alloc::Global;
+use std::test::Fail;
+
+// The record at which a text of a script is refused, and 0 where it is read.
+fn refused_line(alloc: Global, script: &str, text: &[u8]) -> Result<u64, Fail> {
+    let script = read_script(alloc, script.as_bytes())?;
+    match read_text(alloc, &script, text) {
+        Ok(_) => Ok(0),
+        Err(TextRefusal::At { line }) => Ok(line),
+        Err(TextRefusal::NoMemory) => Ok(u64::MAX),
+    }
+}
+
+// The text by the calls for one reply and for the totals.
+fn text_by_parts(alloc: Global, script: &Script, printed: &Printed) -> Result<Vec<u8>, Fail> {
+    let mut text = Vec::new(alloc);
+    for line in printed.lines.as_slice() {
+        reply_text(alloc, script, line, &mut text)?;
+    }
+    totals_text(alloc, &printed.totals, &mut text)?;
+    Ok(text)
+}
+
+const OWN_WRITE: &str = "table,t,1\n1,begin\n1,put,t,5,7\n1,get,t,5\n1,commit\n";
+
+const OWN_WRITE_TEXT: &str =
+    "1,2,begun,0\n1,3,stored\n1,4,row,7\n1,5,committed,1\ntotal,made,1\ntotal,undone,0\ntotal,group,0\ntotal,table,0\ntotal,interval,0\ntotal,left,1\n";
+
+// Four lines and the totals, of ten records.
+#[test]
+fn reads_a_text(rt: HostRuntime) -> Result<(), Fail> {
+    let script = read_script(rt.alloc(), OWN_WRITE.as_bytes())?;
+    let printed = read_text(rt.alloc(), &script, OWN_WRITE_TEXT.as_bytes())?;
+    assert_eq!(rt; printed.lines.as_slice().len(), 4);
+    let totals = Totals {
+        made: 1,
+        undone: 0,
+        group: 0,
+        table: 0,
+        interval: 0,
+        left: 1,
+    };
+    assert_eq!(rt; printed.totals, totals);
+    let third = format!(in rt.alloc(); "{:?}", printed.lines.as_slice()[2])?;
+    assert_eq!(rt;
+        third.as_str(),
+        "Line { session: 1, place: 4, reply: Reply { at: None, answer: Found(Row { values: [7] }), number: None } }"
+    );
+    let text = text_of(rt.alloc(), &script, &printed)?;
+    assert_eq!(rt; text.as_slice(), OWN_WRITE_TEXT.as_bytes());
+    Ok(())
+}
+
+const EACH: &str =
+    "table,t,1\ntable,u,2\n1,begin\n1,put,t,5,7\n1,scan,t,0,9\n1,get,u,3\n1,commit\n2,del,t,5\n2,put,t,5,1\n2,put,t,5,2\n1,begin,u\n1,get,t,5\n1,rollback\n2,begin\n2,commit\n";
+
+const EACH_TEXT: &str =
+    "1,3,begun,0\n1,4,stored\n1,5,rows,2\n1,5,row,5,7\n1,5,row,6,-8\n1,6,row,1,2\n1,7,committed,1\n2,8,at,1,gone,committed,2\n2,9,at,2,refused,newer,3\n2,10,at,2,refused,open,1,4\n1,11,begun,2\n1,12,refused,undeclared,t\n1,13,undone\n2,14,begun,2\n2,15,ended\n0,1,swept,group,2,2,0\n0,1,held,1,0,moved\n0,1,held,2,1,unmoved\n0,2,swept,interval,2,2,1\ntotal,made,1\ntotal,undone,0\ntotal,group,0\ntotal,table,0\ntotal,interval,0\ntotal,left,1\n";
+
+// Replies of every kind, with reports of a run, are written as they were read.
+#[test]
+fn writes_what_was_read(rt: HostRuntime) -> Result<(), Fail> {
+    let script = read_script(rt.alloc(), EACH.as_bytes())?;
+    let printed = read_text(rt.alloc(), &script, EACH_TEXT.as_bytes())?;
+    assert_eq!(rt; printed.lines.as_slice().len(), 15);
+    let text = text_by_parts(rt.alloc(), &script, &printed)?;
+    assert_eq!(rt; text.as_slice(), EACH_TEXT.as_bytes());
+    Ok(())
+}
+
+fn is_sent<T: Send>(_value: &T) {}
+
+// The same text by two transcripts, of which one is added to the other.
+#[test]
+fn keeps_lines_as_their_text(rt: HostRuntime) -> Result<(), Fail> {
+    let script = read_script(rt.alloc(), OWN_WRITE.as_bytes())?;
+    let printed = read_text(rt.alloc(), &script, OWN_WRITE_TEXT.as_bytes())?;
+    let lines = printed.lines.as_slice();
+    assert_eq!(rt; lines.len(), 4);
+    let mut transcript = Transcript::new(rt.alloc(), &script);
+    transcript.push(&lines[0])?;
+    transcript.push(&lines[1])?;
+    let mut more = Transcript::new(rt.alloc(), &script);
+    more.push(&lines[2])?;
+    more.push(&lines[3])?;
+    is_sent(&more);
+    transcript.append(&more)?;
+    let text = transcript.with_totals(&printed.totals)?;
+    assert_eq!(rt; text.as_slice(), OWN_WRITE_TEXT.as_bytes());
+    Ok(())
+}
+
+// Each of these makes another text of the one above, and is refused at that record.
+#[test]
+fn refuses_texts(rt: HostRuntime) -> Result<(), Fail> {
+    for (from, to, line) in [
+        ("1,3,begun,0", "\u{FEFF}1,3,begun,0", 1),
+        ("1,3,begun,0", "1,3,begun,00", 1),
+        ("1,3,begun,0", "1,3,at,0,begun,0", 1),
+        ("1,4,stored\n", "1,4,\"stored\"\n", 2),
+        ("1,4,stored\n", "1,4,stored\r\n", 2),
+        ("1,4,stored\n", "1,4,stored,\n", 2),
+        ("1,4,stored\n", "1,4,stored\n\n", 3),
+        ("1,4,stored\n", "\n", 2),
+        ("1,5,rows,2", "1,5,rows,1", 5),
+        ("1,5,rows,2", "1,5,rows,3", 6),
+        ("1,5,row,6,-8", "1,5,row,6,-0", 5),
+        ("1,5,row,6,-8", "1,5,row,6,9223372036854775808", 5),
+        ("1,6,row,1,2", "1,6,row,1", 6),
+        ("1,6,row,1,2", "1,6,row,1,2,3", 6),
+        ("1,7,committed,1", "1,7,committed,18446744073709551616", 7),
+        ("2,8,at", "1,8,at", 8),
+        ("2,8,at", "2,16,at", 8),
+        ("undeclared,t", "undeclared,u", 12),
+        ("0,1,held,2", "0,2,held,2", 18),
+        ("0,1,held,2", "0,1,held,4294967296", 18),
+        ("0,2,swept", "0,2,stored", 19),
+        ("total,made,1", "total,undone,1", 20),
+        ("total,left,1\n", "total,left,1", 25),
+        ("total,left,1\n", "", 25),
+        ("total,left,1\n", "total,left,1\n\n", 26),
+        ("total,left,1\n", "total,left,1\ntotal,left,1\n", 26),
+    ] {
+        let (before, after) = EACH_TEXT.split_once(from).expect(&rt, "it is there");
+        let text = format!(in rt.alloc(); "{before}{to}{after}")?;
+        let found = refused_line(rt.alloc(), EACH, text.as_bytes())?;
+        assert_eq!(rt; found, line, "at {to}");
+    }
+    // The text of the own write without its last record, and a text of no bytes.
+    let (short, _) = OWN_WRITE_TEXT
+        .split_once("total,left")
+        .expect(&rt, "it is there");
+    assert_eq!(rt; refused_line(rt.alloc(), OWN_WRITE, short.as_bytes())?, 10);
+    assert_eq!(rt; refused_line(rt.alloc(), OWN_WRITE, b"")?, 1);
+    Ok(())
+}

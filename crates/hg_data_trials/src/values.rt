@@ -1,0 +1,118 @@
+ghost use Rattle.std.specs.Prelude.{◌≡◌, ◌<◌};
+
+use hg_base::{
+    Answer, Entry, EntryList, Kind, Line, LineList, MemorySink, MemorySource, NoMemory, Reply,
+    Report, Row, RowList, Scope, Sink, Source, SteadySink, SteadySource, Steps,
+};
+use std::alloc::Global;
+use std::marker::Brand;
+use std::sync::ledger::{Blank, Ledger};
+use std::test::Fail;
+
+// Rows of one to eight columns, those that lie in the value and those that do not.
+#[test]
+fn rows_are_made_and_copied(rt: HostRuntime) -> Result<(), Fail> {
+    let values = [3, -3, 0, 9223372036854775807, -9223372036854775808, 1, 2, 8];
+    for columns in [1, 2, 3, 8] {
+        let row = Row::from_slice(rt.alloc(), &values[..columns])?;
+        let copy = row.copy()?;
+        assert_eq!(rt; copy.values(), &values[..columns]);
+    }
+    let mut rows = RowList::from(Vec::new(rt.alloc()));
+    rows.push(5, Row::from_slice(rt.alloc(), &values[..1])?)?;
+    assert_eq!(rt; rows.as_slice().len(), 1);
+    Ok(())
+}
+
+fn report(alloc: Global) -> Result<Report, NoMemory> {
+    let mut entries = Vec::new(alloc);
+    for (session, number, moved) in [(1, 4, false), (7, 2, true)] {
+        let scope = Scope::Declared(2);
+        entries.push(Entry {
+            session,
+            number,
+            scope,
+            moved,
+        })?;
+    }
+    Ok(Report {
+        kind: Kind::Table,
+        mark: 9,
+        horizon: 8,
+        removed: 3,
+        entries: EntryList::from(entries),
+    })
+}
+
+// What is printed of a report, and a list of lines that has it.
+#[test]
+fn report_is_told(rt: HostRuntime) -> Result<(), Fail> {
+    let sweep = report(rt.alloc())?.told()?;
+    assert_eq!(rt; (sweep.mark, sweep.horizon, sweep.removed), (9, 8, 3));
+    let held = sweep.held.as_slice();
+    assert_eq!(rt; held.len(), 2);
+    assert_eq!(rt;
+        (held[1].session, held[1].number, held[1].moved),
+        (7, 2, true)
+    );
+    let mut lines = LineList::new(rt.alloc());
+    lines.push(Line {
+        session: 0,
+        place: 1,
+        reply: Reply {
+            at: None,
+            answer: Answer::Swept(sweep),
+            number: None,
+        },
+    })?;
+    assert_eq!(rt; lines.as_slice().len(), 1);
+    Ok(())
+}
+
+fn count_twice<L: Ledger>(blank: Blank)
+    requires name { blank.name ≡ L.name }
+    requires parts { blank.parts ≡ L.parts }
+    requires some { 0 < blank.parts }
+{
+    let mut steps: Steps<L> = Steps::new(blank);
+    steps.tick();
+    steps.tick();
+}
+
+// A source, a sink with room, and a counter that takes no bytes.
+#[test]
+fn memory_is_read_and_written(rt: HostRuntime) -> Result<(), Fail> {
+    let mut source = MemorySource::new(
+        Vec::from_slice(rt.alloc(), b"abcde")?,
+        2,
+        Vec::new(rt.alloc()),
+    );
+    let mut buffer = [0u8; 8];
+    let count = source.read(&mut buffer)?;
+    assert_eq!(rt; &buffer[..count], b"ab".as_slice());
+    let mut sink = MemorySink::new(rt.alloc(), 4, Vec::new(rt.alloc()));
+    assert!(rt; sink.write(b"ab").is_err());
+    sink.reserve(3)?;
+    assert_eq!(rt; sink.write(b"abcde")?, 3);
+    assert_eq!(rt; sink.bytes(), b"abc".as_slice());
+    count_twice::<Brand>(Blank::new(1));
+    assert_eq!(rt; std::mem::size_of::<Steps<Brand>>(), 0);
+    Ok(())
+}
+
+// A source and a sink that never fail. What comes past the room is taken and counted.
+#[test]
+fn steady_memory_is_read_and_written(rt: HostRuntime) -> Result<(), Fail> {
+    let mut source = SteadySource::new(Vec::from_slice(rt.alloc(), b"abcde")?, 2);
+    let mut buffer = [0u8; 8];
+    for want in [b"ab".as_slice(), b"cd", b"e", b""] {
+        let count = source.read(&mut buffer)?;
+        assert_eq!(rt; &buffer[..count], want);
+    }
+    let mut sink = SteadySink::new(rt.alloc(), 4);
+    assert_eq!(rt; sink.write(b"ab")?, 2);
+    sink.reserve(3)?;
+    assert_eq!(rt; sink.write(b"abcde")?, 4);
+    assert_eq!(rt; (sink.bytes(), sink.past()), (b"abc".as_slice(), 3));
+    Ok(())
+}

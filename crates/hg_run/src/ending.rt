@@ -1,0 +1,118 @@
+//! The end of a replay or a run.
+//!
+//!     roll back    each transaction that is open, in the order of sessions
+//!     finish       every session's part goes to one pass, to which the others were joined
+//!     settle       a round of the table collector cuts each table of each bucket at the mark
+//!     count        each bucket
+
+ghost use Rattle.std.specs.Prelude.{◌≡◌, ℕ, ◌<◌, ◌≢◌, length, get_or, None};
+ghost use Rattle.hg_rule.specs.Facts.{StartsWith};
+ghost use Rattle.hg_rule.specs.New.{EachFrom};
+ghost use Rattle.hg_base.specs.declared.report.Kind.{Kind};
+ghost use Rattle.hg_base.specs.Lists.{Each};
+ghost use Rattle.hg_rule.specs.Reading.{passes_in};
+ghost use Rattle.hg_rule.specs.Rules.{IsBacked};
+ghost use Rattle.hg_gc_table.specs.Collectors.{view_of, IsCollectorOf};
+ghost use Rattle.hg_headline.specs.Counted.{Closes};
+ghost use Rattle.hg_session.specs.declared.session.Session.{Session};
+ghost use Rattle.hg_session.specs.Engines.{engine_board_id, engine_sizes};
+ghost use Rattle.hg_session.specs.Sessions.{IsOf, number_of, log_of, open_of, seen_by};
+ghost use Rattle.hg_session.specs.Ended.{logs_in, visits_in, IsEnded};
+ghost use Rattle.hg_session.specs.Finished.{logs_of, AreAmong, IsClosed};
+ghost use Rattle.hg_session.specs.Passing.{visits_of};
+ghost use Rattle.hg_session.specs.Settled.{HasHeardAll};
+ghost use Rattle.hg_run.specs.Listed.{IsPlaced};
+ghost use Rattle.hg_run.specs.Collecting.{AreCollectors, passes_of, view_in};
+ghost use Rattle.hg_run.specs.Closed.{HasCome, IsClosedBy};
+
+use crate::collecting::Collectors;
+use hg_base::Totals;
+use hg_gc_table::TableCollector;
+use hg_session::{Engine, Session, finish_all, join_all, settle};
+use std::sync::Wait;
+
+/// Rolls the session's transaction back, if one is open.
+pub(crate) fn close_one<R: Wait>(rt: &R, engine: &Engine, session: &mut Session)
+    requires { IsOf engine.now session.old }
+    ensures closed { open_of session.new ≡ None }
+    ensures closes { Closes (log_of session.old) (log_of session.new) }
+    ensures number { number_of session.new ≡ number_of session.old }
+    ensures kept { StartsWith (seen_by session.new) (seen_by session.old) }
+    ensures own { IsOf engine.now session.new }
+{
+    if session.is_open() {
+        session.rollback(rt, engine);
+    }
+}
+
+// The same for the session at i.
+fn close_at<R: Wait>(rt: &R, engine: &Engine, list: &mut Vec<Session>, i: usize)
+    requires within { i < length list.old.items }
+    requires own { (d : Session) → IsOf engine.now (get_or list.old.items i d) }
+    ensures many { length list.new.items ≡ length list.old.items }
+    ensures closed { (d : Session) → open_of (get_or list.new.items i d) ≡ None }
+    ensures closes { (d : Session) → Closes (log_of (get_or list.old.items i d)) (log_of (get_or list.new.items i d)) }
+    ensures number { (d : Session) → number_of (get_or list.new.items i d) ≡ number_of (get_or list.old.items i d) }
+    ensures kept { (d : Session) → StartsWith (seen_by (get_or list.new.items i d)) (seen_by (get_or list.old.items i d)) }
+    ensures rest { (d : Session) (k : ℕ) → k ≢ i → get_or list.new.items k d ≡ get_or list.old.items k d }
+    ensures own { (d : Session) → IsOf engine.now (get_or list.new.items i d) }
+{
+    close_one(rt, engine, &mut list[i]);
+}
+
+/// Rolls every open transaction back, in the order of sessions.
+pub(crate) fn close_all<R: Wait>(rt: &R, engine: &Engine, list: &mut Vec<Session>)
+    requires { (d : Session) (k : ℕ) → k < length list.old.items → IsPlaced engine.now k (get_or list.old.items k d) }
+    ensures many { length list.new.items ≡ length list.old.items }
+    ensures closed { EachFrom (IsClosed engine.now) 1 list.new.items }
+    ensures closes { (j : ℕ) → Closes (logs_of list.old.items j) (logs_of list.new.items j) }
+    ensures kept { (d : Session) (k : ℕ) → k < length list.old.items → StartsWith (seen_by (get_or list.new.items k d)) (seen_by (get_or list.old.items k d)) }
+{
+    for i in 0..list.len() {
+        close_at(rt, engine, list, i);
+    }
+}
+
+// All passes and all sessions go to the table collector's pass, which has seen then all that any of them had seen, and knows
+// what each pass did.
+fn bring_all(engine: &Engine, list: Vec<Session>, collectors: Collectors) -> TableCollector
+    requires closed { EachFrom (IsClosed engine.now) 1 list.items }
+    requires many { length list.items ≡ (engine_sizes engine.now).sessions }
+    requires collectors { AreCollectors engine.now collectors }
+    ensures own { IsCollectorOf (engine_board_id engine.now) (engine_sizes engine.now) result }
+    ensures ended { IsEnded (engine_sizes engine.now) (view_of result) }
+    ensures heard { HasHeardAll (engine_sizes engine.now) (view_of result) }
+    ensures logs { logs_in (view_of result) ≡ logs_of list.items }
+    ensures three { passes_in (view_of result).parts ≡ 3 }
+    ensures visits { visits_in (view_of result) ≡ visits_of (passes_of collectors) }
+    ensures seen { Each (λ s. AreAmong (seen_by s) (view_of result).sights) list.items }
+    ensures come { (kind : Kind) → HasCome (view_in kind collectors) (view_of result) }
+    ensures backed { (mark : ℕ) × IsBacked (engine_sizes engine.now) mark (view_of result) }
+{
+    let Collectors {
+        group,
+        mut table,
+        interval,
+    } = collectors;
+    join_all(
+        engine,
+        table.lend(),
+        group.into_pass(),
+        interval.into_pass(),
+    );
+    finish_all(engine, list, table.lend());
+    engine.board().look_at(table.lend());
+    table
+}
+
+/// Ends a replay or a run once no transaction is open, and counts. It takes no memory.
+pub fn close<R: Wait>(rt: &R, engine: &Engine, list: Vec<Session>, collectors: Collectors) -> Totals
+    requires many { length list.items ≡ (engine_sizes engine.now).sessions }
+    requires closed { EachFrom (IsClosed engine.now) 1 list.items }
+    requires collectors { AreCollectors engine.now collectors }
+    ensures { IsClosedBy engine.now list.items collectors result }
+{
+    let mut collector = bring_all(engine, list, collectors);
+    settle(rt, engine, &mut collector);
+    engine.totals(rt, collector.lend())
+}

@@ -1,0 +1,18 @@
+//! Trials of the whole: words, a script and a source go in, and a text and a status come out.
+//!
+//!     serve_tests    statuses, failing sources and sinks, scripts that are replayed and what they print
+//!     run_tests      scripts that run in threads
+//!     order          a gate that holds workers, so that they meet
+//!     watched        a source and a sink that watch how they are called
+//!
+//! Nothing here is called by other crates.
+#![tactic(auto)]
+
+#[cfg(test)]
+mod order;
+#[cfg(test)]
+mod run_tests;
+#[cfg(test)]
+mod serve_tests;
+#[cfg(test)]
+mod watched;

@@ -1,0 +1,348 @@
+//! Scripts that run in threads. Where the text would depend on the schedule, a gate holds workers, or less is asked of it.
+
+ghost use Rattle.std.specs.Prelude.{◌<◌};
+
+use crate::order::Order;
+use hg_base::{
+    DEFAULT_BUCKETS, DEFAULT_LONG, Gate, MemorySink, MemorySource, NoGate, Printed, Totals,
+};
+use hg_report::read_text;
+use hg_run::{Status, close, open_for, run_on, serve};
+use hg_script::read_script;
+use hg_words::{Command, Options};
+use std::alloc::Global;
+use std::process::Abort;
+use std::sync::Wait;
+use std::test::Fail;
+use std::thread::Threads;
+
+// The numbers by which a gate knows the collectors.
+const GROUP: u32 = 101;
+
+const TABLE: u32 = 102;
+
+const INTERVAL: u32 = 103;
+
+const NO_TOTALS: &str =
+    "total,made,0\ntotal,undone,0\ntotal,group,0\ntotal,table,0\ntotal,interval,0\ntotal,left,0\n";
+
+// The text that is written for a script, with words as they stand between spaces.
+fn written<R: Threads + Wait + Sync + Abort, G: Gate + Sync>(
+    rt: &R,
+    alloc: Global,
+    words: &str,
+    script: &str,
+    gate: &G,
+) -> Result<Vec<u8>, Fail> {
+    let mut all = Vec::new(alloc);
+    for word in words.split_whitespace() {
+        all.push(String::from_str(alloc, word)?)?;
+    }
+    let bytes = Vec::from_slice(alloc, script.as_bytes())?;
+    let mut source = MemorySource::new(bytes, 4096, Vec::new(alloc));
+    let mut sink = MemorySink::new(alloc, 4096, Vec::new(alloc));
+    sink.reserve(1_048_576)?;
+    let status = serve(rt, alloc, &all, &mut source, &mut sink, gate);
+    assert_eq!(rt; status, Status::Done, "at {words}");
+    Ok(Vec::from_slice(alloc, sink.bytes())?)
+}
+
+// What is printed for it, read again.
+fn printed<R: Threads + Wait + Sync + Abort>(
+    rt: &R,
+    alloc: Global,
+    words: &str,
+    script: &str,
+) -> Result<Printed, Fail> {
+    let text = written(rt, alloc, words, script, &NoGate)?;
+    let script = read_script(alloc, script.as_bytes())?;
+    Ok(read_text(alloc, &script, &text)?)
+}
+
+// The same where workers are held, each of which has to see what it waits for.
+fn written_in_order<R: Threads + Wait + Sync + Abort>(
+    rt: &R,
+    alloc: Global,
+    words: &str,
+    script: &str,
+    order: &Order,
+) -> Result<Vec<u8>, Fail> {
+    let text = written(rt, alloc, words, script, order)?;
+    assert!(rt; order.was_kept());
+    Ok(text)
+}
+
+fn balances<R: Abort>(rt: &R, totals: &Totals) {
+    let gone = totals.group as u128 + totals.table as u128 + totals.interval as u128;
+    assert_eq!(rt;
+        totals.made as u128,
+        totals.undone as u128 + gone + totals.left as u128
+    );
+}
+
+// Each collector reports each of its rounds, 8 where no word says how many. No round is made of 0.
+#[test]
+fn rounds_are_as_many_as_the_words_say(rt: HostRuntime) -> Result<(), Fail> {
+    for (words, rounds) in [
+        ("run", 8),
+        ("run --rounds 0", 0),
+        ("run --rounds=2 --long 4", 2),
+        ("--buckets 1 run --rounds 1000", 1000),
+    ] {
+        let printed = printed(&rt, rt.alloc(), words, "")?;
+        assert_eq!(rt; printed.lines.as_slice().len(), 3 * rounds, "at {words}");
+        assert_eq!(rt; printed.totals.made, 0);
+    }
+    let text = written(&rt, rt.alloc(), "run --rounds 0", "", &NoGate)?;
+    assert_eq!(rt; text.as_slice(), NO_TOTALS.as_bytes());
+    Ok(())
+}
+
+// Scripts whose text is the same in every schedule, without rounds: all that is written before the totals, and how many versions
+// were made, undone, and taken at the end, and how many are left.
+#[test]
+fn scripts_run(rt: HostRuntime) -> Result<(), Fail> {
+    for (script, lines, [made, undone, table, left]) in [
+        (
+            "table,t,1\n1,begin\n1,put,t,5,7\n1,get,t,5\n1,commit\n",
+            "1,2,begun,0\n1,3,stored\n1,4,row,7\n1,5,committed,1\n",
+            [1, 0, 0, 1],
+        ),
+        // replies of one session stand together, by number
+        (
+            "table,t,1\n2,get,t,5\n1,get,t,5\n2,scan,t,0,9\n1,begin\n2,begin,t\n1,commit\n2,rollback\n",
+            "1,3,at,0,none\n1,5,begun,0\n1,7,ended\n2,2,at,0,none\n2,4,at,0,rows,0\n2,6,begun,0\n2,8,undone\n",
+            [0, 0, 0, 0],
+        ),
+        // what is open at the end is rolled back without a reply, and a `gc` makes no round
+        (
+            "table,t,1\n1,put,t,5,1\n1,begin\n1,put,t,5,2\n1,gc,table\n1,put,t,6,2\n",
+            "1,2,at,0,stored,committed,1\n1,3,begun,1\n1,4,stored\n1,5,beside\n1,6,stored\n",
+            [3, 2, 0, 1],
+        ),
+        // of many sessions the last one alone has something to do
+        (
+            "table,t,1\n64,put,t,5,1\n64,put,t,5,2\n64,del,t,5\n64,get,t,5\n",
+            "64,2,at,0,stored,committed,1\n64,3,at,1,stored,committed,2\n64,4,at,2,gone,committed,3\n64,5,at,3,none\n",
+            [3, 0, 3, 0],
+        ),
+    ] {
+        let want = format!(in rt.alloc();
+            "{lines}total,made,{made}\ntotal,undone,{undone}\ntotal,group,0\ntotal,table,{table}\ntotal,interval,0\ntotal,left,{left}\n"
+        )?;
+        let text = written(&rt, rt.alloc(), "run --rounds 0", script, &NoGate)?;
+        assert_eq!(rt; text.as_slice(), want.as_bytes(), "at {script}");
+    }
+    Ok(())
+}
+
+// Session 1 is in a transaction while session 2 commits twice, and commits behind it.
+const MEETING: &str =
+    "table,t,1\n1,begin\n2,put,t,5,10\n2,put,t,6,20\n1,put,t,1,30\n2,get,t,5\n1,commit\n2,gc,group\n";
+
+// Session 1 is held before its second statement until session 2 comes to its third, which is held until the first is there: so
+// both are held at once, unless one finds the other there already.
+const MEETING_HOLDS: [((u32, u32), (u32, u32)); 3] = [
+    ((1, 2), (2, 3)),
+    ((2, 3), (1, 2)),
+    ((1, 3), (2, 4)),
+];
+
+// Behind the snapshot of session 1, which may be any.
+const MEETING_LINES: &str =
+    "1,5,stored\n1,7,committed,3\n2,3,at,0,stored,committed,1\n2,4,at,1,stored,committed,2\n2,6,at,2,row,10\n2,8,beside\n";
+
+const MEETING_TOTALS: &str =
+    "total,made,3\ntotal,undone,0\ntotal,group,0\ntotal,table,0\ntotal,interval,0\ntotal,left,3\n";
+
+#[test]
+fn two_workers_are_held(rt: HostRuntime) -> Result<(), Fail> {
+    let order = Order::new(rt.alloc(), &MEETING_HOLDS)?;
+    let text = written_in_order(&rt, rt.alloc(), "run --rounds 0", MEETING, &order)?;
+    let text = String::from_utf8(text)?;
+    let (first, rest) = text.split_once("\n").expect(&rt, "there are lines");
+    assert!(rt; first.starts_with("1,2,begun,"), "at {first}");
+    let want = format!(in rt.alloc(); "{MEETING_LINES}{MEETING_TOTALS}")?;
+    assert_eq!(rt; rest.as_bytes(), want.as_bytes());
+    Ok(())
+}
+
+// The same by the driver itself, at an engine that is opened here.
+#[test]
+fn two_workers_of_the_driver_are_held(rt: HostRuntime) -> Result<(), Fail> {
+    let alloc = rt.alloc();
+    let order = Order::new(alloc, &MEETING_HOLDS)?;
+    let options = Options {
+        command: Command::Run,
+        buckets: DEFAULT_BUCKETS,
+        long: DEFAULT_LONG,
+        rounds: 0,
+    };
+    let script = read_script(alloc, MEETING.as_bytes())?;
+    let (engine, list, collectors) = open_for(alloc, &script, &options)?;
+    let (mut list, mut collectors) = (list, collectors);
+    let transcript = run_on(
+        &rt,
+        alloc,
+        &script,
+        &options,
+        &order,
+        &engine,
+        &mut list,
+        &mut collectors,
+    )?;
+    assert!(rt; order.was_kept());
+    let text = String::from_utf8(Vec::from_slice(alloc, transcript.text())?)?;
+    let (first, rest) = text.split_once("\n").expect(&rt, "there are lines");
+    assert!(rt; first.starts_with("1,2,begun,"), "at {first}");
+    assert_eq!(rt; rest.as_bytes(), MEETING_LINES.as_bytes());
+    let totals = close(&rt, &engine, list.into_vec(), collectors);
+    assert_eq!(rt; (totals.made, totals.left), (3, 3));
+    balances(&rt, &totals);
+    Ok(())
+}
+
+// Session 1 reads at snapshot 1, and stays while session 2 commits twice more and the interval collector makes its first round.
+// Behind that the group collector makes its first round, and then all others are made, with nothing to take.
+#[test]
+fn a_round_beside_a_reader(rt: HostRuntime) -> Result<(), Fail> {
+    let script =
+        "table,t,1\n2,put,t,5,10\n1,begin\n2,put,t,5,20\n2,put,t,5,30\n1,get,t,5\n1,commit\n1,gc,interval\n2,gc,interval\n";
+    let order = Order::new(
+        rt.alloc(),
+        &[
+            ((1, 1), (2, 2)),
+            ((2, 2), (1, 2)),
+            ((INTERVAL, 1), (2, 4)),
+            ((1, 2), (INTERVAL, 2)),
+            ((GROUP, 1), (1, 4)),
+            ((TABLE, 1), (GROUP, 2)),
+            ((INTERVAL, 2), (GROUP, 2)),
+        ],
+    )?;
+    let text = written_in_order(&rt, rt.alloc(), "run --rounds 2", script, &order)?;
+    let want = "1,3,begun,1
+1,6,row,10
+1,7,ended
+1,8,beside
+2,2,at,0,stored,committed,1
+2,4,at,1,stored,committed,2
+2,5,at,2,stored,committed,3
+2,9,beside
+0,1,swept,group,3,3,1
+0,2,swept,group,3,3,0
+0,1,swept,table,3,3,0
+0,2,swept,table,3,3,0
+0,1,swept,interval,3,3,1
+0,1,held,1,1,unmoved
+0,2,swept,interval,3,3,0
+total,made,3
+total,undone,0
+total,group,1
+total,table,0
+total,interval,1
+total,left,1
+";
+    assert_eq!(rt; text.as_slice(), want.as_bytes());
+    Ok(())
+}
+
+// Adds the transfer of this number by a session: a transaction that reads two neighbours of 20 accounts and puts both.
+fn add_transfer(alloc: Global, script: &mut String, session: u64, number: u64) -> Result<(), Fail>
+    requires { (session < 64) × (number ≤ 100) }
+{
+    let from = 1 + (7 * session + 3 * number) % 20;
+    let to = 1 + (7 * session + 3 * number + 1) % 20;
+    let (less, more) = (100 - number, 100 + number);
+    script.push_str(&format!(in alloc;
+        "{session},begin\n{session},get,account,{from}\n{session},get,account,{to}\n{session},put,account,{from},{less}\n"
+    )?)?;
+    script.push_str(&format!(in alloc; "{session},put,account,{to},{more}\n{session},commit\n")?)?;
+    Ok(())
+}
+
+// Session 1 puts 20 accounts in one transaction. Sessions 2 to 5 make ten transfers each. Session 6 declared another table: it
+// scans that one ten times, and may not read an account.
+fn accounts(alloc: Global) -> Result<String, Fail> {
+    let mut script = String::from_str(alloc, "table,account,1\ntable,branch,1\n1,begin\n")?;
+    for account in 1..21 {
+        script.push_str(&format!(in alloc; "1,put,account,{account},100\n")?)?;
+    }
+    script.push_str("1,commit\n")?;
+    for session in 2..6 {
+        for number in 1..11 {
+            add_transfer(alloc, &mut script, session, number)?;
+        }
+    }
+    script.push_str("6,begin,branch\n")?;
+    for _ in 0..10 {
+        script.push_str("6,scan,branch,0,100\n")?;
+    }
+    script.push_str("6,get,account,1\n6,commit\n")?;
+    Ok(script)
+}
+
+// Each account keeps one row, whoever is refused: a put of session 1 is refused only for a transfer that commits.
+#[test]
+fn twenty_accounts_are_left(rt: HostRuntime) -> Result<(), Fail> {
+    let script = accounts(rt.alloc())?;
+    let printed = printed(&rt, rt.alloc(), "run", script.as_str())?;
+    assert_eq!(rt;
+        printed.lines.as_slice().len(),
+        22 + 4 * 10 * 6 + 13 + 3 * 8
+    );
+    assert_eq!(rt; printed.totals.left, 20);
+    assert_eq!(rt; printed.totals.undone, 0);
+    balances(&rt, &printed.totals);
+    Ok(())
+}
+
+// Eight sessions put 50 keys each, all different.
+fn puts(alloc: Global) -> Result<String, Fail> {
+    let mut script = String::from_str(alloc, "table,t,1\n")?;
+    for i in 0..50 {
+        for session in 1..9 {
+            script.push_str(&format!(in alloc; "{session},put,t,{session}{i},{i}\n")?)?;
+        }
+    }
+    Ok(script)
+}
+
+// How often each number up to 400 was printed as that of a commit outside.
+fn numbers_of(alloc: Global, printed: &Printed) -> Result<Vec<u64>, Fail> {
+    let mut counts = vec![in alloc; 0u64; 401]?;
+    for line in printed.lines.as_slice() {
+        if let Some(number) = line.reply.number {
+            if let Some(count) = counts.get_mut(number as usize) {
+                *count = count.wrapping_add(1);
+            }
+        }
+    }
+    Ok(counts)
+}
+
+// How many commits have these counts of their numbers, where the numbers begin at 1 and have no gap.
+fn commits_without_gap(counts: &[u64]) -> Option<u64> {
+    let mut commits = 0u64;
+    let mut over = false;
+    for count in counts.iter().skip(1) {
+        match *count {
+            0 => over = true,
+            _ if over => return None,
+            more => commits = commits.wrapping_add(more),
+        }
+    }
+    Some(commits)
+}
+
+// Nobody is refused, and groups have the numbers from 1 on.
+#[test]
+fn eight_workers_commit_beside_the_collectors(rt: HostRuntime) -> Result<(), Fail> {
+    let script = puts(rt.alloc())?;
+    let printed = printed(&rt, rt.alloc(), "run --rounds 20", script.as_str())?;
+    let counts = numbers_of(rt.alloc(), &printed)?;
+    assert_eq!(rt; commits_without_gap(&counts), Some(400));
+    assert_eq!(rt; (printed.totals.made, printed.totals.left), (400, 400));
+    balances(&rt, &printed.totals);
+    Ok(())
+}

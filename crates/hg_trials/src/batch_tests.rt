@@ -1,0 +1,151 @@
+//! Two sessions commit through the queue.
+
+ghost use Rattle.std.specs.Prelude.{◌≡◌, ◌∷◌, [], ◌<◌, true, false, length, IfOk, IfSome};
+ghost use Rattle.hg_base.specs.declared.scope.Scope.TheVariants.{All};
+ghost use Rattle.hg_core.specs.declared.log.LogEntry.TheVariants.{Began, Wrote};
+ghost use Rattle.hg_core.specs.declared.phase.Phase.TheVariants.{Idle, Live};
+ghost use Rattle.hg_core.specs.Logs.{begans};
+ghost use Rattle.hg_rule.specs.declared.view.Part.TheVariants.{OfSession};
+ghost use Rattle.hg_rule.specs.Seats.{board_id, sizes_of, session_view, IsSessionOf};
+ghost use Rattle.hg_rule.specs.Steps.{logging};
+ghost use Rattle.hg_rule.specs.Holding.{writer};
+ghost use Rattle.hg_rule.specs.Writes.{with_entry};
+ghost use Rattle.hg_rule.specs.Views.{number, session, HasOnlySession};
+ghost use Rattle.hg_store.specs.Stores.{store_board_id, store_buckets};
+ghost use Rattle.hg_queue.specs.Handing.{IsOpenTxOf, MayCommit};
+
+use hg_base::{Image, NoMemory, Rid, Row, Scope, Snapshot, TableId, Writer};
+use hg_group::{GroupList, OpenTx, Receipt, RidList};
+use hg_rule::{Board, SessionPass};
+use hg_store::Store;
+use std::alloc::Global;
+use std::sync::Wait;
+use std::test::Fail;
+
+// Begins a transaction on all tables. The answer is its snapshot.
+fn begin(board: &Board, pass: &mut SessionPass) -> u64
+    requires own { IsSessionOf (board_id board.now) (sizes_of board.now) pass.old }
+    requires only { HasOnlySession (session_view pass.old) }
+    requires rests { (session (session_view pass.old)).phase ≡ Idle }
+    requires room { begans (session (session_view pass.old)).log < (sizes_of board.now).quota }
+    ensures own { IsSessionOf (board_id board.now) (sizes_of board.now) pass.new }
+    ensures parts { (session_view pass.new).parts ≡ OfSession (number (session_view pass.old)) (logging (Began result All) (Live result All) (session (session_view pass.old))) ∷ [] }
+{
+    let from = board.probe(pass);
+    board.enter(pass, from);
+    let at = board.fix(pass);
+    board.go_live(pass, at, Scope::All);
+    at
+}
+
+fn image(alloc: Global, value: i64) -> Result<Image, NoMemory> {
+    let row = Row::from_slice(alloc, &[value])?;
+    Ok(Image { row: Some(row) })
+}
+
+// Writes a record in its bucket. The answer says who writes, and whether it was stored.
+fn write<R: Wait>(
+    rt: &R,
+    board: &Board,
+    store: &Store,
+    pass: &mut SessionPass,
+    rid: Rid,
+    image: Image,
+    at: u64,
+) -> (Writer, bool)
+    requires board { store_board_id store.now ≡ board_id board.now }
+    requires buckets { (0 < store_buckets store.now) × (store_buckets store.now ≡ (sizes_of board.now).buckets) }
+    requires own { IsSessionOf (board_id board.now) (sizes_of board.now) pass.old }
+    requires only { HasOnlySession (session_view pass.old) }
+    requires live { (session (session_view pass.old)).phase ≡ Live at All }
+    requires log { (session (session_view pass.old)).log ≡ Began at All ∷ [] }
+    requires unstamped { (session (session_view pass.old)).stamped ≡ false }
+    requires known { rid.table.0 < (sizes_of board.now).tables }
+    requires room { 0 < (sizes_of board.now).quota }
+    ensures own { IsSessionOf (board_id board.now) (sizes_of board.now) pass.new }
+    ensures by { result.0 ≡ writer (session_view pass.old) }
+    ensures stored { result.1 ≡ true → (session_view pass.new).parts ≡ OfSession (number (session_view pass.old)) (with_entry (Wrote rid image) (session (session_view pass.old))) ∷ [] }
+{
+    let by = pass.writer();
+    let mut held = store.take(rt, board, store.bucket_of(rid), pass);
+    let written = held.write(board, pass, rid, image, at, by);
+    held.give(board, pass);
+    (by, written.is_ok())
+}
+
+// A transaction with one put. The answer is its context.
+fn put<R: Wait>(
+    rt: &R,
+    alloc: Global,
+    board: &Board,
+    store: &Store,
+    pass: &mut SessionPass,
+    key: u64,
+) -> Result<Option<OpenTx>, NoMemory>
+    requires board { store_board_id store.now ≡ board_id board.now }
+    requires buckets { (0 < store_buckets store.now) × (store_buckets store.now ≡ (sizes_of board.now).buckets) }
+    requires own { IsSessionOf (board_id board.now) (sizes_of board.now) pass.old }
+    requires only { HasOnlySession (session_view pass.old) }
+    requires rests { (session (session_view pass.old)).phase ≡ Idle }
+    requires log { (session (session_view pass.old)).log ≡ [] }
+    requires unstamped { (session (session_view pass.old)).stamped ≡ false }
+    requires room { (0 < (sizes_of board.now).tables) × (0 < (sizes_of board.now).quota) }
+    ensures own { IsSessionOf (board_id board.now) (sizes_of board.now) pass.new }
+    ensures ready { IfOk result (λ r. IfSome r (λ tx. HasOnlySession (session_view pass.new) × (MayCommit (session (session_view pass.new)) × (IsOpenTxOf (number (session_view pass.new)) (session (session_view pass.new)) tx × (0 < length tx.records.list))))) }
+{
+    let image = image(alloc, 10)?;
+    let mut records = RidList::new(alloc);
+    records.reserve()?;
+    let at = begin(board, pass);
+    let table = TableId(0);
+    let rid = Rid { table, key };
+    let (writer, stored) = write(rt, board, store, pass, rid, image, at);
+    if !stored {
+        return Ok(None);
+    }
+    records.push_reserved(rid);
+    let scope = Scope::All;
+    let snapshot = Snapshot { at, scope };
+    Ok(Some(OpenTx {
+        writer,
+        snapshot,
+        records,
+    }))
+}
+
+#[test]
+fn two_sessions_commit_in_one_group(rt: HostRuntime) -> Result<(), Fail> {
+    let alloc = rt.alloc();
+    let (board, seats) = Board::new(alloc, 2, 1, 2, 4)?;
+    let store = Store::new(alloc, seats.buckets)?;
+    let groups = GroupList::new(alloc, seats.commit, 2)?;
+    let mut sessions = seats.sessions.into_vec();
+    let mut second = sessions.pop().expect(&rt, "session 2");
+    let mut first = sessions.pop().expect(&rt, "session 1");
+    let tx = put(&rt, alloc, &board, &store, &mut first, 5)?.expect(&rt, "a put");
+    let other = put(&rt, alloc, &board, &store, &mut second, 6)?.expect(&rt, "a put");
+    let Ok(one) = groups.submit(&rt, &board, tx, &mut first) else {
+        panic!(rt; "no memory");
+    };
+    let two = groups.submit(&rt, &board, other, &mut second);
+    let one = groups.finish(&rt, &board, &store, one, &mut first);
+    let Ok(two) = two else {
+        panic!(rt; "no memory");
+    };
+    let two = groups.finish(&rt, &board, &store, two, &mut second);
+    assert_eq!(rt;
+        one.ok(),
+        Some(Receipt {
+            number: 1,
+            place: 0
+        })
+    );
+    assert_eq!(rt;
+        two.ok(),
+        Some(Receipt {
+            number: 1,
+            place: 1
+        })
+    );
+    Ok(())
+}

@@ -1,0 +1,209 @@
+//! A session enters while others commit, step by step, and a collector gathers.
+
+ghost use Rattle.std.specs.Prelude.{◌≡◌, ◌+◌, ◌<◌, ◌≤◌, ◌^◌, suc, true, false, [], ◌∷◌, length, IsSome, IsTrue};
+ghost use Rattle.hg_base.specs.declared.rid.Rid.{Rid};
+ghost use Rattle.hg_base.specs.declared.scope.Scope.TheVariants.{All};
+ghost use Rattle.hg_base.specs.History.{same_rid};
+ghost use Rattle.hg_core.specs.declared.phase.Phase.TheVariants.{Live};
+ghost use Rattle.hg_core.specs.declared.log.LogEntry.TheVariants as entries;
+ghost use Rattle.hg_core.specs.Logs.{begans, wrotes, is_plain, open_in};
+ghost use Rattle.hg_core.specs.Phases.{snapshot_in};
+ghost use Rattle.hg_core.specs.Versions.{IsOpenBy};
+ghost use Rattle.hg_core.specs.Contents.{bucket_of, look};
+ghost use Rattle.hg_rule.specs.declared.view.Part.TheVariants.{OfSession};
+ghost use Rattle.hg_rule.specs.Views.{number};
+ghost use Rattle.hg_rule.specs.Steps.{logging};
+ghost use Rattle.hg_rule.specs.Holding.{writer, tables};
+ghost use Rattle.hg_rule.specs.Writes.{with_entry, with_published, installing, stamping};
+ghost use Rattle.hg_rule.specs.Seats.{board_id, sizes_of, session_view, IsBucketOf, IsCommitOf};
+ghost use Rattle.hg_trials.specs.Between.{own_session, own_bucket, own_commit, IsAlone, Rests, IsFreeFrom};
+
+use hg_base::{Entry, Image, Rid, Scope, TableId};
+use hg_rule::{Board, BucketSeat, CommitSeat, SessionPass};
+use hg_tracker::{Gathered, Trackers};
+use std::snapshot::Snapshot;
+use std::test::Fail;
+
+// Takes a snapshot of all tables.
+fn begin(board: &Board, pass: &mut SessionPass) -> u64
+    requires own { IsAlone (board_id board.now) (sizes_of board.now) pass.old }
+    requires rests { Rests pass.old }
+    requires room { begans (own_session pass.old).log < (sizes_of board.now).quota }
+    ensures parts { (session_view pass.new).parts ≡ OfSession (number (session_view pass.old)) (logging (entries.Began result All) (Live result All) (own_session pass.old)) ∷ [] }
+    ensures own { IsAlone (board_id board.now) (sizes_of board.now) pass.new }
+{
+    let from = board.probe(pass);
+    board.enter(pass, from);
+    let at = board.fix(pass);
+    board.go_live(pass, at, Scope::All);
+    at
+}
+
+// Takes the only bucket, writes a record there that has no version, and gives the bucket back.
+fn write(
+    board: &Board,
+    pass: &mut SessionPass,
+    bucket: BucketSeat,
+    rid: Rid,
+    image: &Image,
+) -> BucketSeat
+    requires own { IsAlone (board_id board.now) (sizes_of board.now) pass.old }
+    requires live { IsSome (snapshot_in (own_session pass.old).phase) × (tables (session_view pass.old) ≡ All) }
+    requires open { IsTrue (is_plain (own_session pass.old).log) × ((own_session pass.old).stamped ≡ false) }
+    requires room { wrotes (own_session pass.old).log < (sizes_of board.now).quota }
+    requires bucket { IsBucketOf (board_id board.now) bucket × (bucket.number ≡ 0) }
+    requires there { bucket_of (sizes_of board.now).buckets rid ≡ 0 }
+    requires table { rid.table.0 < (sizes_of board.now).tables }
+    requires free { look rid (own_bucket bucket).content ≡ [] }
+    ensures parts { (session_view pass.new).parts ≡ OfSession (number (session_view pass.old)) (with_entry (entries.Wrote rid image.now) (own_session pass.old)) ∷ [] }
+    ensures bucket { IsBucketOf (board_id board.now) result × (result.number ≡ 0) }
+    ensures written { own_bucket result ≡ installing (writer (session_view pass.old)) rid image.now (own_bucket bucket) }
+    ensures own { IsAlone (board_id board.now) (sizes_of board.now) pass.new }
+{
+    board.join_bucket(pass, bucket);
+    board.install(pass, rid, Snapshot::of(image));
+    board.split_bucket(pass, 0)
+}
+
+// Commits the transaction, whose one open write is of this record: hands it over, takes it as a leader does, and has it back.
+fn commit_alone(
+    board: &Board,
+    pass: &mut SessionPass,
+    bucket: BucketSeat,
+    commit: CommitSeat,
+    rid: Rid,
+) -> (BucketSeat, CommitSeat)
+    requires own { IsAlone (board_id board.now) (sizes_of board.now) pass.old }
+    requires live { IsSome (snapshot_in (own_session pass.old).phase) }
+    requires plain { IsTrue (is_plain (own_session pass.old).log) }
+    requires unstamped { (own_session pass.old).stamped ≡ false }
+    requires bucket { IsBucketOf (board_id board.now) bucket × (bucket.number ≡ 0) }
+    requires there { bucket_of (sizes_of board.now).buckets rid ≡ 0 }
+    requires mine { IsOpenBy (writer (session_view pass.old)) (look rid (own_bucket bucket).content) }
+    requires only { (r : Rid) → IsSome (open_in r (own_session pass.old).log) → same_rid rid r ≡ true }
+    requires commit { IsCommitOf (board_id board.now) commit × ((own_commit commit).stamped ≡ []) }
+    ensures parts { (session_view pass.new).parts ≡ OfSession (number (session_view pass.old)) (with_published (suc (length (own_commit commit).history.list)) (own_session pass.old)) ∷ [] }
+    ensures bucket { IsBucketOf (board_id board.now) result.0 × (result.0.number ≡ 0) }
+    ensures stamped { own_bucket result.0 ≡ stamping (suc (length (own_commit commit).history.list)) (writer (session_view pass.old)) rid (own_bucket bucket) }
+    ensures commit { IsCommitOf (board_id board.now) result.1 × ((own_commit result.1).stamped ≡ []) }
+    ensures published { length (own_commit result.1).history.list ≡ length (own_commit commit).history.list + 1 }
+    ensures own { IsAlone (board_id board.now) (sizes_of board.now) pass.new }
+{
+    let session = pass.writer().session;
+    let (_, tx) = board.hand_over(pass);
+    board.receive(pass, tx);
+    let mark = board.join_commit(pass, commit);
+    board.join_bucket(pass, bucket);
+    board.stamp(pass, session, rid, mark + 1);
+    let bucket = board.split_bucket(pass, 0);
+    board.publish(pass, mark + 1);
+    let commit = board.split_commit(pass);
+    let tx = board.hand_back(pass, session);
+    board.resume(pass, tx);
+    (bucket, commit)
+}
+
+// One transaction, which writes the record with this key.
+fn commit_one(
+    board: &Board,
+    pass: &mut SessionPass,
+    bucket: BucketSeat,
+    commit: CommitSeat,
+    key: u64,
+) -> (BucketSeat, CommitSeat)
+    requires own { IsAlone (board_id board.now) (sizes_of board.now) pass.old × Rests pass.old }
+    requires room { (begans (own_session pass.old).log < (sizes_of board.now).quota) × (wrotes (own_session pass.old).log < (sizes_of board.now).quota) }
+    requires sizes { (0 < (sizes_of board.now).tables) × ((sizes_of board.now).buckets ≡ 1) }
+    requires bucket { IsBucketOf (board_id board.now) bucket × (bucket.number ≡ 0) }
+    requires free { IsFreeFrom key (own_bucket bucket).content }
+    requires commit { IsCommitOf (board_id board.now) commit × ((own_commit commit).stamped ≡ []) }
+    ensures own { IsAlone (board_id board.now) (sizes_of board.now) pass.new × Rests pass.new }
+    ensures counts { (begans (own_session pass.new).log ≡ begans (own_session pass.old).log + 1) × (wrotes (own_session pass.new).log ≡ wrotes (own_session pass.old).log + 1) }
+    ensures bucket { IsBucketOf (board_id board.now) result.0 × (result.0.number ≡ 0) }
+    ensures free { IsFreeFrom (key + 1) (own_bucket result.0).content }
+    ensures commit { IsCommitOf (board_id board.now) result.1 × ((own_commit result.1).stamped ≡ []) }
+    ensures history { length (own_commit result.1).history.list ≡ length (own_commit commit).history.list + 1 }
+{
+    let table = TableId(0);
+    let rid = Rid { table, key };
+    let image = Image { row: None };
+    begin(board, pass);
+    let bucket = write(board, pass, bucket, rid, &image);
+    let seats = commit_alone(board, pass, bucket, commit, rid);
+    board.end(pass);
+    seats
+}
+
+// So many transactions, each of which writes the record with the next key.
+fn commit_some(
+    board: &Board,
+    pass: &mut SessionPass,
+    bucket: BucketSeat,
+    commit: CommitSeat,
+    first: u64,
+    count: u64,
+) -> (BucketSeat, CommitSeat)
+    requires own { IsAlone (board_id board.now) (sizes_of board.now) pass.old × Rests pass.old }
+    requires room { (begans (own_session pass.old).log + count ≤ (sizes_of board.now).quota) × (wrotes (own_session pass.old).log + count ≤ (sizes_of board.now).quota) }
+    requires sizes { (0 < (sizes_of board.now).tables) × ((sizes_of board.now).buckets ≡ 1) }
+    requires keys { first + count < 2 ^ 64 }
+    requires bucket { IsBucketOf (board_id board.now) bucket × (bucket.number ≡ 0) }
+    requires free { IsFreeFrom first (own_bucket bucket).content }
+    requires commit { IsCommitOf (board_id board.now) commit × ((own_commit commit).stamped ≡ []) }
+    ensures own { IsAlone (board_id board.now) (sizes_of board.now) pass.new × Rests pass.new }
+    ensures counts { (begans (own_session pass.new).log ≡ begans (own_session pass.old).log + count) × (wrotes (own_session pass.new).log ≡ wrotes (own_session pass.old).log + count) }
+    ensures bucket { IsBucketOf (board_id board.now) result.0 × (result.0.number ≡ 0) }
+    ensures free { IsFreeFrom (first + count) (own_bucket result.0).content }
+    ensures commit { IsCommitOf (board_id board.now) result.1 × ((own_commit result.1).stamped ≡ []) }
+    ensures history { length (own_commit result.1).history.list ≡ length (own_commit commit).history.list + count }
+{
+    let mut seats = (bucket, commit);
+    for i in 0..count {
+        seats = commit_one(board, pass, seats.0, seats.1, first + i);
+    }
+    seats
+}
+
+// The mark rises from 4 to 9 while session 1 takes a snapshot: a gather finds it entering at 4, so nothing above 4 may go, and
+// it has no entry. It goes live at 9.
+#[test]
+fn a_session_enters_while_others_commit(rt: HostRuntime) -> Result<(), Fail> {
+    let (board, seats) = Board::new(rt.alloc(), 2, 1, 1, 9)?;
+    let mut passes = seats.sessions.into_vec();
+    let mut buckets = seats.buckets.into_vec();
+    let (Some(mut second), Some(mut first), Some(bucket)) = (
+        passes.pop(),
+        passes.pop(),
+        buckets.pop(),
+    ) else {
+        unreachable!()
+    };
+    let mut collector = seats.group;
+    let mut gathered = Gathered::new(rt.alloc(), 2, 1)?;
+    let trackers = Trackers::new(board);
+    let board = trackers.board();
+    let (bucket, commit) = commit_some(board, &mut second, bucket, seats.commit, 0, 4);
+    let from = board.probe(&mut first);
+    assert_eq!(rt; from, 4);
+    board.enter(&mut first, from);
+    commit_some(board, &mut second, bucket, commit, 4, 5);
+    trackers.gather(&mut collector, &mut gathered);
+    assert_eq!(rt; gathered.mark(), 9);
+    assert_eq!(rt; gathered.horizon(), 4);
+    assert_eq!(rt; gathered.least(), 4);
+    assert_eq!(rt; gathered.bound(TableId(0)), 4);
+    assert_eq!(rt; gathered.entries().len(), 0);
+    let at = board.fix(&mut first);
+    assert_eq!(rt; at, 9);
+    board.go_live(&mut first, at, Scope::All);
+    trackers.gather(&mut collector, &mut gathered);
+    let live = Entry {
+        session: 1,
+        number: 9,
+        scope: Scope::All,
+        moved: false,
+    };
+    assert_eq!(rt; gathered.horizon(), 9);
+    assert_eq!(rt; gathered.entries(), [live].as_slice());
+    Ok(())
+}

@@ -1,0 +1,179 @@
+ghost use Rattle.std.specs.Prelude.{◌≡◌, ◌<◌, ℕ, Some, IfOk, length, slice_get};
+ghost use Rattle.hg_lock.specs.Locks.{count_of, tag_of};
+
+use hg_lock::{Fits, Locks};
+use std::alloc::{AllocError, Global};
+use std::rt::Clock;
+use std::snapshot::Snapshot;
+use std::sync::Wait;
+use std::sync::atomic::AtomicU64;
+use std::sync::atomic::Ordering::SeqCst;
+use std::test::Fail;
+use std::thread::{join, map_indices, sleep, yield_now};
+use std::time::Duration;
+
+// A sum, of a list with a number, at a place there.
+#[derive(Drop)]
+struct Till {
+    list: u64,
+    lock: usize,
+    sum: u64,
+}
+
+impl Fits for Till {
+    ghost use Rattle.std.specs.Prelude.{◌≡◌};
+
+    type Tag = Snapshot<u64>;
+
+    ghost fits = { λ tag k till. (till.list ≡ tag.value) × (till.lock ≡ k) };
+}
+
+type Tills = Locks<Till>;
+
+fn tills(alloc: Global, list: u64, count: usize) -> Result<Vec<Till>, AllocError>
+    ensures fits { IfOk result (λ tills. (k : ℕ) (till : _) → slice_get tills.items k ≡ Some till → (till.list ≡ list) × (till.lock ≡ k)) }
+    ensures count { IfOk result (λ tills. length tills.items ≡ count) }
+{
+    let mut tills = Vec::new(alloc);
+    for lock in 0..count {
+        let sum = 0;
+        tills.push(Till { list, lock, sum })?;
+    }
+    Ok(tills)
+}
+
+fn open(alloc: Global, list: u64, count: usize) -> Result<Tills, Fail>
+    ensures { IfOk result (λ locks. ((tag_of locks).value ≡ list) × (count_of locks ≡ count)) }
+{
+    Ok(Locks::new(alloc, tills(alloc, list, count)?, &Snapshot::of(&list))?)
+}
+
+// Adds to the sum at this place, and answers it. The value says itself where it lies.
+fn add<R: Wait>(rt: &R, locks: &Tills, lock: usize, amount: u64) -> (usize, u64)
+    requires { lock < count_of locks.now }
+    ensures { result.0 ≡ lock }
+{
+    let (mut till, loan) = locks.take(rt, lock);
+    till.sum = till.sum.saturating_add(amount);
+    let found = (till.lock, till.sum);
+    locks.give(till, loan);
+    found
+}
+
+#[test]
+fn each_value_lies_at_its_place(rt: HostRuntime) -> Result<(), Fail> {
+    for count in 0..4 {
+        let locks = open(rt.alloc(), 7, count)?;
+        assert_eq!(rt; locks.count(), count);
+    }
+    let locks = open(rt.alloc(), 7, 3)?;
+    // place, amount, sum
+    for (lock, amount, sum) in [(0, 5, 5), (2, 1, 1), (0, 2, 7), (1, 0, 0), (2, 3, 4)] {
+        assert_eq!(rt; add(&rt, &locks, lock, amount), (lock, sum));
+    }
+    Ok(())
+}
+
+// Adds 1 so many times.
+fn add_ones<R: Wait>(rt: &R, locks: &Tills, lock: usize, times: u64)
+    requires { lock < count_of locks.now }
+{
+    for _ in 0..times {
+        add(rt, locks, lock, 1);
+    }
+}
+
+#[test]
+fn many_threads_add_to_one_sum(rt: HostRuntime) -> Result<(), Fail> {
+    let locks = open(rt.alloc(), 7, 2)?;
+    let done = map_indices(&rt, rt.alloc(), 8, &|_| add_ones(&rt, &locks, 1, 20_000))?;
+    assert_eq!(rt; done.len(), 8);
+    assert_eq!(rt; add(&rt, &locks, 1, 0), (1, 160_000));
+    assert_eq!(rt; add(&rt, &locks, 0, 0), (0, 0));
+    Ok(())
+}
+
+// How often a thread looks for another before it gives up.
+const TURNS: u64 = 10_000_000;
+
+// Takes a lock, says so, and gives it back once it was said of the other lock, too. False where that wasn't seen.
+fn hold_beside<R: Wait>(
+    rt: &R,
+    locks: &Tills,
+    lock: usize,
+    mine: &AtomicU64,
+    other: &AtomicU64,
+) -> bool
+    requires { lock < count_of locks.now }
+{
+    let (till, loan) = locks.take(rt, lock);
+    mine.store(1, SeqCst);
+    let mut seen = false;
+    for _ in 0..TURNS {
+        if other.load(SeqCst) == 1 {
+            seen = true;
+            break;
+        }
+        yield_now();
+    }
+    locks.give(till, loan);
+    seen
+}
+
+#[test]
+fn two_locks_are_held_at_once(rt: HostRuntime) -> Result<(), Fail> {
+    let locks = open(rt.alloc(), 7, 2)?;
+    let (first, second) = (AtomicU64::new(0), AtomicU64::new(0));
+    let seen = join(
+        &rt,
+        || hold_beside(&rt, &locks, 0, &first, &second),
+        || hold_beside(&rt, &locks, 1, &second, &first),
+    );
+    assert_eq!(rt; seen, (true, true));
+    Ok(())
+}
+
+// Takes the lock, says so, and keeps it while the others fall asleep.
+fn hold_for_a_while<R: Wait + Clock>(rt: &R, locks: &Tills, taken: &AtomicU64)
+    requires { 0 < count_of locks.now }
+{
+    let (till, loan) = locks.take(rt, 0);
+    taken.store(1, SeqCst);
+    sleep(rt, Duration::from_millis(100));
+    locks.give(till, loan);
+}
+
+// Adds 1 once somebody holds the lock.
+fn add_behind<R: Wait>(rt: &R, locks: &Tills, taken: &AtomicU64)
+    requires { 0 < count_of locks.now }
+{
+    for _ in 0..TURNS {
+        if taken.load(SeqCst) == 1 {
+            break;
+        }
+        yield_now();
+    }
+    add(rt, locks, 0, 1);
+}
+
+// A wake that is forgotten leaves this test asleep.
+#[test]
+fn each_sleeper_is_woken(rt: HostRuntime) -> Result<(), Fail> {
+    let locks = open(rt.alloc(), 7, 1)?;
+    let taken = AtomicU64::new(0);
+    let done = map_indices(
+        &rt,
+        rt.alloc(),
+        4,
+        &|index| {
+            if index == 0 {
+                hold_for_a_while(&rt, &locks, &taken);
+            } else {
+                add_behind(&rt, &locks, &taken);
+            }
+        },
+    )?;
+    assert_eq!(rt; done.len(), 4);
+    assert_eq!(rt; add(&rt, &locks, 0, 0), (0, 3));
+    Ok(())
+}

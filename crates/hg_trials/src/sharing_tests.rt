@@ -1,0 +1,170 @@
+//! Eight threads commit at one engine.
+
+ghost use Rattle.std.specs.Prelude.{◌≡◌, ◌+◌, ◌<◌, ◌≤◌, None, All};
+ghost use Rattle.hg_session.specs.Engines.{engine_sizes};
+ghost use Rattle.hg_session.specs.Sessions.{IsOf, open_of, left_of};
+ghost use Rattle.hg_session.specs.Resting.{MayRun};
+
+use hg_base::{NoMemory, Rid, Row, Scope, TableId};
+use hg_group::Receipt;
+use hg_session::{Ended, Engine, Session, TableDecl};
+use std::alloc::Global;
+use std::sync::Wait;
+use std::sync::atomic::AtomicU64;
+use std::sync::atomic::Ordering::SeqCst;
+use std::test::Fail;
+use std::thread;
+use std::thread::Threads;
+
+// How often each place and each number was answered.
+#[derive(Drop)]
+struct Tally {
+    places: Vec<AtomicU64>,
+    numbers: Vec<AtomicU64>,
+}
+
+impl Tally {
+    fn new(alloc: Global, most: u64) -> Result<Tally, NoMemory> {
+        let mut places = Vec::new(alloc);
+        let mut numbers = Vec::new(alloc);
+        for _ in 0..most {
+            places.push(AtomicU64::new(0))?;
+            numbers.push(AtomicU64::new(0))?;
+        }
+        Ok(Tally { places, numbers })
+    }
+
+    fn count(&self, receipt: Receipt) {
+        if let Some(count) = self.places.get(receipt.place as usize) {
+            count.fetch_add(1, SeqCst);
+        }
+        if let Some(count) = self.numbers.get(receipt.number.wrapping_sub(1) as usize) {
+            count.fetch_add(1, SeqCst);
+        }
+    }
+
+    // How many commits there were, where each place below that was answered once, and the numbers from 1 on have no gap.
+    fn commits(&self) -> Option<u64> {
+        let mut commits = 0u64;
+        let mut over = false;
+        for count in self.places.as_slice() {
+            match count.load(SeqCst) {
+                0 => over = true,
+                1 if !over => commits = commits.wrapping_add(1),
+                _ => return None,
+            }
+        }
+        let mut named = 0u64;
+        over = false;
+        for count in self.numbers.as_slice() {
+            match count.load(SeqCst) {
+                0 => over = true,
+                _ if over => return None,
+                more => named = named.wrapping_add(more),
+            }
+        }
+        if named == commits {
+            Some(commits)
+        } else {
+            None
+        }
+    }
+}
+
+// A transaction with one write. Where it isn't committed, it is rolled back.
+fn commit_one<R: Wait>(
+    rt: &R,
+    engine: &Engine,
+    session: &mut Session,
+    rid: Rid,
+    row: Row,
+) -> Option<Receipt>
+    requires ready { MayRun engine.now 2 session.old }
+    requires table { rid.table.0 < (engine_sizes engine.now).tables }
+    ensures own { IsOf engine.now session.new }
+    ensures again { (open_of session.new ≡ None) × (left_of session.new + 2 ≡ left_of session.old) }
+{
+    session.begin(engine, Scope::All);
+    if session.put(rt, engine, rid, row).is_ok() {
+        if let Ok(Ended { receipt }) = session.commit(rt, engine) {
+            return receipt;
+        }
+    }
+    session.rollback(rt, engine);
+    None
+}
+
+// Two hundred transactions, each on a key of its own among these.
+fn commit_often<R: Wait>(
+    rt: &R,
+    alloc: Global,
+    engine: &Engine,
+    session: &mut Session,
+    first: u64,
+    tally: &Tally,
+)
+    requires ready { MayRun engine.now 400 session.old }
+    requires table { 0 < (engine_sizes engine.now).tables }
+    requires first { first < 1000000 }
+{
+    for i in 0..200u64 {
+        let rid = Rid {
+            table: TableId(0),
+            key: first + i,
+        };
+        let Ok(row) = Row::from_slice(alloc, &[7]) else {
+            return;
+        };
+        if let Some(receipt) = commit_one(rt, engine, session, rid, row) {
+            tally.count(receipt);
+        }
+    }
+}
+
+// The first keys of two sessions are so far apart.
+fn commit_beside<R: Threads + Wait + Sync>(
+    rt: &R,
+    alloc: Global,
+    engine: &Engine,
+    sessions: &mut [Session],
+    apart: u64,
+    tally: &Tally,
+)
+    requires ready { All (MayRun engine.now 400) sessions.old }
+    requires table { 0 < (engine_sizes engine.now).tables }
+    requires apart { apart ≤ 1000 }
+{
+    thread::for_each_mut(
+        rt,
+        sessions,
+        8,
+        &|i, session| { commit_often(rt, alloc, engine, session, apart * (i as u64 % 8), tally) },
+    );
+}
+
+// Nobody is refused.
+#[test]
+fn eight_threads_commit_on_their_own_keys(rt: HostRuntime) -> Result<(), Fail> {
+    let tables = [TableDecl { columns: 1 }];
+    let (engine, sessions, _) = Engine::open(rt.alloc(), 8, &tables[..], 8, 400)?;
+    let mut sessions = sessions.into_vec();
+    let tally = Tally::new(rt.alloc(), 1600)?;
+    let all = sessions.as_mut_slice();
+    commit_beside(&rt, rt.alloc(), &engine, all, 1000, &tally);
+    assert_eq!(rt; tally.commits(), Some(1600));
+    Ok(())
+}
+
+// Of those that write one key, the first to commit is refused nothing.
+#[test]
+fn eight_threads_commit_on_shared_keys(rt: HostRuntime) -> Result<(), Fail> {
+    let tables = [TableDecl { columns: 1 }];
+    let (engine, sessions, _) = Engine::open(rt.alloc(), 8, &tables[..], 8, 400)?;
+    let mut sessions = sessions.into_vec();
+    let tally = Tally::new(rt.alloc(), 1600)?;
+    let all = sessions.as_mut_slice();
+    commit_beside(&rt, rt.alloc(), &engine, all, 0, &tally);
+    let commits = tally.commits();
+    assert!(rt; matches!(commits, Some(200..=1600)));
+    Ok(())
+}
