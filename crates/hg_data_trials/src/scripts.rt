@@ -1,6 +1,6 @@
 //! Scripts, and what is answered to them.
 
-use hg_script::{Code, ScriptRefusal, read_script};
+use hg_script::{Code, ScriptRefusal, make_script, read_script};
 use std::test::Fail;
 
 // Each statement, behind a table `t` of one column and a table `u` of eight.
@@ -236,6 +236,48 @@ fn lends_a_sessions_records(rt: HostRuntime) -> Result<(), Fail> {
         }
         assert_eq!(rt; found.as_str(), places, "of {session}");
         assert!(rt; list.take_next()?.is_none(), "after {session}");
+    }
+    Ok(())
+}
+
+// Some records of made scripts, by the same rules told to another language.
+#[test]
+fn makes_scripts(rt: HostRuntime) -> Result<(), Fail> {
+    for (seed, place, session, statement) in [
+        (0, 4, 1, "Gc(Group)"),
+        (0, 5, 2, "Begin(All)"),
+        (0, 8, 5, "Begin(Declared(4))"),
+        (
+            0,
+            10,
+            7,
+            "Put(Rid { table: TableId(1), key: 210 }, Row { values: [382, 645] })",
+        ),
+        (0, 12, 1, "Scan { table: TableId(1), low: 18, high: 33 }"),
+        (0, 13, 2, "Commit"),
+        (0, 16_003, 8, "Get(Rid { table: TableId(2), key: 84 })"),
+        (u64::MAX, 14, 3, "Rollback"),
+        (
+            u64::MAX,
+            15,
+            4,
+            "Put(Rid { table: TableId(2), key: 4 }, Row { values: [178] })",
+        ),
+        (
+            4_294_967_296,
+            5,
+            2,
+            "Del(Rid { table: TableId(0), key: 125 })",
+        ),
+        (4_294_967_296, 15, 4, "Gc(Table)"),
+    ] {
+        let script = make_script(rt.alloc(), seed)?;
+        assert_eq!(rt; script.record_count(), 16_000);
+        assert!(rt; 4 <= place && place < 16_004);
+        let found = script.record(place - 4)?;
+        let text = format!(in rt.alloc(); "{:?}", found.statement)?;
+        assert_eq!(rt; text.as_str(), statement, "at {place} of {seed}");
+        assert_eq!(rt; (found.place, found.session), (place as u64, session));
     }
     Ok(())
 }

@@ -112,10 +112,10 @@ pub record Grown (place : ℕ) (s : Script) : Type 0 where
   pub many : length s.tables + length s.records < place
   pub before : Before place s.records
 
-abbrev with-statement : ℕ → Script → ℕ → Statement → Script
+abbrev pub with-statement : ℕ → Script → ℕ → Statement → Script
 with-statement place s session st = record s { records = s.records ++ (record { place = place; session = session; statement = st }) ∷ [] }
 
-statement-more : (place : ℕ) (s : Script) (session : ℕ) (st : Statement) → Grown place s → place ≤ MOST_RECORDS → Lies 1 MOST_SESSIONS session → FitsTables s.tables st
+pub statement-more : (place : ℕ) (s : Script) (session : ℕ) (st : Statement) → Grown place s → place ≤ MOST_RECORDS → Lies 1 MOST_SESSIONS session → FitsTables s.tables st
     → HasWidths st → MayStand (is_open session s.records) st → Grown (place + 1) (with-statement place s session st)
 statement-more place s session st g room in_range fits widths may =
     let added : Record = record { place = place; session = session; statement = st } in

@@ -11,6 +11,7 @@ pub mod Widths
 -- A script stays lawful, record by record.
 pub mod Open
 pub mod Lawful
+pub mod Made
 -- Statements and values as they are stored.
 pub mod Links
 pub mod Packed

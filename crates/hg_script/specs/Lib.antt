@@ -1,4 +1,4 @@
--- What a script's bytes mean. A reader meets the definitions in this order.
+-- What a script's bytes mean, and the script of a seed. A reader meets the definitions in this order.
 pub mod Number
 pub mod Fields
 pub mod Draft
@@ -6,6 +6,7 @@ pub mod Codes
 pub mod Rules
 pub mod Meaning
 pub mod Lawful
+pub mod Generator
 pub mod Asked
 -- What the reader keeps.
 pub mod Sessions

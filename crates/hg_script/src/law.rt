@@ -6,6 +6,7 @@ ghost use Rattle.hg_base.specs.Transcript.{has};
 ghost use Rattle.hg_base.specs.declared.scope.Scope.TheVariants as scope;
 ghost use Rattle.hg_script.specs.Fields.{Field};
 ghost use Rattle.hg_script.specs.Draft.{is_named, set_named};
+ghost use Rattle.hg_script.specs.Generator.{IsMade};
 ghost use Rattle.hg_script.specs.Number.{natural_of};
 ghost use Rattle.hg_script.specs.declared.number.Natural.TheVariants.{Is};
 
@@ -19,4 +20,9 @@ pub fn numbers_are_decimal(_text: &[u8], _k: u64)
 /// A declared scope has exactly the tables that its names name.
 pub fn scopes_have_what_is_named(_table: TableId)
     ensures { (tables : List base.Declaration) (names : List Field) (set : ℕ) → set_named tables names ≡ Some set → has (scope.Declared set) _table ≡ is_named tables names _table }
+{}
+
+/// A seed has one script.
+pub fn a_seed_has_one_script(_seed: u64)
+    ensures { (s t : base.Script) → IsMade _seed s → IsMade _seed t → s ≡ t }
 {}

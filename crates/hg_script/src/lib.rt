@@ -1,4 +1,4 @@
-//! Reading a script from bytes.
+//! Scripts: read from bytes, or made from a seed.
 //!
 //! A script is a list of CSV records. Table records come first and declare the tables, each with its number of columns.
 //! Every other record is a statement of a session, with the session's number and then a word:
@@ -39,12 +39,18 @@
 //! that breaks a rule, and `script_of` the script. The reader goes over the bytes once. Of each record it reads the word
 //! (`Word`), then each field (`Draft`), and then tests the rules that ask for fields. `IsLawful` says in words of its own
 //! what a script is that is not refused.
+//!
+//! `make_script` makes a lawful script of 16,000 statements from a seed: sessions 1 to 8 follow one another, and what each asks is
+//! drawn, by a table of choices (`specs/Generator.antt`).
 #![tactic(auto)]
 
 mod asked;
+mod choice;
 mod code;
 mod draft;
+mod draws;
 mod ends;
+mod generator;
 mod kind;
 mod law;
 mod number;
@@ -62,7 +68,8 @@ mod word;
 
 pub use asked::Asked;
 pub use code::Code;
-pub use law::{numbers_are_decimal, scopes_have_what_is_named};
+pub use generator::make_script;
+pub use law::{a_seed_has_one_script, numbers_are_decimal, scopes_have_what_is_named};
 pub use number::{Integer, Natural, read_integer, read_natural};
 pub use reader::read_script;
 pub use record_list::RecordList;
