@@ -7,11 +7,11 @@ use Rattle.hg_base.specs.Script.{Mode}
 use Rattle.hg_script.specs.declared.code.Code.{Code}
 use Rattle.hg_script.specs.Fields.{rows_of}
 use Rattle.hg_script.specs.Meaning.{refusal_of, script_of}
-use Rattle.hg_words.specs.declared.options.Options.{Options}
+use Rattle.hg_words.specs.Options.{options_of}
 use Rattle.hg_run.specs.declared.status.Status.{Status}
 use Rattle.hg_run.specs.declared.status.Status.TheVariants.{Done, Usage, BadScript, ReadFault, WriteFault, TooLong, NoMemory}
-use Rattle.hg_run.specs.Words.{asked_in, mode_of}
-use Rattle.hg_run.specs.Printing.{IsPrintedFor}
+use Rattle.hg_run.specs.Words.{AsksFor, IsReading, Task, makes, reads}
+use Rattle.hg_run.specs.Printing.{AreTotalsOf, IsPrintedFor}
 
 -- ---- what a source and a sink tell of a call
 
@@ -49,10 +49,15 @@ pub record ReadsAll (source : Change) (bytes : List ℕ) : Type 0 where
   pub short : length bytes ≤ MOST_SCRIPT_BYTES
 
 -- a text that the script in the source may print under a command
-pub record Answers (mode : Mode) (source : Change) (text : List ℕ) : Type 0 where
+pub record AnswersSource (mode : Mode) (source : Change) (text : List ℕ) : Type 0 where
   pub bytes : List ℕ
   pub all : ReadsAll source bytes
   pub text_for : IsTextFor mode bytes text
+
+-- a text that does what is asked
+abbrev pub Answers : Task → Change → List ℕ → Type 0
+Answers (reads mode) source text = AnswersSource mode source text
+Answers (makes seed) source text = AreTotalsOf seed text
 
 -- ---- what was done with them
 
@@ -69,34 +74,28 @@ pub record IsTooLong (source : Change) : Type 0 where
   pub long : length bytes ≡ MOST_SCRIPT_BYTES + 1
 
 -- the sink took the whole text
-pub record WritesAll (mode : Mode) (source sink : Change) : Type 0 where
+pub record WritesAll (task : Task) (source sink : Change) : Type 0 where
   pub text : List ℕ
-  pub answers : Answers mode source text
+  pub answers : Answers task source text
   pub taken : Appends sink.before sink.after text
 
 -- the sink failed, and took no more than a front of the text
-pub record WritesPart (mode : Mode) (source sink : Change) : Type 0 where
+pub record WritesPart (task : Task) (source sink : Change) : Type 0 where
   pub failed : HasFailed sink
   pub text : List ℕ
-  pub answers : Answers mode source text
+  pub answers : Answers task source text
   pub count : ℕ
   pub less : count < length text
   pub taken : Appends sink.before sink.after (take count text)
 
--- the words ask for something, and P holds of the command by which a script is run then
-pub record AsksFor (words : List (List ℕ)) (P : Mode → Type 0) : Type 0 where
-  pub options : Options
-  pub asked : asked_in words ≡ Some options
-  pub holds : P (mode_of options)
-
 -- when each status comes; want of memory says nothing
 abbrev pub Comes : List (List ℕ) → Change → Change → Status → Type 0
-Comes words source sink Done = AsksFor words (λ mode. WritesAll mode source sink)
-Comes words source sink Usage = asked_in words ≡ None
-Comes words source sink (BadScript line code) = AsksFor words (λ mode. Refuses source line code)
-Comes words source sink ReadFault = AsksFor words (λ mode. HasFailed source)
-Comes words source sink WriteFault = AsksFor words (λ mode. WritesPart mode source sink)
-Comes words source sink TooLong = AsksFor words (λ mode. IsTooLong source)
+Comes words source sink Done = AsksFor words (λ task. WritesAll task source sink)
+Comes words source sink Usage = options_of words ≡ None
+Comes words source sink (BadScript line code) = AsksFor words (λ task. IsReading task × Refuses source line code)
+Comes words source sink ReadFault = AsksFor words (λ task. IsReading task × HasFailed source)
+Comes words source sink WriteFault = AsksFor words (λ task. WritesPart task source sink)
+Comes words source sink TooLong = AsksFor words (λ task. IsReading task × IsTooLong source)
 Comes words source sink NoMemory = ⊤
 
 -- whether a sink may have taken something
@@ -111,12 +110,6 @@ IsUnlessNoMemory status wanted = (status ≡ wanted) ⊎ (status ≡ NoMemory)
 
 -- ---- what the steps refuse
 
--- why words ask for nothing
-abbrev pub RefusesWords : List (List ℕ) → Status → Type 0
-RefusesWords words Usage = asked_in words ≡ None
-RefusesWords words NoMemory = ⊤
-RefusesWords words _ = ⊥
-
 -- why bytes have no text
 abbrev pub RefusesBytes : List ℕ → Status → Type 0
 RefusesBytes bytes (BadScript line code) = refusal_of (rows_of bytes) ≡ Some (line, code)
@@ -130,3 +123,8 @@ RefusesSource source ReadFault = HasFailed source
 RefusesSource source TooLong = IsTooLong source
 RefusesSource source NoMemory = ⊤
 RefusesSource source _ = ⊥
+
+-- why what is asked has no text: a script that is made wants memory alone
+abbrev pub RefusesTask : Task → Change → Status → Type 0
+RefusesTask (reads mode) source status = RefusesSource source status
+RefusesTask (makes seed) source status = status ≡ NoMemory

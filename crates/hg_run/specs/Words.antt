@@ -1,18 +1,32 @@
 -- What the words of the command line ask for.
-use Rattle.std.specs.Prelude.{ℕ, List, Option, Some, None, option_and_then}
+use Rattle.std.specs.Prelude.{◌≡◌, ℕ, List, Some, ⊤}
 use Rattle.hg_base.specs.Script.{Mode, replay, run}
 use Rattle.hg_words.specs.declared.options.Options.{Options}
 use Rattle.hg_words.specs.declared.options.Command.TheVariants.{Run, Load}
 use Rattle.hg_words.specs.Options.{options_of}
 
--- the options, but for `load`: a script made from a seed isn't there yet
-abbrev pub unless_load : Options → Option Options
-unless_load options = elim options.command [ Load seed ↦ None | _ ↦ Some options ]
-
--- what the words ask for
-abbrev pub asked_in : List (List ℕ) → Option Options
-asked_in words = option_and_then unless_load (options_of words)
+-- The text of the script in the source under a command, or the totals alone of the script that is made from a seed.
+pub data Task : Type 0 where
+  reads : Mode → Task
+  makes : ℕ → Task
 
 -- how a script is run: one that is made from a seed is replayed
 abbrev pub mode_of : Options → Mode
 mode_of options = elim options.command [ Run ↦ run options.rounds | _ ↦ replay ]
+
+abbrev pub task_of : Options → Task
+task_of options = elim options.command [ Load seed ↦ makes seed | _ ↦ reads (mode_of options) ]
+
+abbrev pub IsReading : Task → Type 0
+IsReading (reads mode) = ⊤
+IsReading (makes seed) = ⊥
+
+abbrev pub IsMaking : Task → Type 0
+IsMaking (reads mode) = ⊥
+IsMaking (makes seed) = ⊤
+
+-- the words ask for something, and P holds of it
+pub record AsksFor (words : List (List ℕ)) (P : Task → Type 0) : Type 0 where
+  pub options : Options
+  pub asked : options_of words ≡ Some options
+  pub holds : P (task_of options)

@@ -3,18 +3,20 @@
 //! `serve` goes down these steps once. Each takes what the one above it gave, or ends the call with a status:
 //!
 //!     step            takes              gives              or ends with
-//!     asked           the words          options            Usage
+//!     read_words      the words          options            Usage
 //!     read_all        the source         all its bytes      ReadFault, TooLong
 //!     read_script     the bytes          a script           BadScript
 //!     replay, run_all the script         one text
 //!     write_all       the text           Done               WriteFault
 //!
-//! Want of memory may end every step but the last. The text is whole before its first byte is written. So
+//! With a seed in place of a source (`load`) the steps between the first and the last are `make_script`, a replay, and the text of
+//! its totals alone. Want of memory may end every step but the last. The text is whole before its first byte is written. So
 //! a script that is refused has run nothing, and what a sink took is a front of the text of a whole run.
 //!
 //! `Comes` says when each status comes. Its line for `Done` is the headline: the sink took the text of a printed value
 //! that is sound, under the command that the words ask for, for the script which all the bytes of the source mean, and fits it.
-//! No other value that fits has this text (`text_determines_what_was_printed`).
+//! No other value that fits has this text (`text_determines_what_was_printed`). For `load` the text is that of the totals of such a
+//! value, for the script of the seed.
 #![tactic(auto)]
 
 mod ask;
@@ -24,6 +26,7 @@ mod collecting;
 mod ending;
 mod gc;
 mod laws;
+mod load;
 mod opening;
 mod play;
 mod replay;
@@ -35,7 +38,6 @@ mod sink;
 mod source;
 mod status;
 mod turn;
-mod words;
 mod work;
 
 pub use collecting::Collectors;

@@ -3,6 +3,8 @@
 ghost use Rattle.std.specs.Prelude.{◌≡◌, ◌<◌, ◌≤◌, length, map, max, IfOk};
 ghost use Rattle.hg_base.specs.Lists.{greatest};
 ghost use Rattle.hg_base.specs.Script.{replay};
+ghost use Rattle.hg_base.specs.Sound.{IsSound};
+ghost use Rattle.hg_base.specs.Text.{IsFit};
 ghost use Rattle.hg_rule.specs.New.{EachFrom};
 ghost use Rattle.hg_script.specs.Lawful.{IsLawful};
 ghost use Rattle.hg_session.specs.Engines.{engine_sizes};
@@ -18,7 +20,7 @@ use crate::collecting::Collectors;
 use crate::ending::{close, close_all};
 use crate::opening::open_for;
 use crate::play::play;
-use hg_base::NoMemory;
+use hg_base::{NoMemory, Totals};
 use hg_report::Transcript;
 use hg_script::Script;
 use hg_session::{Engine, SessionList};
@@ -68,16 +70,18 @@ pub fn replay_on<'a, R: Wait>(
     transcript
 }
 
-/// Runs a script on one thread, record by record, and gives the text that is printed for it.
-pub(crate) fn replay<R: Wait>(
+/// Runs a script on one thread, record by record, and gives its lines and its totals.
+pub(crate) fn replay_lines<'a, R: Wait>(
     rt: &R,
     alloc: Global,
-    script: &Script,
+    script: &'a Script,
     options: &Options,
-) -> Result<Vec<u8>, NoMemory>
+) -> Result<(Transcript<'a>, Totals), NoMemory>
     requires lawful { IsLawful script.now }
     requires within { AreWithin options.now }
-    ensures { IfOk result (λ text. IsPrintedFor replay script.now text.items) }
+    ensures sound { IfOk result (λ p. IsSound replay script.now (record { lines = p.0.lines; totals = p.1 })) }
+    ensures fit { IfOk result (λ p. IsFit script.now (record { lines = p.0.lines; totals = p.1 })) }
+    ensures tables { IfOk result (λ p. p.0.tables ≡ script.now.tables) }
 {
     let (engine, list, collectors) = open_for(alloc, script, options)?;
     let mut list = list;
@@ -92,6 +96,21 @@ pub(crate) fn replay<R: Wait>(
         &mut collectors,
     )?;
     let totals = close(rt, &engine, list.into_vec(), collectors);
+    Ok((transcript, totals))
+}
+
+/// The text that is printed for a script that runs on one thread.
+pub(crate) fn replay<R: Wait>(
+    rt: &R,
+    alloc: Global,
+    script: &Script,
+    options: &Options,
+) -> Result<Vec<u8>, NoMemory>
+    requires lawful { IsLawful script.now }
+    requires within { AreWithin options.now }
+    ensures { IfOk result (λ text. IsPrintedFor replay script.now text.items) }
+{
+    let (transcript, totals) = replay_lines(rt, alloc, script, options)?;
     let text = transcript.with_totals(&totals)?;
     Ok(text)
 }

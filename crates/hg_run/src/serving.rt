@@ -1,22 +1,22 @@
 //! The steps in their order.
 
-ghost use Rattle.std.specs.Prelude.{◌≡◌, ◌≤◌, ◌<◌, ℕ, List, length, map, Some, None, IfOk, IfErr, IsFalse, IsSome, string_bytes};
+ghost use Rattle.std.specs.Prelude.{◌≡◌, ◌≤◌, ◌<◌, ℕ, List, length, map, Some, None, IfOk, IfErr, IsFalse, string_bytes};
 ghost use Rattle.hg_script.specs.declared.code.Code.{Code};
 ghost use Rattle.hg_script.specs.Fields.{rows_of};
 ghost use Rattle.hg_script.specs.Meaning.{refusal_of};
-ghost use Rattle.hg_words.specs.Options.{AreWithin};
-ghost use Rattle.hg_run.specs.Words.{asked_in, mode_of};
-ghost use Rattle.hg_run.specs.Serving.{Answers, AsksFor, Comes, Gives, HasFailed, IsTextFor, IsUnlessNoMemory, RefusesBytes, RefusesSource, WritesAll, change_of, may_write};
+ghost use Rattle.hg_words.specs.Options.{AreWithin, options_of};
+ghost use Rattle.hg_run.specs.Words.{AsksFor, IsMaking, IsReading, mode_of, task_of};
+ghost use Rattle.hg_run.specs.Serving.{Answers, AnswersSource, Comes, Gives, HasFailed, IsTextFor, IsUnlessNoMemory, RefusesBytes, RefusesSource, RefusesTask, WritesAll, change_of, may_write};
 
+use crate::load::load;
 use crate::replay::replay;
 use crate::run::run_all;
 use crate::sink::write_all;
 use crate::source::read_all;
 use crate::status::Status;
-use crate::words::asked;
 use hg_base::{Failed, Gate, MOST_SCRIPT_BYTES, Sink, Source};
 use hg_script::read_script;
-use hg_words::{Command, Options};
+use hg_words::{Command, Options, read_words};
 use std::alloc::Global;
 use std::sync::Wait;
 use std::thread::Threads;
@@ -51,11 +51,30 @@ fn text_of_source<R: Threads + Wait + Sync, S: Source, G: Gate + Sync>(
     gate: &G,
 ) -> Result<Vec<u8>, Status>
     requires { AreWithin options.now }
-    ensures text { IfOk result (λ text. Answers (mode_of options.now) (change_of S.left S.faults source.old source.new) text.items) }
+    ensures text { IfOk result (λ text. AnswersSource (mode_of options.now) (change_of S.left S.faults source.old source.new) text.items) }
     ensures refused { IfErr result (RefusesSource (change_of S.left S.faults source.old source.new)) }
 {
     let bytes = read_all(alloc, source)?;
     text_of_bytes(rt, alloc, options, bytes, gate)
+}
+
+// The text that does what the words ask for.
+fn text_for<R: Threads + Wait + Sync, S: Source, G: Gate + Sync>(
+    rt: &R,
+    alloc: Global,
+    options: &Options,
+    source: &mut S,
+    gate: &G,
+) -> Result<Vec<u8>, Status>
+    requires { AreWithin options.now }
+    ensures text { IfOk result (λ text. Answers (task_of options.now) (change_of S.left S.faults source.old source.new) text.items) }
+    ensures refused { IfErr result (RefusesTask (task_of options.now) (change_of S.left S.faults source.old source.new)) }
+    ensures unread { IsMaking (task_of options.now) → source.new ≡ source.old }
+{
+    match options.command {
+        Command::Load(seed) => Ok(load(rt, alloc, seed, options)?),
+        Command::Replay | Command::Run => text_of_source(rt, alloc, options, source, gate),
+    }
 }
 
 // How the call ends.
@@ -69,15 +88,16 @@ fn outcome<R: Threads + Wait + Sync, So: Source, Si: Sink, G: Gate + Sync>(
 ) -> Status
     ensures comes { Comes (map string_bytes words.now) (change_of So.left So.faults source.old source.new)
         (change_of Si.taken Si.faults sink.old sink.new) result }
-    ensures refused { asked_in (map string_bytes words.now) ≡ None → IsUnlessNoMemory result Status.Usage }
+    ensures refused { options_of (map string_bytes words.now) ≡ None → IsUnlessNoMemory result Status.Usage }
     ensures unread { result ≡ Status.Usage → source.new ≡ source.old }
+    ensures made { AsksFor (map string_bytes words.now) IsMaking → source.new ≡ source.old }
     ensures untouched { IsFalse (may_write result) → sink.new ≡ sink.old }
 {
-    let options = match asked(alloc, words) {
+    let options = match read_words(alloc, words) {
         Ok(options) => options,
-        Err(status) => return status,
+        Err(refusal) => return Status::from(refusal),
     };
-    let text = match text_of_source(rt, alloc, &options, source, gate) {
+    let text = match text_for(rt, alloc, &options, source, gate) {
         Ok(text) => text,
         Err(status) => return status,
     };
@@ -87,7 +107,8 @@ fn outcome<R: Threads + Wait + Sync, So: Source, Si: Sink, G: Gate + Sync>(
     }
 }
 
-/// Does what the words ask for: reads the script in the source, runs it, and writes its answers to the sink.
+/// Does what the words ask for: runs the script in the source and writes its answers to the sink, or replays the script of a seed and
+/// writes its totals.
 pub fn serve<R: Threads + Wait + Sync, So: Source, Si: Sink, G: Gate + Sync>(
     rt: &R,
     alloc: Global,
@@ -96,32 +117,39 @@ pub fn serve<R: Threads + Wait + Sync, So: Source, Si: Sink, G: Gate + Sync>(
     sink: &mut Si,
     gate: &G,
 ) -> Status
-    // The sink took the whole text of a printed value that is sound, as the words ask for, for the script in the source.
-    ensures sound { result ≡ Status.Done → AsksFor (map string_bytes words.now) (λ mode.
-        WritesAll mode (change_of So.left So.faults source.old source.new) (change_of Si.taken Si.faults sink.old sink.new)) }
+    // The sink took the whole text of a printed value that is sound, as the words ask for, for the script in the source; or the text of
+    // the totals of one that is sound for the script of the seed.
+    ensures sound { result ≡ Status.Done → AsksFor (map string_bytes words.now) (λ task.
+        WritesAll task (change_of So.left So.faults source.old source.new) (change_of Si.taken Si.faults sink.old sink.new)) }
 
     // Each status has its cause.
     ensures comes { Comes (map string_bytes words.now) (change_of So.left So.faults source.old source.new)
         (change_of Si.taken Si.faults sink.old sink.new) result }
 
-    // Words that ask for nothing are told before anything is read, and a script is refused before anything is written.
-    ensures usage { result ≡ Status.Usage → asked_in (map string_bytes words.now) ≡ None }
-    ensures refused { asked_in (map string_bytes words.now) ≡ None → IsUnlessNoMemory result Status.Usage }
+    // Words that ask for nothing are told before anything is read, a script that is made needs no source, and a script is refused before
+    // anything is written.
+    ensures usage { result ≡ Status.Usage → options_of (map string_bytes words.now) ≡ None }
+    ensures refused { options_of (map string_bytes words.now) ≡ None → IsUnlessNoMemory result Status.Usage }
     ensures unread { result ≡ Status.Usage → source.new ≡ source.old }
+    ensures made { AsksFor (map string_bytes words.now) IsMaking → source.new ≡ source.old }
     ensures untouched { IsFalse (may_write result) → sink.new ≡ sink.old }
 
     // What a source holds that tells its bytes and does not fail decides the answer, where memory is found.
-    ensures complete { (bytes : List ℕ) → IsSome (asked_in (map string_bytes words.now))
+    ensures complete { (bytes : List ℕ) → AsksFor (map string_bytes words.now) IsReading
         → Gives (change_of So.left So.faults source.old source.new) bytes → length bytes ≤ MOST_SCRIPT_BYTES
         → refusal_of (rows_of bytes) ≡ None → ¬ HasFailed (change_of Si.taken Si.faults sink.old sink.new)
         → IsUnlessNoMemory result Status.Done }
-    ensures bad_script { (bytes : List ℕ) (line : ℕ) (code : Code) → IsSome (asked_in (map string_bytes words.now))
+    ensures bad_script { (bytes : List ℕ) (line : ℕ) (code : Code) → AsksFor (map string_bytes words.now) IsReading
         → Gives (change_of So.left So.faults source.old source.new) bytes → length bytes ≤ MOST_SCRIPT_BYTES
         → refusal_of (rows_of bytes) ≡ Some (line, code)
         → IsUnlessNoMemory result (Status.BadScript line code) }
-    ensures too_long { (bytes : List ℕ) → IsSome (asked_in (map string_bytes words.now))
+    ensures too_long { (bytes : List ℕ) → AsksFor (map string_bytes words.now) IsReading
         → Gives (change_of So.left So.faults source.old source.new) bytes → MOST_SCRIPT_BYTES < length bytes
         → IsUnlessNoMemory result Status.TooLong }
+
+    // A script that is made is replayed whatever the source holds.
+    ensures loaded { AsksFor (map string_bytes words.now) IsMaking → ¬ HasFailed (change_of Si.taken Si.faults sink.old sink.new)
+        → IsUnlessNoMemory result Status.Done }
 {
     outcome(rt, alloc, words, source, sink, gate)
 }

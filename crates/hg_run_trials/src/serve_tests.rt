@@ -103,7 +103,6 @@ fn words_are_refused(rt: HostRuntime) -> Result<(), Fail> {
         "run --rounds 1001",
         "replay 7",
         "load",
-        "load 7",
         "walk",
         "--help",
         "replay --fast",

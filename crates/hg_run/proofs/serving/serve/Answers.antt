@@ -1,7 +1,7 @@
 use Rattle.std.proofs.Common.{map}
 use Rattle.std.specs.Prelude.{string_bytes}
 use Rattle.hg_run.specs.Serving.{change_of}
-use Rattle.hg_run.proofs.Exactly.{bad_script, complete, sound, too_long, usage}
+use Rattle.hg_run.proofs.Exactly.{bad_script, complete, loaded, sound, too_long, usage}
 use Rattle.hg_run.proofs.serving.serve.Goals as goal
 
 pub returns-clause-sound : goal.returns-clause-sound
@@ -33,3 +33,9 @@ returns-clause-too_long g c bytes =
     let source = change_of g.So.Source.left g.So.Source.faults c.args.source.now c.outcome.new.source in
     let sink = change_of g.Si.Sink.taken g.Si.Sink.faults c.args.sink.now c.outcome.new.sink in
     too_long (map string_bytes c.args.words.now) source sink bytes c.outcome.result c.outcome.ensures.comes
+
+pub returns-clause-loaded : goal.returns-clause-loaded
+returns-clause-loaded g c =
+    let source = change_of g.So.Source.left g.So.Source.faults c.args.source.now c.outcome.new.source in
+    let sink = change_of g.Si.Sink.taken g.Si.Sink.faults c.args.sink.now c.outcome.new.sink in
+    loaded (map string_bytes c.args.words.now) source sink c.outcome.result c.outcome.ensures.comes

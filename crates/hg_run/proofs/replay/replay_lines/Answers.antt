@@ -1,8 +1,7 @@
-use Rattle.std.proofs.Common.{◌≡◌, List, sym, subst, arith}
+use Rattle.std.proofs.Common.{◌≡◌, List, subst, arith}
 use Rattle.hg_base.specs.declared.line.Printed.{Printed}
 use Rattle.hg_base.specs.declared.report.Kind.{Kind}
 use Rattle.hg_base.specs.Script.{replay}
-use Rattle.hg_base.specs.Sound.{IsSound}
 use Rattle.hg_headline.specs.Following.{told_removed, AreTotalsBy}
 use Rattle.hg_headline.proofs.Closing.{following_last}
 use Rattle.hg_session.specs.declared.session.Session.{Session}
@@ -11,10 +10,10 @@ use Rattle.hg_session.specs.Finished.{logs_of}
 use Rattle.hg_run.specs.Closed.{IsClosedBy}
 use Rattle.hg_run.specs.Collecting.{removed_of}
 use Rattle.hg_run.proofs.Fits.{sound_fits}
-use Rattle.hg_run.proofs.replay.replay.Goals as goal
+use Rattle.hg_run.proofs.replay.replay_lines.Goals as goal
 
-pub returns : goal.returns
-returns g c =
+pub returns-clause-sound : goal.returns-clause-sound
+returns-clause-sound g c =
     let e = c.in_ok-engine.engine in
     let z = engine_sizes e in
     let shown = c.in_ok-transcript.transcript in
@@ -25,6 +24,9 @@ returns g c =
     let told : (k : Kind) → removed_of k c.replay_on.new.collectors ≡ told_removed k shown.lines = (λ k. let first = none k in let all = p.told k in omega (arith, first, all)) in
     let same_told : (λ (kind : Kind). removed_of kind c.replay_on.new.collectors) ≡ (λ kind. told_removed kind shown.lines) = (λ i kind. told kind i) in
     let counted = subst (λ removed. AreTotalsBy z.sessions t.history (logs_of c.replay_on.new.sessions) removed c.close-totals.result) same_told t.counted in
-    let sound : IsSound replay c.args.script.now printed = following_last z.buckets z.sessions p.seen p.top t.history p.logs (logs_of c.replay_on.new.sessions) c.args.script.now printed p.following p.closes t.logged (t.saw p.seen p.last p.within p.saw) counted in
-    let same = c.in_ok-text.ensures c.args.script.now (sym c.in_ok-transcript.ensures.tables) in
-    record { printed = printed; sound = sound; fit = sound_fits replay c.args.script.now printed (omega arith) c.requires.lawful sound; same = same }
+    following_last z.buckets z.sessions p.seen p.top t.history p.logs (logs_of c.replay_on.new.sessions) c.args.script.now printed p.following p.closes t.logged (t.saw p.seen p.last p.within p.saw) counted
+
+pub returns-clause-fit : goal.returns-clause-fit
+returns-clause-fit g c =
+    let printed : Printed = record { lines = c.in_ok-transcript.transcript.lines; totals = c.close-totals.result } in
+    sound_fits replay c.args.script.now printed (omega arith) c.requires.lawful (returns-clause-sound g c)
