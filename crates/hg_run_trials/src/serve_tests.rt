@@ -117,6 +117,31 @@ fn words_are_refused(rt: HostRuntime) -> Result<(), Fail> {
     Ok(())
 }
 
+// Seeds, and how many versions the replay of their scripts made, undid, removed for groups, for tables and for intervals, and left.
+// Nothing is read: the first call of the source would fail.
+#[test]
+fn seeds_are_loaded(rt: HostRuntime) -> Result<(), Fail> {
+    for (words, [made, undone, group, table, interval, left]) in [
+        ("load 0", [4225, 582, 1137, 1141, 745, 620]),
+        (
+            "--buckets 1 load 0 --rounds 3",
+            [4225, 582, 1137, 1141, 745, 620],
+        ),
+        ("load 7", [4204, 536, 1178, 1030, 833, 627]),
+    ] {
+        let want = format!(in rt.alloc();
+            "total,made,{made}\ntotal,undone,{undone}\ntotal,group,{group}\ntotal,table,{table}\ntotal,interval,{interval}\ntotal,left,{left}\n"
+        )?;
+        let mut sink = MemorySink::new(rt.alloc(), 4, Vec::new(rt.alloc()));
+        sink.reserve(256)?;
+        let text = Vec::new(rt.alloc());
+        let status = call(&rt, rt.alloc(), words, text, 8, &[1], &mut sink)?;
+        assert_eq!(rt; status, Status::Done, "at {words}");
+        assert_eq!(rt; sink.bytes(), want.as_bytes(), "at {words}");
+    }
+    Ok(())
+}
+
 const SEVENTEEN: &str =
     "table,a,1\ntable,b,1\ntable,c,1\ntable,d,1\ntable,e,1\ntable,f,1\ntable,g,1\ntable,h,1\ntable,i,1\ntable,j,1\ntable,k,1\ntable,l,1\ntable,m,1\ntable,n,1\ntable,o,1\ntable,p,1\ntable,q,1\n";
 
