@@ -10,7 +10,7 @@ module _ {X T : Type 0} where
 
   -- how many locks it has
   abbrev pub count_of : Locks X T → ℕ
-  count_of locks = locks.table.shared.table_id.slots
+  count_of locks = locks.count
 
   -- the place of the lock that the loan is of
   abbrev pub lock_of : Loan X T → ℕ

@@ -39,10 +39,10 @@ pub struct Seize<X> {
 }
 
 impl<X: Fits> Play<Option<X>, Seen<X::Tag>> for Seize<X> {
-    ghost use Rattle.std.specs.Prelude.{◌≡◌};
-    ghost use Rattle.hg_lock.specs.Guarded.{HasValue};
+    ghost use Rattle.std.specs.Prelude.{◌≡◌, ℕ};
+    ghost use Rattle.hg_lock.specs.Guarded.{HasValue, line_of};
 
-    ghost then = { λ step before found after. (after.0.left ≡ step.first) × (found ≡ 0 → HasValue (X.fits before.0.tag) step.word after) };
+    ghost then = { λ step before found after. (after.0.left ≡ step.first) × ((lock : ℕ) → step.word ≡ line_of lock → found ≡ 0 → HasValue (X.fits before.0.tag) lock after) };
 }
 
 /// A step that brings the slot home, and tells which word it found.

@@ -1,6 +1,7 @@
 //! What stands for a value that was taken.
 
 ghost use Rattle.std.specs.Prelude.{◌≡◌, None, [], ◌∷◌};
+ghost use Rattle.hg_lock.specs.Guarded.{line_of};
 
 use crate::guard::Seen;
 use atomic_table::Seat;
@@ -9,7 +10,7 @@ use atomic_table::Seat;
 pub struct Loan<X, T> {
     pub(crate) lock: usize,
     pub(crate) seat: Seat<Option<X>, Seen<T>>,
-    ghost out: { seat.me.1 ≡ (lock, None) ∷ [] },
+    ghost out: { seat.me.1 ≡ (line_of lock, None) ∷ [] },
 }
 
 impl<X, T> Loan<X, T> {

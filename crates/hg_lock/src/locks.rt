@@ -1,6 +1,7 @@
 //! A list of locks.
 
-ghost use Rattle.std.specs.Prelude.{◌≡◌, ◌⊎◌, ◌<◌, ◌==◌, Some, [], length, map, IfOk, IsTrue, IsFalse};
+ghost use Rattle.std.specs.Prelude.{◌≡◌, ◌⊎◌, ◌<◌, ◌^◌, ◌==◌, [], ◌∷◌, ◌++◌, length, IfOk, OnOk, IsTrue, IsFalse};
+ghost use Rattle.hg_lock.specs.Guarded.{line_of, spread};
 
 use crate::fits::Fits;
 use crate::guard::{AWAITED, FREE, Guard, HELD, Release, Seen, Seize};
@@ -10,15 +11,24 @@ use hg_base::NoMemory;
 use std::alloc::{AllocError, Global};
 use std::hint::spin_loop;
 use std::sync::Wait;
+use std::thread::yield_now;
 
-// How often a thread looks at a lock that is held before it sleeps.
-const LOOKS: u32 = 100;
+// How often a thread looks at a lock that is held before it sleeps. Behind the first looks it lets others run.
+const LOOKS: u32 = 300;
+
+const FIRST_LOOKS: u32 = 100;
+
+// How many words a cache line has.
+const LINE: usize = 8;
 
 /// Values, each under a lock of its own. Two locks of a list can be held at once.
 #[derive(Drop)]
 pub struct Locks<X: Fits> {
     table: Table<Option<X>, Seen<X::Tag>, X::Tag, Guard<X>, Global>,
-    ghost paired: { table.shared.table_id.words ≡ table.shared.table_id.slots },
+    count: usize,
+    ghost words: { table.shared.table_id.words ≡ line_of count },
+    ghost slots: { table.shared.table_id.slots ≡ line_of count },
+    ghost small: { line_of count < 2 ^ 64 },
 }
 
 // A lock that was freed. It has no `Drop`: it ends in `wake` where somebody may sleep on it, and else in `settle`.
@@ -42,10 +52,25 @@ fn settle<X: Drop, T>(freed: Freed<X, T>)
     } = freed;
 }
 
-fn filled<X: Drop>(alloc: Global, values: Vec<X>) -> Result<Vec<Option<X>>, AllocError>
-    ensures { IfOk result (λ slots. slots.items ≡ map Some values.items) }
+// Lays a value down in a line of its own.
+fn lay<X: Drop>(slots: &mut Vec<Option<X>>, value: X) -> Result<(), AllocError>
+    ensures { OnOk result (slots.new.items ≡ slots.old.items ++ spread (value ∷ [])) }
 {
-    values.into_iter().map(Some).collect(alloc)
+    slots.push(Some(value))?;
+    for turn in 1..LINE {
+        slots.push(None)?;
+    }
+    Ok(())
+}
+
+fn lines<X: Drop>(alloc: Global, values: Vec<X>) -> Result<Vec<Option<X>>, AllocError>
+    ensures { IfOk result (λ slots. slots.items ≡ spread values.items) }
+{
+    let mut slots = Vec::new(alloc);
+    for value in values {
+        lay(&mut slots, value)?;
+    }
+    Ok(slots)
 }
 
 impl<X: Fits + Drop> Locks<X> {
@@ -58,10 +83,11 @@ impl<X: Fits + Drop> Locks<X> {
         ensures tag { IfOk result (λ locks. tag_of locks ≡ tag.now) }
         ensures count { IfOk result (λ locks. count_of locks ≡ length values.items) }
     {
-        let slots = filled(alloc, values)?;
+        let count = values.len();
+        let slots = lines(alloc, values)?;
         let words = vec![in alloc; FREE; slots.len()]?;
         match Table::new(alloc, words.as_slice(), slots, tag) {
-            Ok((table, _seat)) => Ok(Locks { table }),
+            Ok((table, _seat)) => Ok(Locks { table, count }),
             Err(Refused { slots: _ }) => Err(NoMemory),
         }
     }
@@ -70,7 +96,7 @@ impl<X: Fits + Drop> Locks<X> {
     pub fn count(&self) -> usize
         ensures { result ≡ count_of self.now }
     {
-        self.table.slot_count()
+        self.count
     }
 
     /// Sleeps while the lock is held. A thread that holds it already waits for itself.
@@ -81,7 +107,7 @@ impl<X: Fits + Drop> Locks<X> {
         ensures lock { lock_of result.1 ≡ lock }
     {
         let mut seat = self.claim(rt, lock);
-        let value = self.table.shared.exchange(&mut seat, lock, None);
+        let value = self.table.shared.exchange(&mut seat, LINE * lock, None);
         (value.unwrap(), Loan { lock, seat })
     }
 
@@ -137,8 +163,10 @@ impl<X: Fits + Drop> Locks<X> {
             if let Ok(seat) = self.seize(lock, AWAITED) {
                 return seat;
             }
-            self.table.shared.park(rt, lock, AWAITED as u32);
-            self.look(lock);
+            if self.look(lock) != FREE {
+                self.table.shared.park(rt, LINE * lock, AWAITED as u32);
+                self.look(lock);
+            }
         }
         unreachable!()
     }
@@ -152,20 +180,26 @@ impl<X: Fits + Drop> Locks<X> {
         ensures value { IfOk result (λ seat. HasValue (X.fits (tag_of self.now)) lock seat.me) }
         ensures left { IfOk result (λ seat. seat.me.0.left ≡ word) }
     {
-        let (found, seat) = self.table.shared.swap_new_seat::<Seize<X>>(lock, word);
+        let (found, seat) = self
+            .table
+            .shared
+            .swap_new_seat::<Seize<X>>(LINE * lock, word);
         if found == FREE { Ok(seat) } else { Err(found) }
     }
 
-    // Looks for a while, as long as the lock is held and nobody sleeps.
+    // Looks for a while, as long as the lock is held.
     fn look(&self, lock: usize) -> u64
         requires { lock < count_of self.now }
     {
-        for _ in 0..LOOKS {
-            let seen = self.table.shared.peek(lock);
-            if seen != HELD {
-                return seen;
+        for turn in 0..LOOKS {
+            if self.table.shared.peek(LINE * lock) == FREE {
+                return FREE;
             }
-            spin_loop();
+            if turn < FIRST_LOOKS {
+                spin_loop();
+            } else {
+                yield_now();
+            }
         }
         HELD
     }
@@ -179,8 +213,9 @@ impl<X: Fits + Drop> Locks<X> {
     {
         let Loan { lock, mut seat } = loan;
         let shared = &self.table.shared;
-        drop(shared.exchange(&mut seat, lock, Some(value)));
-        let found = shared.swap::<Release>(&mut seat, lock, FREE);
+        let place = LINE * lock;
+        drop(shared.exchange(&mut seat, place, Some(value)));
+        let found = shared.swap::<Release>(&mut seat, place, FREE);
         Freed {
             lock,
             awaited: found == AWAITED,
@@ -198,6 +233,6 @@ impl<X: Fits + Drop> Locks<X> {
             awaited: _,
             seat: _,
         } = freed;
-        self.table.shared.wake_one(lock);
+        self.table.shared.wake_one(LINE * lock);
     }
 }
