@@ -13,7 +13,7 @@ use std::hint::spin_loop;
 use std::sync::Wait;
 use std::thread::yield_now;
 
-// How often a thread looks at a lock that is held before it sleeps. Behind the first looks it lets others run.
+// How often a thread looks at a lock that is held before it sleeps. Behind the first of these looks it lets others run.
 const LOOKS: u32 = 300;
 
 const FIRST_LOOKS: u32 = 100;
@@ -52,7 +52,7 @@ fn settle<X: Drop, T>(freed: Freed<X, T>)
     } = freed;
 }
 
-// Lays a value down in a line of its own.
+// Lays a value down behind the others, in a line of its own.
 fn lay<X: Drop>(slots: &mut Vec<Option<X>>, value: X) -> Result<(), AllocError>
     ensures { OnOk result (slots.new.items ≡ slots.old.items ++ spread (value ∷ [])) }
 {
@@ -63,6 +63,7 @@ fn lay<X: Drop>(slots: &mut Vec<Option<X>>, value: X) -> Result<(), AllocError>
     Ok(())
 }
 
+// A line for each value.
 fn lines<X: Drop>(alloc: Global, values: Vec<X>) -> Result<Vec<Option<X>>, AllocError>
     ensures { IfOk result (λ slots. slots.items ≡ spread values.items) }
 {
