@@ -1,0 +1,19 @@
+-- Tests of one answer.
+use Rattle.std.proofs.Common.{◌≡◌, ℕ, ◌<◌, ◌≤◌, ◌^◌, ◌/◌, ◌%◌, false, true, refl, ap, arith}
+use Rattle.std.specs.Prelude.{◌==◌, Bool, not}
+use mathlib.Core.Bool.{beq}
+use Rattle.std.proofs.Math.Nat.{div-eq_of_lt}
+use Rattle.std.proofs.Math.Pow.{pow_mono}
+
+-- a set of 16 has nothing at or over 16
+pub no_bit : (mask t : ℕ) → mask < 65536 → 16 ≤ t → ((mask / 2 ^ t) % 2 == 1) ≡ false
+no_bit mask t small over =
+    let wide : 2 ^ 16 ≤ 2 ^ t = pow_mono over in
+    let less : mask < 2 ^ t = omega (arith, wide, small) in
+    ap (λ n. n % 2 == 1) (div-eq_of_lt less)
+
+pub same_of : (a b : Bool) → not (beq a b) ≡ false → a ≡ b
+same_of true true e = refl
+same_of true false e = cc
+same_of false true e = cc
+same_of false false e = refl

@@ -1,0 +1,67 @@
+//! The first line whose reply is wrong.
+
+ghost use Rattle.std.specs.Prelude.{◌≡◌, ℕ, List, [], ◌∷◌, true, Decides, IsTrue, IfOk, OnOk};
+ghost use Rattle.std.specs.Option.{MatchOption};
+ghost use Rattle.hg_base.specs.Lists.{EachAfter};
+ghost use Rattle.hg_base.specs.Script.{Mode};
+ghost use Rattle.hg_base.specs.Transcript as script;
+ghost use Rattle.hg_base.specs.Transcript.{history_of};
+ghost use Rattle.hg_decide.specs.Audit.{IsRightReply, FirstWithout};
+ghost use Rattle.hg_known.specs.Asked.{names_writer};
+ghost use Rattle.hg_known.specs.Lines.{said_of, all_of};
+ghost use Rattle.hg_known.specs.Owned.{HasOwn};
+ghost use Rattle.hg_known.specs.Ended.{AreOver, AreOpenOwn, IsOpen};
+ghost use Rattle.hg_audit.specs.Judged.{IsOf};
+ghost use Rattle.hg_audit.specs.Known.{Knows, IsAsked, IsPart};
+
+use crate::conflict::shows_conflict;
+use crate::facts::Facts;
+use crate::judge::is_reply;
+use hg_base::NoMemory;
+use hg_known::{Over, Own, Said, do_name_writers};
+use std::alloc::Global;
+
+// Whether a line has the right reply, and shows the cause of a refused write.
+fn is_answered(facts: &Facts, own: &Own, over: &Over, now: &Said) -> bool
+    ensures { (mode : Mode) (all earlier : List script.Said) → IsOf facts.now.command mode → Knows (history_of all) all facts.now → IsAsked all (said_of now.now) → IsPart earlier all → HasOwn own.now earlier (said_of now.now) → AreOpenOwn own.now earlier → (IsTrue (names_writer (said_of now.now)) → AreOver over.now earlier) → Decides result (IsRightReply mode all earlier (said_of now.now)) }
+{
+    if !is_reply(facts.command, facts.writes, facts.groups, own, now) {
+        return false;
+    }
+    shows_conflict(facts, own, over, now)
+}
+
+// Keeps whether a line ends its transaction, where that is asked for.
+fn keep_over(over: &mut Over, asked: bool, said: &Said) -> Result<(), NoMemory>
+    ensures { OnOk result (asked ≡ true → (earlier : List script.Said) → AreOver over.old earlier → AreOver over.new (said_of said.now ∷ earlier)) }
+{
+    if !asked {
+        return Ok(());
+    }
+    over.add(said)
+}
+
+/// The first line whose reply is not that of a table that never reclaims, or that does not show the cause of a refusal.
+pub fn first_unanswered(
+    alloc: Global,
+    facts: &Facts,
+    all: &[Said],
+) -> Result<Option<usize>, NoMemory>
+    requires { EachAfter IsOpen [] (all_of all.now) }
+    ensures { IfOk result (λ found. (mode : Mode) → IsOf facts.now.command mode → Knows (history_of (all_of all.now)) (all_of all.now) facts.now →
+        MatchOption found (EachAfter (IsRightReply mode (all_of all.now)) [] (all_of all.now)) (λ k. FirstWithout (IsRightReply mode (all_of all.now)) [] (all_of all.now) k)) }
+{
+    let mut own = Own::new(alloc);
+    let mut over = Over::new(alloc);
+    let asked = do_name_writers(all);
+    for k in 0..all.len() {
+        let said = &all[k];
+        if !is_answered(facts, &own, &over, said) {
+            return Ok(Some(k));
+        }
+        own.add(said)?;
+        own.close(said);
+        keep_over(&mut over, asked, said)?;
+    }
+    Ok(None)
+}

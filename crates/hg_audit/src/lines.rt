@@ -1,0 +1,110 @@
+//! The first fault of lines and totals.
+
+ghost use Rattle.std.specs.Prelude.{◌≡◌, ℕ, ◌<◌, ◌^◌, List, [], length, IsTrue, IfOk};
+ghost use Rattle.hg_base.specs.Lists.{EachAfter, onto};
+ghost use Rattle.hg_base.specs.Script.{Mode};
+ghost use Rattle.hg_audit.specs.Judged.{IsOf};
+ghost use Rattle.hg_base.specs.Transcript.{history_of};
+ghost use Rattle.std.specs.List.{list_any};
+ghost use Rattle.hg_audit.specs.declared.reply.Command.TheVariants.{Run};
+ghost use Rattle.hg_known.specs.Asked.{names_writer};
+ghost use Rattle.hg_known.specs.Owned.{AreOwn};
+ghost use Rattle.hg_known.specs.Lines.{all_of};
+ghost use Rattle.hg_known.specs.Ended.{IsOpen};
+ghost use Rattle.hg_known.specs.Written.{IsOfHistory};
+ghost use Rattle.hg_audit.specs.Found.{IsFound, IsJudged};
+
+use crate::answered::first_unanswered;
+use crate::facts::Facts;
+use crate::order::first_unordered;
+use crate::reply::Command;
+use crate::shape::first_out_of_shape;
+use crate::totals::are_totals;
+use hg_base::{Line, NoMemory, Record, Totals};
+use hg_known::{
+    Own, Said, Writes, count_groups, count_versions, keeps_updates, read_history, read_lines,
+    read_numbers, read_own, read_points,
+};
+use std::alloc::Global;
+
+/// What fails first of the lines and totals, and at which line, counted from 0.
+#[derive(Clone, Copy, Debug, PartialEq, Eq)]
+pub enum Found {
+    Right,
+    Shape(usize),
+    Commits,
+    Reply(usize),
+    Fresh(usize),
+    Totals,
+}
+
+// What each transaction stores. A replay asks only for what is open, and needs none of it.
+fn read_stored(alloc: Global, command: Command, all: &[Said]) -> Result<Own, NoMemory>
+    ensures { IfOk result (λ own. command ≡ Run → IsTrue (list_any names_writer (all_of all.now)) → AreOwn own (onto (all_of all.now) [])) }
+{
+    match command {
+        Command::Replay => Ok(Own::new(alloc)),
+        Command::Run => read_own(alloc, all),
+    }
+}
+
+// The first line that is not right, or the totals, where the lines give this history.
+fn judge_lines(
+    alloc: Global,
+    command: Command,
+    all: &[Said],
+    writes: &Writes,
+    totals: Totals,
+) -> Result<Found, NoMemory>
+    requires few { length all.now < 2 ^ 62 }
+    requires open { EachAfter IsOpen [] (all_of all.now) }
+    requires writes { IsOfHistory (history_of (all_of all.now)) writes.now }
+    ensures { IfOk result (λ found. (mode : Mode) → IsOf command mode → IsJudged mode (all_of all.now) totals found) }
+{
+    let numbers = read_numbers(alloc, all)?;
+    let tally = count_versions(alloc, &numbers, all)?;
+    let own = read_stored(alloc, command, all)?;
+    let groups = count_groups(all);
+    let facts = Facts {
+        command,
+        writes,
+        groups,
+        own: &own,
+        numbers: &numbers,
+    };
+    if let Some(k) = first_unanswered(alloc, &facts, all)? {
+        return Ok(Found::Reply(k));
+    }
+    let points = read_points(alloc, all)?;
+    if let Some(k) = first_unordered(alloc, command, &points, groups, all)? {
+        return Ok(Found::Fresh(k));
+    }
+    if !are_totals(tally, writes, all, totals) {
+        return Ok(Found::Totals);
+    }
+    Ok(Found::Right)
+}
+
+/// What fails first of the lines of these records, and of totals.
+pub fn find_fault(
+    alloc: Global,
+    command: Command,
+    records: &[Record],
+    lines: &[Line],
+    totals: Totals,
+) -> Result<Found, NoMemory>
+    requires { length lines.now < 2 ^ 62 }
+    ensures { IfOk result (λ found. (mode : Mode) → IsOf command mode → IsFound mode records.now lines.now totals found) }
+{
+    if let Some(k) = first_out_of_shape(records, lines) {
+        return Ok(Found::Shape(k));
+    }
+    let all = read_lines(alloc, records, lines)?;
+    let Some(writes) = read_history(alloc, &all)? else {
+        return Ok(Found::Commits);
+    };
+    if !keeps_updates(alloc, &all, &writes)? {
+        return Ok(Found::Commits);
+    }
+    judge_lines(alloc, command, &all, &writes, totals)
+}

@@ -1,0 +1,126 @@
+//! Whether totals are those of the lines.
+
+ghost use Rattle.std.specs.Prelude.{◌≡◌, ◌+◌, ◌≤◌, ◌<◌, length, filter, not, sum_by, is_some, Decides};
+ghost use Rattle.std.specs.Option.{MatchOption};
+ghost use Rattle.hg_base.specs.History.{History, visible};
+ghost use Rattle.hg_base.specs.Transcript.{history_of};
+ghost use Rattle.hg_base.specs.Counts.{removed_by, live, first_writes, is_committed, AreTotals};
+ghost use Rattle.hg_known.specs.Lines.{said_of, all_of};
+ghost use Rattle.hg_known.specs.Written.{IsOfHistory};
+
+use hg_base::{Answer, Kind, Rid, Totals};
+use hg_known::{LEAST, Said, Tally, Writes, count_groups};
+
+// What a line says that a collector of that kind removed.
+fn removed(said: &Said, kind: Kind) -> u64
+    ensures { result ≡ removed_by kind (said_of said.now) }
+{
+    match &said.reply.answer {
+        Answer::Swept(sweep) => { if sweep.kind == kind { sweep.removed } else { 0 } }
+        _ => 0,
+    }
+}
+
+// What is left of a number without what the reports of a collector say that they removed, if they say no more.
+fn without_removed(all: &[Said], kind: Kind, told: u64) -> Option<u64>
+    ensures { MatchOption result (told < sum_by (removed_by kind) (all_of all.now)) (λ rest. rest + sum_by (removed_by kind) (all_of all.now) ≡ told) }
+{
+    let mut rest = told;
+    for k in 0..all.len() {
+        rest = rest.checked_sub(removed(&all[k], kind))?;
+    }
+    Some(rest)
+}
+
+fn is_removed(all: &[Said], kind: Kind, told: u64) -> bool
+    ensures { Decides result (told ≡ sum_by (removed_by kind) (all_of all.now)) }
+{
+    match without_removed(all, kind, told) {
+        Some(rest) => rest == 0,
+        None => false,
+    }
+}
+
+fn is_removed_within(all: &[Said], kind: Kind, told: u64) -> bool
+    ensures { Decides result (sum_by (removed_by kind) (all_of all.now) ≤ told) }
+{
+    match without_removed(all, kind, told) {
+        Some(_) => true,
+        None => false,
+    }
+}
+
+// Whether the record is a row after that many groups.
+fn is_row(writes: &Writes, rid: Rid, groups: u64) -> bool
+    ensures { (h : History) → IsOfHistory h writes.now → length h ≡ groups → result ≡ is_some (visible h rid (length h)).row }
+{
+    writes.visible(rid, groups).is_some()
+}
+
+// Whether that many records are rows after the last group.
+fn are_left(all: &[Said], writes: &Writes, told: u64) -> bool
+    requires { IsOfHistory (history_of (all_of all.now)) writes.now }
+    ensures { Decides result (told ≡ length (live (history_of (all_of all.now)))) }
+{
+    let groups = count_groups(all);
+    let mut rest = told;
+    let mut found = writes.next_rid(LEAST, 0);
+    while let Some(rid) = found {
+        found = writes.next_rid(rid, groups);
+        if !is_row(writes, rid, groups) {
+            continue;
+        }
+        if rest == 0 {
+            return false;
+        }
+        rest -= 1;
+    }
+    rest == 0
+}
+
+// Whether each version made is undone, removed or left.
+fn are_balanced(t: Totals) -> bool
+    ensures { Decides result (t.made ≡ t.undone + t.group + t.table + t.interval + t.left) }
+{
+    let Some(stored) = t.made.checked_sub(t.undone) else {
+        return false;
+    };
+    let Some(outside) = stored.checked_sub(t.group) else {
+        return false;
+    };
+    let Some(timed) = outside.checked_sub(t.table) else {
+        return false;
+    };
+    let Some(left) = timed.checked_sub(t.interval) else {
+        return false;
+    };
+    left == t.left
+}
+
+/// Whether these are the totals of the lines, of which so many versions were made and undone.
+pub fn are_totals(tally: Tally, writes: &Writes, all: &[Said], t: Totals) -> bool
+    requires made { tally.made ≡ length (first_writes (all_of all.now)) }
+    requires undone { tally.undone ≡ length (filter (λ said. not (is_committed (all_of all.now) said)) (first_writes (all_of all.now))) }
+    requires writes { IsOfHistory (history_of (all_of all.now)) writes.now }
+    ensures { Decides result (AreTotals (all_of all.now) (history_of (all_of all.now)) t) }
+{
+    if tally.made != t.made {
+        return false;
+    }
+    if tally.undone != t.undone {
+        return false;
+    }
+    if !is_removed(all, Kind::Group, t.group) {
+        return false;
+    }
+    if !is_removed_within(all, Kind::Table, t.table) {
+        return false;
+    }
+    if !is_removed(all, Kind::Interval, t.interval) {
+        return false;
+    }
+    if !are_left(all, writes, t.left) {
+        return false;
+    }
+    are_balanced(t)
+}

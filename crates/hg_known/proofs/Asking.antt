@@ -1,0 +1,20 @@
+-- Whether some line passes a test.
+use Rattle.std.proofs.Common.{◌≡◌, ℕ, ◌+◌, ◌≤◌, List, [], ◌∷◌, length, take, drop, Bool, true, false, refl, sym, ap, ◌∙◌}
+use Rattle.std.specs.Prelude.{◌||◌}
+use Rattle.std.specs.List.{list_any}
+use Rattle.hg_known.proofs.Pairs.{any_append}
+use Rattle.hg_known.proofs.Walking.{AtLine, take_all}
+
+module _ {X : Type 0} (test : X → Bool) (xs : List X) where
+  pub any_here : (k : ℕ) (now : X) → AtLine xs k now → test now ≡ true → list_any test xs ≡ true
+  any_here k now at e = ap (list_any test) at.all ∙ any_append test (take k xs) (now ∷ drop (k + 1) xs) ∙ ap (λ b. list_any test (take k xs) || (b || list_any test (drop (k + 1) xs))) e ∙ some (list_any test (take k xs))
+    where
+      some : (b : Bool) → (b || true) ≡ true
+      some true = refl
+      some false = refl
+
+  pub none_more : (k : ℕ) (now : X) → AtLine xs k now → list_any test (take k xs) ≡ false → test now ≡ false → list_any test (take (k + 1) xs) ≡ false
+  none_more k now at h e = ap (list_any test) at.up_to ∙ any_append test (take k xs) (now ∷ []) ∙ (λ i. h i || (e i || false))
+
+  pub none_at_all : (k : ℕ) → length xs ≤ k → list_any test (take k xs) ≡ false → list_any test xs ≡ false
+  none_at_all k over h = sym (ap (list_any test) (take_all xs k over)) ∙ h

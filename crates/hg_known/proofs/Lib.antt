@@ -1,0 +1,22 @@
+-- Groups, and maps from records.
+pub mod Groups
+pub mod SlotOrder
+pub mod SpotOrder
+-- Lines, one after the other.
+pub mod Reading
+pub mod Walking
+-- Printed commits, and the history that they give.
+pub mod Pairs
+pub mod Whole
+pub mod Overwrites
+pub mod Joining
+pub mod Showing
+pub mod Losing
+-- Ends, numbers and snapshots.
+pub mod Ending
+pub mod Closing
+pub mod Opened
+pub mod Fresher
+pub mod Pointing
+pub mod Tallying
+pub mod Asking

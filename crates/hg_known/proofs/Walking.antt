@@ -1,0 +1,192 @@
+-- Lines gone over one after the other.
+use Rattle.std.proofs.Common.{◌≡◌, ℕ, zero, suc, ◌+◌, ◌<◌, ◌≤◌, List, [], ◌∷◌, ◌++◌, length, map, take, drop, get_or, Bool, true, false, Option, Some, None, refl, sym, ap, ◌∙◌, subst, arith}
+use Rattle.std.specs.Prelude.{◌==◌, ◌||◌, option_map, max, nat_lt}
+use Rattle.std.specs.List.{list_any, cons_option}
+use Rattle.std.proofs.lemmas.Bool.Decides.{Decides-eqb}
+use Rattle.std.proofs.lemmas.Bool.{ltb-true, ltb-false}
+use Rattle.std.proofs.lemmas.List.{length-map}
+use Rattle.hg_base.specs.Lists.{Each, EachAfter, onto, greatest}
+use Rattle.hg_base.specs.History.{Commit}
+use Rattle.hg_base.specs.Transcript.{Said, committed, commit_by, commit_of, commits, commits_from, history_of}
+use Rattle.hg_base.specs.Sound.{IsWhole}
+use Rattle.hg_base.proofs.ListFacts.{cases, false_true, each_snoc, append_nil, each_after_snoc}
+use Rattle.hg_base.proofs.Growth.{commits_from_snoc}
+use Rattle.hg_known.specs.Commits.{IsFit, AreApart, AllApart, AreCommits, has_number}
+use Rattle.std.specs.Bool.{MatchBool}
+use Rattle.std.specs.BTreeSet.{contains}
+use Rattle.std.specs.Ordering.{nat_cmp}
+use Rattle.hg_known.specs.declared.commits.Commits as kept
+use Rattle.hg_known.specs.Written.{IsOfHistory}
+use Rattle.hg_known.specs.Shown.{Shows, Fits, printed}
+use Rattle.hg_known.proofs.Reading.{mapped_at, onto_push}
+use Rattle.hg_known.proofs.Whole.{commits_of, whole_of, history_writes}
+
+-- where line k is `now`: the lines up to it, and all lines
+pub record AtLine {X : Type 0} (xs : List X) (k : ℕ) (now : X) : Type 0 where
+  pub up_to : take (k + 1) xs ≡ take k xs ++ now ∷ []
+  pub all : xs ≡ take k xs ++ now ∷ drop (k + 1) xs
+
+pub take_suc : {X : Type 0} (xs : List X) (k : ℕ) (now : X) → k < length xs → now ≡ get_or xs k now → (take (suc k) xs ≡ take k xs ++ now ∷ []) × (xs ≡ take k xs ++ now ∷ drop (suc k) xs)
+take_suc [] k now less e = absurd (omega (arith, less))
+take_suc (x ∷ xs) zero now less e = (ap (λ y. y ∷ []) (sym e), ap (λ y. y ∷ xs) (sym e))
+take_suc (x ∷ xs) (suc k) now less e =
+    let more : k < length xs = omega (arith, less) in
+    let here = take_suc xs k now more e in
+    (ap (λ ys. x ∷ ys) here.0, ap (λ ys. x ∷ ys) here.1)
+
+pub at_line : {X : Type 0} (xs : List X) (k : ℕ) (now : X) → k < length xs → now ≡ get_or xs k now → AtLine xs k now
+at_line xs k now less e =
+    let here = take_suc xs k now less e in
+    let plus : suc k ≡ k + 1 = omega arith in
+    record { up_to = ap (λ n. take n xs) (sym plus) ∙ here.0; all = here.1 ∙ ap (λ n. take k xs ++ now ∷ drop n xs) plus }
+
+pub at_mapped : {X Y : Type 0} (f : X → Y) (xs : List X) (k : ℕ) (x : X) → k < length xs → x ≡ get_or xs k x → AtLine (map f xs) k (f x)
+at_mapped f xs k x less e = at_line (map f xs) k (f x) (subst (λ n. k < n) (sym (length-map xs f)) less) (ap f e ∙ sym (mapped_at f xs k x))
+
+-- the lines so far, newest first
+abbrev pub earlier_at : {X : Type 0} → List X → ℕ → List X
+earlier_at xs k = onto (take k xs) []
+
+pub earlier_next : {X : Type 0} (xs : List X) (k : ℕ) (now : X) → AtLine xs k now → earlier_at xs (k + 1) ≡ now ∷ earlier_at xs k
+earlier_next xs k now at = ap (λ ys. onto ys []) at.up_to ∙ onto_push (take k xs) [] now
+
+pub take_all : {X : Type 0} (xs : List X) (k : ℕ) → length xs ≤ k → take k xs ≡ xs
+take_all [] zero h = refl
+take_all [] (suc k) h = refl
+take_all (x ∷ xs) zero h = absurd (omega (arith, h))
+take_all (x ∷ xs) (suc k) h = let less : length xs ≤ k = omega (arith, h) in ap (λ ys. x ∷ ys) (take_all xs k less)
+
+-- ---- commits so far
+
+-- each fits those before it
+pub record Fine (ps : List (ℕ × Commit)) : Type 0 where
+  pub fit : Each IsFit ps
+  pub apart : AllApart ps
+
+pub apart_push : (ps : List (ℕ × Commit)) (p : ℕ × Commit) → AllApart ps → Each (λ q. AreApart q p) ps → AllApart (ps ++ p ∷ [])
+apart_push [] p a h = (tt, tt)
+apart_push (q ∷ qs) p a h = (each_snoc (AreApart q) qs p a.0 h.0, apart_push qs p a.1 h.1)
+
+pub fine_push : (ps : List (ℕ × Commit)) (p : ℕ × Commit) → Fine ps → Fits ps p → Fine (ps ++ p ∷ [])
+fine_push ps p f h = record { fit = each_snoc IsFit ps p f.fit h.0; apart = apart_push ps p f.apart h.1 }
+
+pub each_right : {X : Type 0} (P : X → Type 0) (xs ys : List X) → Each P (xs ++ ys) → Each P ys
+each_right P [] ys h = h
+each_right P (x ∷ xs) ys h = each_right P xs ys h.1
+
+pub fits_there : (ps rest : List (ℕ × Commit)) (p : ℕ × Commit) → AllApart (ps ++ p ∷ rest) → Each (λ q. AreApart q p) ps
+fits_there [] rest p h = tt
+fits_there (q ∷ qs) rest p h = ((each_right (AreApart q) qs (p ∷ rest) h.0).0, fits_there qs rest p h.1)
+
+pub commits_append : (earlier xs ys : List Said) → commits_from earlier (xs ++ ys) ≡ commits_from earlier xs ++ commits_from (onto xs earlier) ys
+commits_append earlier [] ys = refl
+commits_append earlier (x ∷ xs) ys = ap (cons_option (commit_of earlier x)) (commits_append (x ∷ earlier) xs ys) ∙ go (commit_of earlier x)
+  where
+    go : (o : Option (ℕ × Commit)) → cons_option o (commits_from (x ∷ earlier) xs ++ commits_from (onto xs (x ∷ earlier)) ys) ≡ cons_option o (commits_from (x ∷ earlier) xs) ++ commits_from (onto xs (x ∷ earlier)) ys
+    go None = refl
+    go (Some p) = refl
+
+-- a line that prints none, and one that prints one
+pub commits_same : (xs : List Said) (k : ℕ) (now : Said) → AtLine xs k now → committed now ≡ None → commits (take k xs) ≡ commits (take (k + 1) xs)
+commits_same xs k now at e = sym (ap commits at.up_to ∙ commits_from_snoc [] (take k xs) now ∙ ap (λ o. commits (take k xs) ++ cons_option (option_map (λ c. (c, commit_by (earlier_at xs k) now)) o) []) e ∙ append_nil (commits (take k xs)))
+
+pub commits_more : (xs : List Said) (k : ℕ) (now : Said) (n : ℕ) → AtLine xs k now → committed now ≡ Some n → commits (take k xs) ++ printed n (earlier_at xs k) now ∷ [] ≡ commits (take (k + 1) xs)
+commits_more xs k now n at e = sym (ap commits at.up_to ∙ commits_from_snoc [] (take k xs) now ∙ ap (λ o. commits (take k xs) ++ cons_option (option_map (λ c. (c, commit_by (earlier_at xs k) now)) o) []) e)
+
+-- a commit that does not fit those before it
+pub not_whole : (xs : List Said) (k : ℕ) (now : Said) (n : ℕ) → AtLine xs k now → committed now ≡ Some n → (Fits (commits (take k xs)) (printed n (earlier_at xs k) now) → ⊥) → IsWhole xs → ⊥
+not_whole xs k now n at e f whole =
+    let ps = commits (take k xs) in
+    let p = printed n (earlier_at xs k) now in
+    let rest = commits_from (now ∷ earlier_at xs k) (drop (k + 1) xs) in
+    let is : commits xs ≡ ps ++ p ∷ rest = ap commits at.all ∙ commits_append [] (take k xs) (now ∷ drop (k + 1) xs) ∙ ap (λ o. ps ++ cons_option (option_map (λ c. (c, commit_by (earlier_at xs k) now)) o) rest) e in
+    let h : AreCommits (ps ++ p ∷ rest) = subst AreCommits is (commits_of xs whole) in
+    f ((each_right IsFit ps (p ∷ rest) h.fit).0, fits_there ps rest p h.apart)
+
+-- ---- the numbers
+
+pub greatest_there : (ps : List (ℕ × Commit)) → 0 < greatest (map (λ (p : ℕ × Commit). p.0) ps) → has_number (greatest (map (λ (p : ℕ × Commit). p.0) ps)) ps
+greatest_there [] h = absurd (omega (arith, h))
+greatest_there (p ∷ ps) h = cases (nat_lt p.0 top)
+    (λ e. let k : p.0 < top = ltb-true p.0 top e in
+    let is : max p.0 top ≡ top = omega (arith, k) in
+    let some : 0 < top = omega (arith, k) in
+    subst (λ m. has_number m (p ∷ ps)) (sym is) (or_later (p.0 == top) (list_any (λ (q : ℕ × Commit). q.0 == top) ps) (greatest_there ps some)))
+    (λ e. let k : top ≤ p.0 = ltb-false p.0 top e in
+    let is : max p.0 top ≡ p.0 = omega (arith, k) in
+    subst (λ m. has_number m (p ∷ ps)) (sym is) (ap (λ b. b || list_any (λ (q : ℕ × Commit). q.0 == p.0) ps) ((Decides-eqb p.0 p.0).1 refl)))
+  where
+    top : ℕ
+    top = greatest (map (λ (p : ℕ × Commit). p.0) ps)
+
+    or_later : (a b : Bool) → b ≡ true → (a || b) ≡ true
+    or_later true b e = refl
+    or_later false b e = e
+
+pub all_numbers : (ps : List (ℕ × Commit)) → Fine ps → ((n : ℕ) → 1 ≤ n → n < greatest (map (λ (p : ℕ × Commit). p.0) ps) → has_number n ps) → AreCommits ps
+all_numbers ps f h = record {
+  fit = f.fit;
+  apart = f.apart;
+  every = λ n j k. cases (nat_lt n (greatest (map (λ (p : ℕ × Commit). p.0) ps)))
+      (λ e. h n j (ltb-true n (greatest (map (λ (p : ℕ × Commit). p.0) ps)) e))
+      (λ e. let over : greatest (map (λ (p : ℕ × Commit). p.0) ps) ≤ n = ltb-false n (greatest (map (λ (p : ℕ × Commit). p.0) ps)) e in
+      let is : greatest (map (λ (p : ℕ × Commit). p.0) ps) ≡ n = omega (arith, over, k) in
+      let some : 0 < greatest (map (λ (p : ℕ × Commit). p.0) ps) = omega (arith, is, j) in
+      subst (λ m. has_number m ps) is (greatest_there ps some));
+}
+
+-- ---- one line more
+
+abbrev pub Kept : List Said → ℕ → kept.Commits → Type 0
+Kept xs k c = Shows c (commits (take k xs)) × Fine (commits (take k xs))
+
+pub kept_same : (xs : List Said) (k : ℕ) (now : Said) (c : kept.Commits) → AtLine xs k now → committed now ≡ None → Kept xs k c → Kept xs (k + 1) c
+kept_same xs k now c at e h = (subst (Shows c) (commits_same xs k now at e) h.0, subst Fine (commits_same xs k now at e) h.1)
+
+pub kept_more : (xs : List Said) (k : ℕ) (now : Said) (n : ℕ) (new : kept.Commits) (b : Bool) → AtLine xs k now → committed now ≡ Some n → Fine (commits (take k xs)) → b ≡ true →
+    MatchBool b (Shows new (commits (take k xs) ++ printed n (earlier_at xs k) now ∷ []) × Fits (commits (take k xs)) (printed n (earlier_at xs k) now)) (Fits (commits (take k xs)) (printed n (earlier_at xs k) now) → ⊥) → Kept xs (k + 1) new
+kept_more xs k now n new true at e fine is h =
+    let more = commits_more xs k now n at e in
+    (subst (Shows new) more h.0, subst Fine more (fine_push (commits (take k xs)) (printed n (earlier_at xs k) now) fine h.1))
+kept_more xs k now n new false at e fine is h = absurd (false_true is)
+
+pub lost_there : (xs : List Said) (k : ℕ) (now : Said) (n : ℕ) (new : kept.Commits) (b : Bool) → AtLine xs k now → committed now ≡ Some n → b ≡ false →
+    MatchBool b (Shows new (commits (take k xs) ++ printed n (earlier_at xs k) now ∷ []) × Fits (commits (take k xs)) (printed n (earlier_at xs k) now)) (Fits (commits (take k xs)) (printed n (earlier_at xs k) now) → ⊥) → IsWhole xs → ⊥
+lost_there xs k now n new true at e is h = absurd (false_true (sym is))
+lost_there xs k now n new false at e is h = not_whole xs k now n at e h
+
+-- ---- all lines
+
+pub kept_all : (xs : List Said) (k : ℕ) (c : kept.Commits) → length xs ≤ k → Kept xs k c → Shows c (commits xs) × Fine (commits xs)
+kept_all xs k c h kept = (subst (λ ys. Shows c (commits ys)) (take_all xs k h) kept.0, subst (λ ys. Fine (commits ys)) (take_all xs k h) kept.1)
+
+pub left_out : (xs : List Said) (c : kept.Commits) (n : ℕ) → Shows c (commits xs) → 1 ≤ n → n < c.greatest → contains nat_cmp c.numbers n ≡ false → IsWhole xs → ⊥
+left_out xs c n shows low high e whole =
+    let top = shows.greatest in
+    false_true (sym (sym (shows.numbers n) ∙ e) ∙ (commits_of xs whole).every n low (omega (arith, high, top)))
+
+pub number_more : (xs : List Said) (c : kept.Commits) (k : ℕ) → Shows c (commits xs) → ((n : ℕ) → 1 ≤ n → n < k → has_number n (commits xs)) → contains nat_cmp c.numbers k ≡ true → (n : ℕ) → 1 ≤ n → n < k + 1 → has_number n (commits xs)
+number_more xs c k shows h e n low high = cases (n == k)
+    (λ same. subst (λ m. has_number m (commits xs)) (sym ((Decides-eqb n k).0 same)) (sym (shows.numbers k) ∙ e))
+    (λ other. h n low (below n k high (λ q. false_true (sym other ∙ (Decides-eqb n k).1 q))))
+  where
+    below : (n k : ℕ) → n < k + 1 → (n ≡ k → ⊥) → n < k
+    below n k h f = grind (arith, h, f)
+
+pub history_is : (xs : List Said) (c : kept.Commits) (k : ℕ) → Shows c (commits xs) → Fine (commits xs) → ((n : ℕ) → 1 ≤ n → n < k → has_number n (commits xs)) → c.greatest ≤ k → IsWhole xs × IsOfHistory (history_of xs) c.writes
+history_is xs c k shows fine every over =
+    let top = shows.greatest in
+    let are : AreCommits (commits xs) = all_numbers (commits xs) fine (λ n low high. every n low (omega (arith, high, top, over))) in
+    (whole_of xs are, λ r n. shows.writes r n ∙ sym (history_writes xs are r n))
+
+-- ---- what holds of each line
+
+pub each_more : (P : List Said → Said → Type 0) (xs : List Said) (k : ℕ) (now : Said) → AtLine xs k now → EachAfter P [] (take k xs) → P (earlier_at xs k) now → EachAfter P [] (take (k + 1) xs)
+each_more P xs k now at h p = subst (EachAfter P []) (sym at.up_to) (each_after_snoc P [] (take k xs) now h p)
+
+pub each_all : (P : List Said → Said → Type 0) (xs : List Said) (k : ℕ) → length xs ≤ k → EachAfter P [] (take k xs) → EachAfter P [] xs
+each_all P xs k over h = subst (EachAfter P []) (take_all xs k over) h
+
+-- the item of a mapped list
+pub mapped_item : {X Y : Type 0} (f : X → Y) (xs : List X) (k : ℕ) (x : X) → x ≡ get_or xs k x → f x ≡ get_or (map f xs) k (f x)
+mapped_item f xs k x e = ap f e ∙ sym (mapped_at f xs k x)

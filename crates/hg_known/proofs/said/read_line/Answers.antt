@@ -1,0 +1,10 @@
+use Rattle.std.proofs.Common.{arith}
+use Rattle.std.proofs.lemmas.Bool.Decides.{nat_tests}
+use Rattle.hg_known.specs.Lines.{said_of}
+use Rattle.hg_known.proofs.Reading.{lasts_more}
+use Rattle.hg_known.proofs.said.read_line.Goals as goal
+
+pub returns-clause-lasts : goal.returns-clause-lasts
+returns-clause-lasts c =
+    λ earlier h.
+    lasts_more c.args.lasts.now c.insert.new.self earlier (said_of c.stand-now.result) c.left.result h c.left.ensures (grind (arith, nat_tests)) c.in_ok-insert.ensures.updates.0

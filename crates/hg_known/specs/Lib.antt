@@ -1,0 +1,19 @@
+-- Lines with their transactions.
+pub mod Lines
+-- What each transaction stored.
+pub mod Owned
+-- What each group writes.
+pub mod Written
+-- How transactions end.
+pub mod Ended
+-- Which lines ask for what all lines say.
+pub mod Asked
+-- What printed commits have to be.
+pub mod Commits
+-- What transactions stored, joined to groups.
+pub mod Joined
+pub mod Shown
+-- Which numbers and snapshots were printed before.
+pub mod Heard
+pub mod Marked
+pub mod Before

@@ -1,0 +1,45 @@
+//! What the lines of a printed run say together.
+//!
+//! A text is checked without the engine, so what it says is gathered from its lines. Each structure here is seen by contracts as a
+//! function of the lines, in the words of `hg_base`:
+//!
+//!     Said       a line with the transaction in which it stands         said_from
+//!     Own        (transaction, record) -> its last stored image         image_in r (stored_in j x lines)
+//!     Writes     (record, commit number) -> image                       group_image r (group_at h n)
+//!     Over       the transactions that ended                            ends
+//!     Numbers    transaction -> its least commit number                 numbers_in j x lines
+//!     Before     numbers, marks and open transactions before a line     known, greatest_commit, mark_of, open_of
+//!     Points     the snapshots that were printed                        prints
+//!
+//! Each is an ordered map or set, so a look-up takes a time that is logarithmic in the lines. `visible` is the entry before
+//! (record, snapshot) in `Writes`. No line stands in a transaction that ended before it, so `Own` forgets one at its end (`close`)
+//! where what is open is enough. `read_own` and `read_points` go over the lines only where a line asks for what they give.
+//!
+//! Two facts are decided on the way: whether the printed commit numbers give a history (`read_history`), and whether an update is
+//! lost in it (`keeps_updates`).
+#![tactic(auto)]
+
+mod before;
+mod commits;
+mod ends;
+mod gathering;
+mod heard;
+mod history;
+mod marks;
+mod own;
+mod said;
+mod tally;
+mod updates;
+mod writes;
+
+pub use before::Before;
+pub use ends::{Numbers, Over};
+pub use gathering::{count_groups, do_name_writers, read_numbers, read_own, read_points};
+pub use heard::{newer_of, snapshot_of};
+pub use history::read_history;
+pub use marks::Points;
+pub use own::{LEAST, Own, Tx};
+pub use said::{Said, read_lines};
+pub use tally::{Tally, count_versions};
+pub use updates::keeps_updates;
+pub use writes::Writes;

@@ -1,0 +1,189 @@
+//! Lines, each read with the transaction in which it stands.
+
+ghost use Rattle.std.specs.Prelude.{◌≡◌, ℕ, ◌+◌, ◌<◌, ◌≤◌, ◌^◌, [], ◌∷◌, List, map, length, Option, Some, None, option_map, IfSome, IfOk, OnOk};
+ghost use Rattle.std.specs.BTreeMap.{get};
+ghost use Rattle.std.specs.Ordering.{nat_cmp};
+ghost use Rattle.hg_base.specs.Lists.{EachAfter};
+ghost use Rattle.hg_base.specs.Transcript as script;
+ghost use Rattle.hg_base.specs.Transcript.{said_after, said_from};
+ghost use Rattle.hg_known.specs.Ended.{IsOpen};
+ghost use Rattle.hg_known.specs.Lines.{all_of, said_of, number_of, left_by, AreLasts, ReachTo};
+
+use hg_base::{Answer, Line, NoMemory, Record, Reply, Scope, Statement};
+use std::alloc::Global;
+use std::collections::BTreeMap;
+
+/// A record with its reply, and the transaction in which it stands. Where it is a transaction of its own (`alone`), that
+/// declares the statement's one table, and `scope` says nothing.
+#[derive(Clone, Copy)]
+pub struct Said<'a> {
+    pub session: u32,
+    pub place: u64,
+    pub transaction: u64,
+    pub at: u64,
+    pub scope: Scope,
+    pub alone: bool,
+    pub statement: &'a Statement,
+    pub reply: &'a Reply,
+}
+
+/// The transaction of a session's last line that stands in one: over, or open at a snapshot.
+#[derive(Clone, Copy)]
+pub enum Last {
+    Over(u64),
+    Open {
+        transaction: u64,
+        at: u64,
+        scope: Scope,
+    },
+}
+
+impl Last {
+    pub fn transaction(self) -> u64
+        ensures { result ≡ number_of self }
+    {
+        match self {
+            Last::Over(transaction) => transaction,
+            Last::Open { transaction, .. } => transaction,
+        }
+    }
+}
+
+fn begun(reply: &Reply) -> u64
+    ensures { result ≡ script.begun reply.now }
+{
+    match &reply.answer {
+        Answer::Begun(at) => *at,
+        _ => 0,
+    }
+}
+
+pub fn is_end(statement: &Statement) -> bool
+    ensures { result ≡ script.is_end statement.now }
+{
+    matches!(statement, Statement::Commit | Statement::Rollback)
+}
+
+/// Whether a line ends its transaction.
+pub fn ends(said: &Said) -> bool
+    ensures { result ≡ script.ends (said_of said.now) }
+{
+    said.alone || is_end(said.statement)
+}
+
+// The line of a record, behind the session's last.
+fn stand<'a>(last: Option<Last>, asked: &'a Record, reply: &'a Reply) -> Said<'a>
+    requires { IfSome last (λ l. number_of l + 1 < 2 ^ 64) }
+    ensures said { (o : Option script.Said) → option_map left_by o ≡ last → said_of result ≡ said_after o asked.entry.now reply.entry.now asked.entry.now.statement }
+    ensures reach { IfSome last (λ l. result.transaction ≤ number_of l + 1) }
+    ensures first { last ≡ None → result.transaction ≤ 1 }
+{
+    let next = match last {
+        Some(last) => last.transaction() + 1,
+        None => 1,
+    };
+    let bare = Said {
+        session: asked.session,
+        place: asked.place,
+        transaction: 0,
+        at: 0,
+        scope: Scope::All,
+        alone: false,
+        statement: &asked.statement,
+        reply,
+    };
+    match &asked.statement {
+        Statement::Begin(scope) => Said {
+            transaction: next,
+            at: begun(reply),
+            scope: *scope,
+            ..bare
+        },
+        Statement::Gc(_) => bare,
+        _ => match last {
+            Some(
+                Last::Open {
+                    transaction,
+                    at,
+                    scope,
+                },
+            ) => Said {
+                transaction,
+                at,
+                scope,
+                ..bare
+            },
+            _ => Said {
+                transaction: next,
+                at: reply.at.unwrap_or(0),
+                alone: true,
+                ..bare
+            },
+        },
+    }
+}
+
+// What a line leaves to its session's next.
+fn left(now: &Said) -> Last
+    ensures { result ≡ left_by (said_of now.now) }
+{
+    if ends(now) {
+        return Last::Over(now.transaction);
+    }
+    Last::Open {
+        transaction: now.transaction,
+        at: now.at,
+        scope: now.scope,
+    }
+}
+
+/// Keeps what a line leaves to its session's next.
+pub fn keep(lasts: &mut BTreeMap<u32, Last>, now: &Said) -> Result<(), NoMemory>
+    ensures { OnOk result ((earlier : List script.Said) → AreLasts lasts.old earlier → AreLasts lasts.new (said_of now.now ∷ earlier)) }
+{
+    if now.transaction == 0 {
+        return Ok(());
+    }
+    lasts.insert(now.session, left(now))?;
+    Ok(())
+}
+
+// Reads the line of a record, and keeps what it leaves to the session's next.
+fn read_line<'a>(
+    lasts: &mut BTreeMap<u32, Last>,
+    asked: &'a Record,
+    reply: &'a Reply,
+) -> Result<Said<'a>, NoMemory>
+    requires { ReachTo (2 ^ 63) lasts.old }
+    ensures said { IfOk result (λ now. (earlier : List script.Said) → AreLasts lasts.old earlier → said_of now ≡ script.said earlier asked.entry.now reply.entry.now) }
+    ensures lasts { IfOk result (λ now. (earlier : List script.Said) → AreLasts lasts.old earlier → AreLasts lasts.new (said_of now ∷ earlier)) }
+    ensures reach { OnOk result ((n : ℕ) → ReachTo n lasts.old → ReachTo (n + 1) lasts.new) }
+{
+    let last = lasts.get(&asked.session).copied();
+    let now = stand(last, asked, reply);
+    if now.transaction == 0 {
+        return Ok(now);
+    }
+    lasts.insert(now.session, left(&now))?;
+    Ok(now)
+}
+
+/// Each line with its record, and the transaction in which it stands.
+pub fn read_lines<'a>(
+    alloc: Global,
+    records: &'a [Record],
+    lines: &'a [Line],
+) -> Result<Vec<Said<'a>>, NoMemory>
+    requires { length lines.now < 2 ^ 62 }
+    ensures said { IfOk result (λ all. all_of all.items ≡ said_from [] records.entry.now lines.entry.now) }
+    ensures open { IfOk result (λ all. EachAfter IsOpen [] (all_of all.items)) }
+{
+    let mut lasts = BTreeMap::new(alloc);
+    let many = records.len().min(lines.len());
+    let mut all = Vec::with_capacity(alloc, many)?;
+    for k in 0..many {
+        let now = read_line(&mut lasts, &records[k], &lines[k].reply)?;
+        all.push(now)?;
+    }
+    Ok(all)
+}
