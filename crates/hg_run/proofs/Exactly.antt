@@ -10,8 +10,10 @@ use Rattle.hg_script.specs.Fields.{rows_of}
 use Rattle.hg_script.specs.Meaning.{refusal_of}
 use Rattle.hg_run.specs.declared.status.Status.{Status}
 use Rattle.hg_run.specs.declared.status.Status.TheVariants.{Done, Usage, BadScript, ReadFault, WriteFault, TooLong, NoMemory}
-use Rattle.hg_run.specs.Words.{AsksFor, IsMaking, IsReading, Task, makes, reads, task_of}
-use Rattle.hg_run.specs.Serving.{Change, Answers, Gives, HasFailed, IsTooLong, ReadsAll, Refuses, WritesAll, Comes, IsUnlessNoMemory}
+use Rattle.hg_run.specs.Words.{AsksFor, IsMaking, IsReading, Task, audits, makes, reads, task_of}
+use Rattle.hg_run.specs.Serving.{Change, Answers, Gives, HasFailed, IsScriptIn, IsTooLong, ReadsAll, Refuses, WritesAll, WritesPart, Comes, IsUnlessNoMemory}
+use Rattle.hg_run.specs.Parting.{AreParts}
+use Rattle.hg_run.proofs.Parted.{one_script}
 
 -- what was read to the end is all there was
 whole : (before after : Option (List ℕ)) (all bytes : List ℕ) → before ≡ Some all → Consumes before after bytes → IsAtEnd after → all ≡ bytes
@@ -64,15 +66,21 @@ not_both words reading making = clash (task_of making.options) (subst IsReading 
     clash : (task : Task) → IsReading task → IsMaking task → ⊥
     clash (reads mode) r m = m
     clash (makes seed) r m = r
+    clash audits r m = m
 
 -- words that ask for something are not refused
 not_usage : (words : List (List ℕ)) (P : Task → Type 0) → AsksFor words P → options_of words ≡ None → ⊥
 not_usage words P a none = none_some _ a.options none a.asked
 
--- where the words ask to read, what is asked is known to be so
-module _ (words : List (List ℕ)) (P : Task → Type 0) (reading : AsksFor words IsReading) (a : AsksFor words P) where
-  reads_it : IsReading (task_of a.options)
-  reads_it = subst IsReading (same_task words IsReading P reading a) reading.holds
+-- what is known of what is asked holds wherever it is asked
+same_asked : (words : List (List ℕ)) (P Q : Task → Type 0) (a : AsksFor words P) (b : AsksFor words Q) → P (task_of b.options)
+same_asked words P Q a b = subst P (same_task words P Q a b) a.holds
+
+-- a script that is made is not in the source
+refuses_read : (task : Task) (source : Change) (line : ℕ) (code : Code) → Refuses task source line code → IsReading task
+refuses_read (reads mode) source line code r = tt
+refuses_read (makes seed) source line code r = r.refused.within
+refuses_read audits source line code r = tt
 
 -- a script that is made wants no source
 pub loaded : (words : List (List ℕ)) (source sink : Change) (status : Status) → Comes words source sink status → AsksFor words IsMaking → (HasFailed sink → ⊥) → IsUnlessNoMemory status Done
@@ -84,60 +92,89 @@ loaded words source sink status comes making steady = go status comes
     go : (status : Status) → Comes words source sink status → IsUnlessNoMemory status Done
     go Done comes = inl refl
     go Usage comes = absurd (not_usage words IsMaking making comes)
-    go (BadScript line code) comes = absurd (no (Refuses source line code) comes)
+    go (BadScript line code) comes = absurd (not_both words (record { options = comes.options; asked = comes.asked; holds = refuses_read (task_of comes.options) source line code comes.holds }) making)
     go ReadFault comes = absurd (no (HasFailed source) comes)
     go WriteFault comes = absurd (steady comes.holds.failed)
     go TooLong comes = absurd (no (IsTooLong source) comes)
     go NoMemory comes = inr refl
 
+-- ---- the script in the source is one
+
+one_within : (task : Task) (bytes s t : List ℕ) → IsScriptIn task bytes s → IsScriptIn task bytes t → s ≡ t
+one_within (reads mode) bytes s t a b = a ∙ sym b
+one_within (makes seed) bytes s t a b = absurd a
+one_within audits bytes s t a b = one_script bytes s a.0 t b.0 a.1 b.1
+
+-- what is answered of the source is answered of its bytes
+module _ (source : Change) (bytes : List ℕ) (gives : Gives source bytes) where
+  -- the script that breaks a rule is the one that is asked of
+  refused_in : (task : Task) (script : List ℕ) (line : ℕ) (code : Code) → IsScriptIn task bytes script → Refuses task source line code → refusal_of (rows_of script) ≡ Some (line, code)
+  refused_in task script line code within r =
+      let same = reads_all source bytes r.bytes gives r.all in
+      let one = one_within task bytes script r.refused.script within (subst (λ (b : List ℕ). IsScriptIn task b r.refused.script) (sym same) r.refused.within) in
+      ap (λ (s : List ℕ). refusal_of (rows_of s)) one ∙ r.refused.first
+
+  -- where there is an answer, the script is valid
+  valid_in : (task : Task) (script text : List ℕ) → IsScriptIn task bytes script → Answers task source text → refusal_of (rows_of script) ≡ None
+  valid_in (reads mode) script text within answers = ap (λ (s : List ℕ). refusal_of (rows_of s)) (within ∙ reads_all source bytes answers.bytes gives answers.all) ∙ answers.text_for.valid
+  valid_in (makes seed) script text within answers = absurd within
+  valid_in audits script text within answers =
+      let judged = answers.text_for in
+      let parts = subst (λ (b : List ℕ). AreParts b judged.script judged.text) (sym (reads_all source bytes answers.bytes gives answers.all)) judged.parts in
+      ap (λ (s : List ℕ). refusal_of (rows_of s)) (one_script bytes script within.0 judged.script judged.text within.1 parts) ∙ judged.valid
+
+  -- and the source has no more than a script may have
+  short_in : (task : Task) (text : List ℕ) → IsReading task → Answers task source text → length bytes ≤ MOST_SCRIPT_BYTES
+  short_in (reads mode) text reading answers = rw (reads_all source bytes answers.bytes gives answers.all) answers.all.short
+  short_in (makes seed) text reading answers = absurd reading
+  short_in audits text reading answers = rw (reads_all source bytes answers.bytes gives answers.all) answers.all.short
+
 module _ (words : List (List ℕ)) (source sink : Change) (bytes : List ℕ) where
+  -- a source with too many bytes is read no further
+  not_long : (P : Task → Type 0) → Gives source bytes → length bytes ≤ MOST_SCRIPT_BYTES → AsksFor words (λ task. P task × IsTooLong source) → ⊥
+  not_long P gives short a = omega (arith, no_more source.before source.after bytes a.holds.1.bytes gives.told a.holds.1.read, a.holds.1.long, short)
+
   -- a valid script and no fault: all is done, or memory is wanting
-  pub complete : (status : Status) → Comes words source sink status → AsksFor words IsReading → Gives source bytes → length bytes ≤ MOST_SCRIPT_BYTES
-      → refusal_of (rows_of bytes) ≡ None → (HasFailed sink → ⊥) → IsUnlessNoMemory status Done
-  complete Done comes words_are gives short valid steady = inl refl
-  complete Usage comes words_are gives short valid steady = absurd (not_usage words IsReading words_are comes)
-  complete (BadScript line code) comes words_are gives short valid steady =
-      let same = reads_all source bytes comes.holds.1.bytes gives comes.holds.1.all in
-      absurd (none_some _ (line, code) valid (rw same comes.holds.1.first))
-  complete ReadFault comes words_are gives short valid steady = absurd (gives.steady comes.holds.1)
-  complete WriteFault comes words_are gives short valid steady = absurd (steady comes.holds.failed)
-  complete TooLong comes words_are gives short valid steady =
-      absurd (omega (arith, no_more source.before source.after bytes comes.holds.1.bytes gives.told comes.holds.1.read, comes.holds.1.long, short))
-  complete NoMemory comes words_are gives short valid steady = inr refl
-
-  -- a source that has a text has a valid script
-  valid_where : (task : Task) (text : List ℕ) → IsReading task → Gives source bytes → Answers task source text → refusal_of (rows_of bytes) ≡ None
-  valid_where (makes seed) text reading gives answers = absurd reading
-  valid_where (reads mode) text reading gives answers = rw (reads_all source bytes answers.bytes gives answers.all) answers.text_for.valid
-
-  -- and is no longer than a script may be
-  short_where : (task : Task) (text : List ℕ) → IsReading task → Gives source bytes → Answers task source text → length bytes ≤ MOST_SCRIPT_BYTES
-  short_where (makes seed) text reading gives answers = absurd reading
-  short_where (reads mode) text reading gives answers = rw (reads_all source bytes answers.bytes gives answers.all) answers.all.short
+  pub complete : (script : List ℕ) (status : Status) → Comes words source sink status → AsksFor words (λ task. IsScriptIn task bytes script) → Gives source bytes → length bytes ≤ MOST_SCRIPT_BYTES
+      → refusal_of (rows_of script) ≡ None → (HasFailed sink → ⊥) → IsUnlessNoMemory status Done
+  complete script Done comes within gives short valid steady = inl refl
+  complete script Usage comes within gives short valid steady = absurd (not_usage words (λ task. IsScriptIn task bytes script) within comes)
+  complete script (BadScript line code) comes within gives short valid steady =
+      let one = same_asked words (λ task. IsScriptIn task bytes script) (λ task. Refuses task source line code) within comes in
+      absurd (none_some _ (line, code) valid (refused_in source bytes gives (task_of comes.options) script line code one comes.holds))
+  complete script ReadFault comes within gives short valid steady = absurd (gives.steady comes.holds.1)
+  complete script WriteFault comes within gives short valid steady = absurd (steady comes.holds.failed)
+  complete script TooLong comes within gives short valid steady = absurd (not_long IsReading gives short comes)
+  complete script NoMemory comes within gives short valid steady = inr refl
 
   -- a script that breaks a rule is refused, or memory is wanting
-  pub bad_script : (line : ℕ) (code : Code) (status : Status) → Comes words source sink status → AsksFor words IsReading → Gives source bytes → length bytes ≤ MOST_SCRIPT_BYTES
-      → refusal_of (rows_of bytes) ≡ Some (line, code) → IsUnlessNoMemory status (BadScript line code)
-  bad_script line code Done comes words_are gives short refused = absurd (none_some _ (line, code) (valid_where _ comes.holds.text (reads_it words _ words_are comes) gives comes.holds.answers) refused)
-  bad_script line code Usage comes words_are gives short refused = absurd (not_usage words IsReading words_are comes)
-  bad_script line code (BadScript l c) comes words_are gives short refused =
-      let same = reads_all source bytes comes.holds.1.bytes gives comes.holds.1.all in
-      inl (same_refusal l line c code (sym (rw same comes.holds.1.first) ∙ refused))
-  bad_script line code ReadFault comes words_are gives short refused = absurd (gives.steady comes.holds.1)
-  bad_script line code WriteFault comes words_are gives short refused = absurd (none_some _ (line, code) (valid_where _ comes.holds.text (reads_it words _ words_are comes) gives comes.holds.answers) refused)
-  bad_script line code TooLong comes words_are gives short refused =
-      absurd (omega (arith, no_more source.before source.after bytes comes.holds.1.bytes gives.told comes.holds.1.read, comes.holds.1.long, short))
-  bad_script line code NoMemory comes words_are gives short refused = inr refl
+  pub bad_script : (script : List ℕ) (line : ℕ) (code : Code) (status : Status) → Comes words source sink status → AsksFor words (λ task. IsScriptIn task bytes script) → Gives source bytes → length bytes ≤ MOST_SCRIPT_BYTES
+      → refusal_of (rows_of script) ≡ Some (line, code) → IsUnlessNoMemory status (BadScript line code)
+  bad_script script line code Done comes within gives short refused =
+      let one = same_asked words (λ task. IsScriptIn task bytes script) (λ task. WritesAll task source sink) within comes in
+      absurd (none_some _ (line, code) (valid_in source bytes gives (task_of comes.options) script comes.holds.text one comes.holds.answers) refused)
+  bad_script script line code Usage comes within gives short refused = absurd (not_usage words (λ task. IsScriptIn task bytes script) within comes)
+  bad_script script line code (BadScript l c) comes within gives short refused =
+      let one = same_asked words (λ task. IsScriptIn task bytes script) (λ task. Refuses task source l c) within comes in
+      inl (same_refusal l line c code (sym (refused_in source bytes gives (task_of comes.options) script l c one comes.holds) ∙ refused))
+  bad_script script line code ReadFault comes within gives short refused = absurd (gives.steady comes.holds.1)
+  bad_script script line code WriteFault comes within gives short refused =
+      let one = same_asked words (λ task. IsScriptIn task bytes script) (λ task. WritesPart task source sink) within comes in
+      absurd (none_some _ (line, code) (valid_in source bytes gives (task_of comes.options) script comes.holds.text one comes.holds.answers) refused)
+  bad_script script line code TooLong comes within gives short refused = absurd (not_long IsReading gives short comes)
+  bad_script script line code NoMemory comes within gives short refused = inr refl
 
   -- a source with too many bytes is too long, or memory is wanting
   pub too_long : (status : Status) → Comes words source sink status → AsksFor words IsReading → Gives source bytes → MOST_SCRIPT_BYTES < length bytes
       → IsUnlessNoMemory status TooLong
-  too_long Done comes words_are gives long = absurd (omega (arith, short_where _ comes.holds.text (reads_it words _ words_are comes) gives comes.holds.answers, long))
-  too_long Usage comes words_are gives long = absurd (not_usage words IsReading words_are comes)
-  too_long (BadScript line code) comes words_are gives long =
-      let same = reads_all source bytes comes.holds.1.bytes gives comes.holds.1.all in
-      absurd (omega (arith, ap length same, comes.holds.1.all.short, long))
-  too_long ReadFault comes words_are gives long = absurd (gives.steady comes.holds.1)
-  too_long WriteFault comes words_are gives long = absurd (omega (arith, short_where _ comes.holds.text (reads_it words _ words_are comes) gives comes.holds.answers, long))
-  too_long TooLong comes words_are gives long = inl refl
-  too_long NoMemory comes words_are gives long = inr refl
+  too_long Done comes reading gives long =
+      absurd (omega (arith, short_in source bytes gives (task_of comes.options) comes.holds.text (same_asked words IsReading (λ task. WritesAll task source sink) reading comes) comes.holds.answers, long))
+  too_long Usage comes reading gives long = absurd (not_usage words IsReading reading comes)
+  too_long (BadScript line code) comes reading gives long =
+      let same = reads_all source bytes comes.holds.bytes gives comes.holds.all in
+      absurd (omega (arith, ap length same, comes.holds.all.short, long))
+  too_long ReadFault comes reading gives long = absurd (gives.steady comes.holds.1)
+  too_long WriteFault comes reading gives long =
+      absurd (omega (arith, short_in source bytes gives (task_of comes.options) comes.holds.text (same_asked words IsReading (λ task. WritesPart task source sink) reading comes) comes.holds.answers, long))
+  too_long TooLong comes reading gives long = inl refl
+  too_long NoMemory comes reading gives long = inr refl

@@ -1,6 +1,8 @@
 -- Reading and writing, and when each status comes.
 mod Known
+mod Parted
 mod Exactly
+mod Verdicts
 -- What a session that has heard all logs knows, and what its reply shows.
 mod Hearing
 mod FreshNumbers

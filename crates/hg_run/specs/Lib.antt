@@ -13,4 +13,6 @@ pub mod Played
 pub mod Closed
 pub mod Rows
 pub mod Printing
+pub mod Parting
+pub mod Judging
 pub mod Serving

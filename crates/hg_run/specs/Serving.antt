@@ -10,8 +10,10 @@ use Rattle.hg_script.specs.Meaning.{refusal_of, script_of}
 use Rattle.hg_words.specs.Options.{options_of}
 use Rattle.hg_run.specs.declared.status.Status.{Status}
 use Rattle.hg_run.specs.declared.status.Status.TheVariants.{Done, Usage, BadScript, ReadFault, WriteFault, TooLong, NoMemory}
-use Rattle.hg_run.specs.Words.{AsksFor, IsReading, Task, makes, reads}
+use Rattle.hg_run.specs.Words.{AsksFor, IsReading, Task, audits, makes, reads}
 use Rattle.hg_run.specs.Printing.{AreTotalsOf, IsPrintedFor}
+use Rattle.hg_run.specs.Parting.{AreParts}
+use Rattle.hg_run.specs.Judging.{IsJudgedBy}
 
 -- ---- what a source and a sink tell of a call
 
@@ -48,24 +50,37 @@ pub record ReadsAll (source : Change) (bytes : List ℕ) : Type 0 where
   pub end : IsAtEnd source.after
   pub short : length bytes ≤ MOST_SCRIPT_BYTES
 
--- a text that the script in the source may print under a command
-pub record AnswersSource (mode : Mode) (source : Change) (text : List ℕ) : Type 0 where
+-- a text of which P holds with all the bytes of the source
+pub record AnswersSource (P : List ℕ → List ℕ → Type 0) (source : Change) (text : List ℕ) : Type 0 where
   pub bytes : List ℕ
   pub all : ReadsAll source bytes
-  pub text_for : IsTextFor mode bytes text
+  pub text_for : P bytes text
 
 -- a text that does what is asked
 abbrev pub Answers : Task → Change → List ℕ → Type 0
-Answers (reads mode) source text = AnswersSource mode source text
+Answers (reads mode) source text = AnswersSource (IsTextFor mode) source text
 Answers (makes seed) source text = AreTotalsOf seed text
+Answers audits source text = AnswersSource IsJudgedBy source text
 
 -- ---- what was done with them
 
--- the first record in the source that breaks a rule, and its first code
-pub record Refuses (source : Change) (line : ℕ) (code : Code) : Type 0 where
+-- which of the bytes of a source are the script's: all of them, or those before the line that parts it; one that is made has none there
+abbrev pub IsScriptIn : Task → List ℕ → List ℕ → Type 0
+IsScriptIn (reads mode) bytes script = script ≡ bytes
+IsScriptIn (makes seed) bytes script = ⊥
+IsScriptIn audits bytes script = (text : List ℕ) × AreParts bytes script text
+
+-- the first record of the script that breaks a rule, and its first code
+pub record RefusesScript (task : Task) (bytes : List ℕ) (line : ℕ) (code : Code) : Type 0 where
+  pub script : List ℕ
+  pub within : IsScriptIn task bytes script
+  pub first : refusal_of (rows_of script) ≡ Some (line, code)
+
+-- the same of the script in the source
+pub record Refuses (task : Task) (source : Change) (line : ℕ) (code : Code) : Type 0 where
   pub bytes : List ℕ
   pub all : ReadsAll source bytes
-  pub first : refusal_of (rows_of bytes) ≡ Some (line, code)
+  pub refused : RefusesScript task bytes line code
 
 -- the source gave one byte more than a script may have, and no more was read
 pub record IsTooLong (source : Change) : Type 0 where
@@ -92,7 +107,7 @@ pub record WritesPart (task : Task) (source sink : Change) : Type 0 where
 abbrev pub Comes : List (List ℕ) → Change → Change → Status → Type 0
 Comes words source sink Done = AsksFor words (λ task. WritesAll task source sink)
 Comes words source sink Usage = options_of words ≡ None
-Comes words source sink (BadScript line code) = AsksFor words (λ task. IsReading task × Refuses source line code)
+Comes words source sink (BadScript line code) = AsksFor words (λ task. Refuses task source line code)
 Comes words source sink ReadFault = AsksFor words (λ task. IsReading task × HasFailed source)
 Comes words source sink WriteFault = AsksFor words (λ task. WritesPart task source sink)
 Comes words source sink TooLong = AsksFor words (λ task. IsReading task × IsTooLong source)
@@ -111,20 +126,20 @@ IsUnlessNoMemory status wanted = (status ≡ wanted) ⊎ (status ≡ NoMemory)
 -- ---- what the steps refuse
 
 -- why bytes have no text
-abbrev pub RefusesBytes : List ℕ → Status → Type 0
-RefusesBytes bytes (BadScript line code) = refusal_of (rows_of bytes) ≡ Some (line, code)
-RefusesBytes bytes NoMemory = ⊤
-RefusesBytes bytes _ = ⊥
+abbrev pub RefusesBytes : Task → List ℕ → Status → Type 0
+RefusesBytes task bytes (BadScript line code) = RefusesScript task bytes line code
+RefusesBytes task bytes NoMemory = ⊤
+RefusesBytes task bytes _ = ⊥
 
 -- why a source has no text
-abbrev pub RefusesSource : Change → Status → Type 0
-RefusesSource source (BadScript line code) = Refuses source line code
-RefusesSource source ReadFault = HasFailed source
-RefusesSource source TooLong = IsTooLong source
-RefusesSource source NoMemory = ⊤
-RefusesSource source _ = ⊥
+abbrev pub RefusesSource : Task → Change → Status → Type 0
+RefusesSource task source (BadScript line code) = Refuses task source line code
+RefusesSource task source ReadFault = HasFailed source
+RefusesSource task source TooLong = IsTooLong source
+RefusesSource task source NoMemory = ⊤
+RefusesSource task source _ = ⊥
 
 -- why what is asked has no text: a script that is made wants memory alone
 abbrev pub RefusesTask : Task → Change → Status → Type 0
-RefusesTask (reads mode) source status = RefusesSource source status
 RefusesTask (makes seed) source status = status ≡ NoMemory
+RefusesTask task source status = RefusesSource task source status

@@ -10,16 +10,18 @@
 //!     write_all       the text           Done               WriteFault
 //!
 //! With a seed in place of a source (`load`) the steps between the first and the last are `make_script`, a replay, and the text of
-//! its totals alone. Want of memory may end every step but the last. The text is whole before its first byte is written. So
+//! its totals alone. For `audit` the bytes are parted at a line `====` (`part`) into a script, which is read as above, and a text, which is
+//! held against it; what is found is the text that is written. Want of memory may end every step but the last. The text is whole before its first byte is written. So
 //! a script that is refused has run nothing, and what a sink took is a front of the text of a whole run.
 //!
 //! `Comes` says when each status comes. Its line for `Done` is the headline: the sink took the text of a printed value
 //! that is sound, under the command that the words ask for, for the script which all the bytes of the source mean, and fits it.
 //! No other value that fits has this text (`text_determines_what_was_printed`). For `load` the text is that of the totals of such a
-//! value, for the script of the seed.
+//! value, for the script of the seed; for `audit` it tells whether the text behind the script is sound for it, and if not, what fails first.
 #![tactic(auto)]
 
 mod ask;
+mod audit;
 mod beside;
 mod collect;
 mod collecting;
@@ -28,6 +30,7 @@ mod gc;
 mod laws;
 mod load;
 mod opening;
+mod parting;
 mod play;
 mod replay;
 mod reply;
@@ -37,6 +40,7 @@ mod serving;
 mod sink;
 mod source;
 mod status;
+mod steady;
 mod turn;
 mod work;
 
@@ -48,3 +52,4 @@ pub use replay::replay_on;
 pub use run::run_on;
 pub use serving::serve;
 pub use status::Status;
+pub use steady::serve_steadily;

@@ -1,13 +1,14 @@
-//! The steps in their order.
+//! The steps in their order: of a script that is run, of one that is made, and of one whose text is audited.
 
 ghost use Rattle.std.specs.Prelude.{◌≡◌, ◌≤◌, ◌<◌, ℕ, List, length, map, Some, None, IfOk, IfErr, IsFalse, string_bytes};
 ghost use Rattle.hg_script.specs.declared.code.Code.{Code};
 ghost use Rattle.hg_script.specs.Fields.{rows_of};
 ghost use Rattle.hg_script.specs.Meaning.{refusal_of};
 ghost use Rattle.hg_words.specs.Options.{AreWithin, options_of};
-ghost use Rattle.hg_run.specs.Words.{AsksFor, IsMaking, IsReading, mode_of, task_of};
-ghost use Rattle.hg_run.specs.Serving.{Answers, AnswersSource, Comes, Gives, HasFailed, IsTextFor, IsUnlessNoMemory, RefusesBytes, RefusesSource, RefusesTask, WritesAll, change_of, may_write};
+ghost use Rattle.hg_run.specs.Words.{AsksFor, IsMaking, IsReading, audits, mode_of, reads, task_of};
+ghost use Rattle.hg_run.specs.Serving.{Answers, Comes, Gives, HasFailed, IsScriptIn, IsTextFor, IsUnlessNoMemory, RefusesBytes, RefusesTask, WritesAll, change_of, may_write};
 
+use crate::audit::audit_bytes;
 use crate::load::load;
 use crate::replay::replay;
 use crate::run::run_all;
@@ -31,13 +32,13 @@ fn text_of_bytes<R: Threads + Wait + Sync, G: Gate + Sync>(
 ) -> Result<Vec<u8>, Status>
     requires { AreWithin options.now }
     ensures text { IfOk result (λ text. IsTextFor (mode_of options.now) bytes.items text.items) }
-    ensures refused { IfErr result (RefusesBytes bytes.items) }
+    ensures refused { IfErr result (RefusesBytes (reads (mode_of options.now)) bytes.items) }
 {
     let script = read_script(alloc, &bytes)?;
     drop(bytes);
     let text = match options.command {
         Command::Run => run_all(rt, alloc, &script, options, gate)?,
-        Command::Replay | Command::Load(_) => replay(rt, alloc, &script, options)?,
+        Command::Replay | Command::Load(_) | Command::Audit => replay(rt, alloc, &script, options)?,
     };
     Ok(text)
 }
@@ -51,11 +52,20 @@ fn text_of_source<R: Threads + Wait + Sync, S: Source, G: Gate + Sync>(
     gate: &G,
 ) -> Result<Vec<u8>, Status>
     requires { AreWithin options.now }
-    ensures text { IfOk result (λ text. AnswersSource (mode_of options.now) (change_of S.left S.faults source.old source.new) text.items) }
-    ensures refused { IfErr result (RefusesSource (change_of S.left S.faults source.old source.new)) }
+    ensures text { IfOk result (λ text. Answers (reads (mode_of options.now)) (change_of S.left S.faults source.old source.new) text.items) }
+    ensures refused { IfErr result (RefusesTask (reads (mode_of options.now)) (change_of S.left S.faults source.old source.new)) }
 {
     let bytes = read_all(alloc, source)?;
     text_of_bytes(rt, alloc, options, bytes, gate)
+}
+
+// What is told of the text behind the script in a source.
+fn audit_source<S: Source>(alloc: Global, source: &mut S) -> Result<Vec<u8>, Status>
+    ensures text { IfOk result (λ text. Answers audits (change_of S.left S.faults source.old source.new) text.items) }
+    ensures refused { IfErr result (RefusesTask audits (change_of S.left S.faults source.old source.new)) }
+{
+    let bytes = read_all(alloc, source)?;
+    audit_bytes(alloc, &bytes)
 }
 
 // The text that does what the words ask for.
@@ -73,6 +83,7 @@ fn text_for<R: Threads + Wait + Sync, S: Source, G: Gate + Sync>(
 {
     match options.command {
         Command::Load(seed) => Ok(load(rt, alloc, seed, options)?),
+        Command::Audit => audit_source(alloc, source),
         Command::Replay | Command::Run => text_of_source(rt, alloc, options, source, gate),
     }
 }
@@ -107,8 +118,8 @@ fn outcome<R: Threads + Wait + Sync, So: Source, Si: Sink, G: Gate + Sync>(
     }
 }
 
-/// Does what the words ask for: runs the script in the source and writes its answers to the sink, or replays the script of a seed and
-/// writes its totals.
+/// Does what the words ask for: runs the script in the source and writes its answers to the sink; or replays the script of a seed and
+/// writes its totals; or holds the text behind the script against it, and writes what is told of the text.
 pub fn serve<R: Threads + Wait + Sync, So: Source, Si: Sink, G: Gate + Sync>(
     rt: &R,
     alloc: Global,
@@ -118,7 +129,7 @@ pub fn serve<R: Threads + Wait + Sync, So: Source, Si: Sink, G: Gate + Sync>(
     gate: &G,
 ) -> Status
     // The sink took the whole text of a printed value that is sound, as the words ask for, for the script in the source; or the text of
-    // the totals of one that is sound for the script of the seed.
+    // the totals of one that is sound for the script of the seed; or the verdict on the text behind the script.
     ensures sound { result ≡ Status.Done → AsksFor (map string_bytes words.now) (λ task.
         WritesAll task (change_of So.left So.faults source.old source.new) (change_of Si.taken Si.faults sink.old sink.new)) }
 
@@ -134,14 +145,15 @@ pub fn serve<R: Threads + Wait + Sync, So: Source, Si: Sink, G: Gate + Sync>(
     ensures made { AsksFor (map string_bytes words.now) IsMaking → source.new ≡ source.old }
     ensures untouched { IsFalse (may_write result) → sink.new ≡ sink.old }
 
-    // What a source holds that tells its bytes and does not fail decides the answer, where memory is found.
-    ensures complete { (bytes : List ℕ) → AsksFor (map string_bytes words.now) IsReading
+    // What a source holds that tells its bytes and does not fail decides the answer, where memory is found. Whether there is one hangs
+    // on the script's bytes alone, which are all of them, or those before the line that parts them.
+    ensures complete { (bytes script : List ℕ) → AsksFor (map string_bytes words.now) (λ task. IsScriptIn task bytes script)
         → Gives (change_of So.left So.faults source.old source.new) bytes → length bytes ≤ MOST_SCRIPT_BYTES
-        → refusal_of (rows_of bytes) ≡ None → ¬ HasFailed (change_of Si.taken Si.faults sink.old sink.new)
+        → refusal_of (rows_of script) ≡ None → ¬ HasFailed (change_of Si.taken Si.faults sink.old sink.new)
         → IsUnlessNoMemory result Status.Done }
-    ensures bad_script { (bytes : List ℕ) (line : ℕ) (code : Code) → AsksFor (map string_bytes words.now) IsReading
+    ensures bad_script { (bytes script : List ℕ) (line : ℕ) (code : Code) → AsksFor (map string_bytes words.now) (λ task. IsScriptIn task bytes script)
         → Gives (change_of So.left So.faults source.old source.new) bytes → length bytes ≤ MOST_SCRIPT_BYTES
-        → refusal_of (rows_of bytes) ≡ Some (line, code)
+        → refusal_of (rows_of script) ≡ Some (line, code)
         → IsUnlessNoMemory result (Status.BadScript line code) }
     ensures too_long { (bytes : List ℕ) → AsksFor (map string_bytes words.now) IsReading
         → Gives (change_of So.left So.faults source.old source.new) bytes → MOST_SCRIPT_BYTES < length bytes

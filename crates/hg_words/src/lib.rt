@@ -3,6 +3,7 @@
 //!     replay                                     one session after another, record by record
 //!     run                                        each session in a thread of its own, the collectors beside them
 //!     load SEED                                  a script that is made from the seed, replayed
+//!     audit                                      a printed text held against its script, and nothing run
 //!
 //!     --buckets N   how many buckets a table's records are spread over     1 to 1,024        default 64
 //!     --long N      a declared snapshot so far below the mark is long      1 to 1,048,576    default 4

@@ -12,6 +12,7 @@ pub enum Command {
     Run,
     /// With its seed.
     Load(u64),
+    Audit,
 }
 
 #[derive(Clone, Copy, Debug, PartialEq, Eq)]

@@ -35,6 +35,7 @@ fn command_from(mode: &str, seed: Option<u64>) -> Option<Command>
     match seed {
         None if mode == "replay" => Some(Command::Replay),
         None if mode == "run" => Some(Command::Run),
+        None if mode == "audit" => Some(Command::Audit),
         Some(seed) if mode == "load" => Some(Command::Load(seed)),
         _ => None,
     }

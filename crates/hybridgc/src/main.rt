@@ -3,6 +3,7 @@
 //!     hybridgc replay < script.csv
 //!     hybridgc run --rounds 4 < script.csv
 //!     hybridgc load 7
+//!     hybridgc audit < script-and-text
 //!
 //! What is said beside the answers goes to standard error. The exit status tells how the call ended.
 #![tactic(auto)]

@@ -17,16 +17,16 @@ returns-clause-usage g c =
     usage (map string_bytes c.args.words.now) source sink c.outcome.result c.outcome.ensures.comes
 
 pub returns-clause-complete : goal.returns-clause-complete
-returns-clause-complete g c bytes =
+returns-clause-complete g c bytes script =
     let source = change_of g.So.Source.left g.So.Source.faults c.args.source.now c.outcome.new.source in
     let sink = change_of g.Si.Sink.taken g.Si.Sink.faults c.args.sink.now c.outcome.new.sink in
-    complete (map string_bytes c.args.words.now) source sink bytes c.outcome.result c.outcome.ensures.comes
+    complete (map string_bytes c.args.words.now) source sink bytes script c.outcome.result c.outcome.ensures.comes
 
 pub returns-clause-bad_script : goal.returns-clause-bad_script
-returns-clause-bad_script g c bytes line code =
+returns-clause-bad_script g c bytes script line code =
     let source = change_of g.So.Source.left g.So.Source.faults c.args.source.now c.outcome.new.source in
     let sink = change_of g.Si.Sink.taken g.Si.Sink.faults c.args.sink.now c.outcome.new.sink in
-    bad_script (map string_bytes c.args.words.now) source sink bytes line code c.outcome.result c.outcome.ensures.comes
+    bad_script (map string_bytes c.args.words.now) source sink bytes script line code c.outcome.result c.outcome.ensures.comes
 
 pub returns-clause-too_long : goal.returns-clause-too_long
 returns-clause-too_long g c bytes =
