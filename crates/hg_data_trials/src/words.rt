@@ -51,6 +51,8 @@ fn words_are_taken(rt: HostRuntime) -> Result<(), Fail> {
             "load 18446744073709551615 --rounds 3",
             options(Command::Load(18_446_744_073_709_551_615), 64, 4, 3),
         ),
+        ("audit", options(Command::Audit, 64, 4, 8)),
+        ("audit --rounds 3", options(Command::Audit, 64, 4, 3)),
     ] {
         assert_eq!(rt; read(rt.alloc(), words)?, Ok(wanted), "at {words}");
     }
@@ -72,6 +74,7 @@ fn words_are_refused(rt: HostRuntime) -> Result<(), Fail> {
         "load x",
         "replay 7",
         "run 7",
+        "audit 7",
         "replay replay",
         "walk",
         "Replay",

@@ -2,12 +2,15 @@
 //!
 //!     serve_tests    statuses, failing sources and sinks, scripts that are replayed and what they print
 //!     run_tests      scripts that run in threads
+//!     audit_tests    what was printed, audited, and with one number changed
 //!     order          a gate that holds workers, so that they meet
 //!     watched        a source and a sink that watch how they are called
 //!
 //! Nothing here is called by other crates.
 #![tactic(auto)]
 
+#[cfg(test)]
+mod audit_tests;
 #[cfg(test)]
 mod order;
 #[cfg(test)]

@@ -1,8 +1,9 @@
 //! Scripts that run in threads. Where the text would depend on the schedule, a gate holds workers, or less is asked of it.
 
-ghost use Rattle.std.specs.Prelude.{◌<◌};
+ghost use Rattle.std.specs.Prelude.{◌<◌, ◌≤◌};
 
 use crate::order::Order;
+use hg_audit::{Verdict, audit};
 use hg_base::{
     DEFAULT_BUCKETS, DEFAULT_LONG, Gate, MemorySink, MemorySource, NoGate, Printed, Totals,
 };
@@ -286,7 +287,10 @@ fn accounts(alloc: Global) -> Result<String, Fail> {
 #[test]
 fn twenty_accounts_are_left(rt: HostRuntime) -> Result<(), Fail> {
     let script = accounts(rt.alloc())?;
-    let printed = printed(&rt, rt.alloc(), "run", script.as_str())?;
+    let text = written(&rt, rt.alloc(), "run", script.as_str(), &NoGate)?;
+    let script = read_script(rt.alloc(), script.as_bytes())?;
+    assert_eq!(rt; audit(rt.alloc(), &script, &text)?, Verdict::Sound);
+    let printed = read_text(rt.alloc(), &script, &text)?;
     assert_eq!(rt;
         printed.lines.as_slice().len(),
         22 + 4 * 10 * 6 + 13 + 3 * 8

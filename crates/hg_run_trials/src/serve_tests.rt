@@ -9,7 +9,7 @@ use hg_base::{
     ToldList, Totals, Writer,
 };
 use hg_report::text_of;
-use hg_run::{Status, serve};
+use hg_run::{Status, serve, serve_steadily};
 use hg_script::{Code, read_script};
 use std::alloc::Global;
 use std::sync::Wait;
@@ -19,7 +19,7 @@ use std::thread::Threads;
 const OWN_WRITE: &str = "table,t,1\n1,begin\n1,put,t,5,7\n1,get,t,5\n1,commit\n";
 
 const USAGE: &str =
-    "usage: hybridgc replay or run or load SEED, with --buckets N, --long N, --rounds N";
+    "usage: hybridgc replay or run or load SEED or audit, with --buckets N, --long N, --rounds N";
 
 const NO_TOTALS: &str =
     "total,made,0\ntotal,undone,0\ntotal,group,0\ntotal,table,0\ntotal,interval,0\ntotal,left,0\n";
@@ -293,7 +293,7 @@ fn steady_streams_carry_a_script_and_its_text(rt: HostRuntime) -> Result<(), Fai
     let mut source = SteadySource::new(bytes, 8);
     let mut sink = SteadySink::new(rt.alloc(), 8);
     sink.reserve(135)?;
-    let status = serve(&rt, rt.alloc(), &words, &mut source, &mut sink, &NoGate);
+    let status = serve_steadily(&rt, rt.alloc(), &words, &mut source, &mut sink, &NoGate);
     assert_eq!(rt;
         (status, sink.bytes().len(), sink.past()),
         (Status::Done, 135, 0)
@@ -514,6 +514,60 @@ total,left,2
 ";
     assert_eq!(rt; status, Status::Done);
     assert_eq!(rt; sink.bytes(), want.as_slice());
+    Ok(())
+}
+
+const OWN_WRITE_TEXT: &str =
+    "1,2,begun,0\n1,3,stored\n1,4,row,7\n1,5,committed,1\ntotal,made,1\ntotal,undone,0\ntotal,group,0\ntotal,table,0\ntotal,interval,0\ntotal,left,1\n";
+
+// The text of a script as it is printed, and with one fault each.
+#[test]
+fn texts_are_audited(rt: HostRuntime) -> Result<(), Fail> {
+    for (from, to, told) in [
+        ("row,7", "row,7", "sound\n"),
+        ("row,7", "row,8", "unsound,3,Reply\n"),
+        ("committed,1", "committed,2", "unsound,10,Commits\n"),
+        ("begun,0", "begun,1", "unsound,10,Commits\n"),
+        ("total,left,1", "total,left,0", "unsound,10,Totals\n"),
+        ("total,left,1\n", "", "unsound,10,Text\n"),
+        ("1,4,row,7\n", "", "unsound,3,Shape\n"),
+    ] {
+        let (before, after) = OWN_WRITE_TEXT.split_once(from).expect(&rt, "it is there");
+        let source = format!(in rt.alloc(); "{OWN_WRITE}====\n{before}{to}{after}")?;
+        let mut sink = MemorySink::new(rt.alloc(), 4, Vec::new(rt.alloc()));
+        sink.reserve(256)?;
+        let bytes = source.into_bytes();
+        let status = call(&rt, rt.alloc(), "audit", bytes, 8, &[], &mut sink)?;
+        assert_eq!(rt; status, Status::Done);
+        assert_eq!(rt; sink.bytes(), told.as_bytes(), "at {to}");
+    }
+    Ok(())
+}
+
+// Sources, and what is said of each: where the line stands, and where there is none.
+#[test]
+fn sources_are_parted(rt: HostRuntime) -> Result<(), Fail> {
+    for (source, exit, told) in [
+        (OWN_WRITE, 0, "unsound,1,Text\n"),
+        (
+            "====\ntotal,made,0\ntotal,undone,0\ntotal,group,0\ntotal,table,0\ntotal,interval,0\ntotal,left,0\n",
+            0,
+            "sound\n",
+        ),
+        ("table,t,1\n====\n====\n", 0, "unsound,1,Text\n"),
+        // a script that is refused, before the line and with a line that is none
+        ("table,t,1\n1,commit\n====\n", 3, ""),
+        ("table,t,1\n=====\n", 3, ""),
+        ("table,t,1\n ====\n", 3, ""),
+        ("table,t,1\n====", 3, ""),
+    ] {
+        let mut sink = MemorySink::new(rt.alloc(), 4, Vec::new(rt.alloc()));
+        sink.reserve(256)?;
+        let bytes = Vec::from_slice(rt.alloc(), source.as_bytes())?;
+        let status = call(&rt, rt.alloc(), "audit", bytes, 8, &[], &mut sink)?;
+        assert_eq!(rt; status.exit_code(), exit, "at {source}");
+        assert_eq!(rt; sink.bytes(), told.as_bytes(), "at {source}");
+    }
     Ok(())
 }
 

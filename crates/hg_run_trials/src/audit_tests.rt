@@ -1,0 +1,118 @@
+//! What the program prints is held against its script by who knows nothing of the engine.
+
+ghost use Rattle.std.specs.Prelude.{◌<◌};
+ghost use Rattle.hg_script.specs.Lawful.{IsLawful};
+
+use hg_audit::{Verdict, audit};
+use hg_base::{DEFAULT_BUCKETS, DEFAULT_LONG, DEFAULT_ROUNDS};
+use hg_run::{close, open_for, replay_on};
+use hg_script::{Script, make_script};
+use hg_words::{Command, Options};
+use std::alloc::Global;
+use std::sync::Wait;
+use std::test::Fail;
+
+// What a replay of a script prints.
+fn replayed<R: Wait>(rt: &R, alloc: Global, script: &Script) -> Result<Vec<u8>, Fail>
+    requires { IsLawful script.now }
+{
+    let options = Options {
+        command: Command::Replay,
+        buckets: DEFAULT_BUCKETS,
+        long: DEFAULT_LONG,
+        rounds: DEFAULT_ROUNDS,
+    };
+    let (engine, list, collectors) = open_for(alloc, script, &options)?;
+    let (mut list, mut collectors) = (list, collectors);
+    let transcript = replay_on(
+        rt,
+        alloc,
+        script,
+        &options,
+        &engine,
+        &mut list,
+        &mut collectors,
+    )?;
+    let totals = close(rt, &engine, list.into_vec(), collectors);
+    Ok(transcript.with_totals(&totals)?)
+}
+
+#[test]
+fn replays_of_made_scripts_are_sound(rt: HostRuntime) -> Result<(), Fail> {
+    for seed in 0..10 {
+        let script = make_script(rt.alloc(), seed)?;
+        let text = replayed(&rt, rt.alloc(), &script)?;
+        let verdict = audit(rt.alloc(), &script, &text)?;
+        assert_eq!(rt; verdict, Verdict::Sound, "at {seed}");
+    }
+    Ok(())
+}
+
+// Adds a record whose field at an index is one more, and says whether that field is a number.
+fn push_edited(edited: &mut String, record: &str, index: usize) -> Result<bool, Fail> {
+    let mut is_number = false;
+    for (at, field) in record.split(',').enumerate() {
+        if at > 0 {
+            edited.push_str(",")?;
+        }
+        match field.parse::<u64>() {
+            Ok(number) if at == index => {
+                write!(edited, "{}", number.wrapping_add(1))?;
+                is_number = true;
+            }
+            _ => edited.push_str(field)?,
+        }
+    }
+    Ok(is_number)
+}
+
+// A text in which one field of one record is one more, where that field is a number. How many versions a round of the table
+// collector removed is not such a field: what a run of rounds removed is only known to be at most the total.
+fn edit(alloc: Global, text: &str, place: usize, index: usize) -> Result<Option<String>, Fail> {
+    let mut edited = String::new(alloc);
+    let mut is_number = false;
+    for (at, record) in text.lines().enumerate() {
+        if at == place {
+            let is_free = record.contains(",swept,table,") && index == 6;
+            is_number = push_edited(&mut edited, record, index)? && !is_free;
+        } else {
+            edited.push_str(record)?;
+        }
+        edited.push_str("\n")?;
+    }
+    Ok(is_number.then_some(edited))
+}
+
+// The next of these numbers, below that one.
+fn next_below(seed: &mut u64, bound: u64) -> u64
+    requires { 0 < bound }
+{
+    *seed = seed
+        .wrapping_mul(6364136223846793005)
+        .wrapping_add(1442695040888963407);
+    (*seed >> 33) % bound
+}
+
+// One number of a text is changed, thirty times at places by chance.
+#[test]
+fn edited_texts_are_unsound(rt: HostRuntime) -> Result<(), Fail> {
+    let script = make_script(rt.alloc(), 3)?;
+    let text = String::from_utf8(replayed(&rt, rt.alloc(), &script)?)?;
+    let lines = text.lines().count() as u64;
+    let mut chance = 11;
+    let mut edits = 0u32;
+    for _ in 0..400 {
+        if edits == 30 || lines == 0 {
+            break;
+        }
+        let place = next_below(&mut chance, lines) as usize;
+        let index = next_below(&mut chance, 8) as usize;
+        if let Some(edited) = edit(rt.alloc(), &text, place, index)? {
+            let verdict = audit(rt.alloc(), &script, edited.as_bytes())?;
+            assert!(rt; verdict != Verdict::Sound, "field {index} of {place}");
+            edits = edits.wrapping_add(1);
+        }
+    }
+    assert_eq!(rt; edits, 30);
+    Ok(())
+}
