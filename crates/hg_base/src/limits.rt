@@ -4,7 +4,7 @@
 pub const MOST_SESSIONS: u32 = 64;
 
 /// Tables are numbered from 0, in the order of their declarations.
-pub const MOST_TABLES: u8 = 16;
+pub const MOST_TABLES: u8 = 64;
 
 /// A table has from 1 to this many columns.
 pub const MOST_COLUMNS: u8 = 8;

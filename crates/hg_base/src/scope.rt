@@ -10,7 +10,7 @@ use crate::rid::TableId;
 #[derive(Clone, Copy, Debug, PartialEq, Eq)]
 pub enum Scope {
     All,
-    Declared(u16),
+    Declared(u64),
 }
 
 impl Scope {

@@ -11,7 +11,7 @@ use hg_base::{
 /// Clauses elsewhere name a limit, and would follow a change of it. This one says which number it is.
 pub fn limits_are_these_numbers()
     ensures sessions { MOST_SESSIONS ≡ 64 }
-    ensures tables { MOST_TABLES ≡ 16 }
+    ensures tables { MOST_TABLES ≡ 64 }
     ensures columns { MOST_COLUMNS ≡ 8 }
     ensures name_bytes { MOST_NAME_BYTES ≡ 32 }
     ensures script_bytes { MOST_SCRIPT_BYTES ≡ 16777216 }
