@@ -7,7 +7,7 @@ use Rattle.hg_core.specs.Logs.{current, begun_in, open_in, is_in, published_logs
 use Rattle.hg_core.specs.Phases.{IsSession}
 use Rattle.hg_core.specs.Commits.{AloneHaveLogs}
 use Rattle.hg_core.specs.State.{CoreState, opened}
-use Rattle.hg_core.specs.Events.{Event, Probe, Enter, Fix, GoLive, End, Mark, Sample, Move, Install, Undo, Stamp, Publish, Reclaim, Take, Look, put, happens, May}
+use Rattle.hg_core.specs.Events.{Event, Declare, Probe, Enter, Fix, GoLive, End, Mark, Sample, SampleMask, Move, Install, Undo, Stamp, Publish, Reclaim, Take, Look, put, happens, May}
 use Rattle.hg_core.specs.Steps.{Step, Act, Arrive, Leave, Split, step, Can, Run, run, Always}
 use Rattle.hg_core.specs.Contents.{versions}
 use Rattle.hg_core.specs.OpenWrites.{writer_of}
@@ -32,13 +32,15 @@ published_log sessions n log js opened_ a j = go (is_in js j) refl (a j)
     go false e (inr none) = inr none
 
 event_alone : (s : CoreState) (e : Event) → IsSteady s → May s e → AloneHaveLogs s.sessions s.log → AloneHaveLogs s.sessions (happens s e).log
+event_alone s (Declare j scope) h may a = a
 event_alone s (Probe j) h may a = a
 event_alone s (Enter j f) h may a = a
 event_alone s (Fix j f) h may a = a
-event_alone s (GoLive j m scope) h may a = put_log s.sessions j s.log _ (session_at s j h (λ e. let z = sym may.fixed.1 ∙ e in cc)) a
+event_alone s (GoLive j m scope) h may a = put_log s.sessions j s.log _ (session_at s j h (λ e. let z = sym may.1 ∙ e in cc)) a
 event_alone s (End j) h may a = put_log s.sessions j s.log _ (session_at s j h (no_snapshot _ may.live)) a
 event_alone s (Mark p known) h may a = a
 event_alone s (Sample p j) h may a = a
+event_alone s (SampleMask p j) h may a = a
 event_alone s (Move p j) h may a = a
 event_alone s (Install j r image) h may a = put_log s.sessions j s.log _ (session_at s j h (λ e. let z = sym may.2.live ∙ e in cc)) a
 event_alone s (Undo j r) h may a = put_log s.sessions j s.log _ writes a
@@ -58,6 +60,7 @@ step_alone : (s : CoreState) (e : Step) → IsSteady s → Can s e → AloneHave
 step_alone s (Act event) h may a = same event (event_alone s event h may a)
   where
     same : (event : Event) → AloneHaveLogs s.sessions (happens s event).log → AloneHaveLogs (happens s event).sessions (happens s event).log
+    same (Declare j scope) a = a
     same (Probe j) a = a
     same (Enter j f) a = a
     same (Fix j f) a = a
@@ -65,6 +68,7 @@ step_alone s (Act event) h may a = same event (event_alone s event h may a)
     same (End j) a = a
     same (Mark p known) a = a
     same (Sample p j) a = a
+    same (SampleMask p j) a = a
     same (Move p j) a = a
     same (Install j r image) a = a
     same (Undo j r) a = a

@@ -5,20 +5,23 @@ use Rattle.hg_base.specs.declared.rid.Rid.{Rid}
 use Rattle.hg_base.specs.declared.rid.TableId.{TableId}
 use Rattle.hg_base.specs.declared.image.Image.{Image}
 use Rattle.hg_base.specs.declared.scope.Scope.{Scope}
+use Rattle.hg_base.specs.Freshness.{is_declared}
 use Rattle.hg_base.specs.History.{History}
+use Rattle.hg_core.specs.declared.loaded.Loaded.{Loaded}
 use Rattle.hg_core.specs.declared.register.Register.{Register}
 use Rattle.hg_core.specs.declared.register.Register.TheVariants as registers
 use Rattle.hg_core.specs.declared.phase.Phase.{Phase}
-use Rattle.hg_core.specs.declared.phase.Phase.TheVariants.{Idle, Probed, Entered, Fixed, Live}
+use Rattle.hg_core.specs.declared.phase.Phase.TheVariants.{Idle, Declared, Probed, Entered, Fixed, Live}
 use Rattle.hg_core.specs.declared.log.LogEntry.{LogEntry}
 use Rattle.hg_core.specs.declared.log.LogEntry.TheVariants.{Began, Saw, Refused, Outside, Wrote, Undid, Published, Over}
 use Rattle.hg_core.specs.Logs.{current, begans, has_begun, open_in, open_writes, begun_in, UpTo}
-use Rattle.hg_core.specs.Phases.{IsSession, snapshot_in, IsEntering, MayHaveBegun}
+use Rattle.hg_core.specs.Words.{mask_of}
+use Rattle.hg_core.specs.Phases.{IsSession, scope_in, declared_in, snapshot_in, IsEntering, MayHaveBegun}
 use Rattle.hg_core.specs.Passes.{found}
 use Rattle.hg_core.specs.State.{CoreState}
-use Rattle.hg_core.specs.Events.{put, happens, May, Probe, Enter, Fix, GoLive, End}
+use Rattle.hg_core.specs.Events.{put, happens, May, Declare, Probe, Enter, Fix, GoLive, End}
 use Rattle.hg_core.specs.Marks.{PhaseUpTo}
-use Rattle.hg_core.specs.Registers.{Shows}
+use Rattle.hg_core.specs.Registers.{Shows, IsMaskOf}
 use Rattle.hg_core.specs.Bounds.{Bounds}
 use Rattle.hg_core.specs.Judged.{Judged, FixedOver, LogsAnswer}
 use Rattle.hg_core.specs.Contents.{versions}
@@ -48,10 +51,12 @@ none_open h r (Wrote q image ∷ log) j e = absurd (let z = j.0 in cc)
 none_open h r (Undid q ∷ log) j e = absurd (let z = j.0 in cc)
 
 -- a session turns to another phase
-turn : (s : CoreState) (j : ℕ) (p : Phase) (register : ℕ → Register) (log : ℕ → List LogEntry) (added : List LogEntry) → IsSteady s → IsSession s.sessions j
+turn : (s : CoreState) (j : ℕ) (p : Phase) (register : ℕ → Register) (mask : ℕ → ℕ) (log : ℕ → List LogEntry) (added : List LogEntry) → IsSteady s → IsSession s.sessions j
     → PhaseUpTo s.mark p
-    → Shows s.tables p (register j)
+    → Shows p (register j)
     → ((k : ℕ) → (k ≡ j → ⊥) → register k ≡ s.register k)
+    → IfSome (scope_in p) (λ scope. IsMaskOf s.tables scope (mask j))
+    → ((k : ℕ) → (k ≡ j → ⊥) → mask k ≡ s.mask k)
     → ((q : ℕ) → IfSome (found j (s.pass q).loaded) (λ loaded. Bounds (s.pass q).mark loaded p))
     → Only s.log log j (added ++ s.log j)
     → (IsEntering (s.phase j) → IsTrue (has_begun added) ⊎ IsEntering p)
@@ -62,8 +67,8 @@ turn : (s : CoreState) (j : ℕ) (p : Phase) (register : ℕ → Register) (log 
     → StampedIsNext s.mark (open_writes log) (versions s.buckets s.bucket) s.stamped_list
     → LogsAnswer s.sessions s.quota s.history (put s.phase j p) log
     → CountersBalance s.sessions s.buckets s.passes log s.bucket s.counters s.visits
-    → IsSteady (record s { phase = put s.phase j p; register = register; log = log })
-turn s j p register log added h session up shows same bounds grown enters replies narrow none stand next answer counters = record {
+    → IsSteady (record s { phase = put s.phase j p; register = register; mask = mask; log = log })
+turn s j p register mask log added h session up shows same masked alike bounds grown enters replies narrow none stand next answer counters = record {
   mark_is_length = record {
     is_length = h.mark_is_length.is_length;
     sessions = by_number j (λ k b. PhaseUpTo s.mark (if b then p else s.phase k)) up (λ k other. h.mark_is_length.sessions k);
@@ -73,7 +78,8 @@ turn s j p register log added h session up shows same bounds grown enters replie
   history = h.history;
   no_update_is_lost = h.no_update_is_lost;
   registers_agree = record {
-    shows = by_number j (λ k b. Shows s.tables (if b then p else s.phase k) (register k)) shows (λ k other. rw (same k other) (h.registers_agree.shows k));
+    shows = by_number j (λ k b. Shows (if b then p else s.phase k) (register k)) shows (λ k other. rw (same k other) (h.registers_agree.shows k));
+    masks = by_number j (λ k b. IfSome (scope_in (if b then p else s.phase k)) (λ scope. IsMaskOf s.tables scope (mask k))) masked (λ k other. rw (alike k other) (h.registers_agree.masks k));
     others = by_number j (λ k b. IsSession s.sessions k ⊎ ((if b then p else s.phase k) ≡ Idle)) (inl session) (λ k other. h.registers_agree.others k);
   };
   records_bound_sessions = λ q. by_number j (λ k b. IfSome (found k (s.pass q).loaded) (λ loaded. Bounds (s.pass q).mark loaded (if b then p else s.phase k))) (bounds q) (λ k other. h.records_bound_sessions q k);
@@ -110,40 +116,71 @@ if_some_all : {X : Type 0} (o : Option X) (P : X → Type 0) → ((x : X) → P 
 if_some_all None P f = tt
 if_some_all (Some x) P f = f x
 
-pub probe_kept : (s : CoreState) (j : ℕ) → IsSteady s → May s (Probe j) → IsSteady (happens s (Probe j))
-probe_kept s j h may = turn s j (Probed s.mark) s.register s.log [] h may.session
-    (omega arith)
-    (subst (λ p. Shows s.tables p (s.register j)) may.rests (h.registers_agree.shows j))
+-- the mask word of a session that isn't at rest is that of its scope
+scope_masked : (tables mask : ℕ) (p : Phase) → (p ≡ Idle → ⊥) → IfSome (scope_in p) (λ scope. IsMaskOf tables scope mask) → IsMaskOf tables (declared_in p) mask
+scope_masked tables mask Idle awake m = absurd (awake refl)
+scope_masked tables mask (Declared scope) awake m = m
+scope_masked tables mask (Probed scope f) awake m = m
+scope_masked tables mask (Entered scope f) awake m = m
+scope_masked tables mask (Fixed scope f n) awake m = m
+scope_masked tables mask (Live at scope) awake m = m
+
+pub declare_kept : (s : CoreState) (j : ℕ) (scope : Scope) → IsSteady s → May s (Declare j scope) → IsSteady (happens s (Declare j scope))
+declare_kept s j scope h may = turn s j (Declared scope) s.register (put s.mask j (mask_of scope)) s.log [] h may.session
+    tt
+    (subst (λ p. Shows p (s.register j)) may.rests (h.registers_agree.shows j))
     (λ k other. refl)
+    (record { value = put_here s.mask j (mask_of scope); within = may.tables })
+    (λ k other. put_else s.mask j k (mask_of scope) other)
     (λ q. if_some_all _ _ (λ loaded. tt))
     (only_same s.log j)
     (λ e. let z = subst IsEntering may.rests e in absurd z)
     h.replies_answer
     (λ table n reads. absurd reads) (λ r. none_open s.history r (s.log j) (h.logs_answer.judged j) (h.logs_answer.reads j ∙ ap snapshot_in may.rests))
     h.open_writes_stand h.stamped_is_next
-    (quiet s j (Probed s.mark) h (ap snapshot_in may.rests) tt may.room)
+    (quiet s j (Declared scope) h (ap snapshot_in may.rests) tt may.room)
+    h.counters_balance
+
+pub probe_kept : (s : CoreState) (j : ℕ) → IsSteady s → May s (Probe j) → IsSteady (happens s (Probe j))
+probe_kept s j h (scope, may) = turn s j (Probed (declared_in (s.phase j)) s.mark) s.register s.mask s.log [] h (session_at s j h (λ e. cc))
+    (omega arith)
+    (subst (λ p. Shows p (s.register j)) may (h.registers_agree.shows j))
+    (λ k other. refl)
+    (scope_masked s.tables (s.mask j) (s.phase j) (λ e. cc) (h.registers_agree.masks j))
+    (λ k other. refl)
+    (λ q. if_some_all _ _ (λ loaded. tt))
+    (only_same s.log j)
+    (λ e. let z = subst IsEntering may e in absurd z)
+    h.replies_answer
+    (λ table n reads. absurd reads) (λ r. none_open s.history r (s.log j) (h.logs_answer.judged j) (h.logs_answer.reads j ∙ ap snapshot_in may))
+    h.open_writes_stand h.stamped_is_next
+    (quiet s j (Probed (declared_in (s.phase j)) s.mark) h (ap snapshot_in may) tt (subst (λ p. MayHaveBegun s.quota p (begans (s.log j))) may (h.logs_answer.room j)))
     h.counters_balance
 
 pub enter_kept : (s : CoreState) (j f : ℕ) → IsSteady s → May s (Enter j f) → IsSteady (happens s (Enter j f))
-enter_kept s j f h may = turn s j (Entered f) (put s.register j (registers.Entering f)) s.log [] h (session_at s j h (λ e. cc))
+enter_kept s j f h (scope, may) = turn s j (Entered (declared_in (s.phase j)) f) (put s.register j (registers.Entering f)) s.mask s.log [] h (session_at s j h (λ e. cc))
     (subst (PhaseUpTo s.mark) may (h.mark_is_length.sessions j))
     (put_here s.register j (registers.Entering f))
     (λ k other. put_else s.register j k (registers.Entering f) other)
+    (scope_masked s.tables (s.mask j) (s.phase j) (λ e. cc) (h.registers_agree.masks j))
+    (λ k other. refl)
     (λ q. if_some_all _ _ (λ loaded. tt))
     (only_same s.log j)
     (λ e. inr tt)
     h.replies_answer
     (λ table n reads. absurd reads) (λ r. none_open s.history r (s.log j) (h.logs_answer.judged j) (h.logs_answer.reads j ∙ ap snapshot_in may))
     h.open_writes_stand h.stamped_is_next
-    (quiet s j (Entered f) h (ap snapshot_in may) tt (subst (λ p. MayHaveBegun s.quota p (begans (s.log j))) may (h.logs_answer.room j)))
+    (quiet s j (Entered (declared_in (s.phase j)) f) h (ap snapshot_in may) tt (subst (λ p. MayHaveBegun s.quota p (begans (s.log j))) may (h.logs_answer.room j)))
     h.counters_balance
 
 pub fix_kept : (s : CoreState) (j f : ℕ) → IsSteady s → May s (Fix j f) → IsSteady (happens s (Fix j f))
-fix_kept s j f h may =
+fix_kept s j f h (scope, may) =
     let up : f ≤ s.mark = subst (PhaseUpTo s.mark) may (h.mark_is_length.sessions j) in
-    turn s j (Fixed f s.mark) s.register s.log [] h (session_at s j h (λ e. cc))
+    turn s j (Fixed (declared_in (s.phase j)) f s.mark) s.register s.mask s.log [] h (session_at s j h (λ e. cc))
     (up, omega arith)
-    (subst (λ p. Shows s.tables p (s.register j)) may (h.registers_agree.shows j), up)
+    (subst (λ p. Shows p (s.register j)) may (h.registers_agree.shows j), up)
+    (λ k other. refl)
+    (scope_masked s.tables (s.mask j) (s.phase j) (λ e. cc) (h.registers_agree.masks j))
     (λ k other. refl)
     (λ q. if_some_all _ _ (λ loaded. inl (h.mark_is_length.passes q)))
     (only_same s.log j)
@@ -151,25 +188,25 @@ fix_kept s j f h may =
     h.replies_answer
     (λ table n reads. inl reads) (λ r. none_open s.history r (s.log j) (h.logs_answer.judged j) (h.logs_answer.reads j ∙ ap snapshot_in may))
     h.open_writes_stand h.stamped_is_next
-    (quiet s j (Fixed f s.mark) h (ap snapshot_in may) (subst (λ n. UpTo n (s.log j)) (sym h.mark_is_length.is_length) (h.logs_answer.within j)) (subst (λ p. MayHaveBegun s.quota p (begans (s.log j))) may (h.logs_answer.room j)))
+    (quiet s j (Fixed (declared_in (s.phase j)) f s.mark) h (ap snapshot_in may) (subst (λ n. UpTo n (s.log j)) (sym h.mark_is_length.is_length) (h.logs_answer.within j)) (subst (λ p. MayHaveBegun s.quota p (begans (s.log j))) may (h.logs_answer.room j)))
     h.counters_balance
 
 -- a fixed session's bound is a live one's
-bound_live : (mark f m : ℕ) (scope : Scope) (o : Option Register) → IfSome o (λ loaded. Bounds mark loaded (Fixed f m)) → IfSome o (λ loaded. Bounds mark loaded (Live m scope))
+bound_live : (mark f m : ℕ) (scope : Scope) (o : Option Loaded) → IfSome o (λ loaded. Bounds mark loaded (Fixed scope f m)) → IfSome o (λ loaded. Bounds mark loaded (Live m scope))
 bound_live mark f m scope None h = tt
 bound_live mark f m scope (Some loaded) h = elim h [ inl a ↦ inl a | inr a ↦ inr (inl a) ]
 
 pub go_live_kept : (s : CoreState) (j m : ℕ) (scope : Scope) → IsSteady s → May s (GoLive j m scope) → IsSteady (happens s (GoLive j m scope))
-go_live_kept s j m scope h may =
-    let f = may.fixed.0 in
-    let at : s.phase j ≡ Fixed f m = may.fixed.1 in
+go_live_kept s j m scope h (f, at) =
     let up : (f ≤ s.mark) × (m ≤ s.mark) = subst (PhaseUpTo s.mark) at (h.mark_is_length.sessions j) in
     let over : UpTo m (s.log j) = subst (λ p. FixedOver p (s.log j)) at (h.logs_answer.fixed j) in
     let below : m ≤ length s.history = omega (arith, up.1, h.mark_is_length.is_length) in
-    turn s j (Live m scope) (put s.register j (registers.Live m scope false)) (put s.log j (Began m scope ∷ s.log j)) (Began m scope ∷ []) h (session_at s j h (λ e. cc))
+    turn s j (Live m scope) (put s.register j (registers.Live m (is_declared scope) false)) s.mask (put s.log j (Began m scope ∷ s.log j)) (Began m scope ∷ []) h (session_at s j h (λ e. cc))
     up.1
-    (false, record { value = put_here s.register j (registers.Live m scope false); within = may.tables; declared = λ e. cc })
-    (λ k other. put_else s.register j k (registers.Live m scope false) other)
+    (false, record { value = put_here s.register j (registers.Live m (is_declared scope) false); declared = λ e. cc })
+    (λ k other. put_else s.register j k (registers.Live m (is_declared scope) false) other)
+    (subst (λ p. IfSome (scope_in p) (λ x. IsMaskOf s.tables x (s.mask j))) at (h.registers_agree.masks j))
+    (λ k other. refl)
     (λ q. bound_live _ f m scope _ (subst (λ p. IfSome (found j (s.pass q).loaded) (λ loaded. Bounds (s.pass q).mark loaded p)) at (h.records_bound_sessions q j)))
     (only_put s.log j (Began m scope ∷ s.log j))
     (λ e. inl refl)
@@ -189,7 +226,7 @@ go_live_kept s j m scope h may =
     (counters_entry s.sessions s.buckets s.passes s.log s.bucket s.counters s.visits j (Began m scope ∷ s.log j) (λ test. (refl, refl)) h.counters_balance)
   where
     none : (r : Rid) → open_in r (s.log j) ≡ None
-    none r = none_open s.history r (s.log j) (h.logs_answer.judged j) (h.logs_answer.reads j ∙ ap snapshot_in may.fixed.1)
+    none r = none_open s.history r (s.log j) (h.logs_answer.judged j) (h.logs_answer.reads j ∙ ap snapshot_in at)
 
     opened : (k : ℕ) (r : Rid) → open_writes (put s.log j (Began m scope ∷ s.log j)) k r ≡ open_writes s.log k r
     opened = by_number j (λ k b. (r : Rid) → open_in r (if b then Began m scope ∷ s.log j else s.log k) ≡ open_in r (s.log k)) (λ r. sym (none r)) (λ k other r. refl)
@@ -202,24 +239,28 @@ pub no_snapshot : (p : Phase) → IsSome (snapshot_in p) → p ≡ Idle → ⊥
 no_snapshot p some e = let z = subst (λ q. IsSome (snapshot_in q)) e some in cc
 
 not_entering : (p : Phase) → IsSome (snapshot_in p) → IsEntering p → ⊥
-not_entering (Entered f) some e = cc
-not_entering (Fixed f m) some e = cc
+not_entering (Entered scope f) some e = cc
+not_entering (Fixed scope f m) some e = cc
 not_entering Idle some e = e
-not_entering (Probed f) some e = e
+not_entering (Declared scope) some e = e
+not_entering (Probed scope f) some e = e
 not_entering (Live at scope) some e = e
 
 live_room : (quota n : ℕ) (p : Phase) → IsSome (snapshot_in p) → MayHaveBegun quota p n → n ≤ quota
 live_room quota n Idle some e = e
-live_room quota n (Probed f) some e = omega arith
-live_room quota n (Entered f) some e = omega arith
-live_room quota n (Fixed f m) some e = omega arith
+live_room quota n (Declared scope) some e = omega arith
+live_room quota n (Probed scope f) some e = omega arith
+live_room quota n (Entered scope f) some e = omega arith
+live_room quota n (Fixed scope f m) some e = omega arith
 live_room quota n (Live at scope) some e = e
 
 pub end_kept : (s : CoreState) (j : ℕ) → IsSteady s → May s (End j) → IsSteady (happens s (End j))
-end_kept s j h may = turn s j Idle (put s.register j registers.Idle) (put s.log j (Over ∷ s.log j)) (Over ∷ []) h (session_at s j h (no_snapshot _ may.live))
+end_kept s j h may = turn s j Idle (put s.register j registers.Idle) s.mask (put s.log j (Over ∷ s.log j)) (Over ∷ []) h (session_at s j h (no_snapshot _ may.live))
     tt
     (put_here s.register j registers.Idle)
     (λ k other. put_else s.register j k registers.Idle other)
+    tt
+    (λ k other. refl)
     (λ q. if_some_all _ _ (λ loaded. tt))
     (only_put s.log j (Over ∷ s.log j))
     (λ e. absurd (not_entering _ may.live e))

@@ -5,7 +5,7 @@ use Rattle.std.proofs.lemmas.Bool.Decides.{nat_tests}
 use Rattle.hg_base.specs.Lists.{Each}
 use Rattle.hg_base.specs.History.{Group, History, group_from, group_at}
 use Rattle.hg_core.specs.declared.phase.Phase.{Phase}
-use Rattle.hg_core.specs.declared.phase.Phase.TheVariants.{Idle, Probed, Entered, Fixed, Live}
+use Rattle.hg_core.specs.declared.phase.Phase.TheVariants.{Idle, Declared, Probed, Entered, Fixed, Live}
 use Rattle.hg_core.specs.declared.log.LogEntry.{LogEntry}
 use Rattle.hg_core.specs.declared.log.LogEntry.TheVariants.{Began, Saw, Refused, Outside, Wrote, Undid, Published, Over}
 use Rattle.hg_core.specs.Logs.{current, begans, is_plain, commit_in, published}
@@ -72,9 +72,10 @@ numbers_most m j (Over ∷ log) = numbers_most m j log
 
 begun_most : (quota n : ℕ) (p : Phase) → MayHaveBegun quota p n → n ≤ quota
 begun_most quota n Idle h = h
-begun_most quota n (Probed f) h = omega (arith, h)
-begun_most quota n (Entered f) h = omega (arith, h)
-begun_most quota n (Fixed f m) h = omega (arith, h)
+begun_most quota n (Declared scope) h = omega (arith, h)
+begun_most quota n (Probed scope f) h = omega (arith, h)
+begun_most quota n (Entered scope f) h = omega (arith, h)
+begun_most quota n (Fixed scope f m) h = omega (arith, h)
 begun_most quota n (Live at scope) h = h
 
 -- ---- one group

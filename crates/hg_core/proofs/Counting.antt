@@ -5,7 +5,7 @@ use Rattle.std.proofs.lemmas.Bool.Decides.{nat_tests}
 use Rattle.hg_base.specs.History.{History}
 use Rattle.hg_base.proofs.ListFacts.{cases}
 use Rattle.hg_core.specs.declared.phase.Phase.{Phase}
-use Rattle.hg_core.specs.declared.phase.Phase.TheVariants.{Idle, Probed, Entered, Fixed, Live}
+use Rattle.hg_core.specs.declared.phase.Phase.TheVariants.{Idle, Declared, Probed, Entered, Fixed, Live}
 use Rattle.hg_core.specs.declared.log.LogEntry.{LogEntry}
 use Rattle.hg_core.specs.declared.log.LogEntry.TheVariants.{Began, Saw, Refused, Outside, Wrote, Undid, Published, Over}
 use Rattle.hg_core.specs.Logs.{current, begans, is_plain, has_number}
@@ -100,9 +100,10 @@ groups_counted sessions log (suc n) named =
 
 begun_most : (quota n : ℕ) (p : Phase) → MayHaveBegun quota p n → n ≤ quota
 begun_most quota n Idle e = e
-begun_most quota n (Probed f) e = omega arith
-begun_most quota n (Entered f) e = omega arith
-begun_most quota n (Fixed f m) e = omega arith
+begun_most quota n (Declared scope) e = omega arith
+begun_most quota n (Probed scope f) e = omega arith
+begun_most quota n (Entered scope f) e = omega arith
+begun_most quota n (Fixed scope f m) e = omega arith
 begun_most quota n (Live at scope) e = e
 
 pub mark_most : (s : CoreState) → IsSteady s → s.mark ≤ s.sessions * s.quota

@@ -10,7 +10,7 @@ use Rattle.hg_base.specs.Lists.{Each}
 use Rattle.hg_base.specs.History.{Group, History, nothing, group_image, writes, visible}
 use Rattle.hg_base.proofs.HistoryFacts.{visible_stays}
 use Rattle.hg_core.specs.declared.phase.Phase.{Phase}
-use Rattle.hg_core.specs.declared.phase.Phase.TheVariants.{Idle, Probed, Entered, Fixed, Live}
+use Rattle.hg_core.specs.declared.phase.Phase.TheVariants.{Idle, Declared, Probed, Entered, Fixed, Live}
 use Rattle.hg_core.specs.declared.version.Stamp.{Stamp}
 use Rattle.hg_core.specs.declared.version.Stamp.TheVariants.{Written, Numbered, Oldest}
 use Rattle.hg_core.specs.declared.version.Version.{Version}
@@ -29,9 +29,10 @@ use Rattle.hg_core.proofs.Past.{last_more, visible_last, last_bounds, writes_new
 
 reads_within : (table : TableId) (mark n : ℕ) (p : Phase) → PhaseUpTo mark p → Reads table p n → n ≤ mark
 reads_within table mark n Idle u g = absurd g
-reads_within table mark n (Probed f) u g = absurd g
-reads_within table mark n (Entered f) u g = absurd g
-reads_within table mark n (Fixed f m) u g = omega (arith, u.1, g)
+reads_within table mark n (Declared scope) u g = absurd g
+reads_within table mark n (Probed scope f) u g = absurd g
+reads_within table mark n (Entered scope f) u g = absurd g
+reads_within table mark n (Fixed scope f m) u g = omega (arith, u.1, g)
 reads_within table mark n (Live at scope) u g = omega (arith, u, g.0)
 
 -- they are at or below the mark

@@ -6,6 +6,7 @@ pub mod Past
 -- Logs that grow.
 pub mod LogSteps
 pub mod Recalls
+pub mod Loading
 pub mod Replies
 pub mod OwnKeys
 -- A record's versions, and what holds of them after each event.

@@ -4,20 +4,21 @@ use Rattle.std.specs.Prelude.{pos}
 use Rattle.hg_base.specs.declared.rid.Rid.{Rid}
 use Rattle.hg_base.specs.declared.image.Image.{Image}
 use Rattle.hg_base.specs.declared.report.Kind.{Kind}
+use Rattle.hg_base.specs.declared.report.Kind.TheVariants.{Table, Interval}
 use Rattle.hg_base.specs.declared.scope.Scope.{Scope}
 use Rattle.hg_base.specs.declared.scope.Scope.TheVariants.{All}
 use Rattle.hg_base.specs.declared.writer.Writer.{Writer}
 use Rattle.hg_base.specs.History.{nothing}
 use Rattle.hg_core.specs.Contents.{bucket_of, versions}
 use Rattle.hg_core.specs.State.{CoreState, opened}
-use Rattle.hg_core.specs.Events.{MayReclaim, happens, Install, Publish}
+use Rattle.hg_core.specs.Events.{MayReclaim, happens, Install, Publish, Reclaim}
 use Rattle.hg_core.specs.Steps.{Step, Run, run}
 use Rattle.hg_core.specs.Invariant.{IsSteady}
-use Rattle.hg_core.specs.Worked.{one_rid, row, two_versions, moved_snapshot, open_write, late_snapshot}
-use Rattle.hg_core.specs.Wrong.{lifetime_past, cut_past_moved, newest_deletion_removed, MayPublishEarly, MayInstallOver, swept_late}
+use Rattle.hg_core.specs.Worked.{one_rid, row, two_versions, moved_snapshot, no_masks, open_write, late_snapshot}
+use Rattle.hg_core.specs.Wrong.{lifetime_past, cut_past_moved, newest_deletion_removed, MayReclaimUnmasked, MayPublishEarly, MayInstallOver, swept_late}
 use Rattle.hg_core.proofs.Versions.{same_pair}
 use Rattle.hg_core.proofs.Runs.{steady_after}
-use Rattle.hg_core.proofs.Worked.{two_whole, moved_whole, two_versions_runs, moved_snapshot_runs, open_write_runs, late_whole, late_snapshot_runs}
+use Rattle.hg_core.proofs.Worked.{two_whole, moved_whole, two_versions_runs, moved_snapshot_runs, no_masks_found, no_masks_runs, open_write_runs, late_whole, late_snapshot_runs}
 use Rattle.hg_core.specs.Clean.{IsClean}
 use Rattle.hg_core.specs.Passes.{horizon, recorded}
 
@@ -40,6 +41,19 @@ own_number_refused keeps = no_row (((keeps (then (two_versions row)) 0 one_rid (
 pub moved_refused : (kind : Kind) → ((s : CoreState) (p : ℕ) (r : Rid) → IsSteady s → MayReclaim s p r → IsSteady (cut_past_moved s p kind r)) → ⊥
 unfolding bucket_of
 moved_refused kind keeps = no_row (((keeps (then moved_snapshot) 0 one_rid (steady moved_snapshot moved_snapshot_runs) (record { whole = moved_whole; here = (refl, refl) })).covered one_rid).same 1 (inr (1, (refl, refl))))
+
+-- session 1 was moved, and no mask says to which tables
+no_masks_there : MayReclaimUnmasked (then no_masks) 0 one_rid
+unfolding bucket_of
+no_masks_there = record { registers = no_masks_found; here = (refl, refl) }
+
+pub no_mask_cut : ((s : CoreState) (p : ℕ) (r : Rid) → IsSteady s → MayReclaimUnmasked s p r → IsSteady (happens s (Reclaim p Table r))) → ⊥
+unfolding bucket_of
+no_mask_cut keeps = no_row (((keeps (then no_masks) 0 one_rid (steady no_masks no_masks_runs) no_masks_there).covered one_rid).same 1 (inr (1, (refl, refl))))
+
+pub no_mask_swept : ((s : CoreState) (p : ℕ) (r : Rid) → IsSteady s → MayReclaimUnmasked s p r → IsSteady (happens s (Reclaim p Interval r))) → ⊥
+unfolding bucket_of
+no_mask_swept keeps = no_row (((keeps (then no_masks) 0 one_rid (steady no_masks no_masks_runs) no_masks_there).covered one_rid).same 1 (inr (1, (refl, refl))))
 
 -- the row that was deleted at 2 is found again at the mark
 pub deletion_refused : ((s : CoreState) (p : ℕ) (r : Rid) → IsSteady s → MayReclaim s p r → IsSteady (newest_deletion_removed s p r)) → ⊥

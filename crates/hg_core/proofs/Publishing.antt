@@ -9,7 +9,7 @@ use Rattle.hg_base.specs.Lists.{Each}
 use Rattle.hg_base.specs.History.{History, group_image, writes}
 use Rattle.hg_base.proofs.ListFacts.{cases}
 use Rattle.hg_core.specs.declared.phase.Phase.{Phase}
-use Rattle.hg_core.specs.declared.phase.Phase.TheVariants.{Idle, Probed, Entered, Fixed, Live}
+use Rattle.hg_core.specs.declared.phase.Phase.TheVariants.{Idle, Declared, Probed, Entered, Fixed, Live}
 use Rattle.hg_core.specs.declared.log.LogEntry.{LogEntry}
 use Rattle.hg_core.specs.declared.log.LogEntry.TheVariants.{Began, Saw, Refused, Outside, Wrote, Undid, Published, Over}
 use Rattle.hg_core.specs.Logs.{current, begans, wrotes, begun_in, open_in, is_plain, has_number, new_group, is_in, published_logs, UpTo}
@@ -44,9 +44,10 @@ use Rattle.hg_core.proofs.Clean.{stays_same}
 
 phase_wider : (n m : ℕ) (p : Phase) → n ≤ m → PhaseUpTo n p → PhaseUpTo m p
 phase_wider n m Idle k u = tt
-phase_wider n m (Probed f) k u = omega (arith, u)
-phase_wider n m (Entered f) k u = omega (arith, u)
-phase_wider n m (Fixed f a) k u = (omega (arith, u.0), omega (arith, u.1))
+phase_wider n m (Declared scope) k u = tt
+phase_wider n m (Probed scope f) k u = omega (arith, u)
+phase_wider n m (Entered scope f) k u = omega (arith, u)
+phase_wider n m (Fixed scope f a) k u = (omega (arith, u.0), omega (arith, u.1))
 phase_wider n m (Live at scope) k u = omega (arith, u)
 
 -- what was judged over a history is so over a longer one
@@ -72,9 +73,10 @@ each_in P (i ∷ js) j h e = cases (i == j) (λ q. subst P ((Decides-eqb i j).0 
 -- a live session has fixed no number
 pub over_live : (p : Phase) (log : List LogEntry) → IsSome (snapshot_in p) → FixedOver p log
 over_live Idle log some = tt
-over_live (Probed f) log some = tt
-over_live (Entered f) log some = tt
-over_live (Fixed f m) log some = cc
+over_live (Declared scope) log some = tt
+over_live (Probed scope f) log some = tt
+over_live (Entered scope f) log some = tt
+over_live (Fixed scope f m) log some = cc
 over_live (Live at scope) log some = tt
 
 logs_published : (sessions quota : ℕ) (h : History) (phase : ℕ → Phase) (log : ℕ → List LogEntry) (list : List (ℕ × Rid)) (js : List ℕ) → LogsAnswer sessions quota h phase log → ((j : ℕ) → IsSome (current (log j)) → IsSession sessions j) → MayPublish log list js → LogsAnswer sessions quota (h ++ new_group log js ∷ []) phase (published_logs log js (suc (length h)))
@@ -267,9 +269,10 @@ publish_kept s js h may = record {
 
         later : (p : Phase) → MayCommit s.history r p → MayCommit (s.history ++ new_group s.log js ∷ []) r p
         later Idle m = m
-        later (Probed f) m = m
-        later (Entered f) m = m
-        later (Fixed f n) m = m
+        later (Declared scope) m = m
+        later (Probed scope f) m = m
+        later (Entered scope f) m = m
+        later (Fixed scope f n) m = m
         later (Live at scope) m = (m.0, subst (Each (λ (w : ℕ × Image). w.0 ≤ at)) (sym same) m.1)
 
     grows : (k : ℕ) (b : Bool) → (if b then Published (suc s.mark) ∷ s.log k else s.log k) ≡ (if b then Published (suc s.mark) ∷ [] else []) ++ s.log k

@@ -9,7 +9,7 @@ use Rattle.hg_base.specs.declared.report.Kind.{Kind}
 use Rattle.hg_base.specs.declared.report.Kind.TheVariants.{Group, Interval, Table}
 use Rattle.hg_base.specs.History.{History}
 use Rattle.hg_core.specs.declared.phase.Phase.{Phase}
-use Rattle.hg_core.specs.declared.phase.Phase.TheVariants.{Idle, Probed, Entered, Fixed, Live}
+use Rattle.hg_core.specs.declared.phase.Phase.TheVariants.{Idle, Declared, Probed, Entered, Fixed, Live}
 use Rattle.hg_core.specs.Logs.{begun_in, open_writes}
 use Rattle.hg_core.specs.Passes.{PassRecord, IsWhole, horizon, recorded, all_recorded, group_bound, table_bound}
 use Rattle.hg_core.specs.declared.version.Version.{Version}
@@ -46,9 +46,10 @@ fenced s p table n h whole g = elim g [
   where
     go : (j : ℕ) (phase : Phase) → s.phase j ≡ phase → Reads table phase n → IsFenced (s.pass p) table n
     go j Idle q reads = absurd reads
-    go j (Probed f) q reads = absurd reads
-    go j (Entered f) q reads = absurd reads
-    go j (Fixed f m) q reads = inl (omega (arith, reads, fixed_fenced s p j f m h whole q))
+    go j (Declared scope) q reads = absurd reads
+    go j (Probed scope f) q reads = absurd reads
+    go j (Entered scope f) q reads = absurd reads
+    go j (Fixed scope f m) q reads = inl (omega (arith, reads, fixed_fenced s p j f m scope h whole q))
     go j (Live at scope) q reads = elim (live_fenced s p j at scope h whole q) [
       | inl a ↦ inl (omega (arith, reads.0))
       | inr a ↦ inr (

@@ -1,11 +1,11 @@
 -- Each event keeps the invariant, so it holds after every list of events.
 use Rattle.std.proofs.Common.{ℕ, List, [], ◌∷◌, inl, inr, refl, arith, ◌≡◌, sym, ◌∙◌}
 use Rattle.hg_core.specs.State.{CoreState, opened}
-use Rattle.hg_core.specs.Events.{Event, Probe, Enter, Fix, GoLive, End, Mark, Sample, Move, Install, Undo, Stamp, Publish, Reclaim, Take, Look, happens, May}
+use Rattle.hg_core.specs.Events.{Event, Declare, Probe, Enter, Fix, GoLive, End, Mark, Sample, SampleMask, Move, Install, Undo, Stamp, Publish, Reclaim, Take, Look, happens, May}
 use Rattle.hg_core.specs.Steps.{Step, Act, Arrive, Leave, Split, step, Can, Run, run, Always}
 use Rattle.hg_core.specs.Invariant.{IsSteady}
-use Rattle.hg_core.proofs.Begins.{probe_kept, enter_kept, fix_kept, go_live_kept, end_kept}
-use Rattle.hg_core.proofs.Gathers.{mark_kept, sample_kept, move_kept}
+use Rattle.hg_core.proofs.Begins.{declare_kept, probe_kept, enter_kept, fix_kept, go_live_kept, end_kept}
+use Rattle.hg_core.proofs.Gathers.{mark_kept, sample_kept, sample_mask_kept, move_kept}
 use Rattle.hg_core.proofs.Writing.{install_kept, undo_kept, stamp_kept}
 use Rattle.hg_core.proofs.Publishing.{publish_kept}
 use Rattle.hg_core.proofs.Looking.{look_kept, take_kept}
@@ -17,6 +17,7 @@ use Rattle.hg_base.specs.declared.report.Kind.TheVariants.{Group, Table, Interva
 use Rattle.hg_core.proofs.Seats.{arrive_kept, leave_kept, split_kept}
 
 pub kept : (s : CoreState) (e : Event) → IsSteady s → May s e → IsSteady (happens s e)
+kept s (Declare j scope) h may = declare_kept s j scope h may
 kept s (Probe j) h may = probe_kept s j h may
 kept s (Enter j f) h may = enter_kept s j f h may
 kept s (Fix j f) h may = fix_kept s j f h may
@@ -24,6 +25,7 @@ kept s (GoLive j m scope) h may = go_live_kept s j m scope h may
 kept s (End j) h may = end_kept s j h may
 kept s (Mark p known) h may = mark_kept s p known h may
 kept s (Sample p j) h may = sample_kept s p j h may
+kept s (SampleMask p j) h may = sample_mask_kept s p j h may
 kept s (Move p j) h may = move_kept s p j h may
 kept s (Install j r image) h may = install_kept s j r image h may
 kept s (Undo j r) h may = undo_kept s j r h may
@@ -54,7 +56,7 @@ opened_steady sessions tables buckets passes quota = record {
   counters_balance = record { made = λ b. sym (sum_none sessions); undone = λ b. sym (sum_none sessions); removed = λ kind b. none_removed kind ∙ sym (below_none passes); balance = λ b. refl };
   visits_stay = record { each = λ p. tt; others = λ p. inr refl };
   mark_is_length = record { is_length = refl; sessions = λ j. tt; passes = λ p. omega arith };
-  registers_agree = record { shows = λ j. refl; others = λ j. inr refl };
+  registers_agree = record { shows = λ j. refl; masks = λ j. tt; others = λ j. inr refl };
   records_bound_sessions = λ p j. tt;
   records_reach_logs = record { known = λ p j. omega arith; stands = λ p j. tt };
   taken_at_most_mark = omega arith;

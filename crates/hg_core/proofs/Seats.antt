@@ -90,7 +90,7 @@ split_kept s p h may = record {
   stamped_is_next = h.stamped_is_next;
   contents_are_ordered = h.contents_are_ordered;
   contents_are_placed = h.contents_are_placed;
-  records_bound_sessions = by_number s.passes (λ q b. (j : ℕ) → IfSome (found j (if b then s.pass p else s.pass q).loaded) (λ register. Bounds (if b then s.pass p else s.pass q).mark register (s.phase j))) (h.records_bound_sessions p) (λ q other. h.records_bound_sessions q);
+  records_bound_sessions = by_number s.passes (λ q b. (j : ℕ) → IfSome (found j (if b then s.pass p else s.pass q).loaded) (λ loaded. Bounds (if b then s.pass p else s.pass q).mark loaded (s.phase j))) (h.records_bound_sessions p) (λ q other. h.records_bound_sessions q);
   open_writes_may_commit = h.open_writes_may_commit;
   history = h.history;
   no_update_is_lost = h.no_update_is_lost;
@@ -98,7 +98,7 @@ split_kept s p h may = record {
   replies_answer = h.replies_answer;
   records_reach_logs = record {
     known = by_number s.passes (λ q b. (j : ℕ) → (if b then s.pass p else s.pass q).known j ≤ length (s.log j)) (h.records_reach_logs.known p) (λ q other. h.records_reach_logs.known q);
-    stands = by_number s.passes (λ q b. (j : ℕ) → IfSome (found j (if b then s.pass p else s.pass q).loaded) (λ register. StandsIn ((if b then s.pass p else s.pass q).known j) register (s.log j) (s.phase j))) (h.records_reach_logs.stands p) (λ q other. h.records_reach_logs.stands q);
+    stands = by_number s.passes (λ q b. (j : ℕ) → IfSome (found j (if b then s.pass p else s.pass q).loaded) (λ loaded. StandsIn ((if b then s.pass p else s.pass q).known j) loaded.register (s.log j) (s.phase j))) (h.records_reach_logs.stands p) (λ q other. h.records_reach_logs.stands q);
   };
   taken_at_most_mark = h.taken_at_most_mark;
   counters_balance = record {

@@ -8,8 +8,7 @@ use Rattle.hg_base.specs.declared.image.Image.{Image}
 use Rattle.hg_base.specs.declared.writer.Writer.{Writer}
 use Rattle.hg_base.specs.Lists.{Each}
 use Rattle.hg_base.specs.History.{visible}
-use Rattle.hg_base.specs.Transcript.{has}
-use Rattle.hg_core.specs.declared.register.Register.{Register}
+use Rattle.hg_core.specs.declared.loaded.Loaded.{Loaded}
 use Rattle.hg_core.specs.declared.register.Register.TheVariants as registers
 use Rattle.hg_core.specs.declared.version.Stamp.{Stamp}
 use Rattle.hg_core.specs.declared.version.Stamp.TheVariants.{Written, Numbered, Oldest}
@@ -19,7 +18,7 @@ use Rattle.hg_core.specs.Contents.{versions}
 use Rattle.hg_core.specs.Covered.{image_of}
 use Rattle.hg_core.specs.Ordered.{Falls, IsOrdered}
 use Rattle.hg_core.specs.Clean.{IsOneRow, up_to, IsCutAt}
-use Rattle.hg_core.specs.Passes.{PassRecord, lower, least_entering, horizon, if_live, live_numbers, least, group_bound, table_bound}
+use Rattle.hg_core.specs.Passes.{PassRecord, lower, least_entering, horizon, if_live, live_numbers, mask_has, least, group_bound, table_bound}
 use Rattle.hg_core.specs.State.{CoreState}
 use Rattle.hg_core.specs.Invariant.{IsSteady}
 use Rattle.hg_core.specs.declared.phase.Phase.TheVariants.{Idle}
@@ -28,19 +27,19 @@ use Rattle.hg_core.proofs.Begins.{none_open}
 
 -- ---- a record that found all registers idle
 
-idle_entering : (n : ℕ) (loaded : List (ℕ × Register)) → Each (λ e. e.1 ≡ registers.Idle) loaded → least_entering n loaded ≡ n
+idle_entering : (n : ℕ) (loaded : List (ℕ × Loaded)) → Each (λ e. e.1.register ≡ registers.Idle) loaded → least_entering n loaded ≡ n
 idle_entering n [] h = refl
 idle_entering n (e ∷ loaded) h = ap (lower (least_entering n loaded)) h.0 ∙ idle_entering n loaded h.1
 
-idle_numbers : (test : _) (loaded : List (ℕ × Register)) → Each (λ e. e.1 ≡ registers.Idle) loaded → live_numbers test loaded ≡ []
+idle_numbers : (test : _) (loaded : List (ℕ × Loaded)) → Each (λ e. e.1.register ≡ registers.Idle) loaded → live_numbers test loaded ≡ []
 idle_numbers test [] h = refl
-idle_numbers test (e ∷ loaded) h = ap (λ register. if_live test register (live_numbers test loaded)) h.0 ∙ idle_numbers test loaded h.1
+idle_numbers test (e ∷ loaded) h = ap (λ register. if_live test register e.1.mask (live_numbers test loaded)) h.0 ∙ idle_numbers test loaded h.1
 
-pub idle_table : (pass : PassRecord) (table : TableId) → Each (λ e. e.1 ≡ registers.Idle) pass.loaded → table_bound table pass ≡ pass.mark
-idle_table pass table h = ap (least (horizon pass)) (idle_numbers (λ scope moved. not moved || has scope table) pass.loaded h) ∙ idle_entering pass.mark pass.loaded h
+pub idle_table : (pass : PassRecord) (table : TableId) → Each (λ e. e.1.register ≡ registers.Idle) pass.loaded → table_bound table pass ≡ pass.mark
+idle_table pass table h = ap (least (horizon pass)) (idle_numbers (λ moved mask. not moved || mask_has table mask) pass.loaded h) ∙ idle_entering pass.mark pass.loaded h
 
-pub idle_group : (pass : PassRecord) → Each (λ e. e.1 ≡ registers.Idle) pass.loaded → group_bound pass ≡ pass.mark
-idle_group pass h = ap (least (horizon pass)) (idle_numbers (λ scope moved. true) pass.loaded h) ∙ idle_entering pass.mark pass.loaded h
+pub idle_group : (pass : PassRecord) → Each (λ e. e.1.register ≡ registers.Idle) pass.loaded → group_bound pass ≡ pass.mark
+idle_group pass h = ap (least (horizon pass)) (idle_numbers (λ moved mask. true) pass.loaded h) ∙ idle_entering pass.mark pass.loaded h
 
 -- where all sessions rest, no write is open
 pub none_unpublished : (s : CoreState) → IsSteady s → ((j : ℕ) → s.phase j ≡ Idle) → (r : Rid) → unpublished s.mark (versions s.buckets s.bucket r) ≡ None

@@ -13,7 +13,7 @@ use Rattle.hg_base.proofs.Growth.{each_group_snoc as group_more}
 use Rattle.hg_core.specs.declared.log.LogEntry.{LogEntry}
 use Rattle.hg_core.specs.declared.log.LogEntry.TheVariants.{Began, Saw, Refused, Outside, Wrote, Undid, Published, Over}
 use Rattle.hg_core.specs.declared.phase.Phase.{Phase}
-use Rattle.hg_core.specs.declared.phase.Phase.TheVariants.{Idle, Probed, Entered, Fixed, Live}
+use Rattle.hg_core.specs.declared.phase.Phase.TheVariants.{Idle, Declared, Probed, Entered, Fixed, Live}
 use Rattle.hg_core.specs.Logs.{current, number_in, is_plain, own_writes, open_in, open_writes, new_group}
 use Rattle.hg_core.specs.Phases.{snapshot_in}
 use Rattle.hg_core.specs.Covered.{MayCommit, OpenWritesMayCommit}
@@ -83,9 +83,10 @@ some_is (Some x) s = (x, refl)
 
 at_snapshot : (h : History) (r : Rid) (p : Phase) → MayCommit h r p → Each (λ (w : ℕ × Image). w.0 ≤ number_in (snapshot_in p)) (writes h r)
 at_snapshot h r Idle m = absurd m
-at_snapshot h r (Probed f) m = absurd m
-at_snapshot h r (Entered f) m = absurd m
-at_snapshot h r (Fixed f n) m = absurd m
+at_snapshot h r (Declared scope) m = absurd m
+at_snapshot h r (Probed scope f) m = absurd m
+at_snapshot h r (Entered scope f) m = absurd m
+at_snapshot h r (Fixed scope f n) m = absurd m
 at_snapshot h r (Live at scope) m = m.1
 
 pub group_loses_nothing : (h : History) (phase : ℕ → Phase) (log : ℕ → List LogEntry) (js : List ℕ) → ((j : ℕ) → current (log j) ≡ snapshot_in (phase j)) → OpenWritesMayCommit h phase (open_writes log) → Each (λ j. IsTrue (is_plain (log j))) js → Each (LosesNothing h) (new_group log js)

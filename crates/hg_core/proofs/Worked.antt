@@ -6,17 +6,19 @@ use Rattle.hg_base.specs.declared.rid.Rid.{Rid}
 use Rattle.hg_base.specs.declared.image.Image.{Image}
 use Rattle.hg_base.specs.declared.scope.Scope.TheVariants.{All, Declared}
 use Rattle.hg_base.specs.History.{same_rid}
+use Rattle.hg_base.proofs.ListFacts.{false_true}
 use Rattle.hg_core.specs.declared.log.LogEntry.{LogEntry}
 use Rattle.hg_core.specs.declared.log.LogEntry.TheVariants.{Began, Wrote, Undid}
 use Rattle.hg_core.specs.Logs.{current, is_plain, open_in, is_in}
 use Rattle.hg_core.specs.declared.register.Register.TheVariants as registers
-use Rattle.hg_core.specs.Passes.{found, IsWhole}
+use Rattle.hg_core.specs.Passes.{found, HasMask, IsWhole}
 use Rattle.hg_core.specs.Phases.{IsSession}
 use Rattle.hg_core.specs.Contents.{bucket_of, is_stamped}
 use Rattle.hg_core.specs.State.{opened}
 use Rattle.hg_core.specs.Events.{MayPublish}
 use Rattle.hg_core.specs.Steps.{Run, run}
-use Rattle.hg_core.specs.Worked.{one_rid, two_rid, row, slow_begin, long_snapshot, late_entry, early_sample, low_fix, two_versions, moved_snapshot, open_write, late_snapshot, swept_visit}
+use Rattle.hg_core.specs.Worked.{one_rid, two_rid, row, slow_begin, long_snapshot, late_entry, early_sample, low_fix, two_versions, moved_snapshot, no_masks, no_tables, early_live, open_write, late_snapshot, swept_visit}
+use Rattle.hg_core.proofs.Loading.{found_each}
 
 first : IsSession 2 1
 first = record { first = omega arith; last = omega arith }
@@ -57,27 +59,37 @@ none_left r = go (same_rid two_rid r)
 
 -- the pass of the slow begin has loaded both registers
 pub slow_whole : IsWhole 2 ((run (opened 2 1 1 1 1) slow_begin).pass 0)
-slow_whole j session = go j session.first session.last
+slow_whole = record { registers = λ j session. go j session.first session.last; masks = λ j. found_each HasMask j ((2, record { register = registers.Idle; mask = None }) ∷ (1, record { register = registers.Entering 0; mask = None }) ∷ []) (λ e. absurd (false_true e), (λ e. absurd (false_true e), tt)) }
   where
-    go : (k : ℕ) → 0 < k → k ≤ 2 → IsSome (found k ((2, registers.Idle) ∷ (1, registers.Entering 0) ∷ []))
+    go : (k : ℕ) → 0 < k → k ≤ 2 → IsSome (found k ((2, record { register = registers.Idle; mask = None }) ∷ (1, record { register = registers.Entering 0; mask = None }) ∷ []))
     go zero a b = absurd (omega arith)
     go (suc zero) a b = refl
     go (suc (suc zero)) a b = refl
     go (suc (suc (suc k))) a b = absurd (omega arith)
 
 pub two_whole : (image : Image) → IsWhole 2 ((run (opened 2 1 1 1 2) (two_versions image)).pass 0)
-two_whole image j session = go j session.first session.last
+two_whole image = record { registers = λ j session. go j session.first session.last; masks = λ j. found_each HasMask j ((2, record { register = registers.Idle; mask = None }) ∷ (1, record { register = registers.Live 1 true false; mask = Some 1 }) ∷ []) (λ e. absurd (false_true e), (λ e. refl, tt)) }
   where
-    go : (k : ℕ) → 0 < k → k ≤ 2 → IsSome (found k ((2, registers.Idle) ∷ (1, registers.Live 1 (Declared 1) false) ∷ []))
+    go : (k : ℕ) → 0 < k → k ≤ 2 → IsSome (found k ((2, record { register = registers.Idle; mask = None }) ∷ (1, record { register = registers.Live 1 true false; mask = Some 1 }) ∷ []))
     go zero a b = absurd (omega arith)
     go (suc zero) a b = refl
     go (suc (suc zero)) a b = refl
     go (suc (suc (suc k))) a b = absurd (omega arith)
 
 pub moved_whole : IsWhole 2 ((run (opened 2 1 1 1 2) moved_snapshot).pass 0)
-moved_whole j session = go j session.first session.last
+moved_whole = record { registers = λ j session. go j session.first session.last; masks = λ j. found_each HasMask j ((2, record { register = registers.Idle; mask = None }) ∷ (1, record { register = registers.Live 1 true true; mask = Some 1 }) ∷ []) (λ e. absurd (false_true e), (λ e. refl, tt)) }
   where
-    go : (k : ℕ) → 0 < k → k ≤ 2 → IsSome (found k ((2, registers.Idle) ∷ (1, registers.Live 1 (Declared 1) true) ∷ []))
+    go : (k : ℕ) → 0 < k → k ≤ 2 → IsSome (found k ((2, record { register = registers.Idle; mask = None }) ∷ (1, record { register = registers.Live 1 true true; mask = Some 1 }) ∷ []))
+    go zero a b = absurd (omega arith)
+    go (suc zero) a b = refl
+    go (suc (suc zero)) a b = refl
+    go (suc (suc (suc k))) a b = absurd (omega arith)
+
+-- both registers are loaded, and not the mask
+pub no_masks_found : (j : ℕ) → IsSession 2 j → IsSome (found j ((run (opened 2 1 1 1 2) no_masks).pass 0).loaded)
+no_masks_found j session = go j session.first session.last
+  where
+    go : (k : ℕ) → 0 < k → k ≤ 2 → IsSome (found k ((2, record { register = registers.Idle; mask = None }) ∷ (1, record { register = registers.Live 1 true true; mask = None }) ∷ []))
     go zero a b = absurd (omega arith)
     go (suc zero) a b = refl
     go (suc (suc zero)) a b = refl
@@ -85,448 +97,52 @@ moved_whole j session = go j session.first session.last
 
 pub every_event_runs : Run (opened 2 1 1 1 1) (slow_begin ++ long_snapshot)
 unfolding bucket_of
-every_event_runs = (
-  record { session = first; rests = refl; room = omega arith },
-  (
-    refl,
-    (
-      refl,
-      (
-        record { session = second; rests = refl; room = omega arith },
-        (
-          refl,
-          (
-            refl,
-            (
-              record { fixed = (0, refl); tables = tt },
-              (
-                (0, All, record { live = refl; table = refl; there = omega arith; plain = refl; unstamped = refl; room = omega arith; free = tt; newest = tt }),
-                (
-                  record { mine = refl; plain = refl },
-                  (
-                    publishes _ _ _ _ refl,
-                    (
-                      record { live = refl; none = λ r. refl },
-                      (
-                        (λ j. omega arith),
-                        (
-                          record { session = first; fresh = refl },
-                          (
-                            record { session = second; fresh = refl },
-                            (
-                              record { fixed = (0, refl); tables = omega arith },
-                              (
-                                omega arith,
-                                (
-                                  record { pass = omega arith; bucket = omega arith },
-                                  (
-                                    record { whole = slow_whole; here = (refl, refl) },
-                                    (
-                                      (0, (refl, refl)),
-                                      (
-                                        omega arith,
-                                        (
-                                          (λ j. omega arith),
-                                          (
-                                            record { session = first; fresh = refl },
-                                            (
-                                              (0, 1, record { shown = refl; loaded = refl }),
-                                              (
-                                                (0, Declared 1, record { live = refl; plain = refl; unstamped = refl; asks = refl }),
-                                                (
-                                                  (0, Declared 1, record { live = refl; table = refl; there = omega arith; plain = refl; unstamped = refl; room = omega arith; free = tt; newest = tt }),
-                                                  (
-                                                    record { mine = refl; unstamped = refl },
-                                                    (
-                                                      record { live = refl; none = none_left },
-                                                      tt,
-                                                    ),
-                                                  ),
-                                                ),
-                                              ),
-                                            ),
-                                          ),
-                                        ),
-                                      ),
-                                    ),
-                                  ),
-                                ),
-                              ),
-                            ),
-                          ),
-                        ),
-                      ),
-                    ),
-                  ),
-                ),
-              ),
-            ),
-          ),
-        ),
-      ),
-    ),
-  ),
-)
+every_event_runs = (record { session = first; rests = refl; room = omega arith; tables = omega arith }, ((Declared 1, refl), ((Declared 1, refl), ((Declared 1, refl), (record { session = second; rests = refl; room = omega arith; tables = tt }, ((All, refl), ((All, refl), ((All, refl), ((0, refl), ((0, All, record { live = refl; table = refl; there = omega arith; plain = refl; unstamped = refl; room = omega arith; free = tt; newest = tt }), (record { mine = refl; plain = refl }, (publishes _ _ _ _ refl, (record { live = refl; none = λ r. refl }, ((λ j. omega arith), (record { session = first; fresh = refl }, (record { session = second; fresh = refl }, ((0, refl), (omega arith, (record { pass = omega arith; bucket = omega arith }, (record { whole = slow_whole; here = (refl, refl) }, ((0, (refl, refl)), (omega arith, ((λ j. omega arith), (record { session = first; fresh = refl }, ((0, false, refl), ((0, Some 1, record { shown = refl; loaded = refl }), ((0, Declared 1, record { live = refl; plain = refl; unstamped = refl; asks = refl }), ((0, Declared 1, record { live = refl; table = refl; there = omega arith; plain = refl; unstamped = refl; room = omega arith; free = tt; newest = tt }), (record { mine = refl; unstamped = refl }, (record { live = refl; none = none_left }, tt))))))))))))))))))))))))))))))
 
 pub slow_begin_runs : Run (opened 2 1 1 1 1) slow_begin
 unfolding bucket_of
-slow_begin_runs = (
-  record { session = first; rests = refl; room = omega arith },
-  (
-    refl,
-    (
-      refl,
-      (
-        record { session = second; rests = refl; room = omega arith },
-        (
-          refl,
-          (
-            refl,
-            (
-              record { fixed = (0, refl); tables = tt },
-              (
-                (0, All, record { live = refl; table = refl; there = omega arith; plain = refl; unstamped = refl; room = omega arith; free = tt; newest = tt }),
-                (
-                  record { mine = refl; plain = refl },
-                  (
-                    publishes _ _ _ _ refl,
-                    (
-                      record { live = refl; none = λ r. refl },
-                      (
-                        (λ j. omega arith),
-                        (
-                          record { session = first; fresh = refl },
-                          (
-                            record { session = second; fresh = refl },
-                            (
-                              record { fixed = (0, refl); tables = omega arith },
-                              tt,
-                            ),
-                          ),
-                        ),
-                      ),
-                    ),
-                  ),
-                ),
-              ),
-            ),
-          ),
-        ),
-      ),
-    ),
-  ),
-)
+slow_begin_runs = (record { session = first; rests = refl; room = omega arith; tables = omega arith }, ((Declared 1, refl), ((Declared 1, refl), ((Declared 1, refl), (record { session = second; rests = refl; room = omega arith; tables = tt }, ((All, refl), ((All, refl), ((All, refl), ((0, refl), ((0, All, record { live = refl; table = refl; there = omega arith; plain = refl; unstamped = refl; room = omega arith; free = tt; newest = tt }), (record { mine = refl; plain = refl }, (publishes _ _ _ _ refl, (record { live = refl; none = λ r. refl }, ((λ j. omega arith), (record { session = first; fresh = refl }, (record { session = second; fresh = refl }, ((0, refl), tt)))))))))))))))))
 
 pub late_entry_runs : Run (opened 2 1 1 1 1) late_entry
 unfolding bucket_of
-late_entry_runs = (
-  record { session = first; rests = refl; room = omega arith },
-  (
-    record { session = second; rests = refl; room = omega arith },
-    (
-      refl,
-      (
-        refl,
-        (
-          record { fixed = (0, refl); tables = tt },
-          (
-            (0, All, record { live = refl; table = refl; there = omega arith; plain = refl; unstamped = refl; room = omega arith; free = tt; newest = tt }),
-            (
-              record { mine = refl; plain = refl },
-              (
-                publishes _ _ _ _ refl,
-                (
-                  record { live = refl; none = λ r. refl },
-                  (
-                    (λ j. omega arith),
-                    (
-                      record { session = first; fresh = refl },
-                      (
-                        refl,
-                        tt,
-                      ),
-                    ),
-                  ),
-                ),
-              ),
-            ),
-          ),
-        ),
-      ),
-    ),
-  ),
-)
+late_entry_runs = (record { session = first; rests = refl; room = omega arith; tables = tt }, ((All, refl), (record { session = second; rests = refl; room = omega arith; tables = tt }, ((All, refl), ((All, refl), ((All, refl), ((0, refl), ((0, All, record { live = refl; table = refl; there = omega arith; plain = refl; unstamped = refl; room = omega arith; free = tt; newest = tt }), (record { mine = refl; plain = refl }, (publishes _ _ _ _ refl, (record { live = refl; none = λ r. refl }, ((λ j. omega arith), (record { session = first; fresh = refl }, ((All, refl), tt))))))))))))))
 
 pub early_sample_runs : Run (opened 2 1 1 1 1) early_sample
 unfolding bucket_of
-early_sample_runs = (
-  (λ j. omega arith),
-  (
-    record { session = first; fresh = refl },
-    (
-      record { session = first; rests = refl; room = omega arith },
-      (
-        refl,
-        (
-          refl,
-          (
-            record { fixed = (0, refl); tables = tt },
-            (
-              record { session = second; rests = refl; room = omega arith },
-              (
-                refl,
-                (
-                  refl,
-                  (
-                    record { fixed = (0, refl); tables = tt },
-                    (
-                      (0, All, record { live = refl; table = refl; there = omega arith; plain = refl; unstamped = refl; room = omega arith; free = tt; newest = tt }),
-                      (
-                        record { mine = refl; plain = refl },
-                        (
-                          publishes _ _ _ _ refl,
-                          (
-                            record { live = refl; none = λ r. refl },
-                            tt,
-                          ),
-                        ),
-                      ),
-                    ),
-                  ),
-                ),
-              ),
-            ),
-          ),
-        ),
-      ),
-    ),
-  ),
-)
+early_sample_runs = ((λ j. omega arith), (record { session = first; fresh = refl }, (record { session = first; rests = refl; room = omega arith; tables = tt }, ((All, refl), ((All, refl), ((All, refl), ((0, refl), (record { session = second; rests = refl; room = omega arith; tables = tt }, ((All, refl), ((All, refl), ((All, refl), ((0, refl), ((0, All, record { live = refl; table = refl; there = omega arith; plain = refl; unstamped = refl; room = omega arith; free = tt; newest = tt }), (record { mine = refl; plain = refl }, (publishes _ _ _ _ refl, (record { live = refl; none = λ r. refl }, tt))))))))))))))))
 
 pub low_fix_runs : Run (opened 2 1 1 1 1) low_fix
 unfolding bucket_of
-low_fix_runs = (
-  record { session = first; rests = refl; room = omega arith },
-  (
-    refl,
-    (
-      refl,
-      (
-        record { session = second; rests = refl; room = omega arith },
-        (
-          refl,
-          (
-            refl,
-            (
-              record { fixed = (0, refl); tables = tt },
-              (
-                (0, All, record { live = refl; table = refl; there = omega arith; plain = refl; unstamped = refl; room = omega arith; free = tt; newest = tt }),
-                (
-                  record { mine = refl; plain = refl },
-                  (
-                    publishes _ _ _ _ refl,
-                    (
-                      record { live = refl; none = λ r. refl },
-                      (
-                        (λ j. omega arith),
-                        tt,
-                      ),
-                    ),
-                  ),
-                ),
-              ),
-            ),
-          ),
-        ),
-      ),
-    ),
-  ),
-)
+low_fix_runs = (record { session = first; rests = refl; room = omega arith; tables = tt }, ((All, refl), ((All, refl), ((All, refl), (record { session = second; rests = refl; room = omega arith; tables = tt }, ((All, refl), ((All, refl), ((All, refl), ((0, refl), ((0, All, record { live = refl; table = refl; there = omega arith; plain = refl; unstamped = refl; room = omega arith; free = tt; newest = tt }), (record { mine = refl; plain = refl }, (publishes _ _ _ _ refl, (record { live = refl; none = λ r. refl }, ((λ j. omega arith), tt))))))))))))))
+
+pub no_tables_runs : Run (opened 2 1 1 1 1) no_tables
+unfolding bucket_of
+no_tables_runs = (record { session = first; rests = refl; room = omega arith; tables = omega arith }, ((Declared 0, refl), ((Declared 0, refl), ((Declared 0, refl), (record { session = second; rests = refl; room = omega arith; tables = tt }, ((All, refl), ((All, refl), ((All, refl), ((0, refl), ((0, All, record { live = refl; table = refl; there = omega arith; plain = refl; unstamped = refl; room = omega arith; free = tt; newest = tt }), (record { mine = refl; plain = refl }, (publishes _ _ _ _ refl, (record { live = refl; none = λ r. refl }, ((λ j. omega arith), tt))))))))))))))
+
+pub early_live_runs : Run (opened 2 1 1 1 1) early_live
+unfolding bucket_of
+early_live_runs = (record { session = first; rests = refl; room = omega arith; tables = omega arith }, ((Declared 1, refl), ((Declared 1, refl), ((Declared 1, refl), ((0, refl), (record { session = second; rests = refl; room = omega arith; tables = tt }, ((All, refl), ((All, refl), ((All, refl), ((0, refl), ((0, All, record { live = refl; table = refl; there = omega arith; plain = refl; unstamped = refl; room = omega arith; free = tt; newest = tt }), (record { mine = refl; plain = refl }, (publishes _ _ _ _ refl, (record { live = refl; none = λ r. refl }, ((λ j. omega arith), tt)))))))))))))))
 
 pub two_versions_runs : (image : Image) → Run (opened 2 1 1 1 2) (two_versions image)
 unfolding bucket_of
-two_versions_runs image = (
-  record { session = second; rests = refl; room = omega arith },
-  (
-    refl,
-    (
-      refl,
-      (
-        record { fixed = (0, refl); tables = tt },
-        (
-          (0, All, record { live = refl; table = refl; there = omega arith; plain = refl; unstamped = refl; room = omega arith; free = tt; newest = tt }),
-          (
-            record { mine = refl; plain = refl },
-            (
-              publishes _ _ _ _ refl,
-              (
-                record { live = refl; none = λ r. refl },
-                (
-                  record { session = first; rests = refl; room = omega arith },
-                  (
-                    refl,
-                    (
-                      refl,
-                      (
-                        record { fixed = (1, refl); tables = omega arith },
-                        (
-                          record { session = second; rests = refl; room = omega arith },
-                          (
-                            refl,
-                            (
-                              refl,
-                              (
-                                record { fixed = (1, refl); tables = tt },
-                                (
-                                  (1, All, record { live = refl; table = refl; there = omega arith; plain = refl; unstamped = refl; room = omega arith; free = omega arith; newest = omega arith }),
-                                  (
-                                    record { mine = refl; plain = refl },
-                                    (
-                                      publishes _ _ _ _ refl,
-                                      (
-                                        record { live = refl; none = λ r. refl },
-                                        (
-                                          (λ j. omega arith),
-                                          (
-                                            record { session = first; fresh = refl },
-                                            (
-                                              record { session = second; fresh = refl },
-                                              (record { pass = omega arith; bucket = omega arith }, tt),
-                                            ),
-                                          ),
-                                        ),
-                                      ),
-                                    ),
-                                  ),
-                                ),
-                              ),
-                            ),
-                          ),
-                        ),
-                      ),
-                    ),
-                  ),
-                ),
-              ),
-            ),
-          ),
-        ),
-      ),
-    ),
-  ),
-)
+two_versions_runs image = (record { session = second; rests = refl; room = omega arith; tables = tt }, ((All, refl), ((All, refl), ((All, refl), ((0, refl), ((0, All, record { live = refl; table = refl; there = omega arith; plain = refl; unstamped = refl; room = omega arith; free = tt; newest = tt }), (record { mine = refl; plain = refl }, (publishes _ _ _ _ refl, (record { live = refl; none = λ r. refl }, (record { session = first; rests = refl; room = omega arith; tables = omega arith }, ((Declared 1, refl), ((Declared 1, refl), ((Declared 1, refl), ((1, refl), (record { session = second; rests = refl; room = omega arith; tables = tt }, ((All, refl), ((All, refl), ((All, refl), ((1, refl), ((1, All, record { live = refl; table = refl; there = omega arith; plain = refl; unstamped = refl; room = omega arith; free = omega arith; newest = omega arith }), (record { mine = refl; plain = refl }, (publishes _ _ _ _ refl, (record { live = refl; none = λ r. refl }, ((λ j. omega arith), (record { session = first; fresh = refl }, ((1, false, refl), (record { session = second; fresh = refl }, (record { pass = omega arith; bucket = omega arith }, tt))))))))))))))))))))))))))))
 
 pub moved_snapshot_runs : Run (opened 2 1 1 1 2) moved_snapshot
 unfolding bucket_of
-moved_snapshot_runs = (
-  record { session = second; rests = refl; room = omega arith },
-  (
-    refl,
-    (
-      refl,
-      (
-        record { fixed = (0, refl); tables = tt },
-        (
-          (0, All, record { live = refl; table = refl; there = omega arith; plain = refl; unstamped = refl; room = omega arith; free = tt; newest = tt }),
-          (
-            record { mine = refl; plain = refl },
-            (
-              publishes _ _ _ _ refl,
-              (
-                record { live = refl; none = λ r. refl },
-                (
-                  record { session = first; rests = refl; room = omega arith },
-                  (
-                    refl,
-                    (
-                      refl,
-                      (
-                        record { fixed = (1, refl); tables = omega arith },
-                        (
-                          record { session = second; rests = refl; room = omega arith },
-                          (
-                            refl,
-                            (
-                              refl,
-                              (
-                                record { fixed = (1, refl); tables = tt },
-                                (
-                                  (1, All, record { live = refl; table = refl; there = omega arith; plain = refl; unstamped = refl; room = omega arith; free = omega arith; newest = omega arith }),
-                                  (
-                                    record { mine = refl; plain = refl },
-                                    (
-                                      publishes _ _ _ _ refl,
-                                      (
-                                        record { live = refl; none = λ r. refl },
-                                        (
-                                          (λ j. omega arith),
-                                          (
-                                            record { session = first; fresh = refl },
-                                            (
-                                              record { session = second; fresh = refl },
-                                              (
-                                                record { pass = omega arith; bucket = omega arith },
-                                                ((1, 1, record { shown = refl; loaded = refl }), tt),
-                                              ),
-                                            ),
-                                          ),
-                                        ),
-                                      ),
-                                    ),
-                                  ),
-                                ),
-                              ),
-                            ),
-                          ),
-                        ),
-                      ),
-                    ),
-                  ),
-                ),
-              ),
-            ),
-          ),
-        ),
-      ),
-    ),
-  ),
-)
+moved_snapshot_runs = (record { session = second; rests = refl; room = omega arith; tables = tt }, ((All, refl), ((All, refl), ((All, refl), ((0, refl), ((0, All, record { live = refl; table = refl; there = omega arith; plain = refl; unstamped = refl; room = omega arith; free = tt; newest = tt }), (record { mine = refl; plain = refl }, (publishes _ _ _ _ refl, (record { live = refl; none = λ r. refl }, (record { session = first; rests = refl; room = omega arith; tables = omega arith }, ((Declared 1, refl), ((Declared 1, refl), ((Declared 1, refl), ((1, refl), (record { session = second; rests = refl; room = omega arith; tables = tt }, ((All, refl), ((All, refl), ((All, refl), ((1, refl), ((1, All, record { live = refl; table = refl; there = omega arith; plain = refl; unstamped = refl; room = omega arith; free = omega arith; newest = omega arith }), (record { mine = refl; plain = refl }, (publishes _ _ _ _ refl, (record { live = refl; none = λ r. refl }, ((λ j. omega arith), (record { session = first; fresh = refl }, ((1, false, refl), (record { session = second; fresh = refl }, (record { pass = omega arith; bucket = omega arith }, ((1, Some 1, record { shown = refl; loaded = refl }), tt)))))))))))))))))))))))))))))
+
+pub no_masks_runs : Run (opened 2 1 1 1 2) no_masks
+unfolding bucket_of
+no_masks_runs = (record { session = second; rests = refl; room = omega arith; tables = tt }, ((All, refl), ((All, refl), ((All, refl), ((0, refl), ((0, All, record { live = refl; table = refl; there = omega arith; plain = refl; unstamped = refl; room = omega arith; free = tt; newest = tt }), (record { mine = refl; plain = refl }, (publishes _ _ _ _ refl, (record { live = refl; none = λ r. refl }, (record { session = first; rests = refl; room = omega arith; tables = omega arith }, ((Declared 1, refl), ((Declared 1, refl), ((Declared 1, refl), ((1, refl), (record { session = second; rests = refl; room = omega arith; tables = tt }, ((All, refl), ((All, refl), ((All, refl), ((1, refl), ((1, All, record { live = refl; table = refl; there = omega arith; plain = refl; unstamped = refl; room = omega arith; free = omega arith; newest = omega arith }), (record { mine = refl; plain = refl }, (publishes _ _ _ _ refl, (record { live = refl; none = λ r. refl }, ((λ j. omega arith), (record { session = first; fresh = refl }, ((1, false, refl), (record { session = second; fresh = refl }, (record { pass = omega arith; bucket = omega arith }, ((1, Some 1, record { shown = refl; loaded = refl }), ((λ j. omega arith), (record { session = first; fresh = refl }, (record { session = second; fresh = refl }, tt))))))))))))))))))))))))))))))))
 
 pub open_write_runs : Run (opened 2 1 1 1 2) open_write
 unfolding bucket_of
-open_write_runs = (
-  record { session = first; rests = refl; room = omega arith },
-  (
-    refl,
-    (
-      refl,
-      (
-        record { fixed = (0, refl); tables = tt },
-        (
-          record { session = second; rests = refl; room = omega arith },
-          (
-            refl,
-            (
-              refl,
-              (
-                record { fixed = (0, refl); tables = tt },
-                (
-                  (0, All, record { live = refl; table = refl; there = omega arith; plain = refl; unstamped = refl; room = omega arith; free = tt; newest = tt }),
-                  tt,
-                ),
-              ),
-            ),
-          ),
-        ),
-      ),
-    ),
-  ),
-)
+open_write_runs = (record { session = first; rests = refl; room = omega arith; tables = tt }, ((All, refl), ((All, refl), ((All, refl), ((0, refl), (record { session = second; rests = refl; room = omega arith; tables = tt }, ((All, refl), ((All, refl), ((All, refl), ((0, refl), ((0, All, record { live = refl; table = refl; there = omega arith; plain = refl; unstamped = refl; room = omega arith; free = tt; newest = tt }), tt)))))))))))
 
 pub late_whole : IsWhole 2 ((run (opened 2 1 1 1 2) late_snapshot).pass 0)
-late_whole j session = go j session.first session.last
+late_whole = record { registers = λ j session. go j session.first session.last; masks = λ j. found_each HasMask j ((2, record { register = registers.Idle; mask = None }) ∷ (1, record { register = registers.Live 2 false false; mask = None }) ∷ []) (λ e. absurd (false_true e), (λ e. absurd (false_true e), tt)) }
   where
-    go : (k : ℕ) → 0 < k → k ≤ 2 → IsSome (found k ((2, registers.Idle) ∷ (1, registers.Live 2 All false) ∷ []))
+    go : (k : ℕ) → 0 < k → k ≤ 2 → IsSome (found k ((2, record { register = registers.Idle; mask = None }) ∷ (1, record { register = registers.Live 2 false false; mask = None }) ∷ []))
     go zero a b = absurd (omega arith)
     go (suc zero) a b = refl
     go (suc (suc zero)) a b = refl
@@ -534,8 +150,8 @@ late_whole j session = go j session.first session.last
 
 pub late_snapshot_runs : Run (opened 2 1 1 1 2) late_snapshot
 unfolding bucket_of
-late_snapshot_runs = (record { session = second; rests = refl; room = omega arith }, (refl, (refl, (record { fixed = (0, refl); tables = tt }, ((0, All, record { live = refl; table = refl; there = omega arith; plain = refl; unstamped = refl; room = omega arith; free = tt; newest = tt }), (record { mine = refl; plain = refl }, (publishes _ _ _ _ refl, (record { live = refl; none = λ r. refl }, (record { session = second; rests = refl; room = omega arith }, (refl, (refl, (record { fixed = (1, refl); tables = tt }, ((1, All, record { live = refl; table = refl; there = omega arith; plain = refl; unstamped = refl; room = omega arith; free = omega arith; newest = omega arith }), (record { mine = refl; plain = refl }, (publishes _ _ _ _ refl, (record { live = refl; none = λ r. refl }, (record { session = first; rests = refl; room = omega arith }, (refl, (refl, (record { fixed = (2, refl); tables = tt }, ((λ j. omega arith), (record { session = first; fresh = refl }, (record { session = second; fresh = refl }, (record { pass = omega arith; bucket = omega arith }, tt))))))))))))))))))))))))
+late_snapshot_runs = (record { session = second; rests = refl; room = omega arith; tables = tt }, ((All, refl), ((All, refl), ((All, refl), ((0, refl), ((0, All, record { live = refl; table = refl; there = omega arith; plain = refl; unstamped = refl; room = omega arith; free = tt; newest = tt }), (record { mine = refl; plain = refl }, (publishes _ _ _ _ refl, (record { live = refl; none = λ r. refl }, (record { session = second; rests = refl; room = omega arith; tables = tt }, ((All, refl), ((All, refl), ((All, refl), ((1, refl), ((1, All, record { live = refl; table = refl; there = omega arith; plain = refl; unstamped = refl; room = omega arith; free = omega arith; newest = omega arith }), (record { mine = refl; plain = refl }, (publishes _ _ _ _ refl, (record { live = refl; none = λ r. refl }, (record { session = first; rests = refl; room = omega arith; tables = tt }, ((All, refl), ((All, refl), ((All, refl), ((2, refl), ((λ j. omega arith), (record { session = first; fresh = refl }, (record { session = second; fresh = refl }, (record { pass = omega arith; bucket = omega arith }, tt)))))))))))))))))))))))))))
 
 pub swept_visit_runs : Run (opened 2 1 1 1 2) swept_visit
 unfolding bucket_of
-swept_visit_runs = (record { session = second; rests = refl; room = omega arith }, (refl, (refl, (record { fixed = (0, refl); tables = tt }, ((0, All, record { live = refl; table = refl; there = omega arith; plain = refl; unstamped = refl; room = omega arith; free = tt; newest = tt }), (record { mine = refl; plain = refl }, (publishes _ _ _ _ refl, (record { live = refl; none = λ r. refl }, (record { session = second; rests = refl; room = omega arith }, (refl, (refl, (record { fixed = (1, refl); tables = tt }, ((1, All, record { live = refl; table = refl; there = omega arith; plain = refl; unstamped = refl; room = omega arith; free = omega arith; newest = omega arith }), (record { mine = refl; plain = refl }, (publishes _ _ _ _ refl, (record { live = refl; none = λ r. refl }, (record { session = first; rests = refl; room = omega arith }, (refl, (refl, (record { fixed = (2, refl); tables = tt }, ((λ j. omega arith), (record { session = first; fresh = refl }, (record { session = second; fresh = refl }, (record { pass = omega arith; bucket = omega arith }, (record { whole = late_whole; here = (refl, refl) }, ((0, (refl, refl)), tt))))))))))))))))))))))))))
+swept_visit_runs = (record { session = second; rests = refl; room = omega arith; tables = tt }, ((All, refl), ((All, refl), ((All, refl), ((0, refl), ((0, All, record { live = refl; table = refl; there = omega arith; plain = refl; unstamped = refl; room = omega arith; free = tt; newest = tt }), (record { mine = refl; plain = refl }, (publishes _ _ _ _ refl, (record { live = refl; none = λ r. refl }, (record { session = second; rests = refl; room = omega arith; tables = tt }, ((All, refl), ((All, refl), ((All, refl), ((1, refl), ((1, All, record { live = refl; table = refl; there = omega arith; plain = refl; unstamped = refl; room = omega arith; free = omega arith; newest = omega arith }), (record { mine = refl; plain = refl }, (publishes _ _ _ _ refl, (record { live = refl; none = λ r. refl }, (record { session = first; rests = refl; room = omega arith; tables = tt }, ((All, refl), ((All, refl), ((All, refl), ((2, refl), ((λ j. omega arith), (record { session = first; fresh = refl }, (record { session = second; fresh = refl }, (record { pass = omega arith; bucket = omega arith }, (record { whole = late_whole; here = (refl, refl) }, ((0, (refl, refl)), tt)))))))))))))))))))))))))))))

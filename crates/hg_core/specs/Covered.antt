@@ -8,7 +8,7 @@ use Rattle.hg_base.specs.Lists.{Each}
 use Rattle.hg_base.specs.History.{History, nothing, writes, visible}
 use Rattle.hg_base.specs.Transcript.{has}
 use Rattle.hg_core.specs.declared.phase.Phase.{Phase}
-use Rattle.hg_core.specs.declared.phase.Phase.TheVariants.{Idle, Probed, Entered, Fixed, Live}
+use Rattle.hg_core.specs.declared.phase.Phase.TheVariants.{Idle, Declared, Probed, Entered, Fixed, Live}
 use Rattle.hg_core.specs.declared.version.Version.{Version}
 use Rattle.hg_core.specs.Versions.{newest_at}
 
@@ -22,12 +22,13 @@ abbrev pub last_pair : List (ℕ × Image) → Option (ℕ × Image)
 last_pair [] = None
 last_pair (w ∷ ws) = option_or (last_pair ws) (Some w)
 
--- a phase reads the table at n, or will: a session that has fixed a number may yet read any table there
+-- a phase reads the table at n, or will: a session that has fixed a number counts for every table, whatever it declared
 abbrev pub Reads : TableId → Phase → ℕ → Type 0
 Reads table Idle n = ⊥
-Reads table (Probed f) n = ⊥
-Reads table (Entered f) n = ⊥
-Reads table (Fixed f m) n = n ≡ m
+Reads table (Declared scope) n = ⊥
+Reads table (Probed scope f) n = ⊥
+Reads table (Entered scope f) n = ⊥
+Reads table (Fixed scope f m) n = n ≡ m
 Reads table (Live at scope) n = (n ≡ at) × IsTrue (has scope table)
 
 -- the numbers at which a table is, or may come to be, read: the mark, and those of the sessions
@@ -45,9 +46,10 @@ pub record Covers (mark : ℕ) (phase : ℕ → Phase) (history : History) (r : 
 -- an open write may commit: its session is live with the table, and each write of the record is at or below its snapshot
 abbrev pub MayCommit : History → Rid → Phase → Type 0
 MayCommit h r Idle = ⊥
-MayCommit h r (Probed f) = ⊥
-MayCommit h r (Entered f) = ⊥
-MayCommit h r (Fixed f m) = ⊥
+MayCommit h r (Declared scope) = ⊥
+MayCommit h r (Probed scope f) = ⊥
+MayCommit h r (Entered scope f) = ⊥
+MayCommit h r (Fixed scope f m) = ⊥
 MayCommit h r (Live at scope) = IsTrue (has scope r.table) × Each (λ w. w.0 ≤ at) (writes h r)
 
 abbrev pub OpenWritesMayCommit : History → (ℕ → Phase) → (ℕ → Rid → Option Image) → Type 0

@@ -1,21 +1,22 @@
 -- The events: each is one atomic action of one actor.
-use Rattle.std.specs.Prelude.{◌≡◌, ℕ, ℤ, suc, ◌<◌, ◌≤◌, List, [], ◌∷◌, ◌++◌, length, ◌+◌, ◌-◌, true, false, ◌==◌, if◌then◌else◌, Option, Some, None, IsSome, IsNone, IfSome, IsTrue, IsFalse}
+use Rattle.std.specs.Prelude.{◌≡◌, ℕ, ℤ, suc, ◌<◌, ◌≤◌, List, [], ◌∷◌, ◌++◌, length, ◌+◌, ◌-◌, true, false, ◌==◌, if◌then◌else◌, Bool, Option, Some, None, IsSome, IsNone, IfSome, IsTrue, IsFalse}
 use Rattle.hg_base.specs.declared.scope.Scope.{Scope}
-use Rattle.hg_base.specs.declared.scope.Scope.TheVariants.{Declared}
 use Rattle.hg_base.specs.declared.rid.Rid.{Rid}
 use Rattle.hg_base.specs.declared.image.Image.{Image}
 use Rattle.hg_base.specs.declared.report.Kind.{Kind}
 use Rattle.hg_base.specs.Transcript.{has}
 use Rattle.hg_base.specs.Lists.{Each}
 use Rattle.hg_base.specs.History.{NoNumberTwice}
+use Rattle.hg_base.specs.Freshness.{is_declared}
+use Rattle.hg_core.specs.declared.loaded.Loaded.{Loaded}
 use Rattle.hg_core.specs.declared.register.Register.{Register}
 use Rattle.hg_core.specs.declared.register.Register.TheVariants as registers
-use Rattle.hg_core.specs.declared.phase.Phase.TheVariants.{Idle, Probed, Entered, Fixed, Live}
+use Rattle.hg_core.specs.declared.phase.Phase.TheVariants.{Idle, Declared, Probed, Entered, Fixed, Live}
 use Rattle.hg_core.specs.declared.log.LogEntry.{LogEntry}
 use Rattle.hg_core.specs.declared.log.LogEntry.TheVariants.{Began, Saw, Refused, Outside, Wrote, Undid, Over}
-use Rattle.hg_core.specs.Words.{IsBelow}
+use Rattle.hg_core.specs.Words.{IsBelow, mask_of}
 use Rattle.hg_core.specs.Logs.{current, number_in, begans, wrotes, is_plain, open_in, begun_in, is_in, new_group, published_logs}
-use Rattle.hg_core.specs.Phases.{IsSession, snapshot_in}
+use Rattle.hg_core.specs.Phases.{IsSession, declared_in, snapshot_in}
 use Rattle.hg_core.specs.Passes.{PassRecord, found, IsWhole}
 use Rattle.hg_core.specs.Versions.{newest_at, installed, undone, stamped, IsFreeFor, IsOpenBy}
 use Rattle.hg_core.specs.Contents.{bucket_of, versions, stored, is_stamped, has_stamped}
@@ -33,13 +34,15 @@ use Rattle.hg_core.specs.Counters.{added, removed_more}
 use Rattle.hg_core.specs.Visits.{IsVisiting, removing}
 use Rattle.hg_core.specs.State.{CoreState}
 
--- A session loads the mark (Probe), shows that it enters at it (Enter), loads the mark again (Fix), shows the second as
--- its snapshot (GoLive), and goes to rest (End). A pass of a collector begins a record (Mark), loads a register (Sample)
--- and moves a long snapshot (Move). A session stores a write (Install) or takes it back (Undo). A committer gives an open
--- write the next number (Stamp), and publishes the transactions of some sessions as one group (Publish). A pass takes away
--- versions of a record (Reclaim). A session reads a range in a bucket, or tries a write, or names a table outside (Look).
--- The group collector takes the oldest group out of the committer's list (Take).
+-- A session stores its mask word (Declare), loads the mark (Probe), shows that it enters at it (Enter), loads the mark again
+-- (Fix), shows the second as its snapshot (GoLive), and goes to rest (End). A pass of a collector begins a record (Mark),
+-- loads a register (Sample), and the mask word where that is live and declared (SampleMask), and moves a long snapshot
+-- (Move). A session stores a write (Install) or takes it back (Undo). A committer gives an open write the next number
+-- (Stamp), and publishes the transactions of some sessions as one group (Publish). A pass takes away versions of a record
+-- (Reclaim). A session reads a range in a bucket, or tries a write, or names a table outside (Look). The group collector
+-- takes the oldest group out of the committer's list (Take).
 pub data Event : Type 0 where
+  Declare : (j : ℕ) → (scope : Scope) → Event
   Probe : (j : ℕ) → Event
   Enter : (j f : ℕ) → Event
   Fix : (j f : ℕ) → Event
@@ -47,6 +50,7 @@ pub data Event : Type 0 where
   End : (j : ℕ) → Event
   Mark : (p : ℕ) → (known : ℕ → ℕ) → Event
   Sample : (p j : ℕ) → Event
+  SampleMask : (p j : ℕ) → Event
   Move : (p j : ℕ) → Event
   Install : (j : ℕ) → (r : Rid) → (image : Image) → Event
   Undo : (j : ℕ) → (r : Rid) → Event
@@ -64,20 +68,28 @@ put f j value = λ k. if k == j then value else f k
 abbrev pub moved : Register → Register
 moved registers.Idle = registers.Idle
 moved (registers.Entering f) = registers.Entering f
-moved (registers.Live number scope was_moved) = registers.Live number scope true
+moved (registers.Live number declared was_moved) = registers.Live number declared true
 
--- the registers that were loaded, with session j's moved
-abbrev pub moved_in : ℕ → List (ℕ × Register) → List (ℕ × Register)
-moved_in j [] = []
-moved_in j (e ∷ loaded) = if j == e.0 then (e.0, moved e.1) ∷ loaded else e ∷ moved_in j loaded
+-- what was loaded, with session j's changed
+abbrev pub changed_in : (Loaded → Loaded) → ℕ → List (ℕ × Loaded) → List (ℕ × Loaded)
+changed_in change j [] = []
+changed_in change j (e ∷ loaded) = if j == e.0 then (e.0, change e.1) ∷ loaded else e ∷ changed_in change j loaded
+
+-- with session j's register moved
+abbrev pub moved_in : ℕ → List (ℕ × Loaded) → List (ℕ × Loaded)
+moved_in j loaded = changed_in (λ one. record one { register = moved one.register }) j loaded
+
+-- with the mask word of session j
+abbrev pub masked_in : ℕ → ℕ → List (ℕ × Loaded) → List (ℕ × Loaded)
+masked_in j mask loaded = changed_in (λ one. record one { mask = Some mask }) j loaded
 
 -- the record of a pass that loads the mark
 abbrev pub begun_record : ℕ → (ℕ → ℕ) → PassRecord
 begun_record mark known = record { mark = mark; known = known; loaded = [] }
 
--- a record with a register more
+-- a record with a register more, of which no mask is loaded yet
 abbrev pub sampled : PassRecord → ℕ → Register → PassRecord
-sampled pass j register = record pass { loaded = (j, register) ∷ pass.loaded }
+sampled pass j register = record pass { loaded = (j, record { register = register; mask = None }) ∷ pass.loaded }
 
 -- a log with a refusal, where there is one
 abbrev pub with_refusal : Rid → Option Answer → List LogEntry → List LogEntry
@@ -111,13 +123,15 @@ shortened s p kind r vs =
 
 -- the state after an event
 abbrev pub happens : CoreState → Event → CoreState
-happens s (Probe j) = record s { phase = put s.phase j (Probed s.mark) }
-happens s (Enter j f) = record s { phase = put s.phase j (Entered f); register = put s.register j (registers.Entering f) }
-happens s (Fix j f) = record s { phase = put s.phase j (Fixed f s.mark) }
-happens s (GoLive j m scope) = record s { phase = put s.phase j (Live m scope); register = put s.register j (registers.Live m scope false); log = put s.log j (Began m scope ∷ s.log j) }
+happens s (Declare j scope) = record s { phase = put s.phase j (Declared scope); mask = put s.mask j (mask_of scope) }
+happens s (Probe j) = record s { phase = put s.phase j (Probed (declared_in (s.phase j)) s.mark) }
+happens s (Enter j f) = record s { phase = put s.phase j (Entered (declared_in (s.phase j)) f); register = put s.register j (registers.Entering f) }
+happens s (Fix j f) = record s { phase = put s.phase j (Fixed (declared_in (s.phase j)) f s.mark) }
+happens s (GoLive j m scope) = record s { phase = put s.phase j (Live m scope); register = put s.register j (registers.Live m (is_declared scope) false); log = put s.log j (Began m scope ∷ s.log j) }
 happens s (End j) = record s { phase = put s.phase j Idle; register = put s.register j registers.Idle; log = put s.log j (Over ∷ s.log j) }
 happens s (Mark p known) = record s { pass = put s.pass p (begun_record s.mark known) }
 happens s (Sample p j) = record s { pass = put s.pass p (sampled (s.pass p) j (s.register j)) }
+happens s (SampleMask p j) = record s { pass = put s.pass p (record (s.pass p) { loaded = masked_in j (s.mask j) (s.pass p).loaded }) }
 happens s (Move p j) = record s { register = put s.register j (moved (s.register j)); pass = put s.pass p (record (s.pass p) { loaded = moved_in j (s.pass p).loaded }) }
 happens s (Install j r image) =
     record s {
@@ -132,15 +146,11 @@ happens s (Reclaim p kind r) = shortened s p kind r (reclaimed kind r.table (s.p
 happens s Take = record s { taken = suc s.taken }
 happens s (Look j ask b rows) = record s { log = put s.log j (looked s j ask b rows) }
 
--- a session may begin: it is at rest, and has begun fewer transactions than it may
-pub record MayProbe (s : CoreState) (j : ℕ) : Type 0 where
+-- a session may begin, with tables that are there: it is at rest, and has begun fewer transactions than it may
+pub record MayDeclare (s : CoreState) (j : ℕ) (scope : Scope) : Type 0 where
   pub session : IsSession s.sessions j
   pub rests : s.phase j ≡ Idle
   pub room : begans (s.log j) < s.quota
-
--- a session may go live at the number that it fixed, with tables that are there
-pub record MayGoLive (s : CoreState) (j m : ℕ) (scope : Scope) : Type 0 where
-  pub fixed : (f : ℕ) × (s.phase j ≡ Fixed f m)
   pub tables : IsBelow s.tables scope
 
 -- a register is loaded once for a record
@@ -148,10 +158,14 @@ pub record MaySample (s : CoreState) (p j : ℕ) : Type 0 where
   pub session : IsSession s.sessions j
   pub fresh : IsNone (found j (s.pass p).loaded)
 
+-- a mask is loaded once, after its register, where that is live and declared
+abbrev pub MaySampleMask : CoreState → ℕ → ℕ → ℕ → Bool → Type 0
+MaySampleMask s p j number moved = found j (s.pass p).loaded ≡ Some (record { register = registers.Live number true moved; mask = None })
+
 -- a pass may move a declared snapshot that it loaded unmoved, and that the register still shows
-pub record MayMove (s : CoreState) (p j : ℕ) (number mask : ℕ) : Type 0 where
-  pub shown : s.register j ≡ registers.Live number (Declared mask) false
-  pub loaded : found j (s.pass p).loaded ≡ Some (registers.Live number (Declared mask) false)
+pub record MayMove (s : CoreState) (p j : ℕ) (number : ℕ) (mask : Option ℕ) : Type 0 where
+  pub shown : s.register j ≡ registers.Live number true false
+  pub loaded : found j (s.pass p).loaded ≡ Some (record { register = registers.Live number true false; mask = mask })
 
 -- a session may go to rest: it reads at a snapshot, and has no open write
 pub record MayEnd (s : CoreState) (j : ℕ) : Type 0 where
@@ -210,14 +224,16 @@ pub record MayReclaim (s : CoreState) (p : ℕ) (r : Rid) : Type 0 where
 
 -- when an event may happen
 abbrev pub May : CoreState → Event → Type 0
-May s (Probe j) = MayProbe s j
-May s (Enter j f) = s.phase j ≡ Probed f
-May s (Fix j f) = s.phase j ≡ Entered f
-May s (GoLive j m scope) = MayGoLive s j m scope
+May s (Declare j scope) = MayDeclare s j scope
+May s (Probe j) = (scope : Scope) × (s.phase j ≡ Declared scope)
+May s (Enter j f) = (scope : Scope) × (s.phase j ≡ Probed scope f)
+May s (Fix j f) = (scope : Scope) × (s.phase j ≡ Entered scope f)
+May s (GoLive j m scope) = (f : ℕ) × (s.phase j ≡ Fixed scope f m)
 May s (End j) = MayEnd s j
 May s (Mark p known) = (j : ℕ) → known j ≤ length (s.log j)
 May s (Sample p j) = MaySample s p j
-May s (Move p j) = (number : ℕ) × (mask : ℕ) × MayMove s p j number mask
+May s (SampleMask p j) = (number : ℕ) × (moved : Bool) × MaySampleMask s p j number moved
+May s (Move p j) = (number : ℕ) × (mask : Option ℕ) × MayMove s p j number mask
 May s (Install j r image) = (at : ℕ) × (scope : Scope) × MayInstall s j r at scope
 May s (Undo j r) = MayUndo s j r
 May s (Stamp j r) = MayStamp s j r

@@ -21,8 +21,8 @@ use Rattle.hg_core.specs.Visits.{VisitsStay}
 pub record IsSteady (s : CoreState) : Type 0 where
   -- the mark is the length of the history, and no number that was loaded of it is above it
   pub mark_is_length : MarkIsLength s.mark s.history s.phase s.pass
-  -- each register shows its session's phase, and was moved only where tables are declared
-  pub registers_agree : RegistersAgree s.sessions s.tables s.phase s.register
+  -- each register and each mask word show their session's phase, and a register was moved only where tables are declared
+  pub registers_agree : RegistersAgree s.sessions s.tables s.phase s.register s.mask
   -- the versions of a record show at each protected number what a table shows that never reclaims
   pub covered : (r : Rid) → Covers s.mark s.phase s.history r (versions s.buckets s.bucket r)
   -- what isn't published of a record is the open write of one session's open transaction, and each open write stands there

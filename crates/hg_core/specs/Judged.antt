@@ -3,7 +3,7 @@ use Rattle.std.specs.Prelude.{◌≡◌, ℕ, ◌<◌, ◌≤◌, List, [], ◌�
 use Rattle.hg_base.specs.declared.rid.Rid.{Rid}
 use Rattle.hg_base.specs.History.{History, Group, group_at}
 use Rattle.hg_core.specs.declared.phase.Phase.{Phase}
-use Rattle.hg_core.specs.declared.phase.Phase.TheVariants.{Idle, Probed, Entered, Fixed, Live}
+use Rattle.hg_core.specs.declared.phase.Phase.TheVariants.{Idle, Declared, Probed, Entered, Fixed, Live}
 use Rattle.hg_core.specs.declared.log.LogEntry.{LogEntry}
 use Rattle.hg_core.specs.declared.log.LogEntry.TheVariants.{Began, Undid, Published, Over}
 use Rattle.hg_core.specs.Logs.{current, open_in, begans, wrotes, is_plain, published, has_number, UpTo}
@@ -40,9 +40,10 @@ Judged h (e ∷ earlier) = Judge h e earlier × Judged h earlier
 -- a number that was fixed is at or over every number that the session's log has
 abbrev pub FixedOver : Phase → List LogEntry → Type 0
 FixedOver Idle log = ⊤
-FixedOver (Probed f) log = ⊤
-FixedOver (Entered f) log = ⊤
-FixedOver (Fixed f m) log = UpTo m log
+FixedOver (Declared scope) log = ⊤
+FixedOver (Probed scope f) log = ⊤
+FixedOver (Entered scope f) log = ⊤
+FixedOver (Fixed scope f m) log = UpTo m log
 FixedOver (Live at scope) log = ⊤
 
 -- each write that was taken back was open

@@ -22,9 +22,10 @@ pub record CoreState : Type 0 where
   pub quota : ℕ
   -- how many collector passes there are
   pub passes : ℕ
-  -- the words, which all may load: the mark, and the register of each session
+  -- the words, which all may load: the mark, and of each session the register and the mask of its tables
   pub mark : ℕ
   pub register : ℕ → Register
+  pub mask : ℕ → ℕ
   -- the committer's: the groups of commits, oldest first, and the writes that have the next number, each with its session
   pub history : History
   pub stamped_list : List (ℕ × Rid)
@@ -50,6 +51,7 @@ opened sessions tables buckets passes quota = record {
   passes = passes;
   mark = 0;
   register = λ j. registers.Idle;
+  mask = λ j. 0;
   history = [];
   stamped_list = [];
   taken = 0;

@@ -5,7 +5,7 @@ use Rattle.hg_base.specs.declared.image.Image.{Image}
 use Rattle.hg_base.specs.declared.scope.Scope.TheVariants.{All, Declared}
 use Rattle.hg_base.specs.declared.report.Kind.TheVariants.{Interval}
 use Rattle.hg_core.specs.declared.ask.Ask.TheVariants.{Outside}
-use Rattle.hg_core.specs.Events.{Event, Probe, Enter, Fix, GoLive, End, Mark, Sample, Move, Install, Undo, Stamp, Publish, Reclaim, Take, Look}
+use Rattle.hg_core.specs.Events.{Event, Declare, Probe, Enter, Fix, GoLive, End, Mark, Sample, SampleMask, Move, Install, Undo, Stamp, Publish, Reclaim, Take, Look}
 use Rattle.hg_core.specs.Steps.{Step, Act, Arrive, Leave, Split, acts}
 use Rattle.hg_base.specs.declared.statement.Statement.TheVariants.{Begin, Put, Commit as CommitIt}
 use Rattle.hg_base.specs.declared.line.Answer.{Answer}
@@ -27,52 +27,65 @@ row = record { row = Some (pos 7 ∷ []) }
 
 -- session 2 begins, writes a row, commits it, and is over
 abbrev pub commits : List Event
-commits = Probe 2 ∷ Enter 2 0 ∷ Fix 2 0 ∷ GoLive 2 0 All ∷ Install 2 one_rid row ∷ Stamp 2 one_rid ∷ Publish (2 ∷ []) ∷ End 2 ∷ []
+commits = Declare 2 All ∷ Probe 2 ∷ Enter 2 0 ∷ Fix 2 0 ∷ GoLive 2 0 All ∷ Install 2 one_rid row ∷ Stamp 2 one_rid ∷ Publish (2 ∷ []) ∷ End 2 ∷ []
 
--- Session 1 loads the mark 0 twice. Session 2 commits, so the mark is 1. A pass loads the mark, finds session 1 entering at
--- 0 and session 2 idle. Then session 1 goes live at 0.
+-- Session 1 declares a table, and loads the mark 0 twice. Session 2 commits, so the mark is 1. A pass loads the mark, finds
+-- session 1 entering at 0 and session 2 idle. Then session 1 goes live at 0.
 abbrev pub slow_begin : List Step
-slow_begin = acts (Probe 1 ∷ Enter 1 0 ∷ Fix 1 0 ∷ commits ++ Mark 0 (λ j. 0) ∷ Sample 0 1 ∷ Sample 0 2 ∷ GoLive 1 0 (Declared 1) ∷ [])
+slow_begin = acts (Declare 1 (Declared 1) ∷ Probe 1 ∷ Enter 1 0 ∷ Fix 1 0 ∷ commits ++ Mark 0 (λ j. 0) ∷ Sample 0 1 ∷ Sample 0 2 ∷ GoLive 1 0 (Declared 1) ∷ [])
 
 -- The group is taken. The pass visits the bucket, and takes away what session 1 doesn't need of the record. It is split. It
--- begins a new record, finds session 1 live at 0, and moves that snapshot to the table that it declared. Session 1 names
--- another table, writes another record, takes that back, and is over.
+-- begins a new record, finds session 1 live at 0, loads its mask, and moves that snapshot to the table that it declared.
+-- Session 1 names another table, writes another record, takes that back, and is over.
 abbrev pub long_snapshot : List Step
-long_snapshot = Act Take ∷ Arrive 0 0 ∷ Act (Reclaim 0 Interval one_rid) ∷ Leave 0 ∷ Split 0 ∷ acts (Mark 0 (λ j. 0) ∷ Sample 0 1 ∷ Move 0 1 ∷ Look 1 (Outside (record { 0 = 1 })) 0 [] ∷ Install 1 two_rid row ∷ Undo 1 two_rid ∷ End 1 ∷ [])
+long_snapshot = Act Take ∷ Arrive 0 0 ∷ Act (Reclaim 0 Interval one_rid) ∷ Leave 0 ∷ Split 0 ∷ acts (Mark 0 (λ j. 0) ∷ Sample 0 1 ∷ SampleMask 0 1 ∷ Move 0 1 ∷ Look 1 (Outside (record { 0 = 1 })) 0 [] ∷ Install 1 two_rid row ∷ Undo 1 two_rid ∷ End 1 ∷ [])
 
 -- Session 1 loads the mark 0. Session 2 commits. A pass loads the mark 1 and finds session 1 idle, which then enters at 0.
 abbrev pub late_entry : List Step
-late_entry = acts (Probe 1 ∷ commits ++ Mark 0 (λ j. 0) ∷ Sample 0 1 ∷ Enter 1 0 ∷ [])
+late_entry = acts (Declare 1 All ∷ Probe 1 ∷ commits ++ Mark 0 (λ j. 0) ∷ Sample 0 1 ∷ Enter 1 0 ∷ [])
 
 -- A pass loads the mark 0 and finds session 1 idle, which then goes live at 0. Session 2 commits.
 abbrev pub early_sample : List Step
-early_sample = acts (Mark 0 (λ j. 0) ∷ Sample 0 1 ∷ Probe 1 ∷ Enter 1 0 ∷ Fix 1 0 ∷ GoLive 1 0 All ∷ commits)
+early_sample = acts (Mark 0 (λ j. 0) ∷ Sample 0 1 ∷ Declare 1 All ∷ Probe 1 ∷ Enter 1 0 ∷ Fix 1 0 ∷ GoLive 1 0 All ∷ commits)
 
 -- Session 1 loads the mark 0 twice. Session 2 commits, and a pass loads the mark 1.
 abbrev pub low_fix : List Step
-low_fix = acts (Probe 1 ∷ Enter 1 0 ∷ Fix 1 0 ∷ commits ++ Mark 0 (λ j. 0) ∷ [])
+low_fix = acts (Declare 1 All ∷ Probe 1 ∷ Enter 1 0 ∷ Fix 1 0 ∷ commits ++ Mark 0 (λ j. 0) ∷ [])
 
 -- session 2 begins again, at 1, writes the record again, commits, and is over
 abbrev pub commits_again : Image → List Event
-commits_again image = Probe 2 ∷ Enter 2 1 ∷ Fix 2 1 ∷ GoLive 2 1 All ∷ Install 2 one_rid image ∷ Stamp 2 one_rid ∷ Publish (2 ∷ []) ∷ End 2 ∷ []
+commits_again image = Declare 2 All ∷ Probe 2 ∷ Enter 2 1 ∷ Fix 2 1 ∷ GoLive 2 1 All ∷ Install 2 one_rid image ∷ Stamp 2 one_rid ∷ Publish (2 ∷ []) ∷ End 2 ∷ []
 
--- Session 2 commits the record. Session 1 goes live at 1. Session 2 commits the record again, with this image. A pass loads
--- the mark 2, and both registers, and takes the bucket.
+-- Session 2 commits the record. Session 1 declares its table, and goes live at 1. Session 2 commits the record again, with
+-- this image. A pass loads the mark 2, the register and the mask of session 1, and the register of session 2, and takes the
+-- bucket.
 abbrev pub two_versions : Image → List Step
-two_versions image = acts (commits ++ Probe 1 ∷ Enter 1 1 ∷ Fix 1 1 ∷ GoLive 1 1 (Declared 1) ∷ commits_again image ++ Mark 0 (λ j. 0) ∷ Sample 0 1 ∷ Sample 0 2 ∷ []) ++ Arrive 0 0 ∷ []
+two_versions image = acts (commits ++ Declare 1 (Declared 1) ∷ Probe 1 ∷ Enter 1 1 ∷ Fix 1 1 ∷ GoLive 1 1 (Declared 1) ∷ commits_again image ++ Mark 0 (λ j. 0) ∷ Sample 0 1 ∷ SampleMask 0 1 ∷ Sample 0 2 ∷ []) ++ Arrive 0 0 ∷ []
 
 -- and the pass moves the snapshot of session 1
 abbrev pub moved_snapshot : List Step
 moved_snapshot = two_versions row ++ Act (Move 0 1) ∷ []
 
+-- And it begins a new record: it finds session 1 live and moved, and loads no mask.
+abbrev pub no_masks : List Step
+no_masks = moved_snapshot ++ acts (Mark 0 (λ j. 0) ∷ Sample 0 1 ∷ Sample 0 2 ∷ [])
+
+-- Session 1 declares no table, and loads the mark 0 twice. Session 2 commits, and a pass loads the mark 1.
+abbrev pub no_tables : List Step
+no_tables = acts (Declare 1 (Declared 0) ∷ Probe 1 ∷ Enter 1 0 ∷ Fix 1 0 ∷ commits ++ Mark 0 (λ j. 0) ∷ [])
+
+-- Session 1 declares a table, and goes live at 0. Session 2 commits, and a pass loads the mark 1.
+abbrev pub early_live : List Step
+early_live = acts (Declare 1 (Declared 1) ∷ Probe 1 ∷ Enter 1 0 ∷ Fix 1 0 ∷ GoLive 1 0 (Declared 1) ∷ commits ++ Mark 0 (λ j. 0) ∷ [])
+
 -- session 2 has written the record, and nothing is stamped; session 1 is live too
 abbrev pub open_write : List Step
-open_write = acts (Probe 1 ∷ Enter 1 0 ∷ Fix 1 0 ∷ GoLive 1 0 All ∷ Probe 2 ∷ Enter 2 0 ∷ Fix 2 0 ∷ GoLive 2 0 All ∷ Install 2 one_rid row ∷ [])
+open_write = acts (Declare 1 All ∷ Probe 1 ∷ Enter 1 0 ∷ Fix 1 0 ∷ GoLive 1 0 All ∷ Declare 2 All ∷ Probe 2 ∷ Enter 2 0 ∷ Fix 2 0 ∷ GoLive 2 0 All ∷ Install 2 one_rid row ∷ [])
 
 -- Session 2 commits the record twice. Session 1 goes live at 2, the number of the newest version. A pass loads the mark and
 -- both registers, and takes the bucket.
 abbrev pub late_snapshot : List Step
-late_snapshot = acts (commits ++ commits_again row ++ Probe 1 ∷ Enter 1 2 ∷ Fix 1 2 ∷ GoLive 1 2 All ∷ Mark 0 (λ j. 0) ∷ Sample 0 1 ∷ Sample 0 2 ∷ []) ++ Arrive 0 0 ∷ []
+late_snapshot = acts (commits ++ commits_again row ++ Declare 1 All ∷ Probe 1 ∷ Enter 1 2 ∷ Fix 1 2 ∷ GoLive 1 2 All ∷ Mark 0 (λ j. 0) ∷ Sample 0 1 ∷ Sample 0 2 ∷ []) ++ Arrive 0 0 ∷ []
 
 -- and the pass sweeps the record, and gives the bucket back
 abbrev pub swept_visit : List Step

@@ -7,9 +7,14 @@ ghost use Rattle.hg_base.specs.declared.report.Kind.{Kind};
 ghost use Rattle.hg_base.specs.declared.scope.Scope.{Scope};
 ghost use Rattle.hg_core.specs.declared.ask.Ask.{Ask};
 ghost use Rattle.hg_core.specs.State.{CoreState};
-ghost use Rattle.hg_core.specs.Events.{Probe, Enter, Fix, GoLive, End, Mark, Sample, Move, Install, Undo, Stamp, Publish, Reclaim, Take, Look, happens, May};
+ghost use Rattle.hg_core.specs.Events.{Declare, Probe, Enter, Fix, GoLive, End, Mark, Sample, SampleMask, Move, Install, Undo, Stamp, Publish, Reclaim, Take, Look, happens, May};
 ghost use Rattle.hg_core.specs.Steps.{Always, Arrive, Leave, Split, step, Can};
 ghost use Rattle.hg_core.specs.Invariant.{IsSteady};
+
+/// A session at rest stores the mask word of the tables of its next transaction.
+pub fn declare_keeps()
+    ensures { (s : CoreState) (j : ℕ) (scope : Scope) → IsSteady s → May s (Declare j scope) → IsSteady (happens s (Declare j scope)) }
+{}
 
 /// A session loads the mark, of which nobody knows.
 pub fn probe_keeps()
@@ -26,7 +31,7 @@ pub fn fix_keeps()
     ensures { (s : CoreState) (j f : ℕ) → IsSteady s → May s (Fix j f) → IsSteady (happens s (Fix j f)) }
 {}
 
-/// The second mark becomes its snapshot.
+/// The second mark becomes its snapshot, with the tables that it declared.
 pub fn go_live_keeps()
     ensures { (s : CoreState) (j m : ℕ) (scope : Scope) → IsSteady s → May s (GoLive j m scope) → IsSteady (happens s (GoLive j m scope)) }
 {}
@@ -44,6 +49,12 @@ pub fn mark_keeps()
 /// A pass loads a register into its record.
 pub fn sample_keeps()
     ensures { (s : CoreState) (p j : ℕ) → IsSteady s → May s (Sample p j) → IsSteady (happens s (Sample p j)) }
+{}
+
+/// It loads the mask word of a session whose register it found live and declared. Where the session has begun anew since, the
+/// mask is that of a later transaction, which reads at the record's mark or over it.
+pub fn sample_mask_keeps()
+    ensures { (s : CoreState) (p j : ℕ) → IsSteady s → May s (SampleMask p j) → IsSteady (happens s (SampleMask p j)) }
 {}
 
 /// A pass moves a long snapshot to the tables that it declared, in the register and in its own record.

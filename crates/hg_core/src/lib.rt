@@ -8,8 +8,9 @@
 //! for that, one word, which a collector's pass loads:
 //!
 //!     session                       its register       pass of a collector
-//!     Probe   load the mark: f      idle               Mark    load the mark: M, which begins a record
-//!     Enter   store the register    entering f         Sample  load one register, for each session in turn
+//!     Declare store the mask word   idle               Mark    load the mark: M, which begins a record
+//!     Probe   load the mark: f      idle               Sample  load one register, for each session in turn, and
+//!     Enter   store the register    entering f         SampleMask   its mask word, where that is live and declared
 //!     Fix     load the mark: m      entering f         Move    exchange a live register for the same, moved
 //!     GoLive  store the register    live at m          Reclaim take versions of a record away
 //!     Look    read, or try a write  live at m
@@ -22,8 +23,10 @@
 //! that the pass finds entering f goes live at f or over it. So the horizon of a record, the least of M and of all the
 //! numbers that enter, is at or below every snapshot that the pass did not find live (`no_gather_misses_a_snapshot`).
 //!
-//! A live register shows which tables its transaction declared. A snapshot that is long in use is moved: it then holds
-//! back those tables alone.
+//! A live register shows whether its transaction declared tables, and the mask word of the session shows which. A snapshot
+//! that is long in use is moved: it then holds back those tables alone. A pass loads the mask word after the register. Where
+//! the session has begun anew between the two, it has fixed its snapshot after the pass loaded M, at M or over it. So
+//! whatever the mask says, nothing is taken that the session reads.
 //!
 //! A bucket holds the versions of its records, newest first:
 //!
@@ -41,12 +44,13 @@
 //!
 //! Each law that ends in `is_refuted` has a state that a wrong step spoils.
 //!
-//! `specs/` has the state, the events and the invariant, a part a file. `Register` and `Ask` are the types of the layer
+//! `specs/` has the state, the events and the invariant, a part a file. `Register`, `Loaded` and `Ask` are the types of the layer
 //! above. Of `Phase`, `LogEntry`, `Version` and `Visit` contracts alone speak.
 #![tactic(auto)]
 
 mod ask;
 mod laws;
+mod loaded;
 mod log;
 mod phase;
 mod refuted;
@@ -57,19 +61,23 @@ mod visit;
 
 pub use ask::Ask;
 pub use laws::{
-    always_steady, arrive_keeps, end_keeps, enter_keeps, fix_keeps, go_live_keeps, install_keeps,
-    leave_keeps, look_keeps, mark_keeps, move_keeps, probe_keeps, publish_keeps, reclaim_keeps,
-    sample_keeps, split_keeps, stamp_keeps, take_keeps, undo_keeps,
+    always_steady, arrive_keeps, declare_keeps, end_keeps, enter_keeps, fix_keeps, go_live_keeps,
+    install_keeps, leave_keeps, look_keeps, mark_keeps, move_keeps, probe_keeps, publish_keeps,
+    reclaim_keeps, sample_keeps, sample_mask_keeps, split_keeps, stamp_keeps, take_keeps,
+    undo_keeps,
 };
+pub use loaded::Loaded;
 pub use log::LogEntry;
 pub use phase::Phase;
 pub use refuted::{
-    bound_without_moved_is_refuted, horizon_without_entering_is_refuted,
-    lifetime_with_successor_is_refuted, lifetime_without_own_number_is_refuted,
-    mark_loaded_last_is_refuted, newest_deletion_removed_is_refuted, one_load_is_refuted,
-    publish_before_stamp_is_refuted, second_writer_is_refuted,
+    bound_without_mask_is_refuted, bound_without_moved_is_refuted,
+    horizon_without_entering_is_refuted, lifetime_with_successor_is_refuted,
+    lifetime_without_own_number_is_refuted, mark_loaded_last_is_refuted,
+    mask_loaded_first_is_refuted, mask_stored_late_is_refuted, newest_deletion_removed_is_refuted,
+    one_load_is_refuted, publish_before_stamp_is_refuted, second_writer_is_refuted,
+    undeclared_scope_is_refuted,
 };
-pub use register::Register;
+pub use register::{Register, mask_word};
 pub use theorems::{
     a_log_is_read, a_visit_counts, commits_are_bounded, counters_balance, counts_are_bounded,
     every_answer_is_right, every_event_happens, history_is_sound, mark_is_bounded,

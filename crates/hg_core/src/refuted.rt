@@ -8,10 +8,11 @@ ghost use Rattle.hg_core.specs.Passes.{IsWhole, horizon, recorded};
 ghost use Rattle.hg_core.specs.Contents.{versions};
 ghost use Rattle.hg_core.specs.Clean.{IsClean};
 ghost use Rattle.hg_core.specs.State.{CoreState};
-ghost use Rattle.hg_core.specs.Events.{Sample, Install, Publish, MayReclaim, May, happens};
+ghost use Rattle.hg_core.specs.Events.{GoLive, Sample, Install, Publish, Reclaim, MaySample, MayReclaim, May, happens};
+ghost use Rattle.hg_core.specs.Steps.{Step, Run, run};
 ghost use Rattle.hg_core.specs.Invariant.{IsSteady};
 ghost use Rattle.hg_core.specs.Missed.{MissesNone};
-ghost use Rattle.hg_core.specs.Wrong.{live_by_one_load, mark_loaded_last, mark_alone, sampled_without_entering, lifetime_past, swept_late, cut_past_moved, newest_deletion_removed, MayPublishEarly, MayInstallOver};
+ghost use Rattle.hg_core.specs.Wrong.{live_by_one_load, mark_loaded_last, mark_alone, sampled_without_entering, lifetime_past, swept_late, cut_past_moved, newest_deletion_removed, mask_stored_late, sampled_with, MayGoLiveWith, MayReclaimUnmasked, MayPublishEarly, MayInstallOver};
 
 use crate::phase::Phase;
 use hg_base::Kind;
@@ -19,12 +20,35 @@ use hg_base::Kind;
 /// A session must not go live at the mark that it loaded before it entered: a pass may have loaded a later mark meanwhile,
 /// and found its register idle.
 pub fn one_load_is_refuted()
-    ensures { ((s : CoreState) (j f : ℕ) (scope : Scope) → IsSteady s → s.phase j ≡ Phase.Entered f → IsSteady (live_by_one_load s j f scope)) → ⊥ }
+    ensures { ((s : CoreState) (j f : ℕ) (scope : Scope) → IsSteady s → s.phase j ≡ Phase.Entered scope f → IsSteady (live_by_one_load s j f scope)) → ⊥ }
 {}
 
 /// A pass must not load the registers before the mark: a session may have gone live below that mark meanwhile.
 pub fn mark_loaded_last_is_refuted()
     ensures { ((s : CoreState) (p : ℕ) → IsSteady s → IsSteady (mark_loaded_last s p)) → ⊥ }
+{}
+
+/// A session must not go live with other tables than those that it declared: its mask word would not be theirs.
+pub fn undeclared_scope_is_refuted()
+    ensures { ((s : CoreState) (j m : ℕ) (scope : Scope) → IsSteady s → MayGoLiveWith s j m scope → IsSteady (happens s (GoLive j m scope))) → ⊥ }
+{}
+
+/// Nor must its register go live before the mask word is stored: a pass may load both words between the two stores.
+pub fn mask_stored_late_is_refuted()
+    ensures { ((s : CoreState) (p j m : ℕ) (scope : Scope) → IsSteady s → MaySample s p j → MayGoLiveWith s j m scope → IsSteady (mask_stored_late s p j m scope)) → ⊥ }
+{}
+
+/// A pass must not load a mask word before the register: the session may have begun anew meanwhile, with other tables and
+/// below the mark of the record.
+pub fn mask_loaded_first_is_refuted()
+    ensures { ((s : CoreState) (p j : ℕ) (steps : List Step) → IsSteady s → Run s steps → MaySample (run s steps) p j → IsSteady (sampled_with (run s steps) p j (s.mask j))) → ⊥ }
+{}
+
+/// A record with no mask of a live declared session must not be used: once the snapshot is moved, it would count for no
+/// table.
+pub fn bound_without_mask_is_refuted()
+    ensures table { ((s : CoreState) (p : ℕ) (r : Rid) → IsSteady s → MayReclaimUnmasked s p r → IsSteady (happens s (Reclaim p Kind.Table r))) → ⊥ }
+    ensures interval { ((s : CoreState) (p : ℕ) (r : Rid) → IsSteady s → MayReclaimUnmasked s p r → IsSteady (happens s (Reclaim p Kind.Interval r))) → ⊥ }
 {}
 
 /// The horizon must not leave out the entering numbers: a session that enters may go live below the mark.

@@ -1,7 +1,7 @@
-//! The register of a session: the one word in which all others see what it reads.
+//! The two words of a session in which all others see what it reads: its register, and the mask of its tables.
 
 ghost use Rattle.std.specs.Prelude.{◌≡◌, ◌<◌, ◌^◌};
-ghost use Rattle.hg_core.specs.Words.{number_of, word_of, register_of};
+ghost use Rattle.hg_core.specs.Words.{number_of, mask_of, word_of, register_of};
 
 use hg_base::Scope;
 
@@ -13,15 +13,14 @@ pub enum Register {
     Entering(u64),
     Live {
         number: u64,
-        scope: Scope,
+        /// Whether the session declared its tables. Its mask word has them.
+        declared: bool,
         /// Whether it holds back its declared tables alone.
         moved: bool,
     },
 }
 
-/// The lowest bit of the mask, and of the number.
-const MASK: u32 = 4;
-
+/// The lowest bit of the number.
 const NUMBER: u32 = 20;
 
 const ENTERING: u64 = 1;
@@ -32,15 +31,13 @@ const DECLARED: u64 = 4;
 
 const MOVED: u64 = 8;
 
-const ALL_TABLES: u64 = 0xffff;
-
 impl Register {
     /// The register as a word.
     ///
-    ///     bits 63 .. 20   19 .. 4              3       2          1, 0
-    ///          number     mask of the tables   moved   declared   0 idle, 1 entering, 2 live
+    ///     bits 63 .. 20   19 .. 4   3       2          1, 0
+    ///          number     0         moved   declared   0 idle, 1 entering, 2 live
     ///
-    /// The mask is all ones where no tables are declared, and an idle register is 0.
+    /// An idle register is 0.
     pub fn word(self) -> u64
         requires { number_of self < 2 ^ 44 }
         ensures { result ≡ word_of self }
@@ -50,15 +47,12 @@ impl Register {
             Register::Entering(number) => (number << NUMBER) + ENTERING,
             Register::Live {
                 number,
-                scope,
+                declared,
                 moved,
             } => {
-                let (mask, declared) = match scope {
-                    Scope::All => (ALL_TABLES, 0),
-                    Scope::Declared(mask) => (mask as u64, DECLARED),
-                };
+                let declared = if declared { DECLARED } else { 0 };
                 let moved = if moved { MOVED } else { 0 };
-                (number << NUMBER) + (mask << MASK) + moved + declared + LIVE
+                (number << NUMBER) + moved + declared + LIVE
             }
         }
     }
@@ -70,20 +64,22 @@ impl Register {
         let number = word >> NUMBER;
         match word % 4 {
             ENTERING => Register::Entering(number),
-            LIVE => {
-                let mask = ((word >> MASK) % (ALL_TABLES + 1)) as u16;
-                let scope = if word / DECLARED % 2 == 1 {
-                    Scope::Declared(mask)
-                } else {
-                    Scope::All
-                };
-                Register::Live {
-                    number,
-                    scope,
-                    moved: word / MOVED % 2 == 1,
-                }
-            }
+            LIVE => Register::Live {
+                number,
+                declared: word / DECLARED % 2 == 1,
+                moved: word / MOVED % 2 == 1,
+            },
             _ => Register::Idle,
         }
+    }
+}
+
+/// The mask word of a scope. Bit t stands for table t, and all are set where no tables are declared.
+pub fn mask_word(scope: Scope) -> u64
+    ensures { result ≡ mask_of scope }
+{
+    match scope {
+        Scope::All => u64::MAX,
+        Scope::Declared(mask) => mask,
     }
 }

@@ -10,7 +10,8 @@ ghost use Rattle.hg_base.specs.Transcript.{has, Said};
 ghost use Rattle.hg_core.specs.declared.log.LogEntry.{LogEntry};
 ghost use Rattle.hg_core.specs.Reading.{Unprinted, log_after, Fits};
 ghost use Rattle.hg_core.specs.Answered.{StandsAt, IsAnswered};
-ghost use Rattle.hg_core.specs.Words.{IsRegister, word_of, register_of};
+ghost use Rattle.hg_core.specs.Words.{IsRegister, mask_of, word_of, register_of};
+ghost use Rattle.hg_core.specs.Phases.{scope_in};
 ghost use Rattle.hg_core.specs.Passes.{PassRecord, IsWhole, horizon, recorded, table_bound, group_bound};
 ghost use Rattle.hg_core.specs.State.{CoreState, opened};
 ghost use Rattle.hg_core.specs.Held.{held, newest_held, left_by};
@@ -42,17 +43,17 @@ use hg_base::Kind;
 /// collector takes from the record. A number that a session is about to go live at is at or over every horizon.
 pub fn no_gather_misses_a_snapshot()
     ensures live { Always (λ s. (p : ℕ) → IsWhole s.sessions (s.pass p) → MissesNone (horizon (s.pass p)) (s.pass p) s.phase) }
-    ensures fixed { Always (λ s. (p j f m : ℕ) → IsWhole s.sessions (s.pass p) → s.phase j ≡ Phase.Fixed f m → horizon (s.pass p) ≤ m) }
+    ensures fixed { Always (λ s. (p j f m : ℕ) (scope : Scope) → IsWhole s.sessions (s.pass p) → s.phase j ≡ Phase.Fixed scope f m → horizon (s.pass p) ≤ m) }
     ensures table { Always (λ s. (p j at : ℕ) (scope : Scope) (t : TableId) → IsWhole s.sessions (s.pass p) → s.phase j ≡ Phase.Live at scope → IsTrue (has scope t) → table_bound t (s.pass p) ≤ at) }
     ensures group { Always (λ s. (p j at : ℕ) (scope : Scope) → IsWhole s.sessions (s.pass p) → s.phase j ≡ Phase.Live at scope → group_bound (s.pass p) ≤ at) }
 {}
 
 /// No removal is seen. After every list of steps, each live session finds of each record of its tables what a table that
-/// never reclaims would show it at its snapshot. And so does one that is yet to go live at a number that it fixed, whatever
-/// tables it will have, and one that will fix the mark.
+/// never reclaims would show it at its snapshot. And so does, of each record of any table, one that is yet to go live at a number
+/// that it fixed, and one that will fix the mark.
 pub fn no_removal_is_seen()
     ensures live { Always (λ s. (j at : ℕ) (scope : Scope) (r : Rid) → s.phase j ≡ Phase.Live at scope → IsTrue (has scope r.table) → held s r at ≡ visible s.history r at) }
-    ensures fixed { Always (λ s. (j f m : ℕ) (r : Rid) → s.phase j ≡ Phase.Fixed f m → held s r m ≡ visible s.history r m) }
+    ensures fixed { Always (λ s. (j f m : ℕ) (scope : Scope) (r : Rid) → s.phase j ≡ Phase.Fixed scope f m → held s r m ≡ visible s.history r m) }
     ensures mark { Always (λ s. (r : Rid) → held s r s.mark ≡ visible s.history r s.mark) }
 {}
 
@@ -150,8 +151,8 @@ pub fn counts_are_bounded()
 /// sessions rest, no write is open. And of a record that is cut at the mark, with no open write, the row at the mark is left,
 /// if there is one, and nothing else. So a bucket of such records holds as many versions as records of its own are rows.
 pub fn what_is_live_is_left()
-    ensures table { (pass : PassRecord) (t : TableId) → Each (λ e. e.1 ≡ Register.Idle) pass.loaded → table_bound t pass ≡ pass.mark }
-    ensures group { (pass : PassRecord) → Each (λ e. e.1 ≡ Register.Idle) pass.loaded → group_bound pass ≡ pass.mark }
+    ensures table { (pass : PassRecord) (t : TableId) → Each (λ e. e.1.register ≡ Register.Idle) pass.loaded → table_bound t pass ≡ pass.mark }
+    ensures group { (pass : PassRecord) → Each (λ e. e.1.register ≡ Register.Idle) pass.loaded → group_bound pass ≡ pass.mark }
     ensures idle { Always (λ s. (j : ℕ) → s.phase j ≡ Phase.Idle → s.register j ≡ Register.Idle) }
     ensures rest { Always (λ s. ((j : ℕ) → s.phase j ≡ Phase.Idle) → (r : Rid) → unpublished s.mark (versions s.buckets s.bucket r) ≡ None) }
     ensures left { Always (λ s. (r : Rid) → unpublished s.mark (versions s.buckets s.bucket r) ≡ None → IsCutAt s.mark (versions s.buckets s.bucket r) → length (versions s.buckets s.bucket r) ≡ (if is_some (visible s.history r s.mark).row then 1 else 0)) }
@@ -175,9 +176,12 @@ pub fn a_visit_counts()
     ensures visit { map (λ v. v.removed) ((run (opened 2 1 1 1 2) swept_visit).visits 0) ≡ one_swept ∷ [] }
 {}
 
-/// A word shows one register, and each register of a board has a word.
+/// A word shows one register, and each register of a board has a word. So has each mask of one that isn't at rest, on a board of
+/// 64 tables at most, and it has the tables of the scope.
 pub fn words_are_exact()
     ensures back { (register : Register) → IsRegister register → register_of (word_of register) ≡ register }
     ensures fits { (register : Register) → IsRegister register → word_of register < 2 ^ 64 }
-    ensures all { (s : CoreState) (j : ℕ) → IsSteady s → s.tables ≤ 16 → s.sessions * s.quota < 2 ^ 44 → IsRegister (s.register j) }
+    ensures all { (s : CoreState) (j : ℕ) → IsSteady s → s.sessions * s.quota < 2 ^ 44 → IsRegister (s.register j) }
+    ensures mask { (s : CoreState) (j : ℕ) → IsSteady s → s.tables ≤ 64 → IsSome (scope_in (s.phase j)) → s.mask j < 2 ^ 64 }
+    ensures has { (scope : Scope) (t : TableId) → t.0 < 64 → has (Scope.Declared (mask_of scope)) t ≡ has scope t }
 {}

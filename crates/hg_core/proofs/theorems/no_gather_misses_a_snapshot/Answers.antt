@@ -6,7 +6,7 @@ pub returns-clause-live : goal.returns-clause-live
 returns-clause-live c sessions tables buckets passes quota steps r p = misses_none _ p (steady_after sessions tables buckets passes quota steps r)
 
 pub returns-clause-fixed : goal.returns-clause-fixed
-returns-clause-fixed c sessions tables buckets passes quota steps r p j f m = fixed_fenced _ p j f m (steady_after sessions tables buckets passes quota steps r)
+returns-clause-fixed c sessions tables buckets passes quota steps r p j f m scope = fixed_fenced _ p j f m scope (steady_after sessions tables buckets passes quota steps r)
 
 pub returns-clause-table : goal.returns-clause-table
 returns-clause-table c sessions tables buckets passes quota steps r p j at scope t = table_below _ p j at scope t (steady_after sessions tables buckets passes quota steps r)
