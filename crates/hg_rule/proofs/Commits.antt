@@ -18,6 +18,7 @@ use Rattle.hg_rule.specs.declared.view.Event.TheVariants as events
 use Rattle.hg_rule.specs.declared.view.View.{View}
 use Rattle.hg_rule.specs.declared.view.Sizes.{Sizes}
 use Rattle.hg_rule.specs.Facts.{StartsWith, Shown}
+use Rattle.hg_rule.specs.Words.{register_at, words_for}
 use Rattle.hg_rule.specs.Rules.{HasRoom, ShowsWords, Rule}
 use Rattle.hg_rule.specs.Views.{number, pass, HasPass, then_has}
 use Rattle.hg_rule.specs.Steps.{Seated, IsHistoryAt}
@@ -34,8 +35,8 @@ use Rattle.hg_rule.proofs.Playing.{own_pass, history_at, log_stays}
 pub marked_words : (z : Sizes) (c d : CoreState) (ws : List ℕ) (x : ℕ) → d.mark ≡ x → d.register ≡ c.register → ShowsWords z c ws → ShowsWords z d (set ws 0 x)
 marked_words z c d ws x is same w = record {
   count = length-set ws 0 x ∙ w.count;
-  mark = get_or-set_same ws 0 x 0 (let n : ℕ = length ws in let e : n ≡ z.sessions + 1 = w.count in omega arith) ∙ sym is;
-  registers = λ j h. get_or-set_other ws 0 j x 0 (λ (e : j ≡ 0). let l = h.first in omega arith) ∙ (w.registers j h ∙ ap (λ (f : ℕ → Register). word_of (f j)) (sym same));
+  mark = get_or-set_same ws 0 x 0 (let n : ℕ = length ws in let e : n ≡ words_for z.sessions = w.count in omega arith) ∙ sym is;
+  registers = λ j h. get_or-set_other ws 0 (register_at j) x 0 (λ (e : register_at j ≡ 0). let l = h.first in omega arith) ∙ (w.registers j h ∙ ap (λ (f : ℕ → Register). word_of (f j)) (sym same));
 }
 
 pub history_is : (v : View) (n : ℕ) (h g : History) → h ≡ g → IsHistoryAt v n h → IsHistoryAt v (length g) g

@@ -22,6 +22,7 @@ use Rattle.hg_rule.specs.declared.view.View.{View}
 use Rattle.hg_rule.specs.declared.view.Sizes.{Sizes}
 use Rattle.hg_rule.specs.Keys.{Key, session_key, bucket_key, commit_key, pass_key, home_key, both, has, one, count, tally, expected}
 use Rattle.hg_rule.specs.Facts.{record_of, Shown, new_part}
+use Rattle.hg_rule.specs.Words.{register_at}
 use Rattle.hg_rule.specs.Rules.{IsSized, HasRoom, Rule, IsBacked}
 use Rattle.hg_rule.specs.Views.{session_there, bucket_there, commit_there, pass_there}
 use Rattle.hg_rule.specs.Reading.{chosen, seek, passes_in, state_of, all_parts, registers_in, read, HasAll, AllRest, own_state}
@@ -213,7 +214,7 @@ pub reads : (z : Sizes) (t : State ℕ View) → HasRoom z → (r : Rule z t) �
 reads z t room r = state_is z r.state (slice_index t.words 0) (registers_in z t.words) (all_parts t.views) r.sized (all_shown r.state t.views (λ i v e. (r.shown i v e).parts))
     (λ k part. tally_all k t.views ∙ r.exact k) r.outside (sym r.words.mark) (λ j. go j (both (ltb 0 j) (ltb j (suc z.sessions))) refl)
   where
-    go : (j : ℕ) (b : Bool) → both (ltb 0 j) (ltb j (suc z.sessions)) ≡ b → r.state.register j ≡ (if b then register_of (slice_index t.words j) else registers.Idle)
+    go : (j : ℕ) (b : Bool) → both (ltb 0 j) (ltb j (suc z.sessions)) ≡ b → r.state.register j ≡ (if b then register_of (slice_index t.words (register_at j)) else registers.Idle)
     go j true e = sym (ap register_of (r.words.registers j (inside_is z j e)) ∙ word_back (r.state.register j) (register_small z r.state j room r.sized r.steady))
     go j false e = outside_idle z t r j e
 

@@ -37,6 +37,7 @@ use Rattle.hg_rule.specs.declared.view.Event.TheVariants as events
 use Rattle.hg_rule.specs.declared.view.View.{View}
 use Rattle.hg_rule.specs.declared.view.Sizes.{Sizes}
 use Rattle.hg_rule.specs.Facts.{EndsWith, groups, Shown}
+use Rattle.hg_rule.specs.Words.{words_for}
 use Rattle.hg_rule.specs.Rules.{HasRoom, Rule}
 use Rattle.hg_rule.specs.Views.{number, session, others, HasSession, then_has}
 use Rattle.hg_rule.specs.Steps.{Seated}
@@ -231,7 +232,7 @@ asks z y slots id ask m same room is live plain unstamped may = subst (λ (y : S
           known = (starts_same c.history, (subst (λ l. EndsWith l log) (sym put_log) (ends_same log), tt));
           stands = tt;
         } in
-        let mark : r'.state.mark ≡ n = sym r'.words.mark ∙ get_or-set_same t.words 0 n 0 (let l : ℕ = length t.words in let e : l ≡ z.sessions + 1 = r.words.count in omega arith) in (
+        let mark : r'.state.mark ≡ n = sym r'.words.mark ∙ get_or-set_same t.words 0 n 0 (let l : ℕ = length t.words in let e : l ≡ words_for z.sessions = r.words.count in omega arith) in (
           after,
           keeps,
           tt,

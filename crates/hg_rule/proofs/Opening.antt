@@ -14,6 +14,7 @@ use Rattle.hg_rule.specs.declared.view.View.{View}
 use Rattle.hg_rule.specs.declared.view.Sizes.{Sizes}
 use Rattle.hg_rule.specs.Keys.{Key, session_key, bucket_key, commit_key, pass_key, home_key, both, has, one, count, share_of, shares, whole_share, expected}
 use Rattle.hg_rule.specs.Facts.{Shown, new_part}
+use Rattle.hg_rule.specs.Words.{register_at, words_for}
 use Rattle.hg_rule.specs.Rules.{IsTrueOf, Rule}
 use Rattle.hg_rule.specs.Views.{seeing, after_first}
 use Rattle.hg_rule.specs.Moves.{first_of, run, session_part, bucket_part, pass_part, first_view}
@@ -104,12 +105,12 @@ run_each : (P : Part → Type 0) (f : ℕ → Part) → ((i : ℕ) → P (f i)) 
 run_each P f h a zero = tt
 run_each P f h a (suc n) = (h a, run_each P f h (suc a) n)
 
-pub opens : (z : Sizes) → Rule z (opening (replicate (z.sessions + 1) 0) [] (first_view z))
+pub opens : (z : Sizes) → Rule z (opening (replicate (words_for z.sessions) 0) [] (first_view z))
 opens z = record {
   state = s;
   steady = steady_after z.sessions z.tables z.buckets 3 z.quota [] tt;
   sized = record { sessions = refl; tables = refl; buckets = refl; quota = refl };
-  words = record { count = length-replicate (z.sessions + 1) 0; mark = get_or-replicate (z.sessions + 1) 0 0 0 (omega arith); registers = λ j inside. get_or-replicate (z.sessions + 1) j 0 0 (let l = inside.last in omega arith) };
+  words = record { count = length-replicate (words_for z.sessions) 0; mark = get_or-replicate (words_for z.sessions) 0 0 0 (omega arith); registers = λ j inside. get_or-replicate (words_for z.sessions) (register_at j) 0 0 (let l = inside.last in omega arith) };
   exact = λ k. let a : ℕ = count k (first_view z).parts in let b : ℕ = expected z 3 k in let e : a ≡ b = all_once z k in omega arith;
   shared = let a : ℕ = shares (first_view z).parts in let b : ℕ = whole_share in let e : a ≡ b = all_shared z in omega arith;
   outside = λ k none. new_shown k;

@@ -45,11 +45,12 @@ use Rattle.hg_rule.specs.declared.view.View.{View}
 use Rattle.hg_rule.specs.declared.view.Sizes.{Sizes}
 use Rattle.hg_rule.specs.Keys.{key_of, count}
 use Rattle.hg_rule.specs.Facts.{EndsWith, IsAmong, groups, heard, record_of, HasBegun, Shown, Known}
+use Rattle.hg_rule.specs.Words.{register_at}
 use Rattle.hg_rule.specs.Rules.{IsSized, HasRoom, ShowsWords, Rule, IsBacked}
 use Rattle.hg_rule.specs.Holding.{beyond, commit}
 use Rattle.hg_rule.specs.Places.{HoldsCommit}
 use Rattle.hg_rule.specs.Views.{first_in, number, session, pass, others, HasSession, HasPass, then_has}
-use Rattle.hg_rule.specs.Steps.{Within, IsHistoryAt, in_phase, logging, loaded_in, IsMovable, beginning, loading, moving, after_try, probed, entered, fixed, went_live, ended, marked, sampled, tried, looked}
+use Rattle.hg_rule.specs.Steps.{Within, IsHistoryAt, in_phase, logging, loaded_in, Samples, Moves, IsMovable, beginning, loading, moving, after_try, probed, entered, fixed, went_live, ended, marked, sampled, tried, looked}
 use Rattle.hg_rule.proofs.Counts.{another, away_same}
 use Rattle.hg_rule.proofs.Lists.{starts_same, ends_same, each_map}
 use Rattle.hg_rule.proofs.Growing.{Grows}
@@ -105,6 +106,10 @@ history_held z n v room b holds = let s = b.state in
       number = subst (λ n. n < 2 ^ 44) b.mark_is (mark_small z s room b.sized b.steady);
       within = each_map (Known s) (Within s.history) (within s b.steady) v.sights b.true_of.sights;
     }
+
+-- a word is one session's register
+one_register : (j k : ℕ) → register_at j ≡ register_at k → j ≡ k
+one_register j k e = omega arith
 
 -- ---- steps of a session
 
@@ -198,7 +203,7 @@ fixes z slots id f m room is was t r deep at small =
       ((c.history, (history_at z t r id v room at, refl)), refl),
     )
 
-pub enters : (z : Sizes) (slots id f i x : ℕ) (m : Seated) → HasSession m.0 → IsSession z.sessions (number m.0) → (session m.0).phase ≡ Probed f → i ≡ number m.0 → x ≡ word_of (registers.Entering f)
+pub enters : (z : Sizes) (slots id f i x : ℕ) (m : Seated) → HasSession m.0 → IsSession z.sessions (number m.0) → (session m.0).phase ≡ Probed f → i ≡ register_at (number m.0) → x ≡ word_of (registers.Entering f)
     → Allows (Rule z) slots id m i (λ _. x) (λ _. entered (step slots i x 0 none) m x)
 enters z slots id f i x m is inside was there value t r deep at small =
     let v : View = m.0 in
@@ -234,7 +239,7 @@ below_more : (n : ℕ) (scope : Scope) → n ≤ 16 → IsBelow n scope → IsBe
 below_more n All le b = tt
 below_more n (Declared mask) le b = let more : 2 ^ n ≤ 2 ^ 16 = pow-le-pow_right {n = 2} (omega arith) le in omega arith
 
-pub goes_live : (z : Sizes) (slots id f n i x : ℕ) (scope : Scope) (m : Seated) → HasRoom z → HasSession m.0 → IsSession z.sessions (number m.0) → (session m.0).phase ≡ Fixed f n → n < 2 ^ 44 → IsBelow z.tables scope → i ≡ number m.0 → x ≡ word_of (registers.Live n scope false)
+pub goes_live : (z : Sizes) (slots id f n i x : ℕ) (scope : Scope) (m : Seated) → HasRoom z → HasSession m.0 → IsSession z.sessions (number m.0) → (session m.0).phase ≡ Fixed f n → n < 2 ^ 44 → IsBelow z.tables scope → i ≡ register_at (number m.0) → x ≡ word_of (registers.Live n scope false)
     → Allows (Rule z) slots id m i (λ _. x) (λ _. went_live (step slots i x 0 none) m x)
 goes_live z slots id f n i x scope m room is inside was few below there value t r deep at small =
     let v : View = m.0 in
@@ -270,7 +275,7 @@ goes_live z slots id f n i x scope m room is inside was few below there value t 
       (refl, refl),
     )
 
-pub ends : (z : Sizes) (slots id i : ℕ) (m : Seated) → HasSession m.0 → IsSession z.sessions (number m.0) → IsSome (snapshot_in (session m.0).phase) → ((rid : Rid) → open_in rid (session m.0).log ≡ None) → i ≡ number m.0
+pub ends : (z : Sizes) (slots id i : ℕ) (m : Seated) → HasSession m.0 → IsSession z.sessions (number m.0) → IsSome (snapshot_in (session m.0).phase) → ((rid : Rid) → open_in rid (session m.0).log ≡ None) → i ≡ register_at (number m.0)
     → Allows (Rule z) slots id m i (λ _. 0) (λ _. ended (step slots i 0 0 none) m 0)
 ends z slots id i m is inside live none_open there t r deep at small =
     let v : View = m.0 in
@@ -395,23 +400,23 @@ register_begun tables register (Entered f) log a e = rw a tt
 register_begun tables register (Fixed f m) log a e = let k = a.0 in rw k tt
 register_begun tables register (Live at scope) log a e = let k = a.1.value in rw k (begun_now log at scope e)
 
-pub samples : (z : Sizes) (slots id j : ℕ) (m : Seated) → HasRoom z → HasPass m.0 → IsSession z.sessions j → found j (pass m.0).loaded ≡ None → Allows (Rule z) slots id m j (λ n. n) (sampled (step slots j 0 0 none) m)
-samples z slots id j m room is inside fresh t r deep at small =
+samples_there : (z : Sizes) (slots id j : ℕ) (m : Seated) → HasRoom z → HasPass m.0 → IsSession z.sessions j → found j (pass m.0).loaded ≡ None → Allows (Rule z) slots id m (register_at j) (λ n. n) (sampled (step slots (register_at j) 0 0 none) m)
+samples_there z slots id j m room is inside fresh t r deep at small =
     let v : View = m.0 in
     let c = r.state in
     let p : ℕ = number v in
-    let n : ℕ = get_or t.words j 0 in
+    let n : ℕ = get_or t.words (register_at j) 0 in
     let register : Register = register_of n in
     let back : c.register j ≡ register = sym (ap register_of (r.words.registers j inside) ∙ word_back (c.register j) (register_small z c j room r.sized r.steady)) in
     let new : PassPart = loading j register (pass v) in
     let d : CoreState = happens c (Sample p j) in
     let own = own_pass z t r id v at is in
-    let w = loaded_words z c t.words j r.words in
+    let w = loaded_words z c t.words (register_at j) r.words in
     let grows = log_stays c in (
       then_has v (OfPass p new ∷ others v) [] (events.Sample p j register),
       keeps,
       tt,
-      keep z t r id v (OfPass p (pass v) ∷ []) (OfPass p new ∷ []) (others v) [] (events.Sample p j register) j n d at is record {
+      keep z t r id v (OfPass p (pass v) ∷ []) (OfPass p new ∷ []) (others v) [] (events.Sample p j register) (register_at j) n d at is record {
         steady = sample_kept c p j r.steady record { session = at_board z c j r.sized inside; fresh = subst IsNone (sym (ap (λ (x : PassRecord). found j x.loaded) own.0 ∙ fresh)) refl };
         sized = record { sessions = r.sized.sessions; tables = r.sized.tables; buckets = r.sized.buckets; quota = r.sized.quota };
         passes = refl;
@@ -424,13 +429,18 @@ samples z slots id j m room is inside fresh t r deep at small =
         known = tt;
         stands = subst (λ x. HasBegun x (c.log j)) back (register_begun c.tables (c.register j) (c.phase j) (c.log j) (r.steady.registers_agree.shows j) (r.steady.logs_answer.reads j));
       },
-      (refl, subst IsRegister back (register_small z c j room r.sized r.steady), refl),
+      ((λ i same. subst (λ i. Samples v i register (then_has v (OfPass p new ∷ others v) [] (events.Sample p j register))) (one_register j i same) refl), subst IsRegister back (register_small z c j room r.sized r.steady), refl),
     )
+
+-- at the word that the call loads
+pub samples : (z : Sizes) (slots id j i : ℕ) (m : Seated) → HasRoom z → HasPass m.0 → IsSession z.sessions j → found j (pass m.0).loaded ≡ None → i ≡ register_at j
+    → Allows (Rule z) slots id m i (λ n. n) (sampled (step slots i 0 0 none) m)
+samples z slots id j i m room is inside fresh there = subst (λ i. Allows (Rule z) slots id m i (λ n. n) (sampled (step slots i 0 0 none) m)) (sym there) (samples_there z slots id j m room is inside fresh)
 
 pub tries : (z : Sizes) (slots id j old new n mask : ℕ) (m : Seated) → HasRoom z → HasPass m.0 → IsSession z.sessions j
     → IsRegister (registers.Live n (Declared mask) false) → found j (pass m.0).loaded ≡ Some (registers.Live n (Declared mask) false)
     → old ≡ word_of (registers.Live n (Declared mask) false) → new ≡ word_of (registers.Live n (Declared mask) true)
-    → Allows (Rule z) slots id m j (λ n. either (eqb n old) new n) (tried (step slots j old new none) m)
+    → Allows (Rule z) slots id m (register_at j) (λ n. either (eqb n old) new n) (tried (step slots (register_at j) old new none) m)
 tries z slots id j old new n mask m room is inside few has_it was becomes t r deep at small = dite (ℕ_discrete x old)
     (λ (hit : x ≡ old).
     let from : Register = registers.Live n (Declared mask) false in
@@ -444,8 +454,8 @@ tries z slots id j old new n mask m room is inside few has_it was becomes t r de
       after,
       keeps,
       tt,
-      subst (λ (b : Bool). Rule z record { words = set t.words j (either b new x); homes = t.homes; views = set t.views id after }) (sym (eq-eqb x old hit))
-          (keep z t r id v (OfPass p (pass v) ∷ []) (OfPass p part ∷ []) (others v) [] (events.Move p j k true) j new d at is record {
+      subst (λ (b : Bool). Rule z record { words = set t.words (register_at j) (either b new x); homes = t.homes; views = set t.views id after }) (sym (eq-eqb x old hit))
+          (keep z t r id v (OfPass p (pass v) ∷ []) (OfPass p part ∷ []) (others v) [] (events.Move p j k true) (register_at j) new d at is record {
             steady = move_kept c p j r.steady (n, mask, record { shown = shown; loaded = ap (λ (y : PassRecord). found j y.loaded) own.0 ∙ has_it });
             sized = record { sessions = r.sized.sessions; tables = r.sized.tables; buckets = r.sized.buckets; quota = r.sized.quota };
             passes = refl;
@@ -458,16 +468,16 @@ tries z slots id j old new n mask m room is inside few has_it was becomes t r de
             known = tt;
             stands = tt;
           }),
-      (λ i. then_has v (after_try (sym (eq-eqb x old hit) i) j v) [] (events.Move p j k (sym (eq-eqb x old hit) i)), refl),
+      ((λ q same. subst (λ q. Moves v q k (eqb x old) after) (one_register j q same) (λ i. then_has v (after_try (sym (eq-eqb x old hit) i) j v) [] (events.Move p j k (sym (eq-eqb x old hit) i)))), refl),
     ))
     (λ (miss : x ≢ old).
     let after : View = then_has v v.parts [] (events.Move p j k false) in
-    let w = loaded_words z c t.words j r.words in (
+    let w = loaded_words z c t.words (register_at j) r.words in (
       after,
       keeps,
       tt,
-      subst (λ (b : Bool). Rule z record { words = set t.words j (either b new x); homes = t.homes; views = set t.views id after }) (sym (ne_eqb x old miss))
-          (keep z t r id v [] [] v.parts [] (events.Move p j k false) j x c at refl record {
+      subst (λ (b : Bool). Rule z record { words = set t.words (register_at j) (either b new x); homes = t.homes; views = set t.views id after }) (sym (ne_eqb x old miss))
+          (keep z t r id v [] [] v.parts [] (events.Move p j k false) (register_at j) x c at refl record {
             steady = r.steady;
             sized = r.sized;
             passes = refl;
@@ -480,7 +490,7 @@ tries z slots id j old new n mask m room is inside few has_it was becomes t r de
             known = tt;
             stands = tt;
           }),
-      (λ i. then_has v (after_try (sym (ne_eqb x old miss) i) j v) [] (events.Move p j k (sym (ne_eqb x old miss) i)), refl),
+      ((λ q same. subst (λ q. Moves v q k (eqb x old) after) (one_register j q same) (λ i. then_has v (after_try (sym (ne_eqb x old miss) i) j v) [] (events.Move p j k (sym (ne_eqb x old miss) i)))), refl),
     ))
   where
     v : View
@@ -493,7 +503,7 @@ tries z slots id j old new n mask m room is inside few has_it was becomes t r de
     p = number v
 
     x : ℕ
-    x = get_or t.words j 0
+    x = get_or t.words (register_at j) 0
 
     k : ℕ
     k = number_of (register_of old)
@@ -518,10 +528,16 @@ movable (registers.Live n All moved) h = absurd h
 movable (registers.Live n (Declared mask) true) h = absurd h
 movable (registers.Live n (Declared mask) false) h = (n, mask, refl)
 
--- the same of a movable register
-pub tries_register : (z : Sizes) (slots id j old new : ℕ) (from : Register) (m : Seated) → HasRoom z → HasPass m.0 → IsSession z.sessions j → IsMovable from → IsRegister from → found j (pass m.0).loaded ≡ Some from → old ≡ word_of from → new ≡ word_of (moved from)
-    → Allows (Rule z) slots id m j (λ n. either (eqb n old) new n) (tried (step slots j old new none) m)
-tries_register z slots id j old new from m room is inside may has_word has_it was becomes =
+-- the same of a movable register, at the word that the call tries
+pub tries_register : (z : Sizes) (slots id j i old new : ℕ) (from : Register) (m : Seated) → HasRoom z → HasPass m.0 → IsSession z.sessions j → IsMovable from → IsRegister from → found j (pass m.0).loaded ≡ Some from → i ≡ register_at j → old ≡ word_of from → new ≡ word_of (moved from)
+    → Allows (Rule z) slots id m i (λ n. either (eqb n old) new n) (tried (step slots i old new none) m)
+tries_register z slots id j i old new from m room is inside may has_word has_it there was becomes =
     let f = movable from may in
     let e = f.2 in
-    tries z slots id j old new f.0 f.1 m room is inside (subst IsRegister e has_word) (has_it ∙ ap (λ (r : Register). Some r) e) (was ∙ ap word_of e) (becomes ∙ ap (λ (r : Register). word_of (moved r)) e)
+    subst (λ i. Allows (Rule z) slots id m i (λ n. either (eqb n old) new n) (tried (step slots i old new none) m)) (sym there)
+    (tries z slots id j old new f.0 f.1 m room is inside (subst IsRegister e has_word) (has_it ∙ ap (λ (r : Register). Some r) e) (was ∙ ap word_of e) (becomes ∙ ap (λ (r : Register). word_of (moved r)) e))
+
+-- the pass's own part stays first
+pub own_tried : (moved : Bool) (v w : View) (j n : ℕ) → HasPass v → Moves v j n moved w → HasPass w
+own_tried true v w j n is e = subst HasPass (sym e) refl
+own_tried false v w j n is e = subst HasPass (sym e) is

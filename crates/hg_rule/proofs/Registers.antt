@@ -15,6 +15,7 @@ use Rattle.hg_core.proofs.Indices.{by_number}
 use Rattle.hg_core.proofs.Counting.{mark_most}
 use Rattle.hg_core.proofs.Words.{has_word}
 use Rattle.hg_rule.specs.declared.view.Sizes.{Sizes}
+use Rattle.hg_rule.specs.Words.{register_at, words_for}
 use Rattle.hg_rule.specs.Rules.{IsSized, HasRoom, ShowsWords}
 
 -- a word shows its register
@@ -31,13 +32,13 @@ pub loaded_words : (z : Sizes) (s : CoreState) (ws : List ℕ) (i : ℕ) → Sho
 loaded_words z s ws i w = subst (ShowsWords z s) (sym (set-get_or ws i 0)) w
 
 -- after a store in a register
-pub stored_words : (z : Sizes) (s : CoreState) (ws : List ℕ) (j x : ℕ) (to : Register) → IsSession z.sessions j → x ≡ word_of to → ShowsWords z s ws → ShowsWords z (record s { register = put s.register j to }) (set ws j x)
+pub stored_words : (z : Sizes) (s : CoreState) (ws : List ℕ) (j x : ℕ) (to : Register) → IsSession z.sessions j → x ≡ word_of to → ShowsWords z s ws → ShowsWords z (record s { register = put s.register j to }) (set ws (register_at j) x)
 stored_words z s ws j x to inside is w = record {
-  count = length-set ws j x ∙ w.count;
-  mark = get_or-set_other ws j 0 x 0 (λ (e : 0 ≡ j). let l = inside.first in omega arith) ∙ w.mark;
-  registers = by_number j (λ k b. IsSession z.sessions k → get_or (set ws j x) k 0 ≡ word_of (if b then to else s.register k))
-      (λ h. get_or-set_same ws j x 0 (let n : ℕ = length ws in let e : n ≡ z.sessions + 1 = w.count in let l = inside.last in omega arith) ∙ is)
-      (λ k other h. get_or-set_other ws j k x 0 other ∙ w.registers k h);
+  count = length-set ws (register_at j) x ∙ w.count;
+  mark = get_or-set_other ws (register_at j) 0 x 0 (λ (e : 0 ≡ register_at j). let l = inside.first in omega arith) ∙ w.mark;
+  registers = by_number j (λ k b. IsSession z.sessions k → get_or (set ws (register_at j) x) (register_at k) 0 ≡ word_of (if b then to else s.register k))
+      (λ h. get_or-set_same ws (register_at j) x 0 (let n : ℕ = length ws in let e : n ≡ words_for z.sessions = w.count in let l = inside.last in omega arith) ∙ is)
+      (λ k other h. get_or-set_other ws (register_at j) (register_at k) x 0 (λ (e : register_at k ≡ register_at j). other (omega arith)) ∙ w.registers k h);
 }
 
 -- the mark, and each register, has room

@@ -1,4 +1,5 @@
--- What a seat at the board has and knows, and the rule.
+-- Where words stand, what a seat at the board has and knows, and the rule.
+pub mod Words
 pub mod Codes
 pub mod Keys
 pub mod Facts

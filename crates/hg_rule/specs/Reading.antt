@@ -11,6 +11,7 @@ use Rattle.hg_rule.specs.declared.view.Part.TheVariants.{OfSession, OfBucket, Of
 use Rattle.hg_rule.specs.declared.view.View.{View}
 use Rattle.hg_rule.specs.declared.view.Sizes.{Sizes}
 use Rattle.hg_rule.specs.Keys.{Key, session_key, bucket_key, commit_key, pass_key, both, has, count, shares, whole_share}
+use Rattle.hg_rule.specs.Words.{register_at}
 use Rattle.hg_rule.specs.Facts.{record_of, new_part}
 use Rattle.hg_rule.specs.Views.{session_there, bucket_there, commit_there, pass_there}
 
@@ -61,7 +62,7 @@ all_parts (v ∷ views) = v.parts ++ all_parts views
 
 -- the register of each session, from its word
 abbrev pub registers_in : Sizes → List ℕ → ℕ → Register
-registers_in z words j = if both (ltb 0 j) (ltb j (suc z.sessions)) then register_of (slice_index words j) else registers.Idle
+registers_in z words j = if both (ltb 0 j) (ltb j (suc z.sessions)) then register_of (slice_index words (register_at j)) else registers.Idle
 
 abbrev pub read : Sizes → List ℕ → List View → CoreState
 read z words views = state_of z (slice_index words 0) (registers_in z words) (all_parts views)

@@ -1,5 +1,5 @@
 -- The rule of the board: its words and views show a state that meets the invariant.
-use Rattle.std.specs.Prelude.{◌≡◌, ℕ, ◌+◌, ◌*◌, ◌^◌, ◌≤◌, List, length, slice_index}
+use Rattle.std.specs.Prelude.{◌≡◌, ℕ, ◌*◌, ◌^◌, ◌≤◌, List, length, slice_index}
 use mathlib.Core.Option.{some}
 use lib.ListN.{get_elem?}
 use Rattle.hg_base.specs.Lists.{Each}
@@ -11,6 +11,7 @@ use Rattle.hg_core.specs.Invariant.{IsSteady}
 use Rattle.hg_rule.specs.declared.view.View.{View}
 use Rattle.hg_rule.specs.declared.view.Sizes.{Sizes}
 use Rattle.hg_rule.specs.Keys.{Key, pass_key, count, tally, shares, all_shares, whole_share, expected}
+use Rattle.hg_rule.specs.Words.{register_at, words_for}
 use Rattle.hg_rule.specs.Facts.{Shown, Known, Stands, new_part}
 
 -- the state is of a board of these sizes
@@ -25,11 +26,11 @@ pub record HasRoom (z : Sizes) : Type 0 where
   pub tables : z.tables ≤ 16
   pub begins : z.sessions * z.quota ≤ 2 ^ 40
 
--- word 0 is the mark, and word j the register of session j
+-- word 0 is the mark, and each session has a word for its register
 pub record ShowsWords (z : Sizes) (s : CoreState) (words : List ℕ) : Type 0 where
-  pub count : length words ≡ z.sessions + 1
+  pub count : length words ≡ words_for z.sessions
   pub mark : slice_index words 0 ≡ s.mark
-  pub registers : (j : ℕ) → IsSession z.sessions j → slice_index words j ≡ word_of (s.register j)
+  pub registers : (j : ℕ) → IsSession z.sessions j → slice_index words (register_at j) ≡ word_of (s.register j)
 
 -- a view tells the truth of the state
 pub record IsTrueOf (s : CoreState) (v : View) : Type 0 where

@@ -23,6 +23,7 @@ use Rattle.hg_rule.specs.declared.view.Sight.TheVariants.{Saw, Heard, Took, Did}
 use Rattle.hg_rule.specs.declared.view.Event.TheVariants.{Probe, Enter, Fix, GoLive, End, Mark, Sample, Move}
 use Rattle.hg_rule.specs.declared.view.View.{View}
 use Rattle.hg_rule.specs.declared.view.Sizes.{Sizes}
+use Rattle.hg_rule.specs.Words.{register_at}
 use Rattle.hg_rule.specs.Facts.{StartsWith, groups}
 use Rattle.hg_rule.specs.Rules.{IsBacked}
 use Rattle.hg_rule.specs.Views.{number, session, pass, others, then_has}
@@ -150,11 +151,11 @@ abbrev pub marked : Step ℕ → Seated → ℕ → Seated → Type 0
 marked step m n w = Marks m.0 n w.0 × (w.1 ≡ m.1)
 
 abbrev pub sampled : Step ℕ → Seated → ℕ → Seated → Type 0
-sampled step m n w = Samples m.0 step.word (register_of n) w.0 × IsRegister (register_of n) × (w.1 ≡ m.1)
+sampled step m n w = ((j : ℕ) → step.word ≡ register_at j → Samples m.0 j (register_of n) w.0) × IsRegister (register_of n) × (w.1 ≡ m.1)
 
 -- the register was moved where the word was the first operand, which shows it
 abbrev pub tried : Step ℕ → Seated → ℕ → Seated → Type 0
-tried step m n w = Moves m.0 step.word (number_of (register_of step.first)) (n == step.first) w.0 × (w.1 ≡ m.1)
+tried step m n w = ((j : ℕ) → step.word ≡ register_at j → Moves m.0 j (number_of (register_of step.first)) (n == step.first) w.0) × (w.1 ≡ m.1)
 
 -- the view stays, and is true
 abbrev pub looked : Sizes → Step ℕ → Seated → ℕ → Seated → Type 0

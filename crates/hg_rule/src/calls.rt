@@ -12,7 +12,7 @@ ghost use Rattle.hg_rule.specs.Views.{session, pass as own_pass};
 ghost use Rattle.hg_rule.specs.Steps.{IsNumber, IsMovable, loaded_in, entered_in, Probes, Enters, Fixes, GoesLive, Ends, Marks, Samples, Moves};
 ghost use Rattle.hg_rule.specs.Seats.{board_id, sizes_of, session_view, pass_view, IsSessionOf, IsPassOf};
 
-use crate::board::Board;
+use crate::board::{Board, register_at};
 use crate::passes::{CollectorPass, SessionPass};
 use crate::plays::{Ending, Entering, Fixing, GoingLive, Marking, Moving, Probing, Sampling};
 use hg_base::Scope;
@@ -53,7 +53,7 @@ impl Board {
         let word = Register::Entering(f).word();
         self.table
             .shared
-            .store::<Entering>(&mut pass.seat, pass.number as usize, word);
+            .store::<Entering>(&mut pass.seat, register_at(pass.number), word);
     }
 
     /// Loads the mark again.
@@ -84,7 +84,7 @@ impl Board {
         };
         self.table
             .shared
-            .store::<GoingLive>(&mut pass.seat, pass.number as usize, register.word());
+            .store::<GoingLive>(&mut pass.seat, register_at(pass.number), register.word());
         pass.begun += 1;
     }
 
@@ -98,7 +98,7 @@ impl Board {
     {
         self.table
             .shared
-            .store::<Ending>(&mut pass.seat, pass.number as usize, 0);
+            .store::<Ending>(&mut pass.seat, register_at(pass.number), 0);
     }
 
     /// Loads the mark, which begins a record with what the pass has seen.
@@ -122,7 +122,7 @@ impl Board {
         let word = self
             .table
             .shared
-            .load::<Sampling>(&mut pass.seat, j as usize);
+            .load::<Sampling>(&mut pass.seat, register_at(j));
         Register::from_word(word)
     }
 
@@ -137,10 +137,12 @@ impl Board {
         ensures own { IsPassOf (board_id self.now) pass.new }
     {
         let unmoved = from.word();
-        let found = self
-            .table
-            .shared
-            .compare_exchange::<Moving>(&mut pass.seat, j as usize, unmoved, moved(from).word());
+        let found = self.table.shared.compare_exchange::<Moving>(
+            &mut pass.seat,
+            register_at(j),
+            unmoved,
+            moved(from).word(),
+        );
         found == unmoved
     }
 }

@@ -1,7 +1,10 @@
 //! The board: one word for the mark and one for each session's register, under one rule.
 //!
-//!     word 0    word 1        word 2               ..   word n
+//!     word 0    word 8        word 16              ..   word 8 n
 //!     mark      register 1    register 2                register n
+//!
+//! Eight words are a cache line, and the others are nobody's: so who stores in one of these takes no other away from a processor
+//! that reads it.
 //!
 //! Threads share the words and nothing else. What else there is of the state of `hg_core` stands in views: plain data that a
 //! seat carries in proofs alone, and that has no bytes.

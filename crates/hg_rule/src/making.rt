@@ -9,7 +9,7 @@ ghost use Rattle.hg_rule.specs.Moves.{run, session_part, bucket_part};
 ghost use Rattle.hg_rule.specs.Seats.{board_id, sizes_of, view, IsSeatOf};
 ghost use Rattle.hg_rule.specs.New.{EachFrom, IsNew, IsNewFirst, IsNewSession, IsNewBucket, IsNewPass, IsNewCommit};
 
-use crate::board::Board;
+use crate::board::{Board, words_for};
 use crate::dealt::Dealt;
 use crate::passes::{CollectorPass, CommitSeat};
 use crate::plays::Dealing;
@@ -75,7 +75,7 @@ impl Board {
             buckets,
             quota,
         };
-        let words = vec![in alloc; 0u64; sessions as usize + 1]?;
+        let words = vec![in alloc; 0u64; words_for(sessions)]?;
         let (table, mut maker) = Table::of_words(alloc, words.as_slice(), &sizes)?;
         let board = Board { table };
         let passes = board.deal(alloc, &mut maker, 1, sessions)?;

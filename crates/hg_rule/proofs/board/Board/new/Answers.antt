@@ -6,6 +6,7 @@ use Rattle.hg_rule.specs.declared.view.Part.{Part}
 use Rattle.hg_rule.specs.declared.view.Sizes.{Sizes}
 use Rattle.hg_rule.specs.Keys.{commit_key}
 use Rattle.hg_rule.specs.Facts.{new_part}
+use Rattle.hg_rule.specs.Words.{words_for}
 use Rattle.hg_rule.specs.Rules.{Rule}
 use Rattle.hg_rule.specs.Views.{seeing}
 use Rattle.hg_rule.specs.Moves.{first_of, run, session_part, bucket_part, pass_part, first_view}
@@ -19,7 +20,7 @@ use Rattle.hg_rule.proofs.board.Board.new.Goals as goal
 pub of_words-requires : goal.of_words-requires
 of_words-requires c =
     let z : Sizes = record { sessions = c.args.sessions; tables = c.args.tables; buckets = c.args.buckets; quota = c.args.quota } in
-    let e : c.as_slice.result.now ≡ replicate (c.args.sessions + 1) 0 = search rules in
+    let e : c.as_slice.result.now ≡ replicate (words_for c.args.sessions) 0 = search rules in
     subst (λ (ws : List ℕ). Rule z (opening ws [] (first_view z))) (sym e) (opens z)
 
 pub deal-requires-2-clause-parts : goal.deal-requires-2-clause-parts
