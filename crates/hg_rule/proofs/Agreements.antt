@@ -13,7 +13,7 @@ use Rattle.hg_rule.specs.declared.view.Part.TheVariants.{OfSession, OfBucket, Of
 use Rattle.hg_rule.specs.declared.view.Sight.{Sight}
 use Rattle.hg_rule.specs.declared.view.Sight.TheVariants.{Saw, Heard, Took, Did}
 use Rattle.hg_rule.specs.declared.view.Event.{Event}
-use Rattle.hg_rule.specs.declared.view.Event.TheVariants.{Probe, Enter, Fix, GoLive, End, Look, Install, Undo, Stamp, Mark, Sample, Move, Reclaim, Take, HandOver, HandBack, Publish}
+use Rattle.hg_rule.specs.declared.view.Event.TheVariants.{Declare, Probe, Enter, Fix, GoLive, End, Look, Install, Undo, Stamp, Mark, Sample, SampleMask, Move, Reclaim, Take, HandOver, HandBack, Publish}
 use Rattle.hg_rule.specs.declared.view.View.{View}
 use Rattle.hg_rule.specs.declared.view.Sizes.{Sizes}
 use Rattle.hg_rule.specs.Facts.{heard, HasBegun, Shown, Known, Stands}
@@ -25,6 +25,7 @@ use Rattle.hg_rule.proofs.Lists.{each_left, each_right, each_map}
 
 event_agrees : (s : CoreState) (j : ℕ) (part : SessionPart) → s.log j ≡ part.log → (e : Event) → Stands s e → EventAgrees j part e
 event_agrees s j part is (Sample p i register) h = λ e. subst (HasBegun register) (ap s.log e ∙ is) h
+event_agrees s j part is (Declare k scope) h = tt
 event_agrees s j part is (Probe k n) h = tt
 event_agrees s j part is (Enter k n) h = tt
 event_agrees s j part is (Fix k n) h = tt
@@ -35,6 +36,7 @@ event_agrees s j part is (Install k rid image) h = tt
 event_agrees s j part is (Undo k rid) h = tt
 event_agrees s j part is (Stamp k rid n) h = tt
 event_agrees s j part is (Mark p n) h = tt
+event_agrees s j part is (SampleMask p k mask) h = tt
 event_agrees s j part is (Move p k n done) h = tt
 event_agrees s j part is (Reclaim p kind rid n) h = tt
 event_agrees s j part is (Take p n) h = tt
@@ -56,11 +58,11 @@ part_agrees s v j part is (Away i t n) h = tt
 part_agrees s v j part is (Lent i t) h = tt
 part_agrees s v j part is (OfPass p r) h = record {
   known = subst (λ l. heard j r.seen ≤ length l) is.1.0 (subst (λ (x : PassRecord). x.known j ≤ length (s.log j)) h.0 (v.records_reach_logs.known p j));
-  reaches = subst (λ l. IfSome (found j r.loaded) (λ register. StandsIn (heard j r.seen) register l part.phase)) is.1.0
-      (subst (λ f. IfSome (found j r.loaded) (λ register. StandsIn (heard j r.seen) register (s.log j) f)) is.0
-      (subst (λ (x : PassRecord). IfSome (found j x.loaded) (λ register. StandsIn (x.known j) register (s.log j) (s.phase j))) h.0 (v.records_reach_logs.stands p j)));
-  bounds = subst (λ f. IfSome (found j r.loaded) (λ register. Bounds r.mark register f)) is.0
-      (subst (λ (x : PassRecord). IfSome (found j x.loaded) (λ register. Bounds x.mark register (s.phase j))) h.0 (v.records_bound_sessions p j));
+  reaches = subst (λ l. IfSome (found j r.loaded) (λ loaded. StandsIn (heard j r.seen) loaded.register l part.phase)) is.1.0
+      (subst (λ f. IfSome (found j r.loaded) (λ loaded. StandsIn (heard j r.seen) loaded.register (s.log j) f)) is.0
+      (subst (λ (x : PassRecord). IfSome (found j x.loaded) (λ loaded. StandsIn (x.known j) loaded.register (s.log j) (s.phase j))) h.0 (v.records_reach_logs.stands p j)));
+  bounds = subst (λ f. IfSome (found j r.loaded) (λ loaded. Bounds r.mark loaded f)) is.0
+      (subst (λ (x : PassRecord). IfSome (found j x.loaded) (λ loaded. Bounds x.mark loaded (s.phase j))) h.0 (v.records_bound_sessions p j));
 }
 
 agrees_at : (z : Sizes) (n : ℕ) (v : View) (b : IsBacked z n v) (p : Part) → Shown b.state p → AgreesAt v p

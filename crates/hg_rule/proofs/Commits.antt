@@ -18,7 +18,7 @@ use Rattle.hg_rule.specs.declared.view.Event.TheVariants as events
 use Rattle.hg_rule.specs.declared.view.View.{View}
 use Rattle.hg_rule.specs.declared.view.Sizes.{Sizes}
 use Rattle.hg_rule.specs.Facts.{StartsWith, Shown}
-use Rattle.hg_rule.specs.Words.{register_at, words_for}
+use Rattle.hg_rule.specs.Words.{register_at, mask_at, words_for}
 use Rattle.hg_rule.specs.Rules.{HasRoom, ShowsWords, Rule}
 use Rattle.hg_rule.specs.Views.{number, pass, HasPass, then_has}
 use Rattle.hg_rule.specs.Steps.{Seated, IsHistoryAt}
@@ -32,11 +32,12 @@ use Rattle.hg_rule.proofs.Owned.{Leaves, leaves_only, own_second}
 use Rattle.hg_rule.proofs.Playing.{own_pass, history_at, log_stays}
 
 -- the words after the mark was stored
-pub marked_words : (z : Sizes) (c d : CoreState) (ws : List ℕ) (x : ℕ) → d.mark ≡ x → d.register ≡ c.register → ShowsWords z c ws → ShowsWords z d (set ws 0 x)
-marked_words z c d ws x is same w = record {
+pub marked_words : (z : Sizes) (c d : CoreState) (ws : List ℕ) (x : ℕ) → d.mark ≡ x → d.register ≡ c.register → d.mask ≡ c.mask → ShowsWords z c ws → ShowsWords z d (set ws 0 x)
+marked_words z c d ws x is same masks w = record {
   count = length-set ws 0 x ∙ w.count;
   mark = get_or-set_same ws 0 x 0 (let n : ℕ = length ws in let e : n ≡ words_for z.sessions = w.count in omega arith) ∙ sym is;
   registers = λ j h. get_or-set_other ws 0 (register_at j) x 0 (λ (e : register_at j ≡ 0). let l = h.first in omega arith) ∙ (w.registers j h ∙ ap (λ (f : ℕ → Register). word_of (f j)) (sym same));
+  masks = λ j. get_or-set_other ws 0 (mask_at j) x 0 (λ (e : mask_at j ≡ 0). omega arith) ∙ (w.masks j ∙ (λ i. sym masks i j));
 }
 
 pub history_is : (v : View) (n : ℕ) (h g : History) → h ≡ g → IsHistoryAt v n h → IsHistoryAt v (length g) g
@@ -82,7 +83,7 @@ takes z slots id m room is held left t r deep at small =
             steady = take_kept c r.steady may;
             sized = record { sessions = r.sized.sessions; tables = r.sized.tables; buckets = r.sized.buckets; quota = r.sized.quota };
             passes = refl;
-            shows = record { count = w.count; mark = w.mark; registers = w.registers };
+            shows = record { count = w.count; mark = w.mark; registers = w.registers; masks = w.masks };
             grows = record { history = grows.history; logs = grows.logs; taken = omega arith };
             only = leaves_only c d _ (take_leaves c d p (pass v) h refl refl refl refl refl refl refl refl (le_refl _));
             counts = λ k. refl;

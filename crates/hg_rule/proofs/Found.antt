@@ -1,7 +1,7 @@
 -- The state of the rule is the one that is read.
 use Rattle.std.proofs.Common.{◌≡◌, ℕ, zero, suc, ◌+◌, ◌<◌, ◌≤◌, Bool, true, false, eqb, ltb, List, [], ◌∷◌, length, refl, sym, ap, ◌∙◌, subst, arith, true≢false, eq-eqb}
 use Rattle.std.proofs.lemmas.Bool.{lt-ltb, le-ltb}
-use Rattle.std.specs.Prelude.{max, slice_index, if◌then◌else◌, ⊤}
+use Rattle.std.specs.Prelude.{max, slice_index, if◌then◌else◌, IfSome, ⊤}
 use mathlib.Core.Option.{some}
 use native.Mathlib.Decide.{dec_le}
 use lib.ListN.{get_elem?}
@@ -11,8 +11,8 @@ use Rattle.hg_core.specs.declared.register.Register.{Register}
 use Rattle.hg_core.specs.declared.register.Register.TheVariants as registers
 use Rattle.hg_core.specs.declared.phase.Phase.{Phase}
 use Rattle.hg_core.specs.declared.phase.Phase.TheVariants as phases
-use Rattle.hg_core.specs.Phases.{IsSession}
-use Rattle.hg_core.specs.Registers.{Shows}
+use Rattle.hg_core.specs.Phases.{IsSession, scope_in}
+use Rattle.hg_core.specs.Registers.{Shows, IsMaskOf}
 use Rattle.hg_core.specs.Words.{register_of}
 use Rattle.hg_core.specs.State.{CoreState}
 use Rattle.hg_core.specs.Invariant.{IsSteady}
@@ -22,7 +22,7 @@ use Rattle.hg_rule.specs.declared.view.View.{View}
 use Rattle.hg_rule.specs.declared.view.Sizes.{Sizes}
 use Rattle.hg_rule.specs.Keys.{Key, session_key, bucket_key, commit_key, pass_key, home_key, both, has, one, count, tally, expected}
 use Rattle.hg_rule.specs.Facts.{record_of, Shown, new_part}
-use Rattle.hg_rule.specs.Words.{register_at}
+use Rattle.hg_rule.specs.Words.{register_at, mask_at}
 use Rattle.hg_rule.specs.Rules.{IsSized, HasRoom, Rule, IsBacked}
 use Rattle.hg_rule.specs.Views.{session_there, bucket_there, commit_there, pass_there}
 use Rattle.hg_rule.specs.Reading.{chosen, seek, passes_in, state_of, all_parts, registers_in, read, HasAll, AllRest, own_state}
@@ -154,11 +154,11 @@ HasPart commit_key = ⊤
 HasPart (pass_key p) = ⊤
 HasPart (home_key j) = ⊥
 
-pub state_is : (z : Sizes) (s : CoreState) (n : ℕ) (register : ℕ → Register) (ps : List Part) → IsSized z s → Each (Shown s) ps
+pub state_is : (z : Sizes) (s : CoreState) (n : ℕ) (register : ℕ → Register) (mask : ℕ → ℕ) (ps : List Part) → IsSized z s → Each (Shown s) ps
     → ((k : Key) → HasPart k → count k ps ≡ expected z s.passes k)
     → ((k : Key) → expected z s.passes k ≡ 0 → Shown s (new_part k))
-    → s.mark ≡ n → ((j : ℕ) → s.register j ≡ register j) → s ≡ state_of z n register ps
-state_is z s n register ps sized shown counts outside mark registers = λ i. record {
+    → s.mark ≡ n → ((j : ℕ) → s.register j ≡ register j) → ((j : ℕ) → s.mask j ≡ mask j) → s ≡ state_of z n register mask ps
+state_is z s n register mask ps sized shown counts outside mark registers masks = λ i. record {
   sessions = sized.sessions i;
   tables = sized.tables i;
   buckets = sized.buckets i;
@@ -166,6 +166,7 @@ state_is z s n register ps sized shown counts outside mark registers = λ i. rec
   passes = sym (passes_are s.passes ps (λ q. counts (pass_key q) tt)) i;
   mark = mark i;
   register = λ j. registers j i;
+  mask = λ j. masks j i;
   history = (commit_right s _ (right commit_key tt)).0 i;
   stamped_list = (commit_right s _ (right commit_key tt)).1.0 i;
   taken = (commit_right s _ (right commit_key tt)).1.1 i;
@@ -190,8 +191,8 @@ all_shown : (s : CoreState) (vs : List View) → ((i : ℕ) (v : View) → get_e
 all_shown s [] h = tt
 all_shown s (v ∷ vs) h = each_append (Shown s) v.parts (all_parts vs) (h 0 v refl) (all_shown s vs (λ i w e. h (suc i) w e))
 
-idle_shows : (tables : ℕ) (register : Register) (phase : Phase) → Shows tables phase register → phase ≡ phases.Idle → register ≡ registers.Idle
-idle_shows tables register phase a e = subst (λ p. Shows tables p register) e a
+idle_shows : (register : Register) (phase : Phase) → Shows phase register → phase ≡ phases.Idle → register ≡ registers.Idle
+idle_shows register phase a e = subst (λ p. Shows p register) e a
 
 pub inside_is : (z : Sizes) (j : ℕ) → both (ltb 0 j) (ltb j (suc z.sessions)) ≡ true → IsSession z.sessions j
 inside_is z j e = record { first = sure 0 j (left (ltb 0 j) _ e); last = let l : j < suc z.sessions = sure j (suc z.sessions) (right (ltb 0 j) _ e) in omega arith }
@@ -208,11 +209,11 @@ inside_is z j e = record { first = sure 0 j (left (ltb 0 j) _ e); last = let l :
     sure a b e = ltb_less a b (let x : ℕ = one (ltb a b) in let f : x ≡ 1 = ap one e in omega arith)
 
 outside_idle : (z : Sizes) (t : State ℕ View) (r : Rule z t) (j : ℕ) → both (ltb 0 j) (ltb j (suc z.sessions)) ≡ false → r.state.register j ≡ registers.Idle
-outside_idle z t r j e = idle_shows r.state.tables (r.state.register j) (r.state.phase j) (r.steady.registers_agree.shows j) (r.outside (session_key j) (ap one e)).0
+outside_idle z t r j e = idle_shows (r.state.register j) (r.state.phase j) (r.steady.registers_agree.shows j) (r.outside (session_key j) (ap one e)).0
 
 pub reads : (z : Sizes) (t : State ℕ View) → HasRoom z → (r : Rule z t) → r.state ≡ read z t.words t.views
-reads z t room r = state_is z r.state (slice_index t.words 0) (registers_in z t.words) (all_parts t.views) r.sized (all_shown r.state t.views (λ i v e. (r.shown i v e).parts))
-    (λ k part. tally_all k t.views ∙ r.exact k) r.outside (sym r.words.mark) (λ j. go j (both (ltb 0 j) (ltb j (suc z.sessions))) refl)
+reads z t room r = state_is z r.state (slice_index t.words 0) (registers_in z t.words) (λ j. slice_index t.words (mask_at j)) (all_parts t.views) r.sized (all_shown r.state t.views (λ i v e. (r.shown i v e).parts))
+    (λ k part. tally_all k t.views ∙ r.exact k) r.outside (sym r.words.mark) (λ j. go j (both (ltb 0 j) (ltb j (suc z.sessions))) refl) (λ j. sym (r.words.masks j))
   where
     go : (j : ℕ) (b : Bool) → both (ltb 0 j) (ltb j (suc z.sessions)) ≡ b → r.state.register j ≡ (if b then register_of (slice_index t.words (register_at j)) else registers.Idle)
     go j true e = sym (ap register_of (r.words.registers j (inside_is z j e)) ∙ word_back (r.state.register j) (register_small z r.state j room r.sized r.steady))
@@ -234,8 +235,33 @@ has_all z n v b h (bucket_key i) part = full (count (bucket_key i) v.parts) (ltb
 has_all z n v b h commit_key part = let a : ℕ = count commit_key v.parts in let c : 0 < a = h.commit in let d : a ≤ 1 = b.most commit_key in omega arith
 has_all z n v b h (pass_key p) part = b.alone h.passes p
 
+-- no mask counts while all rest
+abbrev unmasked : CoreState → CoreState
+unmasked s = record s { mask = λ _. 0 }
+
+steady_unmasked : (s : CoreState) → IsSteady s → ((j : ℕ) → s.phase j ≡ phases.Idle) → IsSteady (unmasked s)
+steady_unmasked s h rest = record {
+  mark_is_length = h.mark_is_length;
+  registers_agree = record { shows = h.registers_agree.shows; masks = λ j. subst (λ p. IfSome (scope_in p) (λ scope. IsMaskOf s.tables scope 0)) (sym (rest j)) tt; others = h.registers_agree.others };
+  covered = h.covered;
+  open_writes_stand = h.open_writes_stand;
+  stamped_is_next = h.stamped_is_next;
+  contents_are_ordered = h.contents_are_ordered;
+  contents_are_placed = h.contents_are_placed;
+  records_bound_sessions = h.records_bound_sessions;
+  open_writes_may_commit = h.open_writes_may_commit;
+  history = h.history;
+  no_update_is_lost = h.no_update_is_lost;
+  logs_answer = h.logs_answer;
+  replies_answer = h.replies_answer;
+  records_reach_logs = h.records_reach_logs;
+  counters_balance = h.counters_balance;
+  visits_stay = h.visits_stay;
+  taken_at_most_mark = h.taken_at_most_mark;
+}
+
 pub owned : (z : Sizes) (n : ℕ) (v : View) → IsBacked z n v → HasAll z v → AllRest v → IsSteady (own_state z v) × (n ≡ (own_state z v).mark)
-owned z n v b h rest = (subst IsSteady same b.steady, sym b.mark_is ∙ mark)
+owned z n v b h rest = (subst IsSteady same (steady_unmasked s b.steady resting), sym b.mark_is ∙ mark)
   where
     s : CoreState
     s = b.state
@@ -249,6 +275,9 @@ owned z n v b h rest = (subst IsSteady same b.steady, sym b.mark_is ∙ mark)
     mark : s.mark ≡ length (commit_there (seek commit_key v.parts)).history.list
     mark = b.steady.mark_is_length.is_length ∙ ap length (commit_right s _ (right commit_key tt)).0
 
-    same : s ≡ own_state z v
-    same = state_is z s _ (λ _. registers.Idle) v.parts b.sized b.true_of.parts counts b.outside mark
-        (λ j. idle_shows s.tables (s.register j) (s.phase j) (b.steady.registers_agree.shows j) ((session_right s j _ (right (session_key j) tt)).0 ∙ rest j))
+    resting : (j : ℕ) → s.phase j ≡ phases.Idle
+    resting j = (session_right s j _ (right (session_key j) tt)).0 ∙ rest j
+
+    same : unmasked s ≡ own_state z v
+    same = ap unmasked (state_is z s _ (λ _. registers.Idle) s.mask v.parts b.sized b.true_of.parts counts b.outside mark
+        (λ j. idle_shows (s.register j) (s.phase j) (b.steady.registers_agree.shows j) (resting j)) (λ j. refl))

@@ -190,7 +190,7 @@ may_stamp z slots id j rid m is both far among plain place mine t r deep at smal
             };
             sized = record { sessions = r.sized.sessions; tables = r.sized.tables; buckets = r.sized.buckets; quota = r.sized.quota };
             passes = refl;
-            shows = record { count = words.count; mark = words.mark; registers = words.registers };
+            shows = record { count = words.count; mark = words.mark; registers = words.registers; masks = words.masks };
             grows = record { history = grows.history; logs = grows.logs; taken = grows.taken };
             only = leaves_only c d _ (stamp_leaves c d j b o (since v) (session v) (bucket v) h rid ms among refl refl refl (λ k other. stored_else c.buckets c.bucket rid _ b k place' other) refl refl refl refl refl (le_refl _));
             counts = λ k. ap (λ x. one (has k first) + (one (has k (OfBucket b part)) + (one (has k (OfCommit h)) + x))) (flag_count k j ms);
@@ -318,7 +318,7 @@ may_publish z slots id x m room is has_it far next may t r deep at small =
             };
             sized = record { sessions = r.sized.sessions; tables = r.sized.tables; buckets = r.sized.buckets; quota = r.sized.quota };
             passes = refl;
-            shows = marked_words z c d t.words x mark refl r.words;
+            shows = marked_words z c d t.words x mark refl refl r.words;
             grows = record { history = (new_group c.log js ∷ [], refl); logs = λ k. log_grown c.log js (suc c.mark) k; taken = le_refl _ };
             only = leaves_only c d _ (publish_leaves c d o (since v) (session v) h ms refl refl refl alone plain refl refl refl refl refl refl);
             counts = λ k. ap (λ y. one (has k first) + (one (has k (OfCommit h)) + y)) (numbered_count k x ms);

@@ -7,7 +7,7 @@ use Rattle.hg_core.specs.State.{CoreState}
 use Rattle.hg_rule.specs.declared.view.Sight.{Sight}
 use Rattle.hg_rule.specs.declared.view.Sight.TheVariants.{Saw, Heard, Took, Did}
 use Rattle.hg_rule.specs.declared.view.Event.{Event}
-use Rattle.hg_rule.specs.declared.view.Event.TheVariants.{Probe, Enter, Fix, GoLive, End, Look, Install, Undo, Stamp, Mark, Sample, Move, Reclaim, Take, HandOver, HandBack, Publish}
+use Rattle.hg_rule.specs.declared.view.Event.TheVariants.{Declare, Probe, Enter, Fix, GoLive, End, Look, Install, Undo, Stamp, Mark, Sample, SampleMask, Move, Reclaim, Take, HandOver, HandBack, Publish}
 use Rattle.hg_rule.specs.Facts.{StartsWith, EndsWith, IsAmong, HasBegun, Stands, Known}
 use Rattle.hg_rule.proofs.Lists.{starts_on, ends_on}
 
@@ -23,10 +23,11 @@ among_later a (x ∷ later) xs h = inr (among_later a later xs h)
 pub begun_later : (log more : List LogEntry) (register : Register) → EndsWith more log → HasBegun register log → HasBegun register more
 begun_later log more registers.Idle e h = tt
 begun_later log more (registers.Entering f) e h = tt
-begun_later log more (registers.Live n scope moved) e h = subst (IsAmong _) (sym e.1) (among_later _ e.0 log h)
+begun_later log more (registers.Live n declared moved) e h = (h.0, h.1, subst (IsAmong _) (sym e.1) (among_later _ e.0 log h.2))
 
 pub stands_on : (c d : CoreState) → Grows c d → (e : Event) → Stands c e → Stands d e
 stands_on c d g (Sample p j register) h = begun_later (c.log j) (d.log j) register (g.logs j) h
+stands_on c d g (Declare j scope) h = tt
 stands_on c d g (Probe j n) h = tt
 stands_on c d g (Enter j n) h = tt
 stands_on c d g (Fix j n) h = tt
@@ -37,6 +38,7 @@ stands_on c d g (Install j rid image) h = tt
 stands_on c d g (Undo j rid) h = tt
 stands_on c d g (Stamp j rid n) h = tt
 stands_on c d g (Mark p n) h = tt
+stands_on c d g (SampleMask p j mask) h = tt
 stands_on c d g (Move p j n done) h = tt
 stands_on c d g (Reclaim p kind rid n) h = tt
 stands_on c d g (Take p n) h = tt

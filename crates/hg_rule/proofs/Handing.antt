@@ -4,7 +4,7 @@ use mathlib.Core.Option.{none}
 use Rattle.atomic_table.specs.Table.{step, keeps, Allows, Splits, Joins}
 use Rattle.hg_base.specs.Lists.{Each}
 use Rattle.hg_core.specs.declared.phase.Phase.{Phase}
-use Rattle.hg_core.specs.declared.phase.Phase.TheVariants.{Idle, Probed, Entered, Fixed, Live}
+use Rattle.hg_core.specs.declared.phase.Phase.TheVariants.{Idle, Declared, Probed, Entered, Fixed, Live}
 use Rattle.hg_core.specs.Marks.{PhaseUpTo}
 use Rattle.hg_core.specs.Logs.{begans}
 use Rattle.hg_core.specs.declared.log.LogEntry.{LogEntry}
@@ -41,9 +41,10 @@ halves (pass_key i) j a b s n = refl
 -- a number that was loaded is at or below the mark
 loaded_most : (m : ℕ) (p : Phase) → PhaseUpTo m p → loaded_in p ≤ m
 loaded_most m Idle u = omega arith
-loaded_most m (Probed f) u = u
-loaded_most m (Entered f) u = u
-loaded_most m (Fixed f n) u = u.1
+loaded_most m (Declared scope) u = omega arith
+loaded_most m (Probed scope f) u = u
+loaded_most m (Entered scope f) u = u
+loaded_most m (Fixed scope f n) u = u.1
 loaded_most m (Live at scope) u = u
 
 pub may_lend : (z : Sizes) (slots id : ℕ) (m : Seated) → HasRoom z → HasSession m.0 → Allows (Rule z) slots id m 0 (λ n. n) (lends (step slots 0 0 0 none) m)

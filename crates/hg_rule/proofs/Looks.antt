@@ -223,7 +223,7 @@ asks z y slots id ask m same room is live plain unstamped may = subst (λ (y : S
               (snapshot v, tables v, record { live = own.0 ∙ live_is (session v).phase live; plain = subst (λ l. IsTrue (is_plain l)) (sym own.1.0) plain; unstamped = own.1.1 ∙ unstamped; asks = f.asks });
           sized = record { sessions = r.sized.sessions; tables = r.sized.tables; buckets = r.sized.buckets; quota = r.sized.quota };
           passes = refl;
-          shows = record { count = w.count; mark = w.mark; registers = w.registers };
+          shows = record { count = w.count; mark = w.mark; registers = w.registers; masks = w.masks };
           grows = record { history = starts_same c.history; logs = log_put c j _ (looked_ends c j ask (bucket_number v) f.rows); taken = omega arith };
           only = leaves_only c d (OfSession j (session v) ∷ []) (look_leaves c j ask (bucket_number v) f.rows (session v));
           counts = λ k. refl;

@@ -1,5 +1,5 @@
 -- A new board, and the dealing of its seats.
-use Rattle.std.proofs.Common.{◌≡◌, ℕ, zero, suc, ◌+◌, ◌<◌, ◌≤◌, false, eqb, ltb, List, [], ◌∷◌, ◌++◌, length, drop, replicate, refl, sym, ap, ◌∙◌, subst, arith, eq-eqb, ne_eqb, inl}
+use Rattle.std.proofs.Common.{get_or, ◌≡◌, ℕ, zero, suc, ◌+◌, ◌<◌, ◌≤◌, false, eqb, ltb, List, [], ◌∷◌, ◌++◌, length, drop, replicate, refl, sym, ap, ◌∙◌, subst, arith, eq-eqb, ne_eqb, inl}
 use Rattle.std.proofs.lemmas.Bool.{lt-ltb, le-ltb}
 use Rattle.std.proofs.lemmas.List.{get_or-replicate}
 use mathlib.Core.Option.{some, some-injective, some-ne-none}
@@ -14,7 +14,7 @@ use Rattle.hg_rule.specs.declared.view.View.{View}
 use Rattle.hg_rule.specs.declared.view.Sizes.{Sizes}
 use Rattle.hg_rule.specs.Keys.{Key, session_key, bucket_key, commit_key, pass_key, home_key, both, has, one, count, share_of, shares, whole_share, expected}
 use Rattle.hg_rule.specs.Facts.{Shown, new_part}
-use Rattle.hg_rule.specs.Words.{register_at, words_for}
+use Rattle.hg_rule.specs.Words.{register_at, mask_at, words_for}
 use Rattle.hg_rule.specs.Rules.{IsTrueOf, Rule}
 use Rattle.hg_rule.specs.Views.{seeing, after_first}
 use Rattle.hg_rule.specs.Moves.{first_of, run, session_part, bucket_part, pass_part, first_view}
@@ -105,12 +105,17 @@ run_each : (P : Part → Type 0) (f : ℕ → Part) → ((i : ℕ) → P (f i)) 
 run_each P f h a zero = tt
 run_each P f h a (suc n) = (h a, run_each P f h (suc a) n)
 
+zeros : (n i : ℕ) → ◌≡◌ {A = ℕ} (get_or (replicate n 0) i 0) 0
+zeros zero i = refl
+zeros (suc n) zero = refl
+zeros (suc n) (suc i) = zeros n i
+
 pub opens : (z : Sizes) → Rule z (opening (replicate (words_for z.sessions) 0) [] (first_view z))
 opens z = record {
   state = s;
   steady = steady_after z.sessions z.tables z.buckets 3 z.quota [] tt;
   sized = record { sessions = refl; tables = refl; buckets = refl; quota = refl };
-  words = record { count = length-replicate (words_for z.sessions) 0; mark = get_or-replicate (words_for z.sessions) 0 0 0 (omega arith); registers = λ j inside. get_or-replicate (words_for z.sessions) (register_at j) 0 0 (let l = inside.last in omega arith) };
+  words = record { count = length-replicate (words_for z.sessions) 0; mark = get_or-replicate (words_for z.sessions) 0 0 0 (omega arith); registers = λ j inside. get_or-replicate (words_for z.sessions) (register_at j) 0 0 (let l = inside.last in omega arith); masks = λ j. zeros (words_for z.sessions) (mask_at j) };
   exact = λ k. let a : ℕ = count k (first_view z).parts in let b : ℕ = expected z 3 k in let e : a ≡ b = all_once z k in omega arith;
   shared = let a : ℕ = shares (first_view z).parts in let b : ℕ = whole_share in let e : a ≡ b = all_shared z in omega arith;
   outside = λ k none. new_shown k;

@@ -7,11 +7,11 @@ use lib.ListN.{get_elem?}
 use Rattle.hg_base.specs.declared.rid.Rid.{Rid}
 use Rattle.hg_base.specs.Lists.{Each}
 use Rattle.hg_core.specs.declared.phase.Phase.{Phase}
-use Rattle.hg_core.specs.declared.phase.Phase.TheVariants.{Idle, Probed, Entered, Fixed, Live}
+use Rattle.hg_core.specs.declared.phase.Phase.TheVariants.{Idle, Declared, Probed, Entered, Fixed, Live}
 use Rattle.hg_core.specs.declared.log.LogEntry.{LogEntry}
 use Rattle.hg_core.specs.declared.version.Version.{Version}
 use Rattle.hg_core.specs.Logs.{current, begans, begun_in, number_in}
-use Rattle.hg_core.specs.Phases.{snapshot_in}
+use Rattle.hg_core.specs.Phases.{declared_in, snapshot_in}
 use Rattle.hg_core.specs.Contents.{Content, bucket_of, look, store, versions, stored, has_stamped}
 use Rattle.hg_core.specs.OpenWrites.{writer_of}
 use Rattle.hg_core.specs.State.{CoreState}
@@ -27,7 +27,7 @@ use Rattle.hg_rule.specs.Keys.{session_key, bucket_key, commit_key, pass_key, ho
 use Rattle.hg_rule.specs.Facts.{Shown, EndsWith}
 use Rattle.hg_rule.specs.Rules.{Rule}
 use Rattle.hg_rule.specs.Views.{number, session, others}
-use Rattle.hg_rule.specs.Steps.{loaded_in, tables_in}
+use Rattle.hg_rule.specs.Steps.{loaded_in}
 use Rattle.hg_rule.specs.Holding.{bucket, writer, snapshot}
 use Rattle.hg_rule.proofs.Counts.{Only}
 use Rattle.hg_rule.proofs.Lists.{ends_same}
@@ -96,11 +96,12 @@ stored_here buckets bucket rid vs b content at is = let e : (b == bucket_of buck
 
 -- ---- a live session
 
-pub live_is : (p : Phase) → IsSome (snapshot_in p) → p ≡ Live (loaded_in p) (tables_in p)
+pub live_is : (p : Phase) → IsSome (snapshot_in p) → p ≡ Live (loaded_in p) (declared_in p)
 live_is Idle e = absurd (let x = e in cc)
-live_is (Probed f) e = absurd (let x = e in cc)
-live_is (Entered f) e = absurd (let x = e in cc)
-live_is (Fixed f m) e = absurd (let x = e in cc)
+live_is (Declared scope) e = absurd (let x = e in cc)
+live_is (Probed scope f) e = absurd (let x = e in cc)
+live_is (Entered scope f) e = absurd (let x = e in cc)
+live_is (Fixed scope f m) e = absurd (let x = e in cc)
 live_is (Live at scope) e = refl
 
 -- its transaction, as the state has it

@@ -85,7 +85,7 @@ reclaims z slots id rid kind m is whole bucketed place here t r deep at small =
             };
             sized = record { sessions = r.sized.sessions; tables = r.sized.tables; buckets = r.sized.buckets; quota = r.sized.quota };
             passes = refl;
-            shows = record { count = words.count; mark = words.mark; registers = words.registers };
+            shows = record { count = words.count; mark = words.mark; registers = words.registers; masks = words.masks };
             grows = record { history = grows.history; logs = grows.logs; taken = grows.taken };
             only = leaves_only c d _ (reclaim_leaves c d p b (pass v) (bucket v) refl refl refl (λ k other. stored_else c.buckets c.bucket rid _ b k place' other) (λ k other. counters_else c.counters _ b k _ place' other) refl refl refl
                 (λ q other. put_else c.visits p q _ other) (le_refl _));

@@ -5,7 +5,7 @@ use Rattle.hg_base.specs.declared.report.Kind.{Kind}
 use Rattle.hg_base.specs.declared.report.Report.{Report}
 use Rattle.hg_base.specs.Lists.{Each}
 use Rattle.hg_base.specs.Reports.{told_of, sweep_of}
-use Rattle.hg_core.specs.declared.register.Register.{Register}
+use Rattle.hg_core.specs.declared.loaded.Loaded.{Loaded}
 use Rattle.hg_rule.specs.declared.view.Event.{Event}
 use Rattle.hg_rule.specs.declared.view.Event.TheVariants as events
 use Rattle.hg_rule.specs.declared.view.Sight.{Sight}
@@ -17,7 +17,7 @@ work_no_mark (events.Reclaim p kind rid n) h = tt
 work_no_mark (events.Take p mark) h = tt
 work_no_mark _ h = absurd h
 
-work_loads_none : (e : Event) → IsWork e → (loaded : List (ℕ × Register)) → then_loaded e loaded ≡ loaded
+work_loads_none : (e : Event) → IsWork e → (loaded : List (ℕ × Loaded)) → then_loaded e loaded ≡ loaded
 work_loads_none (events.Reclaim p kind rid n) h loaded = refl
 work_loads_none (events.Take p mark) h loaded = refl
 work_loads_none _ h loaded = absurd h
@@ -39,11 +39,11 @@ mark_on p [] more h = absurd h
 mark_on p (events.Mark q mark ∷ es) more h = refl
 mark_on p (_ ∷ es) more h = absurd h
 
-pub loaded_append : (loaded : List (ℕ × Register)) (es more : List Event) → loaded_after loaded (es ++ more) ≡ loaded_after (loaded_after loaded es) more
+pub loaded_append : (loaded : List (ℕ × Loaded)) (es more : List Event) → loaded_after loaded (es ++ more) ≡ loaded_after (loaded_after loaded es) more
 loaded_append loaded [] more = refl
 loaded_append loaded (e ∷ es) more = loaded_append (then_loaded e loaded) es more
 
-work_stays : (loaded : List (ℕ × Register)) (more : List Event) → Each IsWork more → loaded_after loaded more ≡ loaded
+work_stays : (loaded : List (ℕ × Loaded)) (more : List Event) → Each IsWork more → loaded_after loaded more ≡ loaded
 work_stays loaded [] w = refl
 work_stays loaded (e ∷ more) w = ap (λ l. loaded_after l more) (work_loads_none e w.0 loaded) ∙ work_stays loaded more w.1
 

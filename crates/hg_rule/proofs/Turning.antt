@@ -74,7 +74,7 @@ turned z t r id v p part ps visits at is steady = turn z t r id v (seeing (OfPas
       steady = steady;
       sized = record { sessions = r.sized.sessions; tables = r.sized.tables; buckets = r.sized.buckets; quota = r.sized.quota };
       passes = refl;
-      shows = record { count = r.words.count; mark = r.words.mark; registers = r.words.registers };
+      shows = record { count = r.words.count; mark = r.words.mark; registers = r.words.registers; masks = r.words.masks };
       grows = grows;
       only = visits_only c p part visits;
       counts = λ k. refl;

@@ -144,7 +144,7 @@ installs z slots id rid image m is live plain unstamped bucketed place table low
         );
         sized = record { sessions = r.sized.sessions; tables = r.sized.tables; buckets = r.sized.buckets; quota = r.sized.quota };
         passes = refl;
-        shows = record { count = words.count; mark = words.mark; registers = words.registers };
+        shows = record { count = words.count; mark = words.mark; registers = words.registers; masks = words.masks };
         grows = record { history = starts_same c.history; logs = log_put c j _ (entries.Wrote rid image ∷ [], refl); taken = omega arith };
         only = leaves_only c d _ (entry_leaves c d j b (session v) (bucket v) _ refl refl refl (λ k other. stored_else c.buckets c.bucket rid _ b k place' other) (λ k other. counters_else c.counters _ b k _ place' other) refl refl refl refl (le_refl _));
         counts = λ k. refl;
@@ -186,7 +186,7 @@ undoes z slots id rid m is unstamped bucketed place mine t r deep at small =
         };
         sized = record { sessions = r.sized.sessions; tables = r.sized.tables; buckets = r.sized.buckets; quota = r.sized.quota };
         passes = refl;
-        shows = record { count = words.count; mark = words.mark; registers = words.registers };
+        shows = record { count = words.count; mark = words.mark; registers = words.registers; masks = words.masks };
         grows = record { history = starts_same c.history; logs = log_put c j _ (entries.Undid rid ∷ [], refl); taken = omega arith };
         only = leaves_only c d _ (entry_leaves c d j b (session v) (bucket v) _ refl refl refl (λ k other. stored_else c.buckets c.bucket rid _ b k place' other) (λ k other. counters_else c.counters _ b k _ place' other) refl refl refl refl (le_refl _));
         counts = λ k. refl;

@@ -28,11 +28,11 @@ SightAgrees j session (Heard i log) = ⊤
 SightAgrees j session (Took n) = ⊤
 SightAgrees j session (Did e) = EventAgrees j session e
 
--- Where a record has the register of session j, it reaches into the session's log, and bounds what the session reads.
+-- Where a record has what was loaded of session j, it reaches into the session's log, and bounds what the session reads.
 pub record RecordAgrees (j : ℕ) (session : SessionPart) (record_ : PassPart) : Type 0 where
   pub known : heard j record_.seen ≤ length session.log
-  pub reaches : IfSome (found j record_.loaded) (λ register. StandsIn (heard j record_.seen) register session.log session.phase)
-  pub bounds : IfSome (found j record_.loaded) (λ register. Bounds record_.mark register session.phase)
+  pub reaches : IfSome (found j record_.loaded) (λ loaded. StandsIn (heard j record_.seen) loaded.register session.log session.phase)
+  pub bounds : IfSome (found j record_.loaded) (λ loaded. Bounds record_.mark loaded session.phase)
 
 abbrev pub PartAgrees : ℕ → SessionPart → Part → Type 0
 PartAgrees j session (OfSession i s) = ⊤

@@ -1,6 +1,8 @@
 -- What parts, sights and events say of the state.
 use Rattle.std.specs.Prelude.{◌≡◌, ◌⊎◌, ℕ, ◌<◌, ◌≤◌, max, List, [], ◌∷◌, ◌++◌, length, ◌==◌, if◌then◌else◌, false, ⊤}
+use Rattle.hg_base.specs.declared.scope.Scope.{Scope}
 use Rattle.hg_base.specs.History.{History}
+use Rattle.hg_base.specs.Freshness.{is_declared}
 use Rattle.hg_core.specs.declared.register.Register.{Register}
 use Rattle.hg_core.specs.declared.register.Register.TheVariants as registers
 use Rattle.hg_core.specs.declared.phase.Phase.TheVariants as phases
@@ -88,11 +90,11 @@ new_part (home_key j) = Away j new_session 0
 
 -- ---- events and sights
 
--- where the register is live, the log has the begin of its transaction, with the same tables
+-- where the register is live, the log has the begin of its transaction, with declared tables exactly where the register shows them
 abbrev pub HasBegun : Register → List LogEntry → Type 0
 HasBegun registers.Idle log = ⊤
 HasBegun (registers.Entering f) log = ⊤
-HasBegun (registers.Live number scope moved) log = IsAmong (Began number scope) log
+HasBegun (registers.Live number declared moved) log = (scope : Scope) × (declared ≡ is_declared scope) × IsAmong (Began number scope) log
 
 -- a live register that was loaded has its begin in the log
 abbrev pub Stands : CoreState → Event → Type 0

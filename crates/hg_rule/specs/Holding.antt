@@ -5,6 +5,7 @@ use Rattle.hg_base.specs.declared.scope.Scope.{Scope}
 use Rattle.hg_base.specs.declared.writer.Writer.{Writer}
 use Rattle.hg_core.specs.declared.version.Version.{Version}
 use Rattle.hg_core.specs.Logs.{begans}
+use Rattle.hg_core.specs.Phases.{declared_in}
 use Rattle.hg_core.specs.Contents.{look}
 use Rattle.hg_rule.specs.declared.view.BucketPart.{BucketPart}
 use Rattle.hg_rule.specs.declared.view.CommitPart.{CommitPart}
@@ -12,7 +13,7 @@ use Rattle.hg_rule.specs.declared.view.Part.{Part}
 use Rattle.hg_rule.specs.declared.view.Part.TheVariants.{OfBucket, OfCommit}
 use Rattle.hg_rule.specs.declared.view.View.{View}
 use Rattle.hg_rule.specs.Views.{number, number_in, session, bucket_there, commit_there, first_in, after_first, others}
-use Rattle.hg_rule.specs.Steps.{loaded_in, tables_in}
+use Rattle.hg_rule.specs.Steps.{loaded_in}
 
 -- what stands behind the part that was joined last
 abbrev pub beyond : View → List Part
@@ -57,4 +58,4 @@ abbrev pub snapshot : View → ℕ
 snapshot v = loaded_in (session v).phase
 
 abbrev pub tables : View → Scope
-tables v = tables_in (session v).phase
+tables v = declared_in (session v).phase

@@ -11,7 +11,7 @@ use Rattle.hg_rule.specs.declared.view.Part.TheVariants.{OfSession, OfBucket, Of
 use Rattle.hg_rule.specs.declared.view.View.{View}
 use Rattle.hg_rule.specs.declared.view.Sizes.{Sizes}
 use Rattle.hg_rule.specs.Keys.{Key, session_key, bucket_key, commit_key, pass_key, both, has, count, shares, whole_share}
-use Rattle.hg_rule.specs.Words.{register_at}
+use Rattle.hg_rule.specs.Words.{register_at, mask_at}
 use Rattle.hg_rule.specs.Facts.{record_of, new_part}
 use Rattle.hg_rule.specs.Views.{session_there, bucket_there, commit_there, pass_there}
 
@@ -34,9 +34,9 @@ passes_in (OfPass p r ∷ parts) = max (suc p) (passes_in parts)
 passes_in (Away j s n ∷ parts) = passes_in parts
 passes_in (Lent j s ∷ parts) = passes_in parts
 
--- the state with this mark and these registers whose parts are those of a list
-abbrev pub state_of : Sizes → ℕ → (ℕ → Register) → List Part → CoreState
-state_of z mark register parts = record {
+-- the state with this mark, these registers and these masks whose parts are those of a list
+abbrev pub state_of : Sizes → ℕ → (ℕ → Register) → (ℕ → ℕ) → List Part → CoreState
+state_of z mark register mask parts = record {
   sessions = z.sessions;
   tables = z.tables;
   buckets = z.buckets;
@@ -44,6 +44,7 @@ state_of z mark register parts = record {
   passes = passes_in parts;
   mark = mark;
   register = register;
+  mask = mask;
   history = (commit_there (seek commit_key parts)).history.list;
   stamped_list = (commit_there (seek commit_key parts)).stamped;
   taken = (commit_there (seek commit_key parts)).taken;
@@ -65,7 +66,7 @@ abbrev pub registers_in : Sizes → List ℕ → ℕ → Register
 registers_in z words j = if both (ltb 0 j) (ltb j (suc z.sessions)) then register_of (slice_index words (register_at j)) else registers.Idle
 
 abbrev pub read : Sizes → List ℕ → List View → CoreState
-read z words views = state_of z (slice_index words 0) (registers_in z words) (all_parts views)
+read z words views = state_of z (slice_index words 0) (registers_in z words) (λ j. slice_index words (mask_at j)) (all_parts views)
 
 -- ---- one view that has everything
 
@@ -80,6 +81,6 @@ pub record HasAll (z : Sizes) (v : View) : Type 0 where
 abbrev pub AllRest : View → Type 0
 AllRest v = (j : ℕ) → (session_there (seek (session_key j) v.parts)).phase ≡ phases.Idle
 
--- the state that its parts are, while all registers are idle
+-- the state that its parts are, while all registers are idle, so that no mask counts
 abbrev pub own_state : Sizes → View → CoreState
-own_state z v = state_of z (length (commit_there (seek commit_key v.parts)).history.list) (λ _. registers.Idle) v.parts
+own_state z v = state_of z (length (commit_there (seek commit_key v.parts)).history.list) (λ _. registers.Idle) (λ _. 0) v.parts

@@ -1,19 +1,22 @@
 -- A round of a collector's pass: the steps that it made from one load of the mark up to the next, or to the end. What it
 -- loaded, moved, took and removed is read from these steps alone, and so is what it reports.
-use Rattle.std.specs.Prelude.{◌≡◌, ℕ, suc, ◌+◌, max, true, Bool, List, [], ◌∷◌, ◌++◌, map, ⊤}
+use Rattle.std.specs.Prelude.{◌≡◌, ℕ, suc, ◌+◌, max, true, Bool, Option, Some, None, List, [], ◌∷◌, ◌++◌, map, ⊤}
 use Rattle.hg_base.specs.declared.report.Kind.{Kind}
 use Rattle.hg_base.specs.declared.report.Entry.{Entry}
 use Rattle.hg_base.specs.declared.report.Report.{Report}
 use Rattle.hg_base.specs.declared.report.Sweep.{Sweep}
 use Rattle.hg_base.specs.Lists.{Each}
 use Rattle.hg_base.specs.Reports.{told_of}
+use Rattle.hg_base.specs.declared.scope.Scope.{Scope}
+use Rattle.hg_base.specs.declared.scope.Scope.TheVariants.{All, Declared}
+use Rattle.hg_core.specs.declared.loaded.Loaded.{Loaded}
 use Rattle.hg_core.specs.declared.register.Register.{Register}
 use Rattle.hg_core.specs.declared.register.Register.TheVariants.{Idle, Entering, Live}
 use Rattle.hg_core.specs.Passes.{PassRecord, horizon}
-use Rattle.hg_core.specs.Events.{moved_in}
+use Rattle.hg_core.specs.Events.{moved_in, masked_in}
 use Rattle.hg_rule.specs.declared.view.PassPart.{PassPart}
 use Rattle.hg_rule.specs.declared.view.Event.{Event}
-use Rattle.hg_rule.specs.declared.view.Event.TheVariants.{Mark, Sample, Move, Reclaim, Take}
+use Rattle.hg_rule.specs.declared.view.Event.TheVariants.{Mark, Sample, SampleMask, Move, Reclaim, Take}
 use Rattle.hg_rule.specs.declared.view.Sight.{Sight}
 use Rattle.hg_rule.specs.declared.view.Sight.TheVariants.{Saw, Heard, Took, Did}
 
@@ -43,13 +46,14 @@ mark_in [] = 0
 mark_in (Mark p mark ∷ events) = mark
 mark_in (_ ∷ events) = mark_in events
 
--- the registers, once a step was made: a sample comes first, and a move that succeeded shows
-abbrev pub then_loaded : Event → List (ℕ × Register) → List (ℕ × Register)
-then_loaded (Sample p j register) loaded = (j, register) ∷ loaded
+-- what is loaded, once a step was made: a sample comes first, a mask joins its register, and a move that succeeded shows
+abbrev pub then_loaded : Event → List (ℕ × Loaded) → List (ℕ × Loaded)
+then_loaded (Sample p j register) loaded = (j, record { register = register; mask = None }) ∷ loaded
+then_loaded (SampleMask p j mask) loaded = masked_in j mask loaded
 then_loaded (Move p j number true) loaded = moved_in j loaded
 then_loaded _ loaded = loaded
 
-abbrev pub loaded_after : List (ℕ × Register) → List Event → List (ℕ × Register)
+abbrev pub loaded_after : List (ℕ × Loaded) → List Event → List (ℕ × Loaded)
 loaded_after loaded [] = loaded
 loaded_after loaded (e ∷ events) = loaded_after (then_loaded e loaded) events
 
@@ -85,16 +89,21 @@ gone_in (_ ∷ events) = gone_in events
 
 -- ---- its report
 
--- the entry of a session's register, where it is live
-abbrev pub live_entry : ℕ → Register → List Entry
-live_entry j Idle = []
-live_entry j (Entering f) = []
-live_entry j (Live number scope moved) = record { session = j; number = number; scope = scope; moved = moved } ∷ []
+-- the tables of a mask, and all where none was loaded
+abbrev pub masked_scope : Option ℕ → Scope
+masked_scope None = All
+masked_scope (Some mask) = Declared mask
 
--- the entries of registers that were loaded in the order of their sessions, the last one first
-abbrev pub entries_of : List (ℕ × Register) → List Entry
+-- the entry of a session's register, where it is live, with the tables of its mask
+abbrev pub live_entry : ℕ → Register → Option ℕ → List Entry
+live_entry j Idle mask = []
+live_entry j (Entering f) mask = []
+live_entry j (Live number declared moved) mask = record { session = j; number = number; scope = masked_scope mask; moved = moved } ∷ []
+
+-- the entries of what was loaded in the order of sessions, the last one first
+abbrev pub entries_of : List (ℕ × Loaded) → List Entry
 entries_of [] = []
-entries_of (e ∷ loaded) = entries_of loaded ++ live_entry e.0 e.1
+entries_of (e ∷ loaded) = entries_of loaded ++ live_entry e.0 e.1.register e.1.mask
 
 -- the report of a round of that kind of collector, whatever room its list has
 pub record IsReportOf (kind : Kind) (events : List Event) (report : Report) : Type 0 where

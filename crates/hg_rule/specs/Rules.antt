@@ -11,7 +11,7 @@ use Rattle.hg_core.specs.Invariant.{IsSteady}
 use Rattle.hg_rule.specs.declared.view.View.{View}
 use Rattle.hg_rule.specs.declared.view.Sizes.{Sizes}
 use Rattle.hg_rule.specs.Keys.{Key, pass_key, count, tally, shares, all_shares, whole_share, expected}
-use Rattle.hg_rule.specs.Words.{register_at, words_for}
+use Rattle.hg_rule.specs.Words.{register_at, mask_at, words_for}
 use Rattle.hg_rule.specs.Facts.{Shown, Known, Stands, new_part}
 
 -- the state is of a board of these sizes
@@ -21,16 +21,17 @@ pub record IsSized (z : Sizes) (s : CoreState) : Type 0 where
   pub buckets : s.buckets ≡ z.buckets
   pub quota : s.quota ≡ z.quota
 
--- each register and the mark have a word
+-- each register and the mark have a word, and each table a bit
 pub record HasRoom (z : Sizes) : Type 0 where
-  pub tables : z.tables ≤ 16
+  pub tables : z.tables ≤ 64
   pub begins : z.sessions * z.quota ≤ 2 ^ 40
 
--- word 0 is the mark, and each session has a word for its register
+-- word 0 is the mark, and each session has a word for its register and one for its mask
 pub record ShowsWords (z : Sizes) (s : CoreState) (words : List ℕ) : Type 0 where
   pub count : length words ≡ words_for z.sessions
   pub mark : slice_index words 0 ≡ s.mark
   pub registers : (j : ℕ) → IsSession z.sessions j → slice_index words (register_at j) ≡ word_of (s.register j)
+  pub masks : (j : ℕ) → slice_index words (mask_at j) ≡ s.mask j
 
 -- a view tells the truth of the state
 pub record IsTrueOf (s : CoreState) (v : View) : Type 0 where

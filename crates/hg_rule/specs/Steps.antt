@@ -1,29 +1,30 @@
 -- What each step makes of the view of the pass that makes it.
-use Rattle.std.specs.Prelude.{◌≡◌, ℕ, ◌^◌, ◌<◌, ◌≤◌, ◌==◌, Bool, true, false, List, [], ◌∷◌, length, ⊤}
+use Rattle.std.specs.Prelude.{◌≡◌, ℕ, ◌^◌, ◌<◌, ◌≤◌, ◌==◌, Bool, true, false, Option, Some, None, IsTrue, List, [], ◌∷◌, length, ⊤}
 use Rattle.hg_base.specs.declared.scope.Scope.{Scope}
-use Rattle.hg_base.specs.declared.scope.Scope.TheVariants.{All, Declared}
 use Rattle.hg_base.specs.History.{History}
 use Rattle.hg_base.specs.Lists.{Each}
 use Rattle.atomic_table.specs.Table.{Me, Step}
+use Rattle.hg_core.specs.declared.loaded.Loaded.{Loaded}
 use Rattle.hg_core.specs.declared.register.Register.{Register}
 use Rattle.hg_core.specs.declared.register.Register.TheVariants as registers
 use Rattle.hg_core.specs.declared.phase.Phase.{Phase}
-use Rattle.hg_core.specs.declared.phase.Phase.TheVariants.{Idle, Probed, Entered, Fixed, Live}
+use Rattle.hg_core.specs.declared.phase.Phase.TheVariants.{Idle, Declared, Probed, Entered, Fixed, Live}
 use Rattle.hg_core.specs.declared.log.LogEntry.{LogEntry}
 use Rattle.hg_core.specs.declared.log.LogEntry.TheVariants.{Began, Over}
-use Rattle.hg_core.specs.Words.{IsRegister, number_of, scope_of, register_of}
+use Rattle.hg_core.specs.Words.{IsRegister, number_of, shows_declared, register_of}
 use Rattle.hg_core.specs.Logs.{UpTo}
-use Rattle.hg_core.specs.Events.{moved_in}
+use Rattle.hg_core.specs.Phases.{declared_in}
+use Rattle.hg_core.specs.Events.{moved_in, masked_in}
 use Rattle.hg_rule.specs.declared.view.SessionPart.{SessionPart}
 use Rattle.hg_rule.specs.declared.view.PassPart.{PassPart}
 use Rattle.hg_rule.specs.declared.view.Part.{Part}
 use Rattle.hg_rule.specs.declared.view.Part.TheVariants.{OfSession, OfPass}
 use Rattle.hg_rule.specs.declared.view.Sight.{Sight}
 use Rattle.hg_rule.specs.declared.view.Sight.TheVariants.{Saw, Heard, Took, Did}
-use Rattle.hg_rule.specs.declared.view.Event.TheVariants.{Probe, Enter, Fix, GoLive, End, Mark, Sample, Move}
+use Rattle.hg_rule.specs.declared.view.Event.TheVariants.{Declare, Probe, Enter, Fix, GoLive, End, Mark, Sample, SampleMask, Move}
 use Rattle.hg_rule.specs.declared.view.View.{View}
 use Rattle.hg_rule.specs.declared.view.Sizes.{Sizes}
-use Rattle.hg_rule.specs.Words.{register_at}
+use Rattle.hg_rule.specs.Words.{register_at, mask_at}
 use Rattle.hg_rule.specs.Facts.{StartsWith, groups}
 use Rattle.hg_rule.specs.Rules.{IsBacked}
 use Rattle.hg_rule.specs.Views.{number, session, pass, others, then_has}
@@ -56,35 +57,32 @@ logging entry phase part = record part { phase = phase; log = entry ∷ part.log
 -- the number that a session in this phase loaded last
 abbrev pub loaded_in : Phase → ℕ
 loaded_in Idle = 0
-loaded_in (Probed f) = f
-loaded_in (Entered f) = f
-loaded_in (Fixed f m) = m
+loaded_in (Declared scope) = 0
+loaded_in (Probed scope f) = f
+loaded_in (Entered scope f) = f
+loaded_in (Fixed scope f m) = m
 loaded_in (Live at scope) = at
-
--- the tables that it may name
-abbrev pub tables_in : Phase → Scope
-tables_in Idle = All
-tables_in (Probed f) = All
-tables_in (Entered f) = All
-tables_in (Fixed f m) = All
-tables_in (Live at scope) = scope
 
 -- the number at which a session in this phase entered
 abbrev pub entered_in : Phase → ℕ
 entered_in Idle = 0
-entered_in (Probed f) = f
-entered_in (Entered f) = f
-entered_in (Fixed f m) = f
+entered_in (Declared scope) = 0
+entered_in (Probed scope f) = f
+entered_in (Entered scope f) = f
+entered_in (Fixed scope f m) = f
 entered_in (Live at scope) = 0
 
+abbrev pub Declares : View → Scope → View → Type 0
+Declares v scope w = w ≡ then_has v (OfSession (number v) (in_phase (Declared scope) (session v)) ∷ others v) [] (Declare (number v) scope)
+
 abbrev pub Probes : View → ℕ → View → Type 0
-Probes v n w = (h : History) × (IsHistoryAt v n h × (w ≡ then_has v (OfSession (number v) (in_phase (Probed n) (session v)) ∷ others v) (Saw (groups h) ∷ []) (Probe (number v) n)))
+Probes v n w = (h : History) × (IsHistoryAt v n h × (w ≡ then_has v (OfSession (number v) (in_phase (Probed (declared_in (session v).phase) n) (session v)) ∷ others v) (Saw (groups h) ∷ []) (Probe (number v) n)))
 
 abbrev pub Enters : View → ℕ → View → Type 0
-Enters v f w = w ≡ then_has v (OfSession (number v) (in_phase (Entered f) (session v)) ∷ others v) [] (Enter (number v) f)
+Enters v f w = w ≡ then_has v (OfSession (number v) (in_phase (Entered (declared_in (session v).phase) f) (session v)) ∷ others v) [] (Enter (number v) f)
 
 abbrev pub Fixes : View → ℕ → View → Type 0
-Fixes v n w = (h : History) × (IsHistoryAt v n h × (w ≡ then_has v (OfSession (number v) (in_phase (Fixed (loaded_in (session v).phase) n) (session v)) ∷ others v) (Saw (groups h) ∷ []) (Fix (number v) n)))
+Fixes v n w = (h : History) × (IsHistoryAt v n h × (w ≡ then_has v (OfSession (number v) (in_phase (Fixed (declared_in (session v).phase) (loaded_in (session v).phase) n) (session v)) ∷ others v) (Saw (groups h) ∷ []) (Fix (number v) n)))
 
 abbrev pub GoesLive : View → ℕ → Scope → View → Type 0
 GoesLive v m scope w = w ≡ then_has v (OfSession (number v) (logging (Began m scope) (Live m scope) (session v)) ∷ others v) (Heard (number v) (Began m scope ∷ (session v).log) ∷ []) (GoLive (number v) m scope)
@@ -99,7 +97,11 @@ abbrev pub beginning : ℕ → List Sight → PassPart → PassPart
 beginning mark seen part = record part { mark = mark; seen = seen; loaded = [] }
 
 abbrev pub loading : ℕ → Register → PassPart → PassPart
-loading j register part = record part { loaded = (j, register) ∷ part.loaded }
+loading j register part = record part { loaded = (j, record { register = register; mask = None }) ∷ part.loaded }
+
+-- session j's entry has its mask
+abbrev pub masking : ℕ → ℕ → PassPart → PassPart
+masking j mask part = record part { loaded = masked_in j mask part.loaded }
 
 -- session j's entry is moved
 abbrev pub moving : ℕ → PassPart → PassPart
@@ -110,6 +112,9 @@ Marks v n w = (h : History) × (IsHistoryAt v n h × (w ≡ then_has v (OfPass (
 
 abbrev pub Samples : View → ℕ → Register → View → Type 0
 Samples v j register w = w ≡ then_has v (OfPass (number v) (loading j register (pass v)) ∷ others v) [] (Sample (number v) j register)
+
+abbrev pub SamplesMask : View → ℕ → ℕ → View → Type 0
+SamplesMask v j mask w = w ≡ then_has v (OfPass (number v) (masking j mask (pass v)) ∷ others v) [] (SampleMask (number v) j mask)
 
 -- a try tells whether the register was moved
 abbrev pub after_try : Bool → ℕ → View → List Part
@@ -123,14 +128,27 @@ Moves v j n moved w = w ≡ then_has v (after_try moved j v) [] (Move (number v)
 abbrev pub IsMovable : Register → Type 0
 IsMovable registers.Idle = ⊥
 IsMovable (registers.Entering f) = ⊥
-IsMovable (registers.Live n All moved) = ⊥
-IsMovable (registers.Live n (Declared mask) true) = ⊥
-IsMovable (registers.Live n (Declared mask) false) = ⊤
+IsMovable (registers.Live n false moved) = ⊥
+IsMovable (registers.Live n true true) = ⊥
+IsMovable (registers.Live n true false) = ⊤
+
+-- a register was loaded that is live and declared, and its mask was not
+abbrev pub AwaitsMask : Option Loaded → Type 0
+AwaitsMask None = ⊥
+AwaitsMask (Some loaded) = IsTrue (shows_declared loaded.register) × (loaded.mask ≡ None)
+
+-- this register was loaded
+abbrev pub HasRegister : Register → Option Loaded → Type 0
+HasRegister register None = ⊥
+HasRegister register (Some loaded) = loaded.register ≡ register
 
 -- ---- the same as a step of the table tells it: of the step, the seat before, the number found or stored, the seat after
 
 abbrev pub Seated : Type 0
 Seated = Me ℕ View
+
+abbrev pub declared : Scope → Step ℕ → Seated → ℕ → Seated → Type 0
+declared scope step m n w = Declares m.0 scope w.0 × (w.1 ≡ m.1)
 
 abbrev pub probed : Step ℕ → Seated → ℕ → Seated → Type 0
 probed step m n w = Probes m.0 n w.0 × (w.1 ≡ m.1)
@@ -142,7 +160,7 @@ abbrev pub fixed : Step ℕ → Seated → ℕ → Seated → Type 0
 fixed step m n w = Fixes m.0 n w.0 × (w.1 ≡ m.1)
 
 abbrev pub went_live : Step ℕ → Seated → ℕ → Seated → Type 0
-went_live step m n w = GoesLive m.0 (loaded_in (session m.0).phase) (scope_of (register_of n)) w.0 × (w.1 ≡ m.1)
+went_live step m n w = GoesLive m.0 (loaded_in (session m.0).phase) (declared_in (session m.0).phase) w.0 × (w.1 ≡ m.1)
 
 abbrev pub ended : Step ℕ → Seated → ℕ → Seated → Type 0
 ended step m n w = Ends m.0 w.0 × (w.1 ≡ m.1)
@@ -152,6 +170,9 @@ marked step m n w = Marks m.0 n w.0 × (w.1 ≡ m.1)
 
 abbrev pub sampled : Step ℕ → Seated → ℕ → Seated → Type 0
 sampled step m n w = ((j : ℕ) → step.word ≡ register_at j → Samples m.0 j (register_of n) w.0) × IsRegister (register_of n) × (w.1 ≡ m.1)
+
+abbrev pub masked : Step ℕ → Seated → ℕ → Seated → Type 0
+masked step m n w = ((j : ℕ) → step.word ≡ mask_at j → SamplesMask m.0 j n w.0) × (w.1 ≡ m.1)
 
 -- the register was moved where the word was the first operand, which shows it
 abbrev pub tried : Step ℕ → Seated → ℕ → Seated → Type 0

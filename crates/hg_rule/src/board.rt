@@ -1,7 +1,7 @@
 //! The table of the words.
 
 ghost use Rattle.std.specs.Prelude.{◌≡◌, ◌<◌, ◌^◌};
-ghost use Rattle.hg_rule.specs.Words.{words_for, register_at};
+ghost use Rattle.hg_rule.specs.Words.{words_for, register_at, mask_at};
 ghost use Rattle.hg_rule.specs.Rules.{Rule, HasRoom};
 ghost use Rattle.hg_rule.specs.Moves.{first_view};
 
@@ -17,6 +17,13 @@ pub(crate) fn register_at(session: u32) -> usize
     ensures { result ≡ register_at session }
 {
     LINE * session as usize
+}
+
+// Where the mask of its tables stands.
+pub(crate) fn mask_at(session: u32) -> usize
+    ensures { result ≡ mask_at session }
+{
+    register_at(session) + 1
 }
 
 // How many words there are.
@@ -35,8 +42,8 @@ impl TableRule<u8, View, Sizes> for Law {
     ghost first = { first_view };
 }
 
-/// The mark, and the register of each session, each in a cache line of its own: so who stores in one doesn't take another away
-/// from a processor that reads it.
+/// The mark, and of each session its register and the mask of its tables. The mark has a cache line of its own, and so has each
+/// session: so who stores in one doesn't take another away from a processor that reads it.
 #[derive(Drop)]
 pub struct Board {
     pub(crate) table: Table<u8, View, Sizes, Law, Global>,

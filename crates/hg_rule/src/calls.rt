@@ -1,42 +1,87 @@
 //! The steps. Each call is one event of `hg_core`.
 
-ghost use Rattle.std.specs.Prelude.{◌≡◌, ◌<◌, Some, None, IsSome};
+ghost use Rattle.std.specs.Prelude.{◌≡◌, ◌<◌, None, IsSome};
 ghost use Rattle.hg_base.specs.declared.rid.Rid.{Rid};
-ghost use Rattle.hg_core.specs.declared.phase.Phase.TheVariants.{Idle, Probed, Entered, Fixed};
+ghost use Rattle.hg_base.specs.Freshness.{is_declared};
+ghost use Rattle.hg_core.specs.declared.phase.Phase.TheVariants.{Idle, Declared, Probed, Entered, Fixed};
 ghost use Rattle.hg_core.specs.Words.{IsBelow, IsRegister, number_of};
 ghost use Rattle.hg_core.specs.Logs.{begans, open_in};
-ghost use Rattle.hg_core.specs.Phases.{IsSession, snapshot_in};
+ghost use Rattle.hg_core.specs.Phases.{IsSession, declared_in, snapshot_in};
 ghost use Rattle.hg_core.specs.Passes.{found};
 ghost use Rattle.hg_core.specs.Events.{moved};
 ghost use Rattle.hg_rule.specs.Views.{session, pass as own_pass};
-ghost use Rattle.hg_rule.specs.Steps.{IsNumber, IsMovable, loaded_in, entered_in, Probes, Enters, Fixes, GoesLive, Ends, Marks, Samples, Moves};
+ghost use Rattle.hg_rule.specs.Steps.{IsNumber, IsMovable, AwaitsMask, HasRegister, loaded_in, entered_in, Declares, Probes, Enters, Fixes, GoesLive, Ends, Marks, Samples, SamplesMask, Moves};
 ghost use Rattle.hg_rule.specs.Seats.{board_id, sizes_of, session_view, pass_view, IsSessionOf, IsPassOf};
 
-use crate::board::{Board, register_at};
+use crate::board::{Board, mask_at, register_at};
 use crate::passes::{CollectorPass, SessionPass};
-use crate::plays::{Ending, Entering, Fixing, GoingLive, Marking, Moving, Probing, Sampling};
+use crate::picks::Scoped;
+use crate::plays::{
+    Declaring, Ending, Entering, Fixing, GoingLive, Marking, Moving, Probing, Sampling,
+    SamplingMask,
+};
 use hg_base::Scope;
-use hg_core::Register;
+use hg_core::{Register, mask_word};
+use std::marker::Brand;
 
 fn moved(register: Register) -> Register
     ensures { result ≡ moved register }
 {
     match register {
-        Register::Live { number, scope, .. } => Register::Live {
+        Register::Live {
             number,
-            scope,
+            declared,
+            ..
+        } => Register::Live {
+            number,
+            declared,
             moved: true,
         },
         other => other,
     }
 }
 
+fn is_declared(scope: Scope) -> bool
+    ensures { result ≡ is_declared scope }
+{
+    match scope {
+        Scope::All => false,
+        Scope::Declared(_) => true,
+    }
+}
+
 impl Board {
+    fn declare_as<A: Scoped>(&self, pass: &mut SessionPass, scope: Scope)
+        requires own { IsSessionOf (board_id self.now) (sizes_of self.now) pass.old }
+        requires rests { (session (session_view pass.old)).phase ≡ Idle }
+        requires tables { IsBelow (sizes_of self.now).tables scope }
+        requires room { begans (session (session_view pass.old)).log < (sizes_of self.now).quota }
+        requires picked { A.scope ≡ scope }
+        ensures step { Declares (session_view pass.old) scope (session_view pass.new) }
+        ensures own { IsSessionOf (board_id self.now) (sizes_of self.now) pass.new }
+    {
+        self.table
+            .shared
+            .store::<Declaring<A>>(&mut pass.seat, mask_at(pass.number), mask_word(scope));
+    }
+
+    /// Stores the mask of the tables that the next transaction declares. A pass that found the transaction before live may load it
+    /// in place of that one's.
+    pub fn declare(&self, pass: &mut SessionPass, scope: Scope)
+        requires own { IsSessionOf (board_id self.now) (sizes_of self.now) pass.old }
+        requires rests { (session (session_view pass.old)).phase ≡ Idle }
+        requires tables { IsBelow (sizes_of self.now).tables scope }
+        requires room { begans (session (session_view pass.old)).log < (sizes_of self.now).quota }
+        ensures step { Declares (session_view pass.old) scope (session_view pass.new) }
+        ensures own { IsSessionOf (board_id self.now) (sizes_of self.now) pass.new }
+    {
+        self.declare_as::<Brand>(pass, scope);
+    }
+
     /// Loads the mark, of which nobody knows yet.
     pub fn probe(&self, pass: &mut SessionPass) -> u64
         requires own { IsSessionOf (board_id self.now) (sizes_of self.now) pass.old }
-        requires rests { (session (session_view pass.old)).phase ≡ Idle }
-        requires room { begans (session (session_view pass.old)).log < (sizes_of self.now).quota }
+        requires declared { (session (session_view pass.old)).phase ≡ Declared (declared_in (session (session_view pass.old)).phase) }
         ensures step { Probes (session_view pass.old) result (session_view pass.new) }
         ensures own { IsSessionOf (board_id self.now) (sizes_of self.now) pass.new }
     {
@@ -46,7 +91,7 @@ impl Board {
     /// Shows that the session enters at the mark that it loaded.
     pub fn enter(&self, pass: &mut SessionPass, f: u64)
         requires own { IsSessionOf (board_id self.now) (sizes_of self.now) pass.old }
-        requires probed { ((session (session_view pass.old)).phase ≡ Probed f) × IsNumber f }
+        requires probed { ((session (session_view pass.old)).phase ≡ Probed (declared_in (session (session_view pass.old)).phase) f) × IsNumber f }
         ensures step { Enters (session_view pass.old) f (session_view pass.new) }
         ensures own { IsSessionOf (board_id self.now) (sizes_of self.now) pass.new }
     {
@@ -59,7 +104,7 @@ impl Board {
     /// Loads the mark again.
     pub fn fix(&self, pass: &mut SessionPass) -> u64
         requires own { IsSessionOf (board_id self.now) (sizes_of self.now) pass.old }
-        requires entered { (session (session_view pass.old)).phase ≡ Entered (loaded_in (session (session_view pass.old)).phase) }
+        requires entered { (session (session_view pass.old)).phase ≡ Entered (declared_in (session (session_view pass.old)).phase) (loaded_in (session (session_view pass.old)).phase) }
         ensures step { Fixes (session_view pass.old) result (session_view pass.new) }
         ensures own { IsSessionOf (board_id self.now) (sizes_of self.now) pass.new }
     {
@@ -68,18 +113,18 @@ impl Board {
 }
 
 impl Board {
-    /// Shows the second mark as the snapshot, with the tables that the transaction declares. It is logged as begun.
+    /// Shows the second mark as the snapshot, and whether tables were declared. The scope is the one that was declared. It is logged
+    /// as begun.
     pub fn go_live(&self, pass: &mut SessionPass, m: u64, scope: Scope)
         requires own { IsSessionOf (board_id self.now) (sizes_of self.now) pass.old }
-        requires fixed { ((session (session_view pass.old)).phase ≡ Fixed (entered_in (session (session_view pass.old)).phase) m) × IsNumber m }
-        requires tables { IsBelow (sizes_of self.now).tables scope }
+        requires fixed { ((session (session_view pass.old)).phase ≡ Fixed scope (entered_in (session (session_view pass.old)).phase) m) × IsNumber m }
         requires room { begans (session (session_view pass.old)).log < (sizes_of self.now).quota }
         ensures step { GoesLive (session_view pass.old) m scope (session_view pass.new) }
         ensures own { IsSessionOf (board_id self.now) (sizes_of self.now) pass.new }
     {
         let register = Register::Live {
             number: m,
-            scope,
+            declared: is_declared(scope),
             moved: false,
         };
         self.table
@@ -126,13 +171,26 @@ impl Board {
         Register::from_word(word)
     }
 
+    /// Loads a session's mask word into the record, which has its register as live and declared. The answer is the word.
+    pub fn sample_mask(&self, pass: &mut CollectorPass, j: u32) -> u64
+        requires own { IsPassOf (board_id self.now) pass.old }
+        requires session { IsSession (sizes_of self.now).sessions j }
+        requires loaded { AwaitsMask (found j (own_pass (pass_view pass.old)).loaded) }
+        ensures step { SamplesMask (pass_view pass.old) j result (pass_view pass.new) }
+        ensures own { IsPassOf (board_id self.now) pass.new }
+    {
+        self.table
+            .shared
+            .load::<SamplingMask>(&mut pass.seat, mask_at(j))
+    }
+
     /// Moves a snapshot that the record has as live, declared and not moved, if its register still shows that. The answer
     /// says whether it did: then the record's entry is moved too, and else no part has changed.
     pub fn move_one(&self, pass: &mut CollectorPass, j: u32, from: Register) -> bool
         requires own { IsPassOf (board_id self.now) pass.old }
         requires session { IsSession (sizes_of self.now).sessions j }
         requires movable { IsMovable from × IsRegister from }
-        requires loaded { found j (own_pass (pass_view pass.old)).loaded ≡ Some from }
+        requires loaded { HasRegister from (found j (own_pass (pass_view pass.old)).loaded) }
         ensures step { Moves (pass_view pass.old) j (number_of from) result (pass_view pass.new) }
         ensures own { IsPassOf (board_id self.now) pass.new }
     {

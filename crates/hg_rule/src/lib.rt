@@ -1,10 +1,10 @@
-//! The board: one word for the mark and one for each session's register, under one rule.
+//! The board: one word for the mark, and two for each session, its register and the mask of its tables, under one rule.
 //!
-//!     word 0    word 8        word 16              ..   word 8 n
-//!     mark      register 1    register 2                register n
+//!     word 0    word 8, 9             word 16, 17         ..   word 8 n, 8 n + 1
+//!     mark      register 1, mask 1    register 2, mask 2       register n, mask n
 //!
-//! Eight words are a cache line, and the others are nobody's: so who stores in one of these takes no other away from a processor
-//! that reads it.
+//! Eight words are a cache line, and the others are nobody's: so what one session stores takes neither the mark nor another's
+//! words away from a processor that reads them.
 //!
 //! Threads share the words and nothing else. What else there is of the state of `hg_core` stands in views: plain data that a
 //! seat carries in proofs alone, and that has no bytes.
@@ -75,7 +75,7 @@ mod writing;
 
 pub use board::Board;
 pub use groups::Groups;
-pub use hg_core::{Ask, Register};
+pub use hg_core::{Ask, Loaded, Register};
 pub use meets::state_is_read;
 pub use pass::Pass;
 pub use passes::{BucketSeat, CollectorPass, CommitSeat, SessionPass, TxSeat};

@@ -54,7 +54,7 @@ impl Board {
 }
 
 impl Board {
-    /// A board of these numbers, and each of its seats. Its mark is 0, its registers are idle, and nobody has done anything.
+    /// A board of these numbers, and each of its seats. Its mark is 0, its registers are idle, its masks are 0, and nobody has done anything.
     pub fn new(
         alloc: Global,
         sessions: u32,
@@ -62,7 +62,7 @@ impl Board {
         buckets: u32,
         quota: u64,
     ) -> Result<(Board, Seats), NoMemory>
-        requires room { (tables ≤ 16) × (sessions * quota ≤ 2 ^ 40) }
+        requires room { (tables ≤ 64) × (sessions * quota ≤ 2 ^ 40) }
         ensures sizes { IfOk result (λ b. sizes_of b.0 ≡ record { sessions = sessions; tables = tables; buckets = buckets; quota = quota }) }
         ensures sessions { IfOk result (λ b. (length b.1.sessions ≡ sessions) × EachFrom (IsNewSession (board_id b.0)) 1 b.1.sessions) }
         ensures buckets { IfOk result (λ b. (length b.1.buckets ≡ buckets) × EachFrom (IsNewBucket (board_id b.0)) 0 b.1.buckets) }

@@ -1,6 +1,8 @@
 //! What a step is told besides its words. Each call picks it.
 
 ghost use Rattle.hg_base.specs.declared.rid.Rid.{Rid};
+ghost use Rattle.hg_base.specs.declared.scope.Scope.{Scope};
+ghost use Rattle.hg_base.specs.declared.scope.Scope.TheVariants.{All};
 ghost use Rattle.hg_base.specs.declared.image.Image.{Image};
 ghost use Rattle.hg_base.specs.declared.report.Kind.{Kind};
 ghost use Rattle.hg_base.specs.declared.report.Kind.TheVariants.{Group};
@@ -18,6 +20,15 @@ pub(crate) trait Sized {
 
 impl Sized for Brand {
     ghost sizes = { record { sessions = 0; tables = 0; buckets = 0; quota = 0 } };
+}
+
+/// The tables that a session declares.
+pub(crate) trait Scoped {
+    ghost scope: { Scope };
+}
+
+impl Scoped for Brand {
+    ghost scope = { All };
 }
 
 /// What a look asks.

@@ -1,16 +1,24 @@
 //! What each step, and each move of a seat, tells.
 
-ghost use Rattle.hg_rule.specs.Steps.{probed, entered, fixed, went_live, ended, marked, sampled, tried, looked};
+ghost use Rattle.hg_rule.specs.Steps.{declared, probed, entered, fixed, went_live, ended, marked, sampled, masked, tried, looked};
 ghost use Rattle.hg_rule.specs.Writes.{asked, wrote, undid};
 ghost use Rattle.hg_rule.specs.Removes.{removed, took};
 ghost use Rattle.hg_rule.specs.Places.{with_bucket, without_bucket, bucket_alone, without_commit, commit_alone};
 ghost use Rattle.hg_rule.specs.Handing.{lends, retakes, stamps, publishes, received, hands_back};
 ghost use Rattle.hg_rule.specs.Moves.{joined, merged, spent, left_bare, right_given, left_but_second, right_second, left_tail, right_first};
 
-use crate::picks::{Asked, Named, Removed, Sized, Stamped, Written};
+use crate::picks::{Asked, Named, Removed, Scoped, Sized, Stamped, Written};
 use crate::view::View;
 use atomic_table::{Join, Play, Split};
 use std::marker::PhantomData;
+
+pub(crate) struct Declaring<A> {
+    scope: PhantomData<A>,
+}
+
+impl<A: Scoped> Play<u8, View> for Declaring<A> {
+    ghost then = { declared A.scope };
+}
 
 pub(crate) struct Probing;
 
@@ -52,6 +60,12 @@ pub(crate) struct Sampling;
 
 impl Play<u8, View> for Sampling {
     ghost then = { sampled };
+}
+
+pub(crate) struct SamplingMask;
+
+impl Play<u8, View> for SamplingMask {
+    ghost then = { masked };
 }
 
 pub(crate) struct Moving;

@@ -2,7 +2,7 @@
 
 use crate::groups::Groups;
 use hg_base::{Image, Kind, Rid, Scope};
-use hg_core::{Ask, Counters, LogEntry, Phase, Register, Version, Visit};
+use hg_core::{Ask, Counters, Loaded, LogEntry, Phase, Register, Version, Visit};
 
 /// A session's part of the state: its phase, its log, newest entry first, and whether a write of its open transaction has the
 /// next number.
@@ -26,12 +26,12 @@ pub struct CommitPart {
     pub taken: u64,
 }
 
-/// A collector pass's: its record with what it had seen when the record began, the registers that it loaded since, the last
-/// one first, and its visits, newest first. The shares of all passes add up to the same always, and none is 0.
+/// A collector pass's: its record with what it had seen when the record began, what it loaded of sessions since, the last one
+/// first, and its visits, newest first. The shares of all passes add up to the same always, and none is 0.
 pub struct PassPart {
     pub mark: u64,
     pub seen: [Sight; 0],
-    pub loaded: [(u64, Register); 0],
+    pub loaded: [(u64, Loaded); 0],
     pub visits: [Visit; 0],
     pub share: u64,
 }
@@ -62,6 +62,10 @@ pub enum Sight {
 
 /// A step, with what its call answered.
 pub enum Event {
+    Declare {
+        session: u64,
+        scope: Scope,
+    },
     Probe {
         session: u64,
         mark: u64,
@@ -113,6 +117,11 @@ pub enum Event {
         pass: u64,
         session: u64,
         register: Register,
+    },
+    SampleMask {
+        pass: u64,
+        session: u64,
+        mask: u64,
     },
     /// Whether the register still was live at this number, and so was moved.
     Move {

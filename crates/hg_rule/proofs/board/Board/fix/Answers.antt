@@ -3,4 +3,4 @@ use Rattle.hg_rule.proofs.Playing.{fixes}
 use Rattle.hg_rule.proofs.board.Board.fix.Goals as goal
 
 pub load-requires : goal.load-requires
-load-requires c = (search rules, search rules, fixes _ _ _ _ _ c.args.self.now.room c.requires.own.3 c.requires.entered)
+load-requires c = (search rules, search rules, fixes _ _ _ _ _ _ c.args.self.now.room c.requires.own.3 c.requires.entered)
