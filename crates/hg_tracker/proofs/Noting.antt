@@ -1,7 +1,7 @@
 -- What a gather's lists have of a record.
-use Rattle.std.proofs.Common.{◌≡◌, ◌⊎◌, inl, inr, ℕ, zero, suc, ◌+◌, ◌<◌, ◌≤◌, Bool, true, false, List, [], ◌∷◌, ◌++◌, length, map, filter, get_or, min, ◌==◌, if◌then◌else◌, not, ◌||◌, refl, sym, ap, ◌∙◌, subst, arith, length-append, append-nil, Vec}
+use Rattle.std.proofs.Common.{◌≡◌, ◌⊎◌, inl, inr, ℕ, zero, suc, ◌+◌, ◌<◌, ◌≤◌, Bool, true, false, true≢false, Option, Some, None, List, [], ◌∷◌, ◌++◌, length, map, filter, get_or, min, ◌==◌, if◌then◌else◌, not, ◌||◌, refl, sym, ap, ◌∙◌, subst, arith, length-append, append-nil, Vec}
 use Rattle.std.specs.declared.alloc.Global.{Global}
-use Rattle.std.specs.Prelude.{IsPermutation}
+use Rattle.std.specs.Prelude.{IsPermutation, is_some, ⊤}
 use Rattle.std.specs.List.{sum_by}
 use Rattle.std.specs.List.Sorted.{IsNonDecreasing, IsNonDecreasingBy}
 use native.Mathlib.Decide.{dec_le}
@@ -10,19 +10,22 @@ use Rattle.std.proofs.lemmas.List.Kept.{IsNonDecreasingBy-filter}
 use Rattle.std.proofs.lemmas.List.Sums.{sum_by-cons, sum_by-append}
 use Rattle.std.proofs.lemmas.List.Sorted.{sum_by-IsPermutation}
 use Rattle.hg_base.specs.declared.scope.Scope.{Scope}
-use Rattle.hg_base.specs.declared.scope.Scope.TheVariants.{All as All_tables, Declared}
+use Rattle.hg_base.specs.declared.scope.Scope.TheVariants.{All as All_tables}
 use Rattle.hg_base.specs.declared.rid.TableId.{TableId}
 use Rattle.hg_base.specs.declared.report.Entry.{Entry}
-use Rattle.hg_base.specs.Transcript.{has}
+use Rattle.hg_base.specs.Lists.{Each}
+use Rattle.hg_core.specs.declared.loaded.Loaded.{Loaded}
 use Rattle.hg_core.specs.declared.register.Register.{Register}
 use Rattle.hg_core.specs.declared.register.Register.TheVariants.{Idle, Entering, Live}
-use Rattle.hg_core.specs.Passes.{live_numbers, if_live, least, recorded, all_recorded, table_bound, group_bound}
+use Rattle.hg_core.specs.Words.{IsRegister, shows_declared}
+use Rattle.hg_core.specs.Passes.{mask_has, live_numbers, if_live, least, recorded, all_recorded, table_bound, group_bound}
 use Rattle.hg_rule.specs.declared.view.PassPart.{PassPart}
 use Rattle.hg_rule.specs.Facts.{record_of}
+use Rattle.hg_rule.proofs.Lists.{each_map}
 use Rattle.hg_tracker.specs.declared.gathered.Gathered.{Gathered}
-use Rattle.hg_rule.specs.Rounds.{live_entry, entries_of}
+use Rattle.hg_rule.specs.Rounds.{masked_scope, live_entry, entries_of}
 use Rattle.hg_tracker.specs.Entries.{has_number, counts_for, times, numbers_for, common_numbers, moved_of, served, lowest}
-use Rattle.hg_tracker.specs.Gathers.{AreListsOf, IsGatherOf}
+use Rattle.hg_tracker.specs.Gathers.{IsFull, AreEmpty, AreListsOf, IsGatherOf}
 
 -- ---- lengths
 
@@ -34,14 +37,14 @@ pub numbers_most : (table : ℕ) (es : List Entry) → length (numbers_for table
 numbers_most table [] = omega arith
 numbers_most table (e ∷ es) = picked_most (counts_for table e) e table es (numbers_most table es)
 
-live_most : (j : ℕ) (register : Register) → length (live_entry j register) ≤ 1
-live_most j Idle = omega arith
-live_most j (Entering f) = omega arith
-live_most j (Live n scope moved) = omega arith
+live_most : (j : ℕ) (register : Register) (mask : Option ℕ) → length (live_entry j register mask) ≤ 1
+live_most j Idle mask = omega arith
+live_most j (Entering f) mask = omega arith
+live_most j (Live n declared moved) mask = omega arith
 
-pub entries_most : (loaded : List (ℕ × Register)) → length (entries_of loaded) ≤ length loaded
+pub entries_most : (loaded : List (ℕ × Loaded)) → length (entries_of loaded) ≤ length loaded
 entries_most [] = omega arith
-entries_most (e ∷ loaded) = omega (arith, entries_most loaded, live_most e.0 e.1, length-append (entries_of loaded) (live_entry e.0 e.1))
+entries_most (e ∷ loaded) = omega (arith, entries_most loaded, live_most e.0 e.1.register e.1.mask, length-append (entries_of loaded) (live_entry e.0 e.1.register e.1.mask))
 
 -- ---- lists of tables
 
@@ -130,6 +133,24 @@ pub served_own : (t : ℕ) (es : List Entry) (own : List ℕ) → own ≡ number
 served_own t es [] q = none_common t es (sym q) ∙ q
 served_own t es (n ∷ own) q = q
 
+-- where no entry was moved, none counts for a table, and no table needs a list of its own
+pub none_of : (t : ℕ) (es : List Entry) → length es ≡ 0 → length (numbers_for t es) ≡ 0
+none_of t [] l = refl
+none_of t (e ∷ es) l = absurd (omega (arith, l))
+
+pub none_listed : (t : ℕ) (ranked : List Entry) (lists : List (Vec ℕ Global)) → length (moved_of ranked) ≡ 0 → AreEmpty lists → AreListsOf t (common_numbers ranked) ranked lists
+none_listed t ranked [] none h = tt
+none_listed t ranked (list ∷ lists) none h = (served_common t ranked list.items (same list.items h.0 (numbers_for t (moved_of ranked)) (none_of t (moved_of ranked) none)) h.0, none_listed (suc t) ranked lists none h.1)
+  where
+    same : (xs : List ℕ) → length xs ≡ 0 → (ys : List ℕ) → length ys ≡ 0 → xs ≡ ys
+    same [] a [] b = refl
+    same [] a (y ∷ ys) b = absurd (omega (arith, b))
+    same (x ∷ xs) a ys b = absurd (omega (arith, a))
+
+pub empty_snoc : (lists : List (Vec ℕ Global)) (list : Vec ℕ Global) → AreEmpty lists → length list.items ≡ 0 → AreEmpty (lists ++ list ∷ [])
+empty_snoc [] list h e = (e, tt)
+empty_snoc (l ∷ lists) list h e = (h.0, empty_snoc lists list h.1 e)
+
 -- ---- how often a number counts
 
 abbrev weight : ℕ → (Entry → Bool) → Entry → ℕ
@@ -153,45 +174,65 @@ times_filter n test (e ∷ es) = ap (times n) (push_in (test e) e (filter test e
 
 -- ---- what a record's registers count
 
-has_is : (scope : Scope) (table : TableId) → has scope table ≡ has_number scope table.0
-has_is All_tables table = refl
-has_is (Declared mask) table = refl
+-- a test of a register agrees with one of its entry
+abbrev Agrees : (Bool → Option ℕ → Bool) → (Scope → Bool → Bool) → Register → Option ℕ → Type 0
+Agrees test pick Idle mask = ⊤
+Agrees test pick (Entering f) mask = ⊤
+Agrees test pick (Live number declared moved) mask = test moved mask ≡ pick (masked_scope mask) moved
+
+-- a moved entry has a mask
+has_is : (table : TableId) (register : Register) (mask : Option ℕ) → IsRegister register → is_some mask ≡ shows_declared register → Agrees (λ moved mask. not moved || mask_has table mask) (λ scope moved. not moved || has_number scope table.0) register mask
+has_is table Idle mask h full = tt
+has_is table (Entering f) mask h full = tt
+has_is table (Live number declared false) mask h full = refl
+has_is table (Live number declared true) None h full = absurd (true≢false (sym (h.declared refl) ∙ sym full))
+has_is table (Live number declared true) (Some mask) h full = refl
 
 sum_by-snoc : (f : Entry → ℕ) (es : List Entry) (e : Entry) → sum_by f (es ++ e ∷ []) ≡ sum_by f es + f e
 sum_by-snoc f es e = let a : ℕ = sum_by f es in let b : ℕ = sum_by f (e ∷ []) in let c : ℕ = f e in let h : b ≡ c + 0 = sum_by-cons f e [] in let k : sum_by f (es ++ e ∷ []) ≡ a + b = sum_by-append f es (e ∷ []) in k ∙ (let g : a + b ≡ a + c = omega arith in g)
 
-recorded_weight : (n : ℕ) (test : Scope → Bool → Bool) (loaded : List (ℕ × Register)) → times n (live_numbers test loaded) ≡ sum_by (weight n (λ e. test e.scope e.moved)) (entries_of loaded)
-recorded_weight n test [] = refl
-recorded_weight n test (e ∷ loaded) = go e.0 e.1 (recorded_weight n test loaded)
+recorded_weight : (n : ℕ) (test : Bool → Option ℕ → Bool) (pick : Scope → Bool → Bool) (loaded : List (ℕ × Loaded)) → Each (λ e. Agrees test pick e.1.register e.1.mask) loaded → times n (live_numbers test loaded) ≡ sum_by (weight n (λ e. pick e.scope e.moved)) (entries_of loaded)
+recorded_weight n test pick [] agree = refl
+recorded_weight n test pick (e ∷ loaded) agree = go e.0 e.1.register e.1.mask agree.0 (recorded_weight n test pick loaded agree.1)
   where
     W : Entry → ℕ
-    W = weight n (λ x. test x.scope x.moved)
+    W = weight n (λ x. pick x.scope x.moved)
 
     es : List Entry
     es = entries_of loaded
 
-    go : (j : ℕ) (register : Register) → times n (live_numbers test loaded) ≡ sum_by W es → times n (if_live test register (live_numbers test loaded)) ≡ sum_by W (es ++ live_entry j register)
-    go j Idle h = h ∙ ap (sum_by W) (sym (append-nil es))
-    go j (Entering f) h = h ∙ ap (sum_by W) (sym (append-nil es))
-    go j (Live number scope moved) h =
-        let x : Entry = record { session = j; number = number; scope = scope; moved = moved } in
-        picked n (test scope moved) number (live_numbers test loaded) (sum_by W es) h ∙ (turn (W x) (sum_by W es) ∙ sym (sum_by-snoc W es x))
+    go : (j : ℕ) (register : Register) (mask : Option ℕ) → Agrees test pick register mask → times n (live_numbers test loaded) ≡ sum_by W es → times n (if_live test register mask (live_numbers test loaded)) ≡ sum_by W (es ++ live_entry j register mask)
+    go j Idle mask agree h = h ∙ ap (sum_by W) (sym (append-nil es))
+    go j (Entering f) mask agree h = h ∙ ap (sum_by W) (sym (append-nil es))
+    go j (Live number declared moved) mask agree h =
+        let x : Entry = record { session = j; number = number; scope = masked_scope mask; moved = moved } in
+        ap (λ (b : Bool). times n (if b then number ∷ live_numbers test loaded else live_numbers test loaded)) agree
+        ∙ (picked n (pick (masked_scope mask) moved) number (live_numbers test loaded) (sum_by W es) h ∙ (turn (W x) (sum_by W es) ∙ sym (sum_by-snoc W es x)))
       where
         turn : (a b : ℕ) → a + b ≡ b + a
         turn a b = omega arith
 
-pub recorded_times : (n : ℕ) (table : TableId) (loaded : List (ℕ × Register)) (ranked : List Entry) → IsPermutation (entries_of loaded) ranked → times n (numbers_for table.0 ranked) ≡ times n (live_numbers (λ scope moved. not moved || has scope table) loaded)
-recorded_times n table loaded ranked p =
+pub recorded_times : (n : ℕ) (table : TableId) (loaded : List (ℕ × Loaded)) (ranked : List Entry) → Each (λ e. IsFull e.1) loaded → IsPermutation (entries_of loaded) ranked → times n (numbers_for table.0 ranked) ≡ times n (live_numbers (λ moved mask. not moved || mask_has table mask) loaded)
+recorded_times n table loaded ranked full p =
     times_filter n (counts_for table.0) ranked
     ∙ (sum_by-IsPermutation (weight n (counts_for table.0)) (entries_of loaded) ranked p
-    ∙ sym (recorded_weight n (λ scope moved. not moved || has scope table) loaded ∙ (λ i. sum_by (weight n (λ e. not e.moved || has_is e.scope table i)) (entries_of loaded))))
+    ∙ sym (recorded_weight n (λ moved mask. not moved || mask_has table mask) (λ scope moved. not moved || has_number scope table.0) loaded (each_map _ _ (λ e h. has_is table e.1.register e.1.mask h.0 h.1) loaded full)))
+
+every : (loaded : List (ℕ × Loaded)) → Each (λ e. Agrees (λ moved mask. true) (λ scope moved. true) e.1.register e.1.mask) loaded
+every [] = tt
+every (e ∷ loaded) = (go e.1.register, every loaded)
+  where
+    go : (register : Register) → Agrees (λ moved mask. true) (λ scope moved. true) register e.1.mask
+    go Idle = tt
+    go (Entering f) = tt
+    go (Live number declared moved) = refl
 
 times_numbers : (n : ℕ) (es : List Entry) → times n (map (λ (x : Entry). x.number) es) ≡ sum_by (weight n (λ e. true)) es
 times_numbers n [] = refl
 times_numbers n (e ∷ es) = picked n true e.number (map (λ (x : Entry). x.number) es) (sum_by (weight n (λ x. true)) es) (times_numbers n es) ∙ sym (sum_by-cons (weight n (λ x. true)) e es)
 
-pub all_times : (n : ℕ) (loaded : List (ℕ × Register)) (ranked : List Entry) → IsPermutation (entries_of loaded) ranked → times n (map (λ (x : Entry). x.number) ranked) ≡ times n (live_numbers (λ scope moved. true) loaded)
-all_times n loaded ranked p = times_numbers n ranked ∙ (sum_by-IsPermutation (weight n (λ e. true)) (entries_of loaded) ranked p ∙ sym (recorded_weight n (λ scope moved. true) loaded))
+pub all_times : (n : ℕ) (loaded : List (ℕ × Loaded)) (ranked : List Entry) → IsPermutation (entries_of loaded) ranked → times n (map (λ (x : Entry). x.number) ranked) ≡ times n (live_numbers (λ moved mask. true) loaded)
+all_times n loaded ranked p = times_numbers n ranked ∙ (sum_by-IsPermutation (weight n (λ e. true)) (entries_of loaded) ranked p ∙ sym (recorded_weight n (λ moved mask. true) (λ scope moved. true) loaded (every loaded)))
 
 -- ---- the least of a list
 
@@ -275,7 +316,7 @@ abbrev pub at_table : Gathered → ℕ → Vec ℕ Global → List ℕ
 at_table g t d = served g.common.items (get_or g.lists.items t d).items
 
 pub list_numbers : (sessions : ℕ) (part : PassPart) (g : Gathered) (t : TableId) (d : Vec ℕ Global) → IsGatherOf sessions part g → t.0 < length g.lists.items → (n : ℕ) → times n (at_table g t.0 d) ≡ times n (recorded t (record_of part))
-list_numbers sessions part g t d h l n = ap (times n) (list_at 0 g.common.items g.ranked.items g.lists.items t.0 d l h.lists ∙ ap (λ k. numbers_for k g.ranked.items) (none_less t.0)) ∙ recorded_times n t part.loaded g.ranked.items (shuffled_of sessions part g h)
+list_numbers sessions part g t d h l n = ap (times n) (list_at 0 g.common.items g.ranked.items g.lists.items t.0 d l h.lists ∙ ap (λ k. numbers_for k g.ranked.items) (none_less t.0)) ∙ recorded_times n t part.loaded g.ranked.items h.loaded.1 (shuffled_of sessions part g h)
   where
     none_less : (n : ℕ) → 0 + n ≡ n
     none_less n = omega arith

@@ -1,24 +1,24 @@
 -- What a begin, an end and a gather make of a pass's view.
-use Rattle.std.specs.Prelude.{◌≡◌, ℕ, ◌≤◌, List, [], ◌∷◌, ◌++◌, length, map, ⊤}
+use Rattle.std.specs.Prelude.{◌≡◌, ℕ, ◌≤◌, List, [], ◌∷◌, ◌++◌, length, map, Option, Some, None, ⊤}
 use Rattle.hg_base.specs.declared.scope.Scope.{Scope}
 use Rattle.hg_base.specs.Lists.{Each}
 use Rattle.hg_base.specs.History.{History}
-use Rattle.hg_core.specs.declared.register.Register.{Register}
+use Rattle.hg_core.specs.declared.loaded.Loaded.{Loaded}
 use Rattle.hg_core.specs.declared.phase.Phase.TheVariants.{Live}
 use Rattle.hg_core.specs.declared.log.LogEntry.TheVariants.{Began}
 use Rattle.hg_core.specs.Logs.{UpTo}
-use Rattle.hg_core.specs.Words.{IsRegister}
 use Rattle.hg_rule.specs.declared.view.PassPart.{PassPart}
 use Rattle.hg_rule.specs.declared.view.Part.TheVariants.{OfSession, OfPass}
 use Rattle.hg_rule.specs.declared.view.Sight.{Sight}
 use Rattle.hg_rule.specs.declared.view.Sight.TheVariants.{Saw, Heard, Took, Did}
 use Rattle.hg_rule.specs.declared.view.Event.{Event}
-use Rattle.hg_rule.specs.declared.view.Event.TheVariants.{Probe, Enter, Fix, GoLive, Mark, Sample}
+use Rattle.hg_rule.specs.declared.view.Event.TheVariants.{Declare, Probe, Enter, Fix, GoLive, Mark, Sample, SampleMask}
 use Rattle.hg_rule.specs.declared.view.View.{View}
 use Rattle.hg_rule.specs.Facts.{StartsWith, IsAmong, groups}
-use Rattle.hg_rule.specs.Views.{number, session, pass, others}
+use Rattle.hg_rule.specs.Views.{number, session, pass, others, seeing}
 use Rattle.hg_rule.specs.Steps.{logging}
 use Rattle.hg_tracker.specs.Entries.{down_from}
+use Rattle.hg_tracker.specs.Gathers.{IsFull}
 
 -- what was seen is at or below n: the history's last number, those that were heard in logs, and those taken
 abbrev pub AtMost : ℕ → Sight → Type 0
@@ -38,27 +38,40 @@ pub record HasBegun (v : View) (at : ℕ) (scope : Scope) (w : View) : Type 0 wh
   pub kept : StartsWith w.sights v.sights
   pub heard : IsAmong (Heard (number v) (Began at scope ∷ (session v).log)) w.sights
   pub from : ℕ
-  pub events : w.events ≡ v.events ++ Probe (number v) from ∷ Enter (number v) from ∷ Fix (number v) at ∷ GoLive (number v) at scope ∷ []
+  pub events : w.events ≡ v.events ++ Declare (number v) scope ∷ Probe (number v) from ∷ Enter (number v) from ∷ Fix (number v) at ∷ GoLive (number v) at scope ∷ []
 
--- the samples of registers, in the order in which they were loaded; the last one stands first in a record
-abbrev pub samples_of : ℕ → List (ℕ × Register) → List Event
+-- the sample of a mask, where it was loaded
+abbrev pub mask_sample : ℕ → ℕ → Option ℕ → List Event
+mask_sample p j None = []
+mask_sample p j (Some mask) = SampleMask p j mask ∷ []
+
+-- the sample of a session's register, and of its mask directly after it
+abbrev pub sample_of : ℕ → ℕ → Loaded → List Event
+sample_of p j loaded = Sample p j loaded.register ∷ mask_sample p j loaded.mask
+
+-- the samples of sessions, in the order in which they were loaded; the last one stands first in a record
+abbrev pub samples_of : ℕ → List (ℕ × Loaded) → List Event
 samples_of p [] = []
-samples_of p (e ∷ loaded) = samples_of p loaded ++ Sample p e.0 e.1 ∷ []
+samples_of p (e ∷ loaded) = samples_of p loaded ++ sample_of p e.0 e.1
 
--- the record that a pass begins at a mark, with these registers
-abbrev pub gathering : ℕ → List (ℕ × Register) → View → PassPart
+-- a pass loaded a session's register, and its mask where that is live and declared, and nothing else
+abbrev pub Loads : View → ℕ → Loaded → View → Type 0
+Loads v j loaded w = w ≡ seeing (OfPass (number v) (record (pass v) { loaded = (j, loaded) ∷ (pass v).loaded }) ∷ others v) v.sights (v.events ++ sample_of (number v) j loaded)
+
+-- the record that a pass begins at a mark, with what it loaded of these sessions
+abbrev pub gathering : ℕ → List (ℕ × Loaded) → View → PassPart
 gathering mark loaded v = record (pass v) { mark = mark; seen = v.sights; loaded = loaded }
 
--- a pass began a record at a mark, of which it saw the history, and loaded the registers of the first sessions in order
-pub record HasLoaded (v : View) (mark sessions : ℕ) (loaded : List (ℕ × Register)) (w : View) : Type 0 where
+-- a pass began a record at a mark, of which it saw the history, and loaded the words of the first sessions in order
+pub record HasLoaded (v : View) (mark sessions : ℕ) (loaded : List (ℕ × Loaded)) (w : View) : Type 0 where
   pub parts : w.parts ≡ OfPass (number v) (gathering mark loaded v) ∷ others v
   pub keys : map (λ e. e.0) loaded ≡ down_from sessions
-  pub registers : Each (λ e. IsRegister e.1) loaded
+  pub registers : Each (λ e. IsFull e.1) loaded
   pub most : Each (AtMost mark) v.sights
   pub saw : SawGroups mark w.sights
   pub kept : StartsWith w.sights v.sights
   pub events : w.events ≡ (v.events ++ Mark (number v) mark ∷ []) ++ samples_of (number v) loaded
 
--- the record's own mark and registers
+-- the record's own mark and sessions
 abbrev pub HasGathered : View → ℕ → View → Type 0
 HasGathered v sessions w = HasLoaded v (pass w).mark sessions (pass w).loaded w

@@ -1,11 +1,11 @@
 -- What a gather is of a pass's record.
-use Rattle.std.specs.Prelude.{◌≡◌, ℕ, suc, ◌<◌, ◌≤◌, slice_index_or, List, [], ◌∷◌, map, length, Vec, vec_capacity, All, IsPermutation, ⊤}
+use Rattle.std.specs.Prelude.{◌≡◌, ℕ, suc, ◌<◌, ◌≤◌, slice_index_or, is_some, false, List, [], ◌∷◌, map, length, Vec, vec_capacity, All, IsPermutation, ⊤}
 use Rattle.std.specs.declared.alloc.Global.{Global}
 use Rattle.std.specs.List.Sorted.{IsNonDecreasingBy}
 use Rattle.hg_base.specs.declared.report.Entry.{Entry}
 use Rattle.hg_base.specs.Lists.{Each}
-use Rattle.hg_core.specs.declared.register.Register.{Register}
-use Rattle.hg_core.specs.Words.{IsRegister}
+use Rattle.hg_core.specs.declared.loaded.Loaded.{Loaded}
+use Rattle.hg_core.specs.Words.{IsRegister, shows_declared}
 use Rattle.hg_core.specs.Passes.{least_entering}
 use Rattle.hg_rule.specs.declared.view.PassPart.{PassPart}
 use Rattle.hg_tracker.specs.declared.gathered.Gathered.{Gathered}
@@ -16,20 +16,28 @@ use Rattle.hg_tracker.specs.Entries.{numbers_for, served, down_from}
 abbrev pub tables_in : Gathered → ℕ
 tables_in g = length g.lists.items
 
--- it has room for so many sessions, and a list for each of so many tables
+-- no table has a list of its own
+abbrev pub AreEmpty : List (Vec ℕ Global) → Type 0
+AreEmpty lists = Each (λ list. length list.items ≡ 0) lists
+
+-- it has room for so many sessions, and a list for each of so many tables, of which none has anything that isn't claimed
 abbrev pub IsMadeFor : ℕ → ℕ → Gathered → Type 0
 IsMadeFor sessions tables g =
-    (g.sessions ≡ sessions) × (tables_in g ≡ tables) × (tables ≤ 16)
+    (g.sessions ≡ sessions) × (tables_in g ≡ tables) × (tables ≤ 64)
     × (sessions ≤ vec_capacity g.entries) × (sessions ≤ vec_capacity g.ranked) × All (λ list. sessions ≤ vec_capacity list) g.lists.items
-    × (sessions ≤ vec_capacity g.moved) × (sessions ≤ vec_capacity g.common)
+    × (sessions ≤ vec_capacity g.moved) × (sessions ≤ vec_capacity g.common) × (g.claimed ≡ false → AreEmpty g.lists.items)
 
 -- the mark, the horizon and the entries are those of a record so far
-abbrev pub IsNotedOf : ℕ → List (ℕ × Register) → Gathered → Type 0
+abbrev pub IsNotedOf : ℕ → List (ℕ × Loaded) → Gathered → Type 0
 IsNotedOf mark loaded g = (g.mark ≡ mark) × (g.horizon ≡ least_entering mark loaded) × (g.entries.items ≡ entries_of loaded)
 
--- a record's registers are those of the first sessions in order, the last one first
-abbrev pub IsLoaded : ℕ → List (ℕ × Register) → Type 0
-IsLoaded sessions loaded = (map (λ e. e.0) loaded ≡ down_from sessions) × Each (λ e. IsRegister e.1) loaded
+-- a register that has a word was loaded, and the mask exactly where that is live and declared
+abbrev pub IsFull : Loaded → Type 0
+IsFull loaded = IsRegister loaded.register × (is_some loaded.mask ≡ shows_declared loaded.register)
+
+-- a record has the first sessions in order, the last one first
+abbrev pub IsLoaded : ℕ → List (ℕ × Loaded) → Type 0
+IsLoaded sessions loaded = (map (λ e. e.0) loaded ≡ down_from sessions) × Each (λ e. IsFull e.1) loaded
 
 -- the entry stands at that place of a list
 abbrev pub StandsAt : ℕ → Entry → List Entry → Type 0
@@ -40,7 +48,7 @@ abbrev pub AreListsOf : ℕ → List ℕ → List Entry → List (Vec ℕ Global
 AreListsOf t common ranked [] = ⊤
 AreListsOf t common ranked (list ∷ lists) = (served common list.items ≡ numbers_for t ranked) × AreListsOf (suc t) common ranked lists
 
--- The gather is the record of a pass that loaded each register: the mark, the horizon, the entries, and of each table the
+-- The gather is the record of a pass that loaded the words of each session: the mark, the horizon, the entries, and of each table the
 -- numbers that count for it, ascending.
 pub record IsGatherOf (sessions : ℕ) (part : PassPart) (g : Gathered) : Type 0 where
   pub noted : IsNotedOf part.mark part.loaded g

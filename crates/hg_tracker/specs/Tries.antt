@@ -2,7 +2,7 @@
 use Rattle.std.specs.Prelude.{◌≡◌, ℕ, suc, ◌-◌, ◌&&◌, not, nat_le, if◌then◌else◌, Bool, List, [], ◌∷◌, ◌++◌, length, filter}
 use Rattle.hg_base.specs.declared.report.Entry.{Entry}
 use Rattle.hg_base.specs.Freshness.{is_declared}
-use Rattle.hg_core.specs.declared.register.Register.{Register}
+use Rattle.hg_core.specs.declared.loaded.Loaded.{Loaded}
 use Rattle.hg_core.specs.Events.{moved_in}
 use Rattle.hg_rule.specs.declared.view.Part.TheVariants.{OfPass}
 use Rattle.hg_rule.specs.declared.view.Event.{Event}
@@ -21,8 +21,8 @@ tries_of p [] outcomes = []
 tries_of p (e ∷ entries) [] = []
 tries_of p (e ∷ entries) (moved ∷ outcomes) = Move p e.session e.number moved ∷ tries_of p entries outcomes
 
--- a record's registers after the tries
-abbrev pub moved_by : List Entry → List Bool → List (ℕ × Register) → List (ℕ × Register)
+-- what a record has after the tries
+abbrev pub moved_by : List Entry → List Bool → List (ℕ × Loaded) → List (ℕ × Loaded)
 moved_by [] outcomes loaded = loaded
 moved_by (e ∷ entries) [] loaded = loaded
 moved_by (e ∷ entries) (moved ∷ outcomes) loaded = moved_by entries outcomes (if moved then moved_in e.session loaded else loaded)

@@ -6,12 +6,12 @@ ghost use Rattle.hg_core.specs.Passes.{lower, horizon, recorded, table_bound, gr
 ghost use Rattle.hg_rule.specs.declared.view.PassPart.{PassPart};
 ghost use Rattle.hg_rule.specs.Facts.{record_of};
 ghost use Rattle.hg_base.specs.declared.report.Entry.{Entry};
-ghost use Rattle.hg_tracker.specs.Gathers.{AreListsOf};
-ghost use Rattle.hg_rule.specs.Rounds.{live_entry, entries_of};
+ghost use Rattle.hg_tracker.specs.Gathers.{AreEmpty, AreListsOf};
+ghost use Rattle.hg_rule.specs.Rounds.{masked_scope, live_entry, entries_of};
 ghost use Rattle.hg_tracker.specs.Entries.{has_number, counts_for, numbers_for, common_numbers, moved_of, served, lowest, times};
 
 use hg_base::{Entry, NoMemory, Scope, TableId};
-use hg_core::Register;
+use hg_core::{Loaded, Register};
 use std::alloc::Global;
 
 /// The mark that a pass loaded, and what the registers show that it loaded after it. It is made once for the numbers of
@@ -31,10 +31,12 @@ pub struct Gathered {
     pub(crate) common: Vec<u64>,
     /// Of each table that a moved one counts for, the numbers of those that count for it, ascending. Of others nothing.
     pub(crate) lists: Vec<Vec<u64>>,
+    /// Whether a moved one may count for some table. Else no table has a list of its own.
+    pub(crate) claimed: bool,
 }
 
 fn has(scope: Scope, table: u8) -> bool
-    requires { table < 16 }
+    requires { table < 64 }
     ensures { result ≡ has_number scope table }
 {
     match scope {
@@ -43,16 +45,26 @@ fn has(scope: Scope, table: u8) -> bool
     }
 }
 
+// The tables of a mask, and all where none was loaded.
+fn masked_scope(mask: Option<u64>) -> Scope
+    ensures { result ≡ masked_scope mask }
+{
+    match mask {
+        None => Scope::All,
+        Some(mask) => Scope::Declared(mask),
+    }
+}
+
 // Whether a live register counts for a table.
 fn counts(entry: &Entry, table: u8) -> bool
-    requires { table < 16 }
+    requires { table < 64 }
     ensures { result ≡ counts_for table entry.now }
 {
     !entry.moved || has(entry.scope, table)
 }
 
 fn fill(list: &mut Vec<u64>, table: u8, ranked: &[Entry])
-    requires table { table < 16 }
+    requires table { table < 64 }
     requires room { length ranked.now ≤ vec_capacity list.old }
     ensures items { list.new.items ≡ numbers_for table ranked.now }
     ensures room { vec_capacity list.old ≤ vec_capacity list.new }
@@ -95,10 +107,11 @@ fn fill_moved(moved: &mut Vec<Entry>, ranked: &[Entry])
 
 // A table's own list stays empty where no moved one counts for it.
 fn fill_own(list: &mut Vec<u64>, table: u8, moved: &[Entry], ranked: &[Entry])
-    requires table { table < 16 }
+    requires table { table < 64 }
     requires moved { moved.now ≡ moved_of ranked.now }
     requires room { length ranked.now ≤ vec_capacity list.old }
     ensures items { served (common_numbers ranked.now) list.new.items ≡ numbers_for table ranked.now }
+    ensures none { length moved.now ≡ 0 → length list.new.items ≡ 0 }
     ensures room { vec_capacity list.old ≤ vec_capacity list.new }
 {
     fill(list, table, moved);
@@ -109,10 +122,11 @@ fn fill_own(list: &mut Vec<u64>, table: u8, moved: &[Entry], ranked: &[Entry])
 
 // Each table's own list. None needs more room than for so many sessions.
 fn fill_all(lists: &mut [Vec<u64>], moved: &[Entry], ranked: &[Entry], _sessions: u32)
-    requires tables { length lists.old ≤ 16 }
+    requires tables { length lists.old ≤ 64 }
     requires moved { moved.now ≡ moved_of ranked.now }
     requires room { (length ranked.now ≤ _sessions) × All (λ list. _sessions ≤ vec_capacity list) lists.old }
     ensures lists { AreListsOf 0 (common_numbers ranked.now) ranked.now lists.new }
+    ensures none { length moved.now ≡ 0 → AreEmpty lists.new }
     ensures room { (length lists.new ≡ length lists.old) × All (λ list. _sessions ≤ vec_capacity list) lists.new }
 {
     for table in 0..lists.len() {
@@ -164,7 +178,7 @@ impl Gathered {
 
     /// Takes all the memory that gathers of a board with so many sessions and tables need.
     pub fn new(alloc: Global, sessions: u32, tables: u32) -> Result<Gathered, NoMemory>
-        requires { tables ≤ 16 }
+        requires { tables ≤ 64 }
         ensures { IfOk result (λ g. IsMadeFor sessions tables g) }
     {
         let mut lists = Vec::with_capacity(alloc, tables as usize)?;
@@ -181,6 +195,7 @@ impl Gathered {
             moved: Vec::with_capacity(alloc, sessions as usize)?,
             common: Vec::with_capacity(alloc, sessions as usize)?,
             lists,
+            claimed: false,
         })
     }
 
@@ -250,26 +265,22 @@ impl Gathered {
         self.entries.clear();
     }
 
-    // A session's register comes into the record.
-    pub(crate) fn note(&mut self, session: u32, register: Register)
+    // What was loaded of a session comes into the record.
+    pub(crate) fn note(&mut self, session: u32, loaded: Loaded)
         requires room { length self.old.entries.items < vec_capacity self.old.entries }
         ensures mark { self.new.mark ≡ self.old.mark }
-        ensures horizon { self.new.horizon ≡ lower self.old.horizon register }
-        ensures entries { self.new.entries.items ≡ self.old.entries.items ++ live_entry session register }
+        ensures horizon { self.new.horizon ≡ lower self.old.horizon loaded.register }
+        ensures entries { self.new.entries.items ≡ self.old.entries.items ++ live_entry session loaded.register loaded.mask }
         ensures made { (sessions tables : ℕ) → IsMadeFor sessions tables self.old → IsMadeFor sessions tables self.new }
     {
-        match register {
+        match loaded.register {
             Register::Idle => {}
             Register::Entering(number) => self.horizon = self.horizon.min(number),
-            Register::Live {
-                number,
-                scope,
-                moved,
-            } => {
+            Register::Live { number, moved, .. } => {
                 let entry = Entry {
                     session,
                     number,
-                    scope,
+                    scope: masked_scope(loaded.mask),
                     moved,
                 };
                 if self.entries.push(entry).is_err() {
@@ -279,7 +290,7 @@ impl Gathered {
         }
     }
 
-    // The entries are those of the record: ranks them, and makes the list for all tables and those of the moved ones.
+    // The entries are those of the record: ranks them, and makes the list for all tables, and those of tables that moved ones claim.
     pub(crate) fn sum_up(&mut self)
         requires made { IsMadeFor self.old.sessions (tables_in self.old) self.old }
         requires room { length self.old.entries.items ≤ self.old.sessions }
@@ -292,11 +303,15 @@ impl Gathered {
         rank(&mut self.ranked, &self.entries);
         fill_common(&mut self.common, &self.ranked);
         fill_moved(&mut self.moved, &self.ranked);
-        fill_all(
-            self.lists.as_mut_slice(),
-            &self.moved,
-            &self.ranked,
-            self.sessions,
-        );
+        let claims = !self.moved.is_empty();
+        if claims || self.claimed {
+            fill_all(
+                self.lists.as_mut_slice(),
+                &self.moved,
+                &self.ranked,
+                self.sessions,
+            );
+            self.claimed = claims;
+        }
     }
 }

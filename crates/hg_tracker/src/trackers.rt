@@ -6,19 +6,19 @@ ghost use Rattle.hg_base.specs.declared.rid.Rid.{Rid};
 ghost use Rattle.hg_core.specs.declared.phase.Phase.TheVariants.{Idle};
 ghost use Rattle.hg_core.specs.Words.{IsBelow};
 ghost use Rattle.hg_core.specs.Logs.{begans, open_in};
-ghost use Rattle.hg_core.specs.Phases.{snapshot_in};
-ghost use Rattle.hg_core.specs.Passes.{IsWhole};
+ghost use Rattle.hg_core.specs.Phases.{IsSession, snapshot_in};
+ghost use Rattle.hg_core.specs.Passes.{IsWhole, found};
 ghost use Rattle.hg_rule.specs.Facts.{record_of};
 ghost use Rattle.hg_rule.specs.Views.{session, pass as own_pass};
 ghost use Rattle.hg_rule.specs.Steps.{Ends, Moves};
 ghost use Rattle.hg_rule.specs.Seats.{session_view, pass_view, IsSessionOf, IsPassOf};
-ghost use Rattle.hg_tracker.specs.Gathers.{IsMadeFor, IsNotedOf, IsGatherOf, IsLoaded, StandsAt};
-ghost use Rattle.hg_tracker.specs.Begun.{HasBegun, HasGathered};
+ghost use Rattle.hg_tracker.specs.Gathers.{IsMadeFor, IsNotedOf, IsGatherOf, IsFull, IsLoaded, StandsAt};
+ghost use Rattle.hg_tracker.specs.Begun.{HasBegun, HasGathered, Loads};
 ghost use Rattle.hg_tracker.specs.Tries.{is_long, HasMoved};
 
 use crate::gathered::Gathered;
 use hg_base::{Entry, Scope, Snapshot};
-use hg_core::Register;
+use hg_core::{Loaded, Register};
 use hg_rule::{Board, CollectorPass, SessionPass};
 
 /// The board, with calls of several steps.
@@ -53,6 +53,7 @@ impl Trackers {
         ensures scope { result.scope ≡ scope }
         ensures own { IsSessionOf (trackers_board_id self.now) (board_sizes self.now) pass.new }
     {
+        self.board.declare(pass, scope);
         let from = self.board.probe(pass);
         self.board.enter(pass, from);
         let at = self.board.fix(pass);
@@ -75,7 +76,25 @@ impl Trackers {
 impl Trackers {
     ghost use Rattle.hg_tracker.specs.Boards.{trackers_board_id, board_sizes};
 
-    /// Loads the mark, and then each register in order: a record of the pass, which `into` then shows.
+    // Loads a session's register, and directly after it the mask word where the register is live and declared.
+    fn load(&self, pass: &mut CollectorPass, j: u32) -> Loaded
+        requires own { IsPassOf (trackers_board_id self.now) pass.old }
+        requires session { IsSession (board_sizes self.now).sessions j }
+        requires fresh { found j (own_pass (pass_view pass.old)).loaded ≡ None }
+        ensures step { Loads (pass_view pass.old) j result (pass_view pass.new) }
+        ensures full { IsFull result }
+        ensures own { IsPassOf (trackers_board_id self.now) pass.new }
+    {
+        let register = self.board.sample(pass, j);
+        let mask = match register {
+            Register::Live { declared: true, .. } => Some(self.board.sample_mask(pass, j)),
+            _ => None,
+        };
+        Loaded { register, mask }
+    }
+
+    /// Loads the mark, and then of each session in order the register, and directly after it the mask word where the register is
+    /// live and declared: a record of the pass, which `into` then shows.
     pub fn gather(&self, pass: &mut CollectorPass, into: &mut Gathered)
         requires own { IsPassOf (trackers_board_id self.now) pass.old }
         requires made { IsMadeFor (board_sizes self.now).sessions (board_sizes self.now).tables into.old }
@@ -88,8 +107,8 @@ impl Trackers {
         let mark = self.board.mark(pass);
         into.start(mark);
         for j in 0..into.sessions {
-            let register = self.board.sample(pass, j + 1);
-            into.note(j + 1, register);
+            let loaded = self.load(pass, j + 1);
+            into.note(j + 1, loaded);
         }
         into.sum_up();
     }
@@ -131,8 +150,8 @@ impl Trackers {
     {
         let register = Register::Live {
             number: entry.number,
-            scope: entry.scope,
-            moved: entry.moved,
+            declared: true,
+            moved: false,
         };
         let moved = self.board.move_one(pass, entry.session, register);
         if moved {

@@ -9,8 +9,8 @@ use Rattle.hg_tracker.proofs.Noting.{entries_most}
 use Rattle.hg_tracker.proofs.After.{loads_none, keys_length, none_past, gathered_of, whole_of, noted_one}
 use Rattle.hg_tracker.proofs.trackers.Trackers.gather.Goals as goal
 
-pub sample-register-requires-clause-fresh : goal.sample-register-requires-clause-fresh
-sample-register-requires-clause-fresh c = none_past c.loop-j.j (c.loop-j.j + 1) (pass (pass_view c.loop-j.pass)).loaded c.loop-j.invariant.0.keys (omega arith)
+pub load-loaded-requires-clause-fresh : goal.load-loaded-requires-clause-fresh
+load-loaded-requires-clause-fresh c = none_past c.loop-j.j (c.loop-j.j + 1) (pass (pass_view c.loop-j.pass)).loaded c.loop-j.invariant.0.keys (omega arith)
 
 pub loop-j-init : goal.loop-j-init
 loop-j-init c =
@@ -28,9 +28,9 @@ note-requires c = record { room = let made = (c.start.ensures.made _ _ c.require
 
 pub loop-j-preserved : goal.loop-j-preserved
 loop-j-preserved c =
-    let both = noted_one (pass_view c.args.pass.now) (pass_view c.loop-j.pass) (pass_view c.sample-register.new.pass) c.mark-mark.result c.loop-j.j (c.loop-j.j + 1) c.sample-register.result c.loop-j.into c.note.new.self
-    (omega arith) c.loop-j.invariant.0 c.sample-register.ensures.step c.sample-register.ensures.register c.loop-j.invariant.1 c.note.ensures.mark c.note.ensures.horizon c.note.ensures.entries in
-    (both.0, both.1, c.note.ensures.made _ _ c.loop-j.invariant.2, c.sample-register.ensures.own)
+    let both = noted_one (pass_view c.args.pass.now) (pass_view c.loop-j.pass) (pass_view c.load-loaded.new.pass) c.mark-mark.result c.loop-j.j (c.loop-j.j + 1) c.load-loaded.result c.loop-j.into c.note.new.self
+    (omega arith) c.loop-j.invariant.0 c.load-loaded.ensures.step c.load-loaded.ensures.full c.loop-j.invariant.1 c.note.ensures.mark c.note.ensures.horizon c.note.ensures.entries in
+    (both.0, both.1, c.note.ensures.made _ _ c.loop-j.invariant.2, c.load-loaded.ensures.own)
 
 pub sum_up-requires-clause-room : goal.sum_up-requires-clause-room
 sum_up-requires-clause-room c =
