@@ -7,6 +7,7 @@ use Rattle.hg_base.specs.Lists.{Each}
 use Rattle.hg_base.specs.History.{is_among, same_rid}
 use Rattle.hg_base.proofs.HistoryFacts.{same_rid_equal}
 use Rattle.hg_core.specs.declared.visit.Visit.{Visit}
+use Rattle.hg_core.specs.declared.loaded.Loaded.{Loaded}
 use Rattle.hg_core.specs.declared.register.Register.{Register}
 use Rattle.hg_core.specs.declared.register.Register.TheVariants.{Idle, Entering, Live}
 use Rattle.hg_core.specs.Passes.{lower, least_entering, least, horizon, all_recorded, group_bound}
@@ -155,14 +156,14 @@ least_low : (n : ℕ) (ks : List ℕ) → least n ks ≤ n
 least_low n [] = omega arith
 least_low n (k ∷ ks) = omega (arith, least_low n ks)
 
-entering_low : (n : ℕ) (loaded : List (ℕ × Register)) → least_entering n loaded ≤ n
+entering_low : (n : ℕ) (loaded : List (ℕ × Loaded)) → least_entering n loaded ≤ n
 entering_low n [] = omega arith
-entering_low n (e ∷ loaded) = go e.1 (entering_low n loaded)
+entering_low n (e ∷ loaded) = go e.1.register (entering_low n loaded)
   where
     go : (r : Register) → least_entering n loaded ≤ n → lower (least_entering n loaded) r ≤ n
     go Idle ih = ih
     go (Entering f) ih = omega (arith, ih)
-    go (Live number scope moved) ih = ih
+    go (Live number declared moved) ih = ih
 
 pub bound_low : (buckets bound : ℕ) (u v : View) (m : ℕ) → TakesGroups buckets bound u m v → bound ≡ group_bound (record_of (pass u)) → bound ≤ (pass v).mark
 bound_low buckets bound u v m a is =

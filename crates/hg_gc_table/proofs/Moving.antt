@@ -1,20 +1,21 @@
 -- A gather, and the tries to move snapshots after it, are a round.
-use Rattle.std.proofs.Common.{◌≡◌, ℕ, Bool, true, false, List, [], ◌∷◌, ◌++◌, length, filter, refl, sym, ap, ◌∙◌, arith, append_assoc, append-nil}
+use Rattle.std.proofs.Common.{◌≡◌, ℕ, Bool, true, false, Option, Some, None, List, [], ◌∷◌, ◌++◌, length, filter, refl, sym, ap, ◌∙◌, arith, append_assoc, append-nil}
 use Rattle.std.specs.Prelude.{if◌then◌else◌}
 use Rattle.hg_base.specs.declared.report.Entry.{Entry}
 use Rattle.hg_base.specs.Lists.{Each}
+use Rattle.hg_core.specs.declared.loaded.Loaded.{Loaded}
 use Rattle.hg_core.specs.declared.register.Register.{Register}
-use Rattle.hg_core.specs.Events.{moved_in}
+use Rattle.hg_core.specs.Events.{moved_in, masked_in}
 use Rattle.hg_rule.specs.declared.view.Event.{Event}
-use Rattle.hg_rule.specs.declared.view.Event.TheVariants.{Mark, Sample, Move, Reclaim, Take}
+use Rattle.hg_rule.specs.declared.view.Event.TheVariants.{Mark, Sample, SampleMask, Move, Reclaim, Take}
 use Rattle.hg_rule.specs.declared.view.View.{View}
 use Rattle.hg_rule.specs.Views.{number, pass, pass_there, first_in}
 use Rattle.hg_rule.specs.Rounds.{IsNoMark, IsWork, moves_in, entries_of, IsRound, IsRoundOf, loaded_after, then_loaded, gone_in}
 use Rattle.hg_rule.proofs.Rounds.{mark_on, loaded_append, gone_on}
-use Rattle.hg_tracker.specs.Begun.{samples_of, HasGathered}
+use Rattle.hg_tracker.specs.Begun.{sample_of, samples_of, HasGathered}
 use Rattle.hg_tracker.specs.Tries.{is_long, tries_of, moved_by, HasTried}
 use Rattle.hg_gc_table.specs.Moving.{sampled, tried, TriesLong}
-use Rattle.hg_tracker.proofs.Rounds.{gather_events, gather_round, gather_gains, gather_removes_none}
+use Rattle.hg_tracker.proofs.Rounds.{mask_joins, gather_events, gather_round, gather_gains, gather_removes_none}
 
 tries_no_mark : (p : ℕ) (es : List Entry) (outcomes : List Bool) → Each IsNoMark (tries_of p es outcomes)
 tries_no_mark p [] outcomes = tt
@@ -26,11 +27,11 @@ tries_remove p [] outcomes = refl
 tries_remove p (e ∷ es) [] = refl
 tries_remove p (e ∷ es) (b ∷ outcomes) = tries_remove p es outcomes
 
-one_try : (p j n : ℕ) (b : Bool) (loaded : List (ℕ × Register)) → then_loaded (Move p j n b) loaded ≡ (if b then moved_in j loaded else loaded)
+one_try : (p j n : ℕ) (b : Bool) (loaded : List (ℕ × Loaded)) → then_loaded (Move p j n b) loaded ≡ (if b then moved_in j loaded else loaded)
 one_try p j n true loaded = refl
 one_try p j n false loaded = refl
 
-tries_loaded : (p : ℕ) (es : List Entry) (outcomes : List Bool) (loaded : List (ℕ × Register)) → loaded_after loaded (tries_of p es outcomes) ≡ moved_by es outcomes loaded
+tries_loaded : (p : ℕ) (es : List Entry) (outcomes : List Bool) (loaded : List (ℕ × Loaded)) → loaded_after loaded (tries_of p es outcomes) ≡ moved_by es outcomes loaded
 tries_loaded p [] outcomes loaded = refl
 tries_loaded p (e ∷ es) [] loaded = refl
 tries_loaded p (e ∷ es) (b ∷ outcomes) loaded = ap (λ l. loaded_after l (tries_of p es outcomes)) (one_try p e.session e.number b loaded) ∙ tries_loaded p es outcomes (if b then moved_in e.session loaded else loaded)
@@ -81,9 +82,10 @@ moves_on (e ∷ es) more = go e (moves_on es more)
     go (Move p j n b) ih = ap (λ ms. (j, (n, b)) ∷ ms) ih
     go _ ih = ih
 
-sampled_on : (loaded : List (ℕ × Register)) (es more : List Event) → sampled loaded (es ++ more) ≡ sampled (sampled loaded es) more
+sampled_on : (loaded : List (ℕ × Loaded)) (es more : List Event) → sampled loaded (es ++ more) ≡ sampled (sampled loaded es) more
 sampled_on loaded [] more = refl
-sampled_on loaded (Sample p j r ∷ es) more = sampled_on ((j, r) ∷ loaded) es more
+sampled_on loaded (Sample p j r ∷ es) more = sampled_on ((j, record { register = r; mask = None }) ∷ loaded) es more
+sampled_on loaded (SampleMask p j mask ∷ es) more = sampled_on (masked_in j mask loaded) es more
 sampled_on loaded (_ ∷ es) more = sampled_on loaded es more
 
 work_moves_none : (es : List Event) → Each IsWork es → moves_in es ≡ []
@@ -92,7 +94,7 @@ work_moves_none (Reclaim p kind rid n ∷ es) h = work_moves_none es h.1
 work_moves_none (Take p mark ∷ es) h = work_moves_none es h.1
 work_moves_none (_ ∷ es) h = absurd h.0
 
-work_samples_none : (loaded : List (ℕ × Register)) (es : List Event) → Each IsWork es → sampled loaded es ≡ loaded
+work_samples_none : (loaded : List (ℕ × Loaded)) (es : List Event) → Each IsWork es → sampled loaded es ≡ loaded
 work_samples_none loaded [] h = refl
 work_samples_none loaded (Reclaim p kind rid n ∷ es) h = work_samples_none loaded es h.1
 work_samples_none loaded (Take p mark ∷ es) h = work_samples_none loaded es h.1
@@ -103,21 +105,29 @@ tries_moves p [] outcomes = refl
 tries_moves p (e ∷ es) [] = refl
 tries_moves p (e ∷ es) (b ∷ outcomes) = ap (λ ms. (e.session, (e.number, b)) ∷ ms) (tries_moves p es outcomes)
 
-tries_sample_none : (loaded : List (ℕ × Register)) (p : ℕ) (es : List Entry) (outcomes : List Bool) → sampled loaded (tries_of p es outcomes) ≡ loaded
+tries_sample_none : (loaded : List (ℕ × Loaded)) (p : ℕ) (es : List Entry) (outcomes : List Bool) → sampled loaded (tries_of p es outcomes) ≡ loaded
 tries_sample_none loaded p [] outcomes = refl
 tries_sample_none loaded p (e ∷ es) [] = refl
 tries_sample_none loaded p (e ∷ es) (b ∷ outcomes) = tries_sample_none loaded p es outcomes
 
-samples_move_none : (p : ℕ) (loaded : List (ℕ × Register)) → moves_in (samples_of p loaded) ≡ []
-samples_move_none p [] = refl
-samples_move_none p (e ∷ loaded) = moves_on (samples_of p loaded) (Sample p e.0 e.1 ∷ []) ∙ ap (λ ms. ms ++ []) (samples_move_none p loaded)
+sample_moves_none : (p j : ℕ) (register : Register) (mask : Option ℕ) → moves_in (sample_of p j (record { register = register; mask = mask })) ≡ []
+sample_moves_none p j register None = refl
+sample_moves_none p j register (Some mask) = refl
 
-samples_sampled : (p : ℕ) (loaded : List (ℕ × Register)) → sampled [] (samples_of p loaded) ≡ loaded
+samples_move_none : (p : ℕ) (loaded : List (ℕ × Loaded)) → moves_in (samples_of p loaded) ≡ []
+samples_move_none p [] = refl
+samples_move_none p (e ∷ loaded) = moves_on (samples_of p loaded) (sample_of p e.0 e.1) ∙ (λ i. samples_move_none p loaded i ++ sample_moves_none p e.0 e.1.register e.1.mask i)
+
+sample_sampled : (p j : ℕ) (register : Register) (mask : Option ℕ) (loaded : List (ℕ × Loaded)) → sampled loaded (sample_of p j (record { register = register; mask = mask })) ≡ (j, record { register = register; mask = mask }) ∷ loaded
+sample_sampled p j register None loaded = refl
+sample_sampled p j register (Some mask) loaded = mask_joins j mask register loaded
+
+samples_sampled : (p : ℕ) (loaded : List (ℕ × Loaded)) → sampled [] (samples_of p loaded) ≡ loaded
 samples_sampled p [] = refl
-samples_sampled p (e ∷ loaded) = sampled_on [] (samples_of p loaded) (Sample p e.0 e.1 ∷ []) ∙ ap (λ l. (e.0, e.1) ∷ l) (samples_sampled p loaded)
+samples_sampled p (e ∷ loaded) = sampled_on [] (samples_of p loaded) (sample_of p e.0 e.1) ∙ (ap (λ l. sampled l (sample_of p e.0 e.1)) (samples_sampled p loaded) ∙ sample_sampled p e.0 e.1.register e.1.mask loaded)
 
 -- a gather, tries of what it found long in use, and work
-pub tries_long : (long p q mark : ℕ) (loaded : List (ℕ × Register)) (outcomes : List Bool) (work : List Event) → Each IsWork work → length outcomes ≡ length (filter (is_long mark long) (entries_of loaded))
+pub tries_long : (long p q mark : ℕ) (loaded : List (ℕ × Loaded)) (outcomes : List Bool) (work : List Event) → Each IsWork work → length outcomes ≡ length (filter (is_long mark long) (entries_of loaded))
     → TriesLong long (((Mark p mark ∷ samples_of p loaded) ++ tries_of q (filter (is_long mark long) (entries_of loaded)) outcomes) ++ work)
 tries_long long p q mark loaded outcomes work w many =
     let es = filter (is_long mark long) (entries_of loaded) in

@@ -1,16 +1,18 @@
 -- Which snapshots a round tried to move.
-use Rattle.std.specs.Prelude.{◌≡◌, ℕ, Bool, List, [], ◌∷◌, length, filter}
+use Rattle.std.specs.Prelude.{◌≡◌, ℕ, Bool, None, List, [], ◌∷◌, length, filter}
 use Rattle.hg_base.specs.declared.report.Entry.{Entry}
-use Rattle.hg_core.specs.declared.register.Register.{Register}
+use Rattle.hg_core.specs.declared.loaded.Loaded.{Loaded}
+use Rattle.hg_core.specs.Events.{masked_in}
 use Rattle.hg_rule.specs.declared.view.Event.{Event}
-use Rattle.hg_rule.specs.declared.view.Event.TheVariants.{Sample}
+use Rattle.hg_rule.specs.declared.view.Event.TheVariants.{Sample, SampleMask}
 use Rattle.hg_rule.specs.Rounds.{mark_in, moves_in, entries_of}
 use Rattle.hg_tracker.specs.Tries.{is_long}
 
--- the registers as the round sampled them, before any move
-abbrev pub sampled : List (ℕ × Register) → List Event → List (ℕ × Register)
+-- what the round sampled, before any move
+abbrev pub sampled : List (ℕ × Loaded) → List Event → List (ℕ × Loaded)
 sampled loaded [] = loaded
-sampled loaded (Sample p j register ∷ events) = sampled ((j, register) ∷ loaded) events
+sampled loaded (Sample p j register ∷ events) = sampled ((j, record { register = register; mask = None }) ∷ loaded) events
+sampled loaded (SampleMask p j mask ∷ events) = sampled (masked_in j mask loaded) events
 sampled loaded (_ ∷ events) = sampled loaded events
 
 -- the entries that are long in use at the round's mark

@@ -37,7 +37,7 @@ impl TableCollector {
         sessions: u32,
         tables: u32,
     ) -> Result<TableCollector, (CollectorPass, NoMemory)>
-        requires tables { tables ≤ 16 }
+        requires tables { tables ≤ 64 }
         ensures collector { (t : BoardId) (z : Sizes) → IsPassOf t pass → z.sessions ≡ sessions → z.tables ≡ tables → IfOk result (IsCollectorOf t z) }
         ensures same { IfOk result (λ c. pass_of c ≡ pass) }
         ensures refused { IfErr result (λ e. e.0 ≡ pass) }

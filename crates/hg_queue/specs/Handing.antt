@@ -3,11 +3,11 @@ use Rattle.std.specs.Prelude.{◌≡◌, ℕ, ◌<◌, false, length, is_some, I
 use Rattle.hg_base.specs.declared.rid.Rid.{Rid}
 use Rattle.hg_base.specs.History.{NoneTwice, is_among}
 use Rattle.hg_core.specs.Logs.{begans, is_plain, open_in}
-use Rattle.hg_core.specs.Phases.{snapshot_in}
+use Rattle.hg_core.specs.Phases.{declared_in, snapshot_in}
 use Rattle.hg_rule.specs.declared.view.SessionPart.{SessionPart}
 use Rattle.hg_rule.specs.declared.passes.TxSeat.{TxSeat}
 use Rattle.hg_rule.specs.Views.{session}
-use Rattle.hg_rule.specs.Steps.{loaded_in, tables_in}
+use Rattle.hg_rule.specs.Steps.{loaded_in}
 use Rattle.hg_rule.specs.Seats.{BoardId, tx_view, IsTxOf}
 use Rattle.hg_queue.specs.declared.open_tx.OpenTx.{OpenTx}
 use Rattle.hg_queue.specs.declared.handed.Handed.{Handed}
@@ -15,7 +15,7 @@ use Rattle.hg_queue.specs.declared.handed.Handed.{Handed}
 -- The context of the open transaction of session j, whose part this is, with each of its open writes once.
 pub record IsOpenTxOf (j : ℕ) (part : SessionPart) (tx : OpenTx) : Type 0 where
   pub writer_is : tx.writer ≡ record { session = j; transaction = begans part.log }
-  pub snapshot_is : (tx.snapshot.at ≡ loaded_in part.phase) × (tx.snapshot.scope ≡ tables_in part.phase)
+  pub snapshot_is : (tx.snapshot.at ≡ loaded_in part.phase) × (tx.snapshot.scope ≡ declared_in part.phase)
   pub once : NoneTwice tx.records.list
   pub exact : (r : Rid) → is_among r tx.records.list ≡ is_some (open_in r part.log)
 

@@ -14,7 +14,7 @@ use Rattle.hg_base.specs.Lists.{Each}
 use Rattle.hg_core.specs.declared.ask.Ask.TheVariants.{Write}
 use Rattle.hg_core.specs.declared.log.LogEntry.{LogEntry}
 use Rattle.hg_core.specs.declared.phase.Phase.{Phase}
-use Rattle.hg_core.specs.declared.phase.Phase.TheVariants.{Idle, Probed, Entered, Fixed, Live}
+use Rattle.hg_core.specs.declared.phase.Phase.TheVariants.{Idle, Declared, Probed, Entered, Fixed, Live}
 use Rattle.hg_core.specs.declared.version.Stamp.{Stamp}
 use Rattle.hg_core.specs.declared.version.Stamp.TheVariants.{Written, Numbered, Oldest}
 use Rattle.hg_core.specs.declared.version.Version.{Version}
@@ -67,9 +67,10 @@ wrotes_same r (Some a) log = refl
 
 live_is : (p : Phase) → IsSome (snapshot_in p) → (scope : Scope) × (p ≡ Live (loaded_in p) scope)
 live_is Idle l = absurd (let k = l in cc)
-live_is (Probed f) l = absurd (let k = l in cc)
-live_is (Entered f) l = absurd (let k = l in cc)
-live_is (Fixed f m) l = absurd (let k = l in cc)
+live_is (Declared scope) l = absurd (let k = l in cc)
+live_is (Probed scope f) l = absurd (let k = l in cc)
+live_is (Entered scope f) l = absurd (let k = l in cc)
+live_is (Fixed scope f m) l = absurd (let k = l in cc)
 live_is (Live at scope) l = (scope, refl)
 
 -- what is so at the look's mark

@@ -11,7 +11,7 @@ use Rattle.hg_rule.specs.Facts.{record_of}
 use Rattle.hg_tracker.specs.declared.gathered.Gathered.{Gathered}
 use Rattle.hg_tracker.specs.Entries.{times}
 use Rattle.hg_tracker.specs.Gathers.{IsGatherOf}
-use Rattle.hg_tracker.proofs.After.{some_up_to}
+use Rattle.hg_tracker.proofs.After.{some_up_to, masks_found}
 use Rattle.hg_store.specs.Clearing.{HaveSame}
 
 there_once : (n : ℕ) (xs : List ℕ) → Contains xs n → 0 < times n xs
@@ -74,4 +74,4 @@ same_length xs ys same =
 
 -- a gather shows a whole record
 pub whole_record : (sessions : ℕ) (part : PassPart) (g : Gathered) → IsGatherOf sessions part g → IsWhole sessions (record_of part)
-whole_record sessions part g h j inside = some_up_to sessions j part.loaded h.loaded.0 inside.first inside.last
+whole_record sessions part g h = record { registers = λ j inside. some_up_to sessions j part.loaded h.loaded.0 inside.first inside.last; masks = λ j. masks_found j part.loaded h.loaded.1 }
