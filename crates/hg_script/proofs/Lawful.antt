@@ -137,7 +137,7 @@ none-left : (rs : List Record) → nat_lt 0 (length rs) ≡ false → rs ≡ []
 none-left [] h = refl
 none-left (r ∷ rs) h = absurd (let bad : 0 < 0 = grind (arith, nat_tests, h) in omega (arith, bad))
 
-table-more : (place : ℕ) (s : Script) (d : Declaration) → Grown place s → place ≤ MOST_RECORDS → length s.tables < 16 → IsTable d → is_fresh s.tables d.name ≡ true → s.records ≡ []
+table-more : (place : ℕ) (s : Script) (d : Declaration) → Grown place s → place ≤ MOST_RECORDS → length s.tables < 64 → IsTable d → is_fresh s.tables d.name ≡ true → s.records ≡ []
     → Grown (place + 1) (record s { tables = s.tables ++ d ∷ [] })
 table-more place s d g free room is fresh none = record {
   lawful = record {
@@ -157,7 +157,7 @@ not-not : (b : Bool) → not b ≡ false → b ≡ true
 not-not true h = refl
 not-not false h = absurd (let bad : ⊥ = cc h in bad)
 
-has-room : (n : ℕ) → nat_le 16 n ≡ false → n < 16
+has-room : (n : ℕ) → nat_le 64 n ≡ false → n < 64
 has-room n h = grind (arith, nat_tests, h)
 
 within-most : (place : ℕ) → nat_lt MOST_RECORDS place ≡ false → place ≤ MOST_RECORDS
@@ -168,7 +168,7 @@ asked-more : (place : ℕ) (s : Script) (session : Natural) (ask : Ask) → Grow
 asked-more place s session ask g room range order fits widths =
     statement-more place s (value_of session) (statement_of ask) g room (lies 1 MOST_SESSIONS session (or_parts _ _ range).0) fits widths (may-stand (is_open (value_of session) s.records) ask order)
 
-declared-more : (place : ℕ) (s : Script) (name : Field) (columns : Natural) → Grown place s → place ≤ MOST_RECORDS → nat_le 16 (length s.tables) ≡ false
+declared-more : (place : ℕ) (s : Script) (name : Field) (columns : Natural) → Grown place s → place ≤ MOST_RECORDS → nat_le 64 (length s.tables) ≡ false
     → Keeps s (Table (is_fresh s.tables name) columns)
     → Grown (place + 1) (record s { tables = s.tables ++ (record { name = name; columns = value_of columns }) ∷ [] })
 declared-more place s name columns g free count k =

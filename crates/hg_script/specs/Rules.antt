@@ -30,7 +30,7 @@ count_breaks place tables w = nat_lt MOST_RECORDS place || (is_table w && nat_le
 
 abbrev pub fields_breaks : Word → ℕ → Bool
 fields_breaks word.Table n = not (n == 3)
-fields_breaks word.Begin n = nat_lt n 2 || nat_lt 18 n
+fields_breaks word.Begin n = nat_lt n 2 || nat_lt 66 n
 fields_breaks word.Get n = not (n == 4)
 fields_breaks word.Put n = nat_lt n 5 || nat_lt 12 n
 fields_breaks word.Del n = not (n == 4)

@@ -23,7 +23,7 @@
 //!
 //! | Code      | Breaks it |
 //! |-----------|-----------|
-//! | `Count`   | the record after the 1,048,576th, and the 17th table record |
+//! | `Count`   | the record after the 1,048,576th, and the 65th table record |
 //! | `Word`    | a session record without a word, or with another than those above |
 //! | `Fields`  | a number of fields that the record's word does not have |
 //! | `Number`  | a session, key, end of a scan, value or number of columns that is not written as a decimal number |

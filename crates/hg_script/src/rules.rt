@@ -28,7 +28,7 @@ pub(crate) fn breaks_fields(word: Word, count: usize) -> bool
 {
     match word {
         Word::Table => count != 3,
-        Word::Begin => count < 2 || count > 18,
+        Word::Begin => count < 2 || count > 66,
         Word::Get => count != 4,
         Word::Put => count < 5 || count > 12,
         Word::Del => count != 4,

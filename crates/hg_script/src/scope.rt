@@ -18,7 +18,7 @@ pub(crate) fn find_scope(tables: &[Table], row: &ByteRecord) -> Option<Scope>
     if row.len() == 2 {
         return Some(Scope::All);
     }
-    let mut mask: u16 = 0;
+    let mut mask: u64 = 0;
     for i in 2..row.len() {
         let table = find_table(tables, field(row, i))?;
         mask |= 1 << table.0;

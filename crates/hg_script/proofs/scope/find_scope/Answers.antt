@@ -21,8 +21,8 @@ loop-i-preserved c =
     let r = fields_of c.args.row.now in
     let at : c.loop-i.i < length r = omega (arith, c.loop-i-test.true, c.len-i-end.ensures) in
     let named : table_named c.args.tables.now (nth r c.loop-i.i) ≡ Some c.in_ok-table.table = sym (c.find_table.ensures.found ∙ ap (table_named c.args.tables.now) c.field.ensures) ∙ c.in_ok-table.was in
-    let below : c.in_ok-table.table.0 < 16 = omega (arith, c.in_ok-table.ensures.bound, c.requires.tables) in
-    rw (one_shl c.in_ok-table.table.0 16 below) (rw named at (named-more c.args.tables.now r c.loop-i.i (Some c.loop-i.mask) _ at c.loop-i.invariant))
+    let below : c.in_ok-table.table.0 < 64 = omega (arith, c.in_ok-table.ensures.bound, c.requires.tables) in
+    rw (one_shl c.in_ok-table.table.0 64 below) (rw named at (named-more c.args.tables.now r c.loop-i.i (Some c.loop-i.mask) _ at c.loop-i.invariant))
 
 pub returns : goal.returns
 returns c =
