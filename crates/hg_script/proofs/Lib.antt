@@ -5,6 +5,7 @@ pub mod Decimal
 pub mod Rows
 pub mod Names
 pub mod Scopes
+pub mod Places
 pub mod Sets
 pub mod Taken
 pub mod Widths

@@ -1,5 +1,5 @@
 -- The tables that a `begin` names, one by one, and what set they are.
-use Rattle.std.proofs.Common.{◌≡◌, ◌<◌, ◌≤◌, ◌+◌, ◌^◌, ◌∙◌, ℕ, List, [], ◌∷◌, length, drop, fold, position, Option, Some, None, is_some, not, false, option_map, unwrap_or, refl, arith, sym, subst, length-drop}
+use Rattle.std.proofs.Common.{◌≡◌, ◌<◌, ◌≤◌, ◌+◌, ◌^◌, ◌∙◌, ℕ, List, [], ◌∷◌, length, drop, fold, position, Option, Some, None, IfSome, is_some, not, false, option_map, unwrap_or, refl, arith, sym, subst, length-drop}
 use Rattle.std.proofs.Math.Pow.{pow-lt}
 use Rattle.std.proofs.lemmas.List.{drop_all}
 use Rattle.std.proofs.lemmas.List.Quantifiers.{position-Some}
@@ -57,6 +57,10 @@ among tables name h = among-by tables name (position (has_name name) tables) ref
 
 found : (tables : List Declaration) (name : Field) (table : TableId) → table_named tables name ≡ Some table → table.0 < length tables
 found tables name table e = rw e at (among tables name (rw e refl))
+
+pub found-among : (tables : List Declaration) (name : Field) (table : Option TableId) → table ≡ table_named tables name → IfSome table (λ t. t.0 < length tables)
+found-among tables name None e = tt
+found-among tables name (Some table) e = found tables name table (sym e)
 
 -- the set that a set grows to by more names
 pub record Grows (tables : List Declaration) (set all : ℕ) : Type 0 where

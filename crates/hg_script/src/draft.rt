@@ -1,6 +1,6 @@
 //! A record with its fields read, each once, before its rules are tested.
 
-ghost use Rattle.std.specs.Prelude.{◌≡◌, ◌≤◌, IfOk, false, length};
+ghost use Rattle.std.specs.Prelude.{◌≡◌, IfOk, false, length};
 ghost use Rattle.csv.specs.Records.{fields_of};
 ghost use Rattle.hg_script.specs.Draft.{draft_of};
 ghost use Rattle.hg_script.specs.Rules.{ask_number_breaks, ask_range_breaks, fields_breaks};
@@ -10,11 +10,11 @@ use crate::kind::find_kind;
 use crate::number::{Natural, read_natural};
 use crate::rules::FIRST_TABLE;
 use crate::scope::find_scope;
-use crate::table::{Table, find_table, is_free};
+use crate::tables::Tables;
 use crate::values::Values;
 use crate::word::{Word, field};
 use csv::ByteRecord;
-use hg_base::{Kind, MOST_TABLES, NoMemory, Rid, Scope, Statement, TableId};
+use hg_base::{Kind, NoMemory, Rid, Scope, Statement, TableId};
 use std::alloc::Global;
 
 /// What a session's record asks. A table that is not declared is `None`, and so is a scope that names one, and a collector that
@@ -97,37 +97,36 @@ impl Draft {
     /// Reads the fields of a record that has as many as its word asks for.
     pub(crate) fn read(
         alloc: Global,
-        tables: &[Table],
+        tables: &Tables,
         word: Word,
         row: &ByteRecord,
     ) -> Result<Draft, NoMemory>
-        requires tables { length tables.now ≤ MOST_TABLES }
         requires fields { fields_breaks word (length (fields_of row.now)) ≡ false }
         ensures { IfOk result (λ draft. draft ≡ draft_of tables.now word (fields_of row.now)) }
     {
         let ask = match word {
             Word::Table => return Ok(Draft::Table {
-                fresh: is_free(tables, field(row, 1)),
+                fresh: tables.is_free(field(row, 1)),
                 columns: read_natural(field(row, 2)),
             }),
             Word::Begin => Ask::Begin {
                 scope: find_scope(tables, row),
             },
             Word::Get => Ask::Get {
-                table: find_table(tables, field(row, 2)),
+                table: tables.find(field(row, 2)),
                 key: read_natural(field(row, 3)),
             },
             Word::Put => Ask::Put {
-                table: find_table(tables, field(row, 2)),
+                table: tables.find(field(row, 2)),
                 key: read_natural(field(row, 3)),
                 values: Values::read(alloc, row)?,
             },
             Word::Del => Ask::Del {
-                table: find_table(tables, field(row, 2)),
+                table: tables.find(field(row, 2)),
                 key: read_natural(field(row, 3)),
             },
             Word::Scan => Ask::Scan {
-                table: find_table(tables, field(row, 2)),
+                table: tables.find(field(row, 2)),
                 low: read_natural(field(row, 3)),
                 high: read_natural(field(row, 4)),
             },

@@ -63,6 +63,7 @@ mod script;
 mod sessions;
 mod statements;
 mod table;
+mod tables;
 mod values;
 mod word;
 

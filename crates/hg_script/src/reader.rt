@@ -6,7 +6,7 @@ ghost use Rattle.csv.specs.Records.{fields_of};
 ghost use Rattle.hg_script.specs.declared.refusal.ScriptRefusal.TheVariants as refusal;
 ghost use Rattle.hg_script.specs.Fields.{rows_of, word_of};
 ghost use Rattle.hg_script.specs.Draft.{draft_of};
-ghost use Rattle.hg_script.specs.Rules.{count_breaks, number_breaks, order_breaks, range_breaks};
+ghost use Rattle.hg_script.specs.Rules.{count_breaks, name_breaks, number_breaks, order_breaks, range_breaks};
 ghost use Rattle.hg_script.specs.Meaning.{TellsCode, TellsRefusal, first_code, refusal_of, script_of, with_draft, with_row};
 ghost use Rattle.hg_script.specs.Lawful.{IsLawful};
 ghost use Rattle.hg_script.specs.Sessions.{KnowsOpen};
@@ -39,6 +39,7 @@ fn add(
     requires draft { draft ≡ draft_of script.old.tables word (fields_of row.now) }
     requires number { number_breaks draft ≡ false }
     requires range { range_breaks draft ≡ false }
+    requires name { name_breaks draft ≡ false }
     requires order { order_breaks script.old.records draft ≡ false }
     requires next { place ≡ length script.old.tables + length script.old.records + 1 }
     ensures script { OnOk result (script.new ≡ with_draft place script.old (fields_of row.now) draft) }
@@ -88,7 +89,7 @@ fn take(
     if breaks_fields(word, row.len()) {
         return Err(refused(place, Code::Fields));
     }
-    let draft = Draft::read(alloc, script.tables(), word, row)?;
+    let draft = Draft::read(alloc, script.named(), word, row)?;
     if let Some(code) = draft.code(script, sessions) {
         return Err(refused(place, code));
     }

@@ -184,6 +184,7 @@ impl Draft {
         ensures code { result ≡ draft_code script.now self.now }
         ensures number { IfNone result (number_breaks self.now ≡ false) }
         ensures range { IfNone result (range_breaks self.now ≡ false) }
+        ensures name { IfNone result (name_breaks self.now ≡ false) }
         ensures order { IfNone result (order_breaks script.now.records self.now ≡ false) }
     {
         if self.breaks_number() {

@@ -1,10 +1,11 @@
 //! A script that keeps the rules.
 
-ghost use Rattle.std.specs.Prelude.{◌≡◌, ◌≤◌, ◌<◌, ◌+◌, ◌∷◌, ◌++◌, [], IfOk, OnOk, get_or, length, map, max};
+ghost use Rattle.std.specs.Prelude.{◌≡◌, ◌≤◌, ◌<◌, ◌+◌, ◌∷◌, ◌++◌, [], IfOk, None, OnOk, get_or, length, map, max};
 ghost use Rattle.hg_base.specs.Lists.{greatest};
 ghost use Rattle.hg_base.specs.Transcript.{of_session};
 ghost use Rattle.hg_base.specs.declared.statement.Record.{Record};
 ghost use Rattle.hg_script.specs.Asked.{said_by};
+ghost use Rattle.hg_script.specs.Draft.{table_named};
 ghost use Rattle.hg_script.specs.Links.{next_from};
 ghost use Rattle.hg_script.specs.Meaning.{nothing};
 ghost use Rattle.hg_script.specs.Numbered.{AreNumbered};
@@ -13,6 +14,7 @@ use crate::asked::Asked;
 use crate::record_list::RecordList;
 use crate::statements::StatementList;
 use crate::table::Table;
+use crate::tables::Tables;
 use hg_base::{MOST_RECORDS, MOST_SESSIONS, MOST_TABLES, NoMemory, Record, Statement};
 use std::alloc::Global;
 use std::marker::Model;
@@ -20,7 +22,7 @@ use std::marker::Model;
 /// The tables in the order in which they are declared, and the statements in the order in which they stand.
 #[derive(Debug, Drop)]
 pub struct Script {
-    tables: Vec<Table>,
+    tables: Tables,
     statements: StatementList,
 }
 
@@ -32,9 +34,9 @@ impl Model for Script {
 
     ghost Value = { base.Script };
 
-    ghost view = { λ s. record { tables = s.tables.items; records = numbered (length s.tables.items + 1) s.statements } };
+    ghost view = { λ s. record { tables = s.tables; records = numbered (length s.tables + 1) s.statements } };
 
-    ghost invariant = { λ s. (length s.tables.items ≤ MOST_TABLES) × (length s.statements ≤ MOST_RECORDS) };
+    ghost invariant = { λ s. (length s.tables ≤ MOST_TABLES) × (length s.statements ≤ MOST_RECORDS) };
 }
 
 impl Script {
@@ -42,7 +44,7 @@ impl Script {
         ensures { result ≡ nothing }
     {
         Script {
-            tables: Vec::new(alloc),
+            tables: Tables::new(alloc),
             statements: StatementList::new(alloc),
         }
     }
@@ -51,6 +53,13 @@ impl Script {
     pub fn tables(&self) -> &[Table]
         ensures same { result.now ≡ self.now.tables }
         ensures most { length self.now.tables ≤ MOST_TABLES }
+    {
+        self.tables.as_slice()
+    }
+
+    /// The tables, to find one by its name.
+    pub(crate) fn named(&self) -> &Tables
+        ensures { result.now ≡ self.now.tables }
     {
         &self.tables
     }
@@ -120,6 +129,7 @@ impl Script {
     /// Places go on from the tables, so tables come first.
     pub(crate) fn declare(&mut self, table: Table) -> Result<(), NoMemory>
         requires room { length self.old.tables < MOST_TABLES }
+        requires fresh { table_named self.old.tables table.name ≡ None }
         requires first { self.old.records ≡ [] }
         ensures { OnOk result (self.new ≡ record self.old { tables = self.old.tables ++ table ∷ [] }) }
     {

@@ -1,10 +1,10 @@
 //! A declared table.
 
-ghost use Rattle.std.specs.Prelude.{◌≡◌, ◌≤◌, ◌<◌, IfOk, IfSome, length, position};
+ghost use Rattle.std.specs.Prelude.{◌≡◌, IfOk};
 ghost use Rattle.std.specs.List.{list_all};
-ghost use Rattle.hg_script.specs.Draft.{has_name, is_fresh, is_name, is_name_byte, table_named};
+ghost use Rattle.hg_script.specs.Draft.{is_name, is_name_byte};
 
-use hg_base::{MOST_NAME_BYTES, MOST_TABLES, NoMemory, TableId};
+use hg_base::{MOST_NAME_BYTES, NoMemory};
 use std::alloc::Global;
 use std::marker::Model;
 
@@ -56,35 +56,8 @@ fn has_name_bytes_alone(name: &[u8]) -> bool
     })
 }
 
-fn is_named_well(name: &[u8]) -> bool
+pub(crate) fn is_named_well(name: &[u8]) -> bool
     ensures { result ≡ is_name name.now }
 {
     1 <= name.len() && name.len() <= MOST_NAME_BYTES && has_name_bytes_alone(name)
-}
-
-fn find_place(tables: &[Table], name: &[u8]) -> Option<usize>
-    ensures found { result ≡ position (has_name name.now) tables.now }
-    ensures bound { IfSome result (λ i. i < length tables.now) }
-{
-    tables.iter().position(|table| table.name() == name)
-}
-
-/// The table of this name.
-pub(crate) fn find_table(tables: &[Table], name: &[u8]) -> Option<TableId>
-    requires { length tables.now ≤ MOST_TABLES }
-    ensures found { result ≡ table_named tables.now name.now }
-    ensures bound { IfSome result (λ table. table.0 < length tables.now) }
-{
-    match find_place(tables, name) {
-        Some(i) => Some(TableId(i as u8)),
-        None => None,
-    }
-}
-
-/// Whether a table may take this name.
-pub(crate) fn is_free(tables: &[Table], name: &[u8]) -> bool
-    requires { length tables.now ≤ MOST_TABLES }
-    ensures { result ≡ is_fresh tables.now name.now }
-{
-    is_named_well(name) && !find_table(tables, name).is_some()
 }

@@ -6,11 +6,11 @@ use Rattle.hg_script.proofs.script.Script.after.Goals as goal
 pub after-requires : goal.after-requires
 after-requires c =
     let less = rw (← c.self.view_is) at c.requires in
-    omega (arith, less, numbered_many (length c.self.inside.tables.items + 1) c.self.inside.statements)
+    omega (arith, less, numbered_many (length c.self.inside.tables + 1) c.self.inside.statements)
 
 pub returns : goal.returns
 returns c = λ d.
-    let place = length c.self.inside.tables.items + 1 in
+    let place = length c.self.inside.tables + 1 in
     let statements = c.self.inside.statements in
     let e : ℕ × Statement = (d.session, d.statement) in
     let less = rw (← c.self.view_is) at c.requires in

@@ -5,5 +5,5 @@ use Rattle.hg_script.proofs.script.Script.declare.Goals as goal
 pub returns : goal.returns
 returns c =
     let first = rw (← c.self.view_is) at c.requires.first in
-    let none = none_numbered _ (length c.push.new.self.items + 1) c.self.inside.statements first in
-    rw (← c.self.view_is, first, none, c.in_ok-push.ensures.items) refl
+    let none = none_numbered _ (length c.push.new.self + 1) c.self.inside.statements first in
+    rw (← c.self.view_is, first, none, c.in_ok-push.ensures.ok) refl

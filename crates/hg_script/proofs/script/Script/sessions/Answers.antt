@@ -5,4 +5,4 @@ use Rattle.hg_script.proofs.script.Script.sessions.Goals as goal
 
 pub returns : goal.returns
 returns c =
-    rw (← c.self.view_is) (c.sessions.ensures ∙ ap (λ ns. max 1 (greatest ns)) (sym (numbered_sessions (length c.self.inside.tables.items + 1) c.self.inside.statements)))
+    rw (← c.self.view_is) (c.sessions.ensures ∙ ap (λ ns. max 1 (greatest ns)) (sym (numbered_sessions (length c.self.inside.tables + 1) c.self.inside.statements)))
