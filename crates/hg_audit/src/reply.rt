@@ -116,10 +116,10 @@ pub fn is_undeclared(table: TableId, answer: &Answer) -> bool
     }
 }
 
-fn has(mask: u16, table: u8) -> bool
+fn has(mask: u64, table: u8) -> bool
     ensures { result ≡ ((mask / 2 ^ table) % 2 == 1) }
 {
-    if table >= 16 {
+    if table >= 64 {
         return false;
     }
     (mask >> table) % 2 == 1
