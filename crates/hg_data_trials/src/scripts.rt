@@ -1,6 +1,7 @@
 //! Scripts, and what is answered to them.
 
 use hg_script::{Code, ScriptRefusal, make_script, read_script};
+use std::alloc::{AllocError, Global};
 use std::test::Fail;
 
 // Each statement, behind a table `t` of one column and a table `u` of eight.
@@ -76,9 +77,6 @@ fn takes_scripts(rt: HostRuntime) -> Result<(), Fail> {
     Ok(())
 }
 
-const SIXTEEN: &str =
-    "table,a,1\ntable,b,1\ntable,c,1\ntable,d,1\ntable,e,1\ntable,f,1\ntable,g,1\ntable,h,1\ntable,i,1\ntable,j,1\ntable,k,1\ntable,l,1\ntable,m,1\ntable,n,1\ntable,o,1\ntable,p,1\n";
-
 // Each of them breaks a rule, and some break several.
 #[test]
 fn refuses_scripts(rt: HostRuntime) -> Result<(), Fail> {
@@ -103,14 +101,6 @@ fn refuses_scripts(rt: HostRuntime) -> Result<(), Fail> {
             Code::Name,
         ),
         ("table,t,2\n", "1,put,t,1,5", 2, Code::Columns),
-        (SIXTEEN, "table,q,1", 17, Code::Count),
-        (SIXTEEN, "table", 17, Code::Count),
-        (
-            SIXTEEN,
-            "1,begin,a,b,c,d,e,f,g,h,i,j,k,l,m,n,o,p,a",
-            17,
-            Code::Fields,
-        ),
         ("table,t,1\n", "table,v,0", 2, Code::Range),
         ("table,t,1\n", "table,v,01", 2, Code::Number),
         ("table,t,1\n", "table,,1", 2, Code::Name),
@@ -187,6 +177,65 @@ fn refuses_scripts(rt: HostRuntime) -> Result<(), Fail> {
         }
     )?;
     assert_eq!(rt; text.as_str(), "record 2: Name");
+    Ok(())
+}
+
+// The records of so many tables, t1 and on, of one column, and then their names, with a comma before each.
+fn name_tables(alloc: Global, many: u32) -> Result<(String, String), AllocError> {
+    let mut records = String::new(alloc);
+    let mut names = String::new(alloc);
+    for i in 0..many {
+        let number = i + 1;
+        let record = format!(in alloc; "table,t{number},1\n")?;
+        let name = format!(in alloc; ",t{number}")?;
+        records.push_str(record.as_str())?;
+        names.push_str(name.as_str())?;
+    }
+    Ok((records, names))
+}
+
+// As many tables as a script may have, and the tables that a `begin` names of them: the last two, the first with a bit behind 32,
+// one by its place alone, though its name begins with that of another, and all.
+#[test]
+fn tables_are_named(rt: HostRuntime) -> Result<(), Fail> {
+    let (records, names) = name_tables(rt.alloc(), 64)?;
+    for (named, statement) in [
+        (",t64", "Begin(Declared(9223372036854775808))"),
+        (",t63,t64", "Begin(Declared(13835058055282163712))"),
+        (",t33", "Begin(Declared(4294967296))"),
+        (",t1", "Begin(Declared(1))"),
+        (",t10", "Begin(Declared(512))"),
+        (names.as_str(), "Begin(Declared(18446744073709551615))"),
+    ] {
+        let text = format!(in rt.alloc(); "{records}1,begin{named}\n")?;
+        let script = read_script(rt.alloc(), text.as_bytes())?;
+        assert_eq!(rt; script.tables().len(), 64);
+        assert!(rt; script.record_count() == 1, "at {named}");
+        let begin = script.record(0)?;
+        let found = format!(in rt.alloc(); "{:?}", begin.statement)?;
+        assert_eq!(rt; found.as_str(), statement, "at {named}");
+        assert_eq!(rt; begin.place, 65);
+    }
+    Ok(())
+}
+
+// One table more than a script may have, and a name more than a `begin` may.
+#[test]
+fn tables_are_counted(rt: HostRuntime) -> Result<(), Fail> {
+    let (records, names) = name_tables(rt.alloc(), 64)?;
+    let begin = format!(in rt.alloc(); "1,begin{names},t1")?;
+    for (text, code) in [
+        ("table,t65,1", Code::Count),
+        ("table,t1,1", Code::Count),
+        ("table", Code::Count),
+        (begin.as_str(), Code::Fields),
+        ("1,begin,t65", Code::Name),
+    ] {
+        let text = format!(in rt.alloc(); "{records}{text}\n")?;
+        let refused = read_script(rt.alloc(), text.as_bytes()).err();
+        let want = ScriptRefusal::At { line: 65, code };
+        assert_eq!(rt; refused, Some(want), "at {text}");
+    }
     Ok(())
 }
 
