@@ -164,8 +164,8 @@ module _ (z : Sizes) (n : ℕ) (v : View) (k : IsBacked z n v) (ended : IsEnded 
   counted (pass_key p) part = count_append (pass_key p) v.parts more ∙ sum_none _ _ (buckets.passes p).0 ∙ k.alone ended.passes p
 
   -- the state is the one that the view's parts are, with the buckets that it lacks
-  state_read : s ≡ state_of z n s.register (v.parts ++ more)
-  state_read = state_is z s n s.register (v.parts ++ more) k.sized (each_append (Shown s) v.parts more k.true_of.parts (all_shown s v.parts z.buckets)) counted k.outside k.mark_is (λ j. refl)
+  state_read : s ≡ state_of z n s.register s.mask (v.parts ++ more)
+  state_read = state_is z s n s.register s.mask (v.parts ++ more) k.sized (each_append (Shown s) v.parts more k.true_of.parts (all_shown s v.parts z.buckets)) counted k.outside k.mark_is (λ j. refl) (λ j. refl)
 
   pub logs_are : s.log ≡ logs_in v
   logs_are = ap (λ (c : CoreState). c.log) state_read ∙ (λ i j. (session_there (seek_same (session_key j) v.parts more (buckets.sessions j).1 i)).log)

@@ -5,7 +5,7 @@ use Rattle.hg_base.specs.declared.rid.Rid.{Rid}
 use Rattle.hg_base.specs.declared.report.Entry.{Entry}
 use Rattle.hg_base.specs.declared.report.Report.{Report}
 use Rattle.hg_base.specs.declared.report.Kind.TheVariants.{Table}
-use Rattle.hg_core.specs.declared.register.Register.{Register}
+use Rattle.hg_core.specs.declared.loaded.Loaded.{Loaded}
 use Rattle.hg_core.specs.declared.log.LogEntry.{LogEntry}
 use Rattle.hg_core.specs.declared.version.Version.{Version}
 use Rattle.hg_core.specs.declared.visit.Visit.{Visit}
@@ -117,7 +117,7 @@ removes Q mark (suc n) (visit ∷ vs) more once =
 
 -- ---- a round of the table collector, at whose end a state backs the view
 
-keys_tried : (es : List Entry) (outcomes : List Bool) (loaded : List (ℕ × Register)) → map (λ e. e.0) (moved_by es outcomes loaded) ≡ map (λ e. e.0) loaded
+keys_tried : (es : List Entry) (outcomes : List Bool) (loaded : List (ℕ × Loaded)) → map (λ e. e.0) (moved_by es outcomes loaded) ≡ map (λ e. e.0) loaded
 keys_tried [] outcomes loaded = refl
 keys_tried (e ∷ es) [] loaded = refl
 keys_tried (e ∷ es) (true ∷ outcomes) loaded = keys_tried es outcomes (moved_in e.session loaded) ∙ keys_moved e.session loaded

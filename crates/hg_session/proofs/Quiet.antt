@@ -4,6 +4,7 @@ use Rattle.std.specs.Prelude.{◌==◌, if◌then◌else◌, max, IfSome, IsTrue
 use Rattle.std.proofs.lemmas.Bool.Decides.{nat_tests}
 use Rattle.hg_base.specs.History.{History}
 use Rattle.hg_base.specs.Lists.{Each}
+use Rattle.hg_core.specs.declared.loaded.Loaded.{Loaded}
 use Rattle.hg_core.specs.declared.register.Register.{Register}
 use Rattle.hg_core.specs.declared.register.Register.TheVariants as registers
 use Rattle.hg_core.specs.declared.phase.Phase.TheVariants as phases
@@ -120,7 +121,7 @@ none_of (x ∷ xs) e = absurd (omega arith)
 -- one that was loaded when the log was as it is, with no transaction open, by a session that rests
 idle_said : (register : Register) (later early : List LogEntry) → later ≡ [] → current early ≡ None → Says register later early phases.Idle → register ≡ registers.Idle
 idle_said registers.Idle later early none rests says = refl
-idle_said (registers.Live number scope moved) later early none rests says = absurd (cc)
+idle_said (registers.Live number declared moved) later early none rests (scope, says) = absurd (let was = says.snapshot in cc)
 idle_said (registers.Entering f) later early none rests says = begun says.1
   where
     begun : IsTrue (has_begun later) ⊎ IsEntering phases.Idle → registers.Entering f ≡ registers.Idle
@@ -134,7 +135,7 @@ idle_register known register log later early whole rests reach =
     let all : log ≡ early = reach.log_is ∙ ap (λ xs. xs ++ early) none in
     idle_said register later early none (sym (ap current all) ∙ rests) reach.says
 
-all_idle : (n : ℕ) (loaded : List (ℕ × Register)) → map (λ e. e.0) loaded ≡ down_from n → ((j : ℕ) → IsSession n j → IfSome (found j loaded) (λ register. register ≡ registers.Idle)) → Each (λ e. e.1 ≡ registers.Idle) loaded
+all_idle : (n : ℕ) (loaded : List (ℕ × Loaded)) → map (λ e. e.0) loaded ≡ down_from n → ((j : ℕ) → IsSession n j → IfSome (found j loaded) (λ it. it.register ≡ registers.Idle)) → Each (λ e. e.1.register ≡ registers.Idle) loaded
 all_idle n [] keys h = tt
 all_idle zero (e ∷ loaded) keys h = absurd (let l : suc (length (map (λ e. e.0) loaded)) ≡ 0 = ap length keys in omega arith)
 all_idle (suc n) (e ∷ loaded) keys h = (own, all_idle n loaded (first_key e loaded n keys).1 (λ j is. later j is.last (h j (record { first = is.first; last = let l = is.last in omega arith }))))
@@ -142,17 +143,17 @@ all_idle (suc n) (e ∷ loaded) keys h = (own, all_idle n loaded (first_key e lo
     key : e.0 ≡ suc n
     key = (first_key e loaded n keys).0
 
-    own : e.1 ≡ registers.Idle
+    own : e.1.register ≡ registers.Idle
     own = first (suc n == e.0) (grind (arith, nat_tests, key)) (h (suc n) (record { first = omega arith; last = omega arith }))
       where
-        first : (t : Bool) → t ≡ true → IfSome (if t then Some e.1 else found (suc n) loaded) (λ register. register ≡ registers.Idle) → e.1 ≡ registers.Idle
+        first : (t : Bool) → t ≡ true → IfSome (if t then Some e.1 else found (suc n) loaded) (λ it. it.register ≡ registers.Idle) → e.1.register ≡ registers.Idle
         first true q k = k
         first false q k = absurd (true≢false (sym q))
 
-    later : (j : ℕ) → j ≤ n → IfSome (if j == e.0 then Some e.1 else found j loaded) (λ register. register ≡ registers.Idle) → IfSome (found j loaded) (λ register. register ≡ registers.Idle)
+    later : (j : ℕ) → j ≤ n → IfSome (if j == e.0 then Some e.1 else found j loaded) (λ it. it.register ≡ registers.Idle) → IfSome (found j loaded) (λ it. it.register ≡ registers.Idle)
     later j l k = apart (j == e.0) (grind (arith, nat_tests, key, l)) k
       where
-        apart : (t : Bool) → t ≡ false → IfSome (if t then Some e.1 else found j loaded) (λ register. register ≡ registers.Idle) → IfSome (found j loaded) (λ register. register ≡ registers.Idle)
+        apart : (t : Bool) → t ≡ false → IfSome (if t then Some e.1 else found j loaded) (λ it. it.register ≡ registers.Idle) → IfSome (found j loaded) (λ it. it.register ≡ registers.Idle)
         apart false q k = k
         apart true q k = absurd (true≢false q)
 
@@ -214,18 +215,18 @@ module _ (z : Sizes) (n : ℕ) (x : View) (k : IsBacked z n x) (ended : IsEnded 
   record_is : s.pass p ≡ record_of r
   record_is = (subst (Each (Shown s)) parts k.true_of.parts).0.0
 
-  idle_at : (j : ℕ) → IsSession z.sessions j → length (logs_in x j) ≤ heard j r.seen → IfSome (found j r.loaded) (λ register. register ≡ registers.Idle)
-  idle_at j is whole = go (found j r.loaded) (subst (λ (t : PassRecord). IfSome (found j t.loaded) (λ register. StandsIn (t.known j) register (s.log j) (s.phase j))) record_is (k.steady.records_reach_logs.stands p j))
+  idle_at : (j : ℕ) → IsSession z.sessions j → length (logs_in x j) ≤ heard j r.seen → IfSome (found j r.loaded) (λ it. it.register ≡ registers.Idle)
+  idle_at j is whole = go (found j r.loaded) (subst (λ (t : PassRecord). IfSome (found j t.loaded) (λ it. StandsIn (t.known j) it.register (s.log j) (s.phase j))) record_is (k.steady.records_reach_logs.stands p j))
     where
       none : current (s.log j) ≡ None
       none = k.steady.logs_answer.reads j ∙ ap snapshot_in (rests j is)
 
-      go : (o : Option Register) → IfSome o (λ register. StandsIn (heard j r.seen) register (s.log j) (s.phase j)) → IfSome o (λ register. register ≡ registers.Idle)
+      go : (o : Option Loaded) → IfSome o (λ it. StandsIn (heard j r.seen) it.register (s.log j) (s.phase j)) → IfSome o (λ it. it.register ≡ registers.Idle)
       go None h = tt
-      go (Some register) h = let k = subst (StandsIn (heard j r.seen) register (s.log j)) (rests j is) h in idle_register (heard j r.seen) register (s.log j) k.0 k.1 (subst (λ l. length l ≤ heard j r.seen) (sym (session j is).1) whole) none k.2
+      go (Some it) h = let k = subst (StandsIn (heard j r.seen) it.register (s.log j)) (rests j is) h in idle_register (heard j r.seen) it.register (s.log j) k.0 k.1 (subst (λ l. length l ≤ heard j r.seen) (sym (session j is).1) whole) none k.2
 
   -- each register of the pass's record is idle
-  pub found_idle : map (λ e. e.0) r.loaded ≡ down_from z.sessions → ((j : ℕ) → IsSession z.sessions j → length (logs_in x j) ≤ heard j r.seen) → Each (λ e. e.1 ≡ registers.Idle) r.loaded
+  pub found_idle : map (λ e. e.0) r.loaded ≡ down_from z.sessions → ((j : ℕ) → IsSession z.sessions j → length (logs_in x j) ≤ heard j r.seen) → Each (λ e. e.1.register ≡ registers.Idle) r.loaded
   found_idle keys whole = all_idle z.sessions r.loaded keys (λ j is. idle_at j is (whole j is))
 
   -- and its mark is the greatest number of the logs

@@ -1,10 +1,10 @@
 //! Sessions on one engine.
 //!
 //! An engine is the board with its words, the buckets under a lock each, and the queue of what is to be committed. A session is a
-//! thread's place at it: it takes its snapshot by four steps of the board, and takes a bucket's lock for as long as it reads or
+//! thread's place at it: it takes its snapshot by five steps of the board, and takes a bucket's lock for as long as it reads or
 //! writes one record, or the keys of a range in that bucket. A commit hands the transaction over, and takes the commit lock.
 //!
-//!     begin      probe, enter, fix, go live                       no lock
+//!     begin      declare, probe, enter, fix, go live              no lock
 //!     get        take the bucket, see the key, give it back
 //!     put        take the bucket, look and install, give it back
 //!     scan       each bucket that can have a key, once, in order; then the rows by key

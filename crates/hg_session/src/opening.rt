@@ -59,7 +59,7 @@ impl Engine {
         buckets: u32,
         quota: u64,
     ) -> Result<(Engine, SessionList, Passes), NoMemory>
-        requires tables { length tables.now ≤ 16 }
+        requires tables { length tables.now ≤ 64 }
         requires buckets { 0 < buckets }
         requires room { sessions * quota ≤ 2 ^ 40 }
         ensures sizes { IfOk result (λ o. engine_sizes o.0 ≡ record { sessions = sessions; tables = length tables.now; buckets = buckets; quota = quota }) }
