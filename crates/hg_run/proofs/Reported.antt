@@ -1,6 +1,6 @@
 -- What a run prints of a collector's rounds are reports.
-use Rattle.std.proofs.Common.{◌≡◌, inl, inr, ℕ, zero, suc, ◌+◌, ◌<◌, ◌≤◌, List, [], ◌∷◌, ◌++◌, length, map, Bool, true, false, None, refl, sym, ap, ◌∙◌, subst, arith, append-nil}
-use Rattle.std.specs.Prelude.{◌==◌, ◌&&◌, ◌||◌, if◌then◌else◌, sum_by}
+use Rattle.std.proofs.Common.{◌≡◌, inl, inr, ℕ, zero, suc, ◌+◌, ◌<◌, ◌≤◌, List, [], ◌∷◌, ◌++◌, length, map, Bool, true, false, Option, Some, None, refl, sym, ap, ◌∙◌, subst, arith, append-nil}
+use Rattle.std.specs.Prelude.{◌==◌, ◌&&◌, ◌||◌, if◌then◌else◌, is_some, sum_by}
 use Rattle.std.proofs.lemmas.List.{map-append}
 use Rattle.std.proofs.lemmas.List.Sums.{sum_by-cons}
 use Rattle.std.proofs.lemmas.Bool.Decides.{nat_tests}
@@ -19,21 +19,23 @@ use Rattle.hg_base.specs.Reports.{sweep_of}
 use Rattle.hg_base.proofs.ListFacts.{false_true}
 use Rattle.hg_core.specs.declared.log.LogEntry.{LogEntry}
 use Rattle.hg_core.specs.declared.log.LogEntry.TheVariants.{Began}
+use Rattle.hg_core.specs.declared.loaded.Loaded.{Loaded}
 use Rattle.hg_core.specs.declared.register.Register.{Register}
 use Rattle.hg_core.specs.declared.register.Register.TheVariants.{Idle, Entering, Live}
-use Rattle.hg_core.specs.Events.{moved, moved_in}
+use Rattle.hg_core.specs.Events.{moved, moved_in, masked_in}
 use Rattle.hg_core.specs.Passes.{lower, least_entering}
-use Rattle.hg_core.specs.Words.{IsRegister}
+use Rattle.hg_core.specs.Words.{IsRegister, shows_declared}
 use Rattle.hg_rule.specs.declared.view.Event.{Event}
-use Rattle.hg_rule.specs.declared.view.Event.TheVariants.{Sample, Move}
+use Rattle.hg_rule.specs.declared.view.Event.TheVariants.{Sample, SampleMask, Move}
 use Rattle.hg_rule.specs.declared.view.Sight.TheVariants.{Saw}
 use Rattle.hg_rule.specs.declared.view.View.{View}
-use Rattle.hg_rule.specs.Facts.{StartsWith, HasBegun, groups}
-use Rattle.hg_rule.specs.Rounds.{mark_in, then_loaded, loaded_after, round_record, gone_in, live_entry, entries_of}
+use Rattle.hg_rule.specs.Facts.{StartsWith, IsAmong, HasBegun, groups}
+use Rattle.hg_rule.specs.Rounds.{mark_in, then_loaded, loaded_after, round_record, gone_in, masked_scope, live_entry, entries_of}
 use Rattle.hg_rule.specs.Views.{pass}
 use Rattle.hg_rule.proofs.Lists.{starts_on, each_append, each_left, each_right, each_map}
 use Rattle.hg_tracker.specs.Begun.{AtMost, SawGroups}
 use Rattle.hg_tracker.specs.Entries.{down_from}
+use Rattle.hg_tracker.specs.Gathers.{IsFull}
 use Rattle.hg_tracker.proofs.After.{first_key}
 use Rattle.hg_headline.specs.Following.{told_by, told_removed}
 use Rattle.hg_headline.specs.Gathered.{began_at}
@@ -51,7 +53,7 @@ or_here true true c p q = refl
 or_here true false c p q = absurd (false_true q)
 or_here false b c p q = absurd (false_true p)
 
-began_in : (n : ℕ) (scope : Scope) (log : List LogEntry) → HasBegun (Live n scope false) log → began_at (is_declared scope) n log ≡ true
+began_in : (n : ℕ) (scope : Scope) (log : List LogEntry) → IsAmong (Began n scope) log → began_at (is_declared scope) n log ≡ true
 began_in n scope [] h = absurd h
 began_in n scope (Began at other ∷ log) (inl e) =
     let same : at ≡ n = cc in
@@ -66,54 +68,73 @@ began_in n scope (_ ∷ log) (inl e) = absurd (cc)
 began_in n scope (_ ∷ log) (inr i) = began_in n scope log i
 
 -- each has its begin in its session's log
-abbrev HaveBegun : (ℕ → List LogEntry) → List (ℕ × Register) → Type 0
-HaveBegun logs loaded = Each (λ (e : ℕ × Register). HasBegun e.1 (logs e.0)) loaded
+abbrev HaveBegun : (ℕ → List LogEntry) → List (ℕ × Loaded) → Type 0
+HaveBegun logs loaded = Each (λ (e : ℕ × Loaded). HasBegun e.1.register (logs e.0)) loaded
 
 moved_begun : (r : Register) (log : List LogEntry) → HasBegun r log → HasBegun (moved r) log
 moved_begun Idle log h = tt
 moved_begun (Entering f) log h = tt
-moved_begun (Live number scope moved) log h = h
+moved_begun (Live number declared moved) log h = h
 
-moves_begun : (logs : ℕ → List LogEntry) (j : ℕ) (loaded : List (ℕ × Register)) → HaveBegun logs loaded → HaveBegun logs (moved_in j loaded)
+moves_begun : (logs : ℕ → List LogEntry) (j : ℕ) (loaded : List (ℕ × Loaded)) → HaveBegun logs loaded → HaveBegun logs (moved_in j loaded)
 moves_begun logs j [] h = tt
 moves_begun logs j (e ∷ loaded) h = go (j == e.0) (moves_begun logs j loaded h.1)
   where
-    go : (b : Bool) → HaveBegun logs (moved_in j loaded) → HaveBegun logs (if b then (e.0, moved e.1) ∷ loaded else e ∷ moved_in j loaded)
-    go true k = (moved_begun e.1 (logs e.0) h.0, h.1)
+    go : (b : Bool) → HaveBegun logs (moved_in j loaded) → HaveBegun logs (if b then (e.0, record e.1 { register = moved e.1.register }) ∷ loaded else e ∷ moved_in j loaded)
+    go true k = (moved_begun e.1.register (logs e.0) h.0, h.1)
     go false k = (h.0, k)
 
-then_begun : (logs : ℕ → List LogEntry) (x : Event) (loaded : List (ℕ × Register)) → BeganIn logs x → HaveBegun logs loaded → HaveBegun logs (then_loaded x loaded)
+masks_begun : (logs : ℕ → List LogEntry) (j mask : ℕ) (loaded : List (ℕ × Loaded)) → HaveBegun logs loaded → HaveBegun logs (masked_in j mask loaded)
+masks_begun logs j mask [] h = tt
+masks_begun logs j mask (e ∷ loaded) h = go (j == e.0) (masks_begun logs j mask loaded h.1)
+  where
+    go : (b : Bool) → HaveBegun logs (masked_in j mask loaded) → HaveBegun logs (if b then (e.0, record e.1 { mask = Some mask }) ∷ loaded else e ∷ masked_in j mask loaded)
+    go true k = h
+    go false k = (h.0, k)
+
+then_begun : (logs : ℕ → List LogEntry) (x : Event) (loaded : List (ℕ × Loaded)) → BeganIn logs x → HaveBegun logs loaded → HaveBegun logs (then_loaded x loaded)
 then_begun logs (Sample p j register) loaded b h = (b, h)
+then_begun logs (SampleMask p j mask) loaded b h = masks_begun logs j mask loaded h
 then_begun logs (Move p j number true) loaded b h = moves_begun logs j loaded h
 then_begun logs (Move p j number false) loaded b h = h
 then_begun logs _ loaded b h = h
 
-all_begun : (logs : ℕ → List LogEntry) (events : List Event) (loaded : List (ℕ × Register)) → Each (BeganIn logs) events → HaveBegun logs loaded → HaveBegun logs (loaded_after loaded events)
+all_begun : (logs : ℕ → List LogEntry) (events : List Event) (loaded : List (ℕ × Loaded)) → Each (BeganIn logs) events → HaveBegun logs loaded → HaveBegun logs (loaded_after loaded events)
 all_begun logs [] loaded b h = h
 all_begun logs (x ∷ events) loaded b h = all_begun logs events (then_loaded x loaded) b.1 (then_begun logs x loaded b.0 h)
 
 -- ---- and what is told of them
 
-entries_met : (logs : ℕ → List LogEntry) (loaded : List (ℕ × Register)) → Each (λ e. IsRegister e.1) loaded → HaveBegun logs loaded → Each (WasMet logs) (entries_of loaded)
-entries_met logs [] words h = tt
-entries_met logs (e ∷ loaded) words h = each_append (WasMet logs) (entries_of loaded) (live_entry e.0 e.1) (entries_met logs loaded words.1 h.1) (go e.1 words.0 h.0)
-  where
-    go : (r : Register) → IsRegister r → HasBegun r (logs e.0) → Each (WasMet logs) (live_entry e.0 r)
-    go Idle w b = tt
-    go (Entering f) w b = tt
-    go (Live number scope true) w b = ((began_in number scope (logs e.0) b, w.declared refl), tt)
-    go (Live number scope false) w b = ((began_in number scope (logs e.0) b, tt), tt)
+-- its entry has declared tables exactly where its mask was loaded
+masked_declared : (mask : Option ℕ) → is_declared (masked_scope mask) ≡ is_some mask
+masked_declared None = refl
+masked_declared (Some mask) = refl
 
-lower_below : (n : ℕ) (loaded : List (ℕ × Register)) → least_entering n loaded ≤ n
+entries_met : (logs : ℕ → List LogEntry) (loaded : List (ℕ × Loaded)) → Each (λ e. IsFull e.1) loaded → HaveBegun logs loaded → Each (WasMet logs) (entries_of loaded)
+entries_met logs [] full h = tt
+entries_met logs (e ∷ loaded) full h =
+    each_append (WasMet logs) (entries_of loaded) (live_entry e.0 e.1.register e.1.mask) (entries_met logs loaded full.1 h.1) (go e.1.register e.1.mask full.0.0 full.0.1 h.0)
+  where
+    go : (r : Register) (mask : Option ℕ) → IsRegister r → is_some mask ≡ shows_declared r → HasBegun r (logs e.0) → Each (WasMet logs) (live_entry e.0 r mask)
+    go Idle mask w k b = tt
+    go (Entering f) mask w k b = tt
+    go (Live number declared true) mask w k (scope, (same, b)) =
+        let bit : is_declared (masked_scope mask) ≡ declared = masked_declared mask ∙ k in
+        ((subst (λ d. began_at d number (logs e.0) ≡ true) (sym (bit ∙ same)) (began_in number scope (logs e.0) b), bit ∙ w.declared refl), tt)
+    go (Live number declared false) mask w k (scope, (same, b)) =
+        let bit : is_declared (masked_scope mask) ≡ declared = masked_declared mask ∙ k in
+        ((subst (λ d. began_at d number (logs e.0) ≡ true) (sym (bit ∙ same)) (began_in number scope (logs e.0) b), tt), tt)
+
+lower_below : (n : ℕ) (loaded : List (ℕ × Loaded)) → least_entering n loaded ≤ n
 lower_below n [] = omega arith
-lower_below n (e ∷ loaded) = go e.1 (lower_below n loaded)
+lower_below n (e ∷ loaded) = go e.1.register (lower_below n loaded)
   where
     go : (r : Register) → least_entering n loaded ≤ n → lower (least_entering n loaded) r ≤ n
     go Idle h = h
     go (Entering f) h = omega (arith, h)
-    go (Live number scope moved) h = h
+    go (Live number declared moved) h = h
 
-abbrev sessions_in : List (ℕ × Register) → List ℕ
+abbrev sessions_in : List (ℕ × Loaded) → List ℕ
 sessions_in loaded = map (λ (e : Entry). e.session) (entries_of loaded)
 
 ascends_more : (xs : List ℕ) (x : ℕ) → Ascends xs → Each (λ y. y < x) xs → Ascends (xs ++ x ∷ [])
@@ -121,24 +142,24 @@ ascends_more [] x s h = tt
 ascends_more (a ∷ []) x s h = (h.0, tt)
 ascends_more (a ∷ b ∷ more) x s h = (s.0, ascends_more (b ∷ more) x s.1 h.1)
 
-in_order : (n : ℕ) (loaded : List (ℕ × Register)) → map (λ e. e.0) loaded ≡ down_from n → Ascends (sessions_in loaded) × Each (λ j. j ≤ n) (sessions_in loaded)
+in_order : (n : ℕ) (loaded : List (ℕ × Loaded)) → map (λ e. e.0) loaded ≡ down_from n → Ascends (sessions_in loaded) × Each (λ j. j ≤ n) (sessions_in loaded)
 in_order n [] keys = (tt, tt)
-in_order zero (e ∷ loaded) keys = absurd (let m : suc (length (map (λ (e : ℕ × Register). e.0) loaded)) ≡ 0 = ap length keys in omega (arith, m))
-in_order (suc n) (e ∷ loaded) keys = subst Right (sym (map-append (λ (x : Entry). x.session) (entries_of loaded) (live_entry e.0 e.1))) (go e.1 (in_order n loaded key.1))
+in_order zero (e ∷ loaded) keys = absurd (let m : suc (length (map (λ (e : ℕ × Loaded). e.0) loaded)) ≡ 0 = ap length keys in omega (arith, m))
+in_order (suc n) (e ∷ loaded) keys = subst Right (sym (map-append (λ (x : Entry). x.session) (entries_of loaded) (live_entry e.0 e.1.register e.1.mask))) (go e.1.register e.1.mask (in_order n loaded key.1))
   where
     Right : List ℕ → Type 0
     Right js = Ascends js × Each (λ j. j ≤ suc n) js
 
-    key : (e.0 ≡ suc n) × (map (λ (e : ℕ × Register). e.0) loaded ≡ down_from n)
+    key : (e.0 ≡ suc n) × (map (λ (e : ℕ × Loaded). e.0) loaded ≡ down_from n)
     key = first_key e loaded n keys
 
     more : Each (λ j. j ≤ n) (sessions_in loaded) → Each (λ j. j ≤ suc n) (sessions_in loaded)
     more h = each_map (λ j. j ≤ n) (λ j. j ≤ suc n) (λ j l. omega (arith, l)) (sessions_in loaded) h
 
-    go : (r : Register) → Ascends (sessions_in loaded) × Each (λ j. j ≤ n) (sessions_in loaded) → Right (sessions_in loaded ++ map (λ (x : Entry). x.session) (live_entry e.0 r))
-    go Idle h = subst Right (sym (append-nil (sessions_in loaded))) (h.0, more h.1)
-    go (Entering f) h = subst Right (sym (append-nil (sessions_in loaded))) (h.0, more h.1)
-    go (Live number scope moved) h = (
+    go : (r : Register) (mask : Option ℕ) → Ascends (sessions_in loaded) × Each (λ j. j ≤ n) (sessions_in loaded) → Right (sessions_in loaded ++ map (λ (x : Entry). x.session) (live_entry e.0 r mask))
+    go Idle mask h = subst Right (sym (append-nil (sessions_in loaded))) (h.0, more h.1)
+    go (Entering f) mask h = subst Right (sym (append-nil (sessions_in loaded))) (h.0, more h.1)
+    go (Live number declared moved) mask h = (
       ascends_more (sessions_in loaded) e.0 h.0 (each_map (λ j. j ≤ n) (λ j. j < e.0) (λ j l. let k = key.0 in omega (arith, l, k)) (sessions_in loaded) h.1),
       each_append (λ j. j ≤ suc n) (sessions_in loaded) (e.0 ∷ []) (more h.1) (let k = key.0 in omega (arith, k), tt),
     )
@@ -146,7 +167,7 @@ in_order (suc n) (e ∷ loaded) keys = subst Right (sym (map-append (λ (x : Ent
 -- ---- one round
 
 module _ (kind : Kind) (n : ℕ) (h : History) (logs : ℕ → List LogEntry) (a b : View) (sweep : Sweep) (r : HasSwept kind n a sweep b) where
-  abbrev loaded : List (ℕ × Register)
+  abbrev loaded : List (ℕ × Loaded)
   loaded = (round_record r.steps).loaded
 
   abbrev pub report : Report
@@ -160,8 +181,8 @@ module _ (kind : Kind) (n : ℕ) (h : History) (logs : ℕ → List LogEntry) (a
     kind = refl;
     horizon = lower_below (mark_in r.steps) loaded;
     mark = subst (λ (s : Sweep). s.mark ≤ length h) r.told most;
-    order = (in_order n loaded (subst (λ (l : List (ℕ × Register)). map (λ (e : ℕ × Register). e.0) l ≡ down_from n) same r.keys)).0;
-    met = entries_met logs loaded (subst (Each (λ (e : ℕ × Register). IsRegister e.1)) same r.registers)
+    order = (in_order n loaded (subst (λ (l : List (ℕ × Loaded)). map (λ (e : ℕ × Loaded). e.0) l ≡ down_from n) same r.keys)).0;
+    met = entries_met logs loaded (subst (Each (λ (e : ℕ × Loaded). IsFull e.1)) same r.registers)
         (all_begun logs r.steps [] (each_right (BeganIn logs) a.events r.steps (subst (Each (BeganIn logs)) r.events began)) tt);
   }
 

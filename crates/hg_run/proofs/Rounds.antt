@@ -7,8 +7,7 @@ use Rattle.hg_base.specs.declared.report.Report.{Report}
 use Rattle.hg_base.specs.Lists.{Each}
 use Rattle.hg_base.specs.Reports.{sweep_of}
 use Rattle.hg_base.specs.Shape.{same_kind}
-use Rattle.hg_core.specs.declared.register.Register.{Register}
-use Rattle.hg_core.specs.Words.{IsRegister}
+use Rattle.hg_core.specs.declared.loaded.Loaded.{Loaded}
 use Rattle.hg_rule.specs.declared.view.Part.{Part}
 use Rattle.hg_rule.specs.declared.view.Part.TheVariants.{OfPass}
 use Rattle.hg_rule.specs.declared.view.PassPart.{PassPart}
@@ -22,7 +21,7 @@ use Rattle.hg_rule.specs.Rounds.{IsRoundOf, IsReportOf, entries_of, gone_in}
 use Rattle.hg_rule.specs.Views.{number, pass, pass_there, first_in, others, seeing}
 use Rattle.hg_rule.proofs.Rounds.{told_is}
 use Rattle.hg_tracker.specs.Begun.{AtMost, SawGroups, gathering}
-use Rattle.hg_tracker.specs.Gathers.{IsLoaded}
+use Rattle.hg_tracker.specs.Gathers.{IsFull, IsLoaded}
 use Rattle.hg_tracker.specs.Tries.{is_long, moved_by}
 use Rattle.hg_visit.specs.Visits.{GoesOn}
 use Rattle.hg_visit.proofs.Going.{removed_append, removed_for}
@@ -44,7 +43,7 @@ starts_more xs ys zs a b = (a.0 ++ b.0, b.1 ∙ (ap (λ l. l ++ b.0) a.1 ∙ app
 -- ---- a round, whichever collector's
 
 -- The pass gathered, maybe moved, and then visited.
-module _ (kind : Kind) (v y w : View) (report : Report) (mark sessions : ℕ) (loaded : List (ℕ × Register)) (there : y.parts ≡ OfPass (number v) (gathering mark loaded v) ∷ others v) (on : GoesOn kind y w) where
+module _ (kind : Kind) (v y w : View) (report : Report) (mark sessions : ℕ) (loaded : List (ℕ × Loaded)) (there : y.parts ≡ OfPass (number v) (gathering mark loaded v) ∷ others v) (on : GoesOn kind y w) where
   abbrev part : PassPart
   part = record (gathering mark loaded v) { visits = on.visits ++ (pass v).visits }
 
@@ -69,8 +68,8 @@ module _ (kind : Kind) (v y w : View) (report : Report) (mark sessions : ℕ) (l
         parts = parts ∙ ap (λ (p : PassPart). OfPass (number v) p ∷ others v) (sym own);
         share = ap (λ (p : PassPart). p.share) own;
         seen = ap (λ (p : PassPart). p.seen) own;
-        keys = ap (map (λ (e : ℕ × Register). e.0)) held ∙ is.0;
-        registers = subst (Each (λ (e : ℕ × Register). IsRegister e.1)) (sym held) is.1;
+        keys = ap (map (λ (e : ℕ × Loaded). e.0)) held ∙ is.0;
+        registers = subst (Each (λ (e : ℕ × Loaded). IsFull e.1)) (sym held) is.1;
         most = most;
         saw = saw_more report.mark y.sights w.sights on.kept (subst (λ n. SawGroups n y.sights) same saw);
         kept = starts_more v.sights y.sights w.sights kept on.kept;
@@ -88,8 +87,8 @@ group_swept z v w report c = swept Group v c.gathered w report (pass c.gathered)
 pub table_swept : (z : Sizes) (long : ℕ) (v w : View) (report : Report) → Cuts z long v report w → HasSwept Table z.sessions v (sweep_of report) w
 table_swept z long v w report c =
     let r = c.reports in
-    let gathered : List (ℕ × Register) = (pass c.gathered).loaded in
-    let moved : List (ℕ × Register) = moved_by (filter (is_long (pass c.gathered).mark long) (entries_of gathered)) c.moves.outcomes gathered in
+    let gathered : List (ℕ × Loaded) = (pass c.gathered).loaded in
+    let moved : List (ℕ × Loaded) = moved_by (filter (is_long (pass c.gathered).mark long) (entries_of gathered)) c.moves.outcomes gathered in
     let there : c.moved.parts ≡ OfPass (number v) (gathering (pass c.gathered).mark moved v) ∷ others v = c.moves.parts ∙ ap F c.gathers.parts in
     let same : (pass c.moved).loaded ≡ moved = ap (λ ps. (pass_there (first_in ps)).loaded) there in
     swept Table v c.moved w report (pass c.gathered).mark z.sessions moved there c.visits.on r.steps r.events r.round r.report_is r.most c.visits.gone_is (subst (IsLoaded z.sessions) same c.loaded)

@@ -11,14 +11,13 @@ use Rattle.hg_base.specs.Lists.{Each}
 use Rattle.hg_base.specs.Shape.{same_kind}
 use Rattle.hg_base.specs.Transcript.{stored_by}
 use Rattle.hg_core.specs.declared.log.LogEntry.{LogEntry}
-use Rattle.hg_core.specs.declared.register.Register.{Register}
+use Rattle.hg_core.specs.declared.loaded.Loaded.{Loaded}
 use Rattle.hg_core.specs.Events.{put}
 use Rattle.hg_core.specs.Logs.{current}
 use Rattle.hg_core.specs.Passes.{found}
 use Rattle.hg_core.specs.Phases.{IsEntering}
 use Rattle.hg_core.specs.Reach.{StandsIn}
 use Rattle.hg_core.specs.Reading.{Unprinted, Fits, FitsScope, is_alone, log_with, log_after}
-use Rattle.hg_core.specs.Words.{IsRegister}
 use Rattle.hg_rule.specs.declared.view.Part.{Part}
 use Rattle.hg_rule.specs.declared.view.View.{View}
 use Rattle.hg_rule.specs.Agreed.{RecordAgrees}
@@ -201,11 +200,11 @@ module _ (e : Engine) (kind : Kind) (i : ℕ) (v v1 w : View) (sweep : Sweep) (o
       let agrees : RecordAgrees (suc k) (session (view_of s)) (pass w) = subst (λ j. RecordAgrees j (session (view_of s)) (pass w)) placed.number_is (all.met d k below).agrees in
       go (found (suc k) (pass w).loaded) s log (λ p. at_rest (opened_of s) (subst IsEntering placed.own.ties.phase p)) agrees.reaches
     where
-      go : (o : Option Register) (s : Session) → log_of s ≡ logs (suc k) → (IsEntering (session (view_of s)).phase → ⊥) → IfSome o (λ r. StandsIn (heard (suc k) (pass w).seen) r (session (view_of s)).log (session (view_of s)).phase) → IfSome o (λ r. ShowsLog r (logs (suc k)))
+      go : (o : Option Loaded) (s : Session) → log_of s ≡ logs (suc k) → (IsEntering (session (view_of s)).phase → ⊥) → IfSome o (λ r. StandsIn (heard (suc k) (pass w).seen) r.register (session (view_of s)).log (session (view_of s)).phase) → IfSome o (λ r. ShowsLog r.register (logs (suc k)))
       go None s log rests h = tt
       go (Some r) s log rests h =
           let long : length (log_of s) ≤ heard (suc k) (pass w).seen = subst (λ l. length l ≤ heard (suc k) (pass w).seen) (sym log) (whole (suc k)) in
-          subst (ShowsLog r) log (reached (heard (suc k) (pass w).seen) r (log_of s) (session (view_of s)).phase long rests h)
+          subst (ShowsLog r.register) log (reached (heard (suc k) (pass w).seen) r.register (log_of s) (session (view_of s)).phase long rests h)
 
   all_shown : ShowLogs logs (pass w).loaded
   all_shown = all_show logs sessions (pass w).loaded round.keys shows
@@ -214,13 +213,12 @@ module _ (e : Engine) (kind : Kind) (i : ℕ) (v v1 w : View) (sweep : Sweep) (o
   report =
       let is : (pass w).loaded ≡ (round_record round.steps).loaded = round.round.loaded_is in
       let shown : ShowLogs logs (round_record round.steps).loaded = subst (ShowLogs logs) is all_shown in
-      let keys : map (λ (x : ℕ × Register). x.0) (round_record round.steps).loaded ≡ down_from sessions = subst (λ (l : List (ℕ × Register)). map (λ (x : ℕ × Register). x.0) l ≡ down_from sessions) is round.keys in
-      let words : Each (λ (x : ℕ × Register). IsRegister x.1) (round_record round.steps).loaded = subst (Each (λ (x : ℕ × Register). IsRegister x.1)) is round.registers in
+      let keys : map (λ (x : ℕ × Loaded). x.0) (round_record round.steps).loaded ≡ down_from sessions = subst (λ (l : List (ℕ × Loaded)). map (λ (x : ℕ × Loaded). x.0) l ≡ down_from sessions) is round.keys in
       record {
         same = kind_is_itself kind;
         horizon = none_enters logs (round_record round.steps).mark (round_record round.steps).loaded shown;
         held = held_are logs sessions (round_record round.steps).loaded keys shown;
-        moved = moved_are logs (round_record round.steps).loaded words shown;
+        moved = moved_are logs (round_record round.steps).loaded shown;
       }
 
   pub met_report : IsMetReport sessions logs kind sweep

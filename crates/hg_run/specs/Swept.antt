@@ -6,7 +6,6 @@ use Rattle.hg_base.specs.declared.report.Sweep.{Sweep}
 use Rattle.hg_base.specs.Lists.{Each}
 use Rattle.hg_base.specs.declared.line.Reply.{Reply}
 use Rattle.hg_base.specs.Shape.{same_kind, report_of}
-use Rattle.hg_core.specs.Words.{IsRegister}
 use Rattle.hg_rule.specs.declared.view.Event.{Event}
 use Rattle.hg_rule.specs.declared.view.Part.TheVariants.{OfPass}
 use Rattle.hg_rule.specs.declared.view.View.{View}
@@ -16,6 +15,7 @@ use Rattle.hg_rule.specs.Rounds.{IsRoundOf, round_told}
 use Rattle.hg_rule.specs.Views.{number, session, pass, others}
 use Rattle.hg_tracker.specs.Begun.{AtMost, SawGroups}
 use Rattle.hg_tracker.specs.Entries.{down_from}
+use Rattle.hg_tracker.specs.Gathers.{IsFull}
 use Rattle.hg_core.specs.Counters.{removed_all}
 use Rattle.hg_session.specs.declared.session.Session.{Session}
 use Rattle.hg_session.specs.Sessions.{view_of, number_of, left_of}
@@ -30,7 +30,7 @@ abbrev pub told_of : Kind → Reply → ℕ
 told_of kind reply = option_map_or (swept_by kind) (report_of reply) 0
 
 -- A round of a collector of that kind, which is told so. It began with a load of the mark, when the pass had seen all that it had
--- seen before; it loaded the register of each session; and all that it removed is told. Its part stays alone, with its share.
+-- seen before; it loaded the words of each session; and all that it removed is told. Its part stays alone, with its share.
 pub record HasSwept (kind : Kind) (sessions : ℕ) (v : View) (sweep : Sweep) (w : View) : Type 0 where
   pub steps : List Event
   pub events : w.events ≡ v.events ++ steps
@@ -40,7 +40,7 @@ pub record HasSwept (kind : Kind) (sessions : ℕ) (v : View) (sweep : Sweep) (w
   pub share : (pass w).share ≡ (pass v).share
   pub seen : (pass w).seen ≡ v.sights
   pub keys : map (λ e. e.0) (pass w).loaded ≡ down_from sessions
-  pub registers : Each (λ e. IsRegister e.1) (pass w).loaded
+  pub registers : Each (λ e. IsFull e.1) (pass w).loaded
   pub most : Each (AtMost sweep.mark) v.sights
   pub saw : SawGroups sweep.mark w.sights
   pub kept : StartsWith w.sights v.sights

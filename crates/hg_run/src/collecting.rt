@@ -38,7 +38,7 @@ impl Collectors {
         sessions: u32,
         tables: u32,
     ) -> Result<Collectors, NoMemory>
-        requires tables { tables ≤ 16 }
+        requires tables { tables ≤ 64 }
         ensures same { IfOk result (λ c. passes_of c ≡ passes) }
         ensures own { (e : Engine) → AreAlone e passes → (engine_sizes e).sessions ≡ sessions → (engine_sizes e).tables ≡ tables → IfOk result (AreCollectors e) }
     {
