@@ -301,6 +301,44 @@ fn twenty_accounts_are_left(rt: HostRuntime) -> Result<(), Fail> {
     Ok(())
 }
 
+// 64 tables and 64 sessions, each of which declares one of its own. Session 1 stays at the first snapshot, and sees nothing of the
+// other tables, which are written three times while it stays, with a round of each collector between.
+fn own_tables(alloc: Global) -> Result<String, Fail> {
+    let mut script = String::new(alloc);
+    for table in 1..65 {
+        script.push_str(&format!(in alloc; "table,t{table},1\n")?)?;
+    }
+    script.push_str("1,begin,t1\n1,put,t1,5,0\n")?;
+    for row in 0..3 {
+        for session in 2..65 {
+            script.push_str(&format!(in alloc;
+                "{session},begin,t{session}\n{session},put,t{session},5,{row}\n{session},get,t{session},5\n{session},get,t1,5\n{session},commit\n"
+            )?)?;
+        }
+        script.push_str("1,gc,group\n2,gc,table\n3,gc,interval\n")?;
+    }
+    script.push_str("1,get,t1,5\n1,get,t64,5\n1,commit\n1,gc,table\n")?;
+    Ok(script)
+}
+
+// What is printed is sound, and each table keeps one row. In a replay the table collector moves session 1 to its own table, and
+// so takes what the other tables have under their newest rows.
+#[test]
+fn each_session_declares_its_own_table(rt: HostRuntime) -> Result<(), Fail> {
+    let source = own_tables(rt.alloc())?;
+    let script = read_script(rt.alloc(), source.as_bytes())?;
+    for words in ["replay --long 1", "run --long 1"] {
+        let text = written(&rt, rt.alloc(), words, source.as_str(), &NoGate)?;
+        let verdict = audit(rt.alloc(), &script, &text)?;
+        assert_eq!(rt; verdict, Verdict::Sound, "at {words}");
+        let printed = read_text(rt.alloc(), &script, &text)?;
+        assert_eq!(rt; printed.totals.made, 190);
+        assert_eq!(rt; printed.totals.left, 64);
+        balances(&rt, &printed.totals);
+    }
+    Ok(())
+}
+
 // Eight sessions put 50 keys each, all different.
 fn puts(alloc: Global) -> Result<String, Fail> {
     let mut script = String::from_str(alloc, "table,t,1\n")?;

@@ -1,6 +1,6 @@
 //! Calls over a source and a sink in memory, and a text with every answer.
 
-ghost use Rattle.std.specs.Prelude.{◌<◌};
+ghost use Rattle.std.specs.Prelude.{◌<◌, ◌≤◌};
 
 use crate::watched::{WatchedSink, WatchedSource};
 use hg_base::{
@@ -142,9 +142,6 @@ fn seeds_are_loaded(rt: HostRuntime) -> Result<(), Fail> {
     Ok(())
 }
 
-const SEVENTEEN: &str =
-    "table,a,1\ntable,b,1\ntable,c,1\ntable,d,1\ntable,e,1\ntable,f,1\ntable,g,1\ntable,h,1\ntable,i,1\ntable,j,1\ntable,k,1\ntable,l,1\ntable,m,1\ntable,n,1\ntable,o,1\ntable,p,1\ntable,q,1\n";
-
 // Scripts that break a rule: what is told is the record and its first code, and nothing is written.
 #[test]
 fn scripts_are_refused(rt: HostRuntime) -> Result<(), Fail> {
@@ -177,7 +174,6 @@ fn scripts_are_refused(rt: HostRuntime) -> Result<(), Fail> {
         ("table,t,1\n1,get,t,18446744073709551616\n", 2, "Range"),
         ("table,t,1\n1,gc,Group\n", 2, "Name"),
         ("table,t,1\n1,rollback\n", 2, "Order"),
-        (SEVENTEEN, 17, "Count"),
     ] {
         let mut sink = MemorySink::new(rt.alloc(), 4, Vec::new(rt.alloc()));
         sink.reserve(256)?;
@@ -192,6 +188,49 @@ fn scripts_are_refused(rt: HostRuntime) -> Result<(), Fail> {
         assert_eq!(rt; status.exit_code(), 3);
         assert!(rt; sink.bytes().is_empty());
     }
+    Ok(())
+}
+
+// So many tables, t1 and on, of one column.
+fn tables(alloc: Global, many: u64) -> Result<String, Fail>
+    requires { many ≤ 65 }
+{
+    let mut script = String::new(alloc);
+    for table in 1..many + 1 {
+        script.push_str(&format!(in alloc; "table,t{table},1\n")?)?;
+    }
+    Ok(script)
+}
+
+// One table more than a script may have.
+#[test]
+fn tables_are_limited(rt: HostRuntime) -> Result<(), Fail> {
+    let mut sink = MemorySink::new(rt.alloc(), 4, Vec::new(rt.alloc()));
+    sink.reserve(256)?;
+    let script = tables(rt.alloc(), 65)?;
+    let bytes = Vec::from_slice(rt.alloc(), script.as_bytes())?;
+    let status = call(&rt, rt.alloc(), "replay", bytes, 8, &[], &mut sink)?;
+    let said = format!(in rt.alloc(); "{status}")?;
+    assert_eq!(rt; said.as_bytes(), b"script record 65: Count".as_slice());
+    assert_eq!(rt; status.exit_code(), 3);
+    assert!(rt; sink.bytes().is_empty());
+    Ok(())
+}
+
+// A transaction declares the seventeenth table alone.
+#[test]
+fn seventeenth_table_is_declared(rt: HostRuntime) -> Result<(), Fail> {
+    let mut sink = MemorySink::new(rt.alloc(), 4, Vec::new(rt.alloc()));
+    sink.reserve(256)?;
+    let tables = tables(rt.alloc(), 17)?;
+    let script = format!(in rt.alloc(); "{tables}1,begin,t17\n1,get,t1,1\n1,get,t17,1\n")?;
+    let bytes = Vec::from_slice(rt.alloc(), script.as_bytes())?;
+    let status = call(&rt, rt.alloc(), "replay", bytes, 8, &[], &mut sink)?;
+    assert_eq!(rt; status, Status::Done);
+    let want = format!(in rt.alloc();
+        "1,18,begun,0\n1,19,refused,undeclared,t1\n1,20,none\n{NO_TOTALS}"
+    )?;
+    assert_eq!(rt; sink.bytes(), want.as_bytes());
     Ok(())
 }
 

@@ -31,6 +31,7 @@ fn begin(board: &Board, pass: &mut SessionPass) -> u64
     ensures own { IsSessionOf (board_id board.now) (sizes_of board.now) pass.new }
     ensures parts { (session_view pass.new).parts ≡ OfSession (number (session_view pass.old)) (logging (Began result All) (Live result All) (session (session_view pass.old))) ∷ [] }
 {
+    board.declare(pass, Scope::All);
     let from = board.probe(pass);
     board.enter(pass, from);
     let at = board.fix(pass);

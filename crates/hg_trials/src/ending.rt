@@ -33,7 +33,7 @@ pub(crate) fn end<R: Wait>(
     requires all { length sessions.items ≡ (engine_sizes engine.now).sessions }
     requires passes { AreAlone engine.now passes }
     requires sessions_are { (engine_sizes engine.now).sessions ≡ size.sessions }
-    requires tables_are { ((engine_sizes engine.now).tables ≡ size.tables) × (size.tables ≤ 16) }
+    requires tables_are { ((engine_sizes engine.now).tables ≡ size.tables) × (size.tables ≤ 64) }
 {
     let Passes {
         group,

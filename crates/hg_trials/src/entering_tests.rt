@@ -1,41 +1,49 @@
-//! A session enters while others commit, step by step, and a collector gathers.
+//! A session enters while others commit, or begins anew between two loads of a pass, step by step.
 
-ghost use Rattle.std.specs.Prelude.{◌≡◌, ◌+◌, ◌<◌, ◌≤◌, ◌^◌, suc, true, false, [], ◌∷◌, length, IsSome, IsTrue};
+ghost use Rattle.std.specs.Prelude.{◌≡◌, ◌+◌, ◌<◌, ◌≤◌, ◌^◌, suc, true, false, [], ◌∷◌, length, None, Some, IsSome, IsTrue};
 ghost use Rattle.hg_base.specs.declared.rid.Rid.{Rid};
+ghost use Rattle.hg_base.specs.declared.rid.TableId.{TableId};
 ghost use Rattle.hg_base.specs.declared.scope.Scope.TheVariants.{All};
 ghost use Rattle.hg_base.specs.History.{same_rid};
 ghost use Rattle.hg_core.specs.declared.phase.Phase.TheVariants.{Live};
 ghost use Rattle.hg_core.specs.declared.log.LogEntry.TheVariants as entries;
 ghost use Rattle.hg_core.specs.Logs.{begans, wrotes, is_plain, open_in};
-ghost use Rattle.hg_core.specs.Phases.{snapshot_in};
+ghost use Rattle.hg_core.specs.Phases.{IsSession, snapshot_in};
+ghost use Rattle.hg_core.specs.Passes.{horizon, recorded};
+ghost use Rattle.hg_core.specs.declared.register.Register.TheVariants as registers;
 ghost use Rattle.hg_core.specs.Versions.{IsOpenBy};
+ghost use Rattle.hg_core.specs.Words.{IsBelow};
 ghost use Rattle.hg_core.specs.Contents.{bucket_of, look};
 ghost use Rattle.hg_rule.specs.declared.view.Part.TheVariants.{OfSession};
-ghost use Rattle.hg_rule.specs.Views.{number};
+ghost use Rattle.hg_rule.specs.Facts.{record_of};
+ghost use Rattle.hg_rule.specs.Views.{number, pass as own_pass};
 ghost use Rattle.hg_rule.specs.Steps.{logging};
 ghost use Rattle.hg_rule.specs.Holding.{writer, tables};
 ghost use Rattle.hg_rule.specs.Writes.{with_entry, with_published, installing, stamping};
-ghost use Rattle.hg_rule.specs.Seats.{board_id, sizes_of, session_view, IsBucketOf, IsCommitOf};
+ghost use Rattle.hg_rule.specs.Seats.{board_id, sizes_of, session_view, pass_view, IsPassOf, IsBucketOf, IsCommitOf};
 ghost use Rattle.hg_trials.specs.Between.{own_session, own_bucket, own_commit, IsAlone, Rests, IsFreeFrom};
 
 use hg_base::{Entry, Image, Rid, Scope, TableId};
-use hg_rule::{Board, BucketSeat, CommitSeat, SessionPass};
+use hg_core::Register;
+use hg_rule::{Board, BucketSeat, CollectorPass, CommitSeat, SessionPass};
 use hg_tracker::{Gathered, Trackers};
 use std::snapshot::Snapshot;
 use std::test::Fail;
 
-// Takes a snapshot of all tables.
-fn begin(board: &Board, pass: &mut SessionPass) -> u64
+// Takes a snapshot.
+fn begin(board: &Board, pass: &mut SessionPass, scope: Scope) -> u64
     requires own { IsAlone (board_id board.now) (sizes_of board.now) pass.old }
     requires rests { Rests pass.old }
+    requires tables { IsBelow (sizes_of board.now).tables scope }
     requires room { begans (own_session pass.old).log < (sizes_of board.now).quota }
-    ensures parts { (session_view pass.new).parts ≡ OfSession (number (session_view pass.old)) (logging (entries.Began result All) (Live result All) (own_session pass.old)) ∷ [] }
+    ensures parts { (session_view pass.new).parts ≡ OfSession (number (session_view pass.old)) (logging (entries.Began result scope) (Live result scope) (own_session pass.old)) ∷ [] }
     ensures own { IsAlone (board_id board.now) (sizes_of board.now) pass.new }
 {
+    board.declare(pass, scope);
     let from = board.probe(pass);
     board.enter(pass, from);
     let at = board.fix(pass);
-    board.go_live(pass, at, Scope::All);
+    board.go_live(pass, at, scope);
     at
 }
 
@@ -127,7 +135,7 @@ fn commit_one(
     let table = TableId(0);
     let rid = Rid { table, key };
     let image = Image { row: None };
-    begin(board, pass);
+    begin(board, pass, Scope::All);
     let bucket = write(board, pass, bucket, rid, &image);
     let seats = commit_alone(board, pass, bucket, commit, rid);
     board.end(pass);
@@ -183,6 +191,7 @@ fn a_session_enters_while_others_commit(rt: HostRuntime) -> Result<(), Fail> {
     let trackers = Trackers::new(board);
     let board = trackers.board();
     let (bucket, commit) = commit_some(board, &mut second, bucket, seats.commit, 0, 4);
+    board.declare(&mut first, Scope::All);
     let from = board.probe(&mut first);
     assert_eq!(rt; from, 4);
     board.enter(&mut first, from);
@@ -205,5 +214,59 @@ fn a_session_enters_while_others_commit(rt: HostRuntime) -> Result<(), Fail> {
     };
     assert_eq!(rt; gathered.horizon(), 9);
     assert_eq!(rt; gathered.entries(), [live].as_slice());
+    Ok(())
+}
+
+// Loads the mask of session 1. The pass has loaded its register alone, after the mark 4: it reads at 2, with declared tables.
+// Whatever the mask is, the snapshot counts for every table until it is moved.
+fn load_mask(board: &Board, pass: &mut CollectorPass) -> u64
+    requires own { IsPassOf (board_id board.now) pass.old }
+    requires session { IsSession (sizes_of board.now).sessions 1 }
+    requires mark { (own_pass (pass_view pass.old)).mark ≡ 4 }
+    requires loaded { (own_pass (pass_view pass.old)).loaded ≡ (1, record { register = registers.Live 2 true false; mask = None }) ∷ [] }
+    ensures horizon { horizon (record_of (own_pass (pass_view pass.new))) ≡ 4 }
+    ensures recorded { (table : TableId) → recorded table (record_of (own_pass (pass_view pass.new))) ≡ 2 ∷ [] }
+    ensures loaded { (own_pass (pass_view pass.new)).loaded ≡ (1, record { register = registers.Live 2 true false; mask = Some result }) ∷ [] }
+    ensures own { IsPassOf (board_id board.now) pass.new }
+{
+    board.sample_mask(pass, 1)
+}
+
+// Session 1 reads at 2 and declared table 0, and the mark is 4. A pass loads the mark and the register. Before it loads the mask,
+// the session begins anew at 4, with table 1 declared. So the pass finds the newer mask beside the older number, and its move
+// finds that the register shows another.
+#[test]
+fn a_session_begins_anew_between_two_loads(rt: HostRuntime) -> Result<(), Fail> {
+    let (board, seats) = Board::new(rt.alloc(), 2, 2, 1, 4)?;
+    let mut passes = seats.sessions.into_vec();
+    let mut buckets = seats.buckets.into_vec();
+    let (Some(mut second), Some(mut first), Some(bucket)) = (
+        passes.pop(),
+        passes.pop(),
+        buckets.pop(),
+    ) else {
+        unreachable!()
+    };
+    let mut collector = seats.group;
+    let (bucket, commit) = commit_some(&board, &mut second, bucket, seats.commit, 0, 2);
+    let at = begin(&board, &mut first, Scope::Declared(1));
+    assert_eq!(rt; at, 2);
+    commit_some(&board, &mut second, bucket, commit, 2, 2);
+    let mark = board.mark(&mut collector);
+    assert!(rt; mark == 4);
+    let register = board.sample(&mut collector, 1);
+    let Register::Live {
+        number: 2,
+        declared: true,
+        moved: false,
+    } = register else {
+        assert!(rt; false, "at {mark}");
+        return Ok(());
+    };
+    board.end(&mut first);
+    let at = begin(&board, &mut first, Scope::Declared(2));
+    assert_eq!(rt; at, 4);
+    assert_eq!(rt; load_mask(&board, &mut collector), 2);
+    assert!(rt; !board.move_one(&mut collector, 1, register));
     Ok(())
 }

@@ -39,6 +39,7 @@ fn first_of(
     };
     let mut records = RidList::new(alloc);
     records.reserve()?;
+    board.declare(pass, Scope::All);
     let from = board.probe(pass);
     board.enter(pass, from);
     let at = board.fix(pass);

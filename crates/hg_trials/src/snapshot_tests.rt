@@ -129,6 +129,7 @@ fn enter_and_begin(trackers: &Trackers, sessions: Vec<SessionPass>)
     for session in sessions {
         let mut session = session;
         if is_first {
+            trackers.board().declare(&mut session, Scope::All);
             let from = trackers.board().probe(&mut session);
             trackers.board().enter(&mut session, from);
             is_first = false;

@@ -79,6 +79,7 @@ fn begin(board: &Board, pass: &mut SessionPass) -> u64
     ensures log { (session (session_view pass.new)).log ≡ Began result All ∷ (session (session_view pass.old)).log }
     ensures stamped { (session (session_view pass.new)).stamped ≡ (session (session_view pass.old)).stamped }
 {
+    board.declare(pass, Scope::All);
     let from = board.probe(pass);
     board.enter(pass, from);
     let at = board.fix(pass);
