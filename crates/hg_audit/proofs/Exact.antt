@@ -13,7 +13,8 @@ use Rattle.hg_audit.specs.declared.verdict.Why.TheVariants as whys
 use Rattle.hg_audit.specs.declared.verdict.Verdict.{Verdict}
 use Rattle.hg_audit.specs.declared.verdict.Verdict.TheVariants.{Sound, Unsound}
 use Rattle.hg_audit.specs.Verdict.{IsJudgedAs, IsFinding, IsVerdict, IsSoundText}
-use Rattle.hg_audit.proofs.Sequencing.{shown_of, run_lines, out_of_shape}
+use Rattle.hg_audit.proofs.Sequencing.{run_lines, out_of_shape}
+use Rattle.hg_known.specs.Sequenced.{shown_of}
 use Rattle.hg_audit.proofs.Sounding.{of_sound}
 
 -- a text is judged in one way

@@ -2,6 +2,7 @@
 use Rattle.std.specs.Prelude.{◌≡◌, ℕ, List, [], length, IsTrue, IsSome}
 use Rattle.std.specs.List.{list_any}
 use Rattle.hg_base.specs.declared.rid.Rid.{Rid}
+use Rattle.hg_base.specs.declared.image.Image.{Image}
 use Rattle.hg_base.specs.Lists.{onto}
 use Rattle.hg_base.specs.History.{History, image_in}
 use Rattle.hg_base.specs.Transcript.{Said, stored_in}
@@ -10,6 +11,7 @@ use Rattle.hg_audit.specs.declared.reply.Command.TheVariants.{Run}
 use Rattle.hg_known.specs.Asked.{names_writer}
 use Rattle.hg_known.specs.Owned.{AreOwn}
 use Rattle.hg_known.specs.Ended.{AreNumbers}
+use Rattle.hg_known.specs.declared.writes.Slot.{Slot}
 use Rattle.hg_known.specs.Written.{IsOfHistory}
 
 -- the facts are those of these lines and their history
@@ -18,6 +20,10 @@ pub record Knows (h : History) (all : List Said) (facts : Facts) : Type 0 where
   pub groups : length h ≡ facts.groups
   pub own : facts.command ≡ Run → IsTrue (list_any names_writer all) → AreOwn facts.own.now (onto all [])
   pub numbers : AreNumbers facts.numbers.now (onto all [])
+
+-- the writes of some history of so many groups
+abbrev pub HasHistory : List (Slot × Image) → ℕ → Type 0
+HasHistory writes groups = (h : History) × IsOfHistory h writes × (length h ≡ groups)
 
 -- a line that is refused for an open write is one of all lines
 abbrev pub IsAsked : List Said → Said → Type 0

@@ -8,7 +8,7 @@ ghost use Rattle.hg_base.specs.Transcript as script;
 ghost use Rattle.hg_base.specs.Transcript.{history_of};
 ghost use Rattle.hg_decide.specs.Audit.{IsRightReply, FirstWithout};
 ghost use Rattle.hg_known.specs.Asked.{names_writer};
-ghost use Rattle.hg_known.specs.Lines.{said_of, all_of};
+ghost use Rattle.hg_known.specs.Lines.{said_of};
 ghost use Rattle.hg_known.specs.Owned.{HasOwn};
 ghost use Rattle.hg_known.specs.Ended.{AreOver, AreOpenOwn, IsOpen};
 ghost use Rattle.hg_audit.specs.Judged.{IsOf};
@@ -18,7 +18,7 @@ use crate::conflict::shows_conflict;
 use crate::facts::Facts;
 use crate::judge::is_reply;
 use hg_base::NoMemory;
-use hg_known::{Over, Own, Said, do_name_writers};
+use hg_known::{Lines, Over, Own, Said, do_name_writers};
 use std::alloc::Global;
 
 // Whether a line has the right reply, and shows the cause of a refused write.
@@ -45,23 +45,24 @@ fn keep_over(over: &mut Over, asked: bool, said: &Said) -> Result<(), NoMemory>
 pub fn first_unanswered(
     alloc: Global,
     facts: &Facts,
-    all: &[Said],
+    all: &Lines<'_>,
 ) -> Result<Option<usize>, NoMemory>
-    requires { EachAfter IsOpen [] (all_of all.now) }
-    ensures { IfOk result (λ found. (mode : Mode) → IsOf facts.now.command mode → Knows (history_of (all_of all.now)) (all_of all.now) facts.now →
-        MatchOption found (EachAfter (IsRightReply mode (all_of all.now)) [] (all_of all.now)) (λ k. FirstWithout (IsRightReply mode (all_of all.now)) [] (all_of all.now) k)) }
+    requires { EachAfter IsOpen [] all.now }
+    ensures { IfOk result (λ found. (mode : Mode) → IsOf facts.now.command mode → Knows (history_of all.now) all.now facts.now →
+        MatchOption found (EachAfter (IsRightReply mode all.now) [] all.now) (λ k. FirstWithout (IsRightReply mode all.now) [] all.now k)) }
 {
     let mut own = Own::new(alloc);
     let mut over = Over::new(alloc);
     let asked = do_name_writers(all);
+    let mut reader = all.reader(alloc);
     for k in 0..all.len() {
-        let said = &all[k];
-        if !is_answered(facts, &own, &over, said) {
+        let said = reader.read()?;
+        if !is_answered(facts, &own, &over, &said) {
             return Ok(Some(k));
         }
-        own.add(said)?;
-        own.close(said);
-        keep_over(&mut over, asked, said)?;
+        own.add(&said)?;
+        own.close(&said);
+        keep_over(&mut over, asked, &said)?;
     }
     Ok(None)
 }

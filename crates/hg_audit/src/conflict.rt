@@ -137,7 +137,7 @@ fn shows_cause(facts: &Facts, own: &Own, over: &Over, now: &Said, rid: Rid) -> b
 pub fn shows_conflict(facts: &Facts, own: &Own, over: &Over, now: &Said) -> bool
     ensures { (mode : Mode) (h : History) (all earlier : List script.Said) → IsOf facts.now.command mode → Knows h all facts.now → IsAsked all (said_of now.now) → IsPart earlier all → HasOwn own.now earlier (said_of now.now) → AreOpenOwn own.now earlier → (IsTrue (names_writer (said_of now.now)) → AreOver over.now earlier) → Decides result (ShowsConflict mode h all earlier (said_of now.now)) }
 {
-    match target(now.statement) {
+    match target(&now.statement) {
         Some(rid) => shows_cause(facts, own, over, now, rid),
         None => true,
     }

@@ -163,7 +163,7 @@ fn is_exact(before: &Before, now: &Said) -> bool
         return false;
     }
     match &now.reply.answer {
-        Answer::Swept(sweep) => is_replayed(before, now.statement, sweep),
+        Answer::Swept(sweep) => is_replayed(before, &now.statement, sweep),
         _ => true,
     }
 }

@@ -34,7 +34,7 @@ fn is_stored(now: &Said) -> bool
     ensures { result ≡ is_some (script.stored (said_of now.now)) }
 {
     matches!(
-        (now.statement, &now.reply.answer),
+        (&now.statement, &now.reply.answer),
         (Statement::Put(..), Answer::Stored) | (Statement::Del(_), Answer::Gone)
     )
 }
@@ -58,10 +58,10 @@ fn is_scan(writes: &Writes, own: &Own, now: &Said, table: TableId, low: u64, hig
 // Whether the answer is the table's.
 fn is_answer(command: Command, writes: &Writes, own: &Own, now: &Said) -> bool
     ensures { (mode : Mode) (h : History) (earlier : List script.Said) → IsOf command mode → IsOfHistory h writes.now → HasOwn own.now earlier (said_of now.now) →
-        Decides result (IsAnswer mode (seen h (own_writes earlier (said_of now.now)) now.now.at) (is_written (own_writes earlier (said_of now.now))) (said_of now.now) now.now.statement.now) }
+        Decides result (IsAnswer mode (seen h (own_writes earlier (said_of now.now)) now.now.at) (is_written (own_writes earlier (said_of now.now))) (said_of now.now) now.now.statement) }
 {
     let answer = &now.reply.answer;
-    match now.statement {
+    match &now.statement {
         Statement::Begin(_) => is_begun(answer),
         Statement::Get(rid) => {
             if !is_within(now, rid.table) {

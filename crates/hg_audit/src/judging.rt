@@ -12,12 +12,11 @@ ghost use Rattle.hg_audit.specs.Verdict.{IsFinding, IsVerdict, IsOfRun, IsAudit,
 use crate::lines::{Found, find_fault};
 use crate::place::{first_of, last_of};
 use crate::reply::Command;
-use crate::sequence::{
-    add_all_rounds, as_they_stand, by_session, count_rounds, has_session_report,
-};
+use crate::sequence::has_session_report;
 use crate::shape::first_out_of_shape;
 use crate::verdict::{Verdict, Why};
-use hg_base::{Line, NoMemory, Printed, Record};
+use hg_base::{Line, NoMemory, Printed};
+use hg_known::Sequence;
 use hg_report::{TextRefusal, read_text};
 use hg_script::Script;
 use std::alloc::Global;
@@ -40,7 +39,7 @@ fn at_end(lines: &[Line], why: Why) -> Result<Verdict, NoMemory>
 fn find(
     alloc: Global,
     command: Command,
-    order: &[Record],
+    order: &Sequence<'_>,
     printed: &Printed,
 ) -> Result<Verdict, NoMemory>
     ensures { IfOk result (λ verdict. (mode : Mode) (script : Meaning) → IsOf command mode → order.now ≡ in_order mode script.records → IsFinding mode script printed.now verdict) }
@@ -62,7 +61,7 @@ fn find(
 fn find_in_replay(alloc: Global, script: &Script, printed: &Printed) -> Result<Verdict, NoMemory>
     ensures { IfOk result (λ verdict. IsFinding replay script.now printed.now verdict) }
 {
-    let order = as_they_stand(alloc, script)?;
+    let order = Sequence::of_replay(alloc, script)?;
     find(alloc, Command::Replay, &order, printed)
 }
 
@@ -75,12 +74,10 @@ fn find_in_run(
     ensures { IfOk result (λ found. IsOfRun script.now printed.now found) }
 {
     let lines = printed.lines.as_slice();
-    let mut order = by_session(alloc, script)?;
-    let Some(rounds) = count_rounds(order.len(), lines.len()) else {
+    let Some(order) = Sequence::of_run(alloc, script, lines.len())? else {
         return Ok(None);
     };
-    add_all_rounds(&mut order, rounds)?;
-    if first_out_of_shape(&order, lines).is_some() {
+    if first_out_of_shape(&order, lines)?.is_some() {
         return Ok(None);
     }
     let verdict = find(alloc, Command::Run, &order, printed)?;

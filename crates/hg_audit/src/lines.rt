@@ -9,7 +9,6 @@ ghost use Rattle.std.specs.List.{list_any};
 ghost use Rattle.hg_audit.specs.declared.reply.Command.TheVariants.{Run};
 ghost use Rattle.hg_known.specs.Asked.{names_writer};
 ghost use Rattle.hg_known.specs.Owned.{AreOwn};
-ghost use Rattle.hg_known.specs.Lines.{all_of};
 ghost use Rattle.hg_known.specs.Ended.{IsOpen};
 ghost use Rattle.hg_known.specs.Written.{IsOfHistory};
 ghost use Rattle.hg_audit.specs.Found.{IsFound, IsJudged};
@@ -20,10 +19,10 @@ use crate::order::first_unordered;
 use crate::reply::Command;
 use crate::shape::first_out_of_shape;
 use crate::totals::are_totals;
-use hg_base::{Line, NoMemory, Record, Totals};
+use hg_base::{Line, NoMemory, Totals};
 use hg_known::{
-    Own, Said, Writes, count_groups, count_versions, keeps_updates, read_history, read_lines,
-    read_numbers, read_own, read_points,
+    Lines, Own, Sequence, Writes, count_versions, keeps_updates, read_history, read_numbers,
+    read_own, read_points,
 };
 use std::alloc::Global;
 
@@ -39,8 +38,8 @@ pub enum Found {
 }
 
 // What each transaction stores. A replay asks only for what is open, and needs none of it.
-fn read_stored(alloc: Global, command: Command, all: &[Said]) -> Result<Own, NoMemory>
-    ensures { IfOk result (λ own. command ≡ Run → IsTrue (list_any names_writer (all_of all.now)) → AreOwn own (onto (all_of all.now) [])) }
+fn read_stored(alloc: Global, command: Command, all: &Lines<'_>) -> Result<Own, NoMemory>
+    ensures { IfOk result (λ own. command ≡ Run → IsTrue (list_any names_writer all.now) → AreOwn own (onto all.now [])) }
 {
     match command {
         Command::Replay => Ok(Own::new(alloc)),
@@ -52,19 +51,19 @@ fn read_stored(alloc: Global, command: Command, all: &[Said]) -> Result<Own, NoM
 fn judge_lines(
     alloc: Global,
     command: Command,
-    all: &[Said],
+    all: &Lines<'_>,
     writes: &Writes,
+    groups: u64,
     totals: Totals,
 ) -> Result<Found, NoMemory>
-    requires few { length all.now < 2 ^ 62 }
-    requires open { EachAfter IsOpen [] (all_of all.now) }
-    requires writes { IsOfHistory (history_of (all_of all.now)) writes.now }
-    ensures { IfOk result (λ found. (mode : Mode) → IsOf command mode → IsJudged mode (all_of all.now) totals found) }
+    requires open { EachAfter IsOpen [] all.now }
+    requires writes { IsOfHistory (history_of all.now) writes.now }
+    requires groups { length (history_of all.now) ≡ groups }
+    ensures { IfOk result (λ found. (mode : Mode) → IsOf command mode → IsJudged mode all.now totals found) }
 {
     let numbers = read_numbers(alloc, all)?;
     let tally = count_versions(alloc, &numbers, all)?;
     let own = read_stored(alloc, command, all)?;
-    let groups = count_groups(all);
     let facts = Facts {
         command,
         writes,
@@ -79,7 +78,7 @@ fn judge_lines(
     if let Some(k) = first_unordered(alloc, command, &points, groups, all)? {
         return Ok(Found::Fresh(k));
     }
-    if !are_totals(tally, writes, all, totals) {
+    if !are_totals(tally, writes, groups, all, totals) {
         return Ok(Found::Totals);
     }
     Ok(Found::Right)
@@ -89,22 +88,22 @@ fn judge_lines(
 pub fn find_fault(
     alloc: Global,
     command: Command,
-    records: &[Record],
+    records: &Sequence<'_>,
     lines: &[Line],
     totals: Totals,
 ) -> Result<Found, NoMemory>
     requires { length lines.now < 2 ^ 62 }
     ensures { IfOk result (λ found. (mode : Mode) → IsOf command mode → IsFound mode records.now lines.now totals found) }
 {
-    if let Some(k) = first_out_of_shape(records, lines) {
+    if let Some(k) = first_out_of_shape(records, lines)? {
         return Ok(Found::Shape(k));
     }
-    let all = read_lines(alloc, records, lines)?;
-    let Some(writes) = read_history(alloc, &all)? else {
+    let all = Lines::new(records, lines);
+    let Some((writes, groups)) = read_history(alloc, &all)? else {
         return Ok(Found::Commits);
     };
     if !keeps_updates(alloc, &all, &writes)? {
         return Ok(Found::Commits);
     }
-    judge_lines(alloc, command, &all, &writes, totals)
+    judge_lines(alloc, command, &all, &writes, groups, totals)
 }

@@ -6,7 +6,6 @@ ghost use Rattle.hg_base.specs.Lists.{EachAfter, onto};
 ghost use Rattle.hg_base.specs.Script.{Mode};
 ghost use Rattle.hg_base.specs.Transcript.{history_of};
 ghost use Rattle.hg_decide.specs.Audit.{IsKnown, FirstWithout};
-ghost use Rattle.hg_known.specs.Lines.{all_of};
 ghost use Rattle.std.specs.List.{list_any};
 ghost use Rattle.hg_known.specs.Asked.{tells_held};
 ghost use Rattle.hg_known.specs.Marked.{ArePoints};
@@ -15,7 +14,7 @@ ghost use Rattle.hg_audit.specs.Judged.{IsOf};
 use crate::fresh::is_fresh;
 use crate::reply::Command;
 use hg_base::NoMemory;
-use hg_known::{Before, Points, Said};
+use hg_known::{Before, Lines, Points};
 use std::alloc::Global;
 
 /// The first line whose numbers are not in order with those before it.
@@ -24,18 +23,19 @@ pub fn first_unordered(
     command: Command,
     points: &Points,
     groups: u64,
-    all: &[Said],
+    all: &Lines<'_>,
 ) -> Result<Option<usize>, NoMemory>
-    ensures { IfOk result (λ found. (mode : Mode) → IsOf command mode → length (history_of (all_of all.now)) ≡ groups → (IsTrue (list_any tells_held (all_of all.now)) → ArePoints points.now (onto (all_of all.now) [])) →
-        MatchOption found (EachAfter (IsKnown mode (all_of all.now)) [] (all_of all.now)) (λ k. FirstWithout (IsKnown mode (all_of all.now)) [] (all_of all.now) k)) }
+    ensures { IfOk result (λ found. (mode : Mode) → IsOf command mode → length (history_of all.now) ≡ groups → (IsTrue (list_any tells_held all.now) → ArePoints points.now (onto all.now [])) →
+        MatchOption found (EachAfter (IsKnown mode all.now) [] all.now) (λ k. FirstWithout (IsKnown mode all.now) [] all.now k)) }
 {
     let mut before = Before::new(alloc);
+    let mut reader = all.reader(alloc);
     for k in 0..all.len() {
-        let said = &all[k];
-        if !is_fresh(command, points, groups, &before, said) {
+        let said = reader.read()?;
+        if !is_fresh(command, points, groups, &before, &said) {
             return Ok(Some(k));
         }
-        before.add(said)?;
+        before.add(&said)?;
     }
     Ok(None)
 }

@@ -127,7 +127,7 @@ fn has(mask: u64, table: u8) -> bool
 
 // Whether a line's transaction may name the table, which its statement names.
 pub fn is_within(now: &Said, table: TableId) -> bool
-    ensures { script.table_of now.now.statement.now ≡ Some table → result ≡ script.has (said_of now.now).scope table }
+    ensures { script.table_of now.now.statement ≡ Some table → result ≡ script.has (said_of now.now).scope table }
 {
     if now.alone {
         return true;

@@ -3,37 +3,38 @@
 ghost use Rattle.std.specs.Prelude.{◌≡◌, ◌+◌, ◌≤◌, ◌<◌, length, filter, not, sum_by, is_some, Decides};
 ghost use Rattle.std.specs.Option.{MatchOption};
 ghost use Rattle.hg_base.specs.History.{History, visible};
+ghost use Rattle.hg_base.specs.Transcript as script;
 ghost use Rattle.hg_base.specs.Transcript.{history_of};
 ghost use Rattle.hg_base.specs.Counts.{removed_by, live, first_writes, is_committed, AreTotals};
-ghost use Rattle.hg_known.specs.Lines.{said_of, all_of};
 ghost use Rattle.hg_known.specs.Written.{IsOfHistory};
+ghost use Rattle.hg_audit.specs.Known.{HasHistory};
 
-use hg_base::{Answer, Kind, Rid, Totals};
-use hg_known::{LEAST, Said, Tally, Writes, count_groups};
+use hg_base::{Answer, Kind, Reply, Rid, Totals};
+use hg_known::{LEAST, Lines, Tally, Writes};
 
 // What a line says that a collector of that kind removed.
-fn removed(said: &Said, kind: Kind) -> u64
-    ensures { result ≡ removed_by kind (said_of said.now) }
+fn removed(reply: &Reply, kind: Kind) -> u64
+    ensures { (said : script.Said) → reply.now ≡ said.reply → result ≡ removed_by kind said }
 {
-    match &said.reply.answer {
+    match &reply.answer {
         Answer::Swept(sweep) => { if sweep.kind == kind { sweep.removed } else { 0 } }
         _ => 0,
     }
 }
 
 // What is left of a number without what the reports of a collector say that they removed, if they say no more.
-fn without_removed(all: &[Said], kind: Kind, told: u64) -> Option<u64>
-    ensures { MatchOption result (told < sum_by (removed_by kind) (all_of all.now)) (λ rest. rest + sum_by (removed_by kind) (all_of all.now) ≡ told) }
+fn without_removed(all: &Lines<'_>, kind: Kind, told: u64) -> Option<u64>
+    ensures { MatchOption result (told < sum_by (removed_by kind) all.now) (λ rest. rest + sum_by (removed_by kind) all.now ≡ told) }
 {
     let mut rest = told;
     for k in 0..all.len() {
-        rest = rest.checked_sub(removed(&all[k], kind))?;
+        rest = rest.checked_sub(removed(all.reply(k), kind))?;
     }
     Some(rest)
 }
 
-fn is_removed(all: &[Said], kind: Kind, told: u64) -> bool
-    ensures { Decides result (told ≡ sum_by (removed_by kind) (all_of all.now)) }
+fn is_removed(all: &Lines<'_>, kind: Kind, told: u64) -> bool
+    ensures { Decides result (told ≡ sum_by (removed_by kind) all.now) }
 {
     match without_removed(all, kind, told) {
         Some(rest) => rest == 0,
@@ -41,8 +42,8 @@ fn is_removed(all: &[Said], kind: Kind, told: u64) -> bool
     }
 }
 
-fn is_removed_within(all: &[Said], kind: Kind, told: u64) -> bool
-    ensures { Decides result (sum_by (removed_by kind) (all_of all.now) ≤ told) }
+fn is_removed_within(all: &Lines<'_>, kind: Kind, told: u64) -> bool
+    ensures { Decides result (sum_by (removed_by kind) all.now ≤ told) }
 {
     match without_removed(all, kind, told) {
         Some(_) => true,
@@ -58,11 +59,10 @@ fn is_row(writes: &Writes, rid: Rid, groups: u64) -> bool
 }
 
 // Whether that many records are rows after the last group.
-fn are_left(all: &[Said], writes: &Writes, told: u64) -> bool
-    requires { IsOfHistory (history_of (all_of all.now)) writes.now }
-    ensures { Decides result (told ≡ length (live (history_of (all_of all.now)))) }
+fn are_left(writes: &Writes, groups: u64, told: u64) -> bool
+    requires { HasHistory writes.now groups }
+    ensures { (h : History) → IsOfHistory h writes.now → length h ≡ groups → Decides result (told ≡ length (live h)) }
 {
-    let groups = count_groups(all);
     let mut rest = told;
     let mut found = writes.next_rid(LEAST, 0);
     while let Some(rid) = found {
@@ -98,11 +98,12 @@ fn are_balanced(t: Totals) -> bool
 }
 
 /// Whether these are the totals of the lines, of which so many versions were made and undone.
-pub fn are_totals(tally: Tally, writes: &Writes, all: &[Said], t: Totals) -> bool
-    requires made { tally.made ≡ length (first_writes (all_of all.now)) }
-    requires undone { tally.undone ≡ length (filter (λ said. not (is_committed (all_of all.now) said)) (first_writes (all_of all.now))) }
-    requires writes { IsOfHistory (history_of (all_of all.now)) writes.now }
-    ensures { Decides result (AreTotals (all_of all.now) (history_of (all_of all.now)) t) }
+pub fn are_totals(tally: Tally, writes: &Writes, groups: u64, all: &Lines<'_>, t: Totals) -> bool
+    requires made { tally.made ≡ length (first_writes all.now) }
+    requires undone { tally.undone ≡ length (filter (λ said. not (is_committed all.now said)) (first_writes all.now)) }
+    requires writes { IsOfHistory (history_of all.now) writes.now }
+    requires groups { length (history_of all.now) ≡ groups }
+    ensures { Decides result (AreTotals all.now (history_of all.now) t) }
 {
     if tally.made != t.made {
         return false;
@@ -119,7 +120,7 @@ pub fn are_totals(tally: Tally, writes: &Writes, all: &[Said], t: Totals) -> boo
     if !is_removed(all, Kind::Interval, t.interval) {
         return false;
     }
-    if !are_left(all, writes, t.left) {
+    if !are_left(writes, groups, t.left) {
         return false;
     }
     are_balanced(t)

@@ -1,9 +1,17 @@
 -- Whether some line passes a test.
-use Rattle.std.proofs.Common.{◌≡◌, ℕ, ◌+◌, ◌≤◌, List, [], ◌∷◌, length, take, drop, Bool, true, false, refl, sym, ap, ◌∙◌}
+use Rattle.std.proofs.Common.{◌≡◌, ℕ, ◌+◌, ◌≤◌, List, [], ◌∷◌, length, take, drop, Bool, true, false, None, refl, sym, ap, ◌∙◌}
 use Rattle.std.specs.Prelude.{◌||◌}
 use Rattle.std.specs.List.{list_any}
+use Rattle.hg_base.specs.declared.line.Answer.TheVariants.{Undone}
+use Rattle.hg_base.specs.declared.scope.Scope.TheVariants.{All}
+use Rattle.hg_base.specs.declared.statement.Statement.TheVariants.{Rollback}
+use Rattle.hg_base.specs.Transcript.{Said}
 use Rattle.hg_known.proofs.Pairs.{any_append}
 use Rattle.hg_known.proofs.Walking.{AtLine, take_all}
+
+-- what stands for a line where there is none
+pub no_line : Said
+no_line = record { session = 0; place = 0; transaction = 0; at = 0; scope = All; alone = false; statement = Rollback; reply = record { at = None; answer = Undone; number = None } }
 
 module _ {X : Type 0} (test : X → Bool) (xs : List X) where
   pub any_here : (k : ℕ) (now : X) → AtLine xs k now → test now ≡ true → list_any test xs ≡ true

@@ -4,6 +4,7 @@ pub mod SlotOrder
 pub mod SpotOrder
 -- Lines, one after the other.
 pub mod Reading
+pub mod Sequencing
 pub mod Walking
 -- Printed commits, and the history that they give.
 pub mod Pairs

@@ -1,17 +1,18 @@
 -- What the lines so far leave to each session's next.
-use Rattle.std.proofs.Common.{◌≡◌, ℕ, zero, suc, ◌+◌, ◌<◌, ◌≤◌, List, [], ◌∷◌, ◌++◌, length, drop, get_or, Bool, true, false, Some, refl, sym, ap, ◌∙◌, subst, arith}
-use Rattle.std.specs.Prelude.{◌==◌, ◌&&◌, cond, option_map, nat_lt, map, min}
-use Rattle.std.proofs.Math.Seq.{drop-cons}
-use Rattle.std.proofs.lemmas.List.{append_assoc, append-nil, length-map}
+use Rattle.std.proofs.Common.{◌≡◌, ℕ, zero, suc, ◌<◌, ◌≤◌, List, [], ◌∷◌, ◌++◌, length, take, get_or, Bool, true, false, Option, Some, None, refl, sym, ap, ◌∙◌, arith}
+use Rattle.std.specs.Prelude.{◌==◌, ◌&&◌, cond, option_map, nat_lt, map, IfSome}
 use Rattle.std.specs.BTreeMap.{BTreeMap, is_at, get}
 use Rattle.std.specs.Ordering.{nat_cmp}
 use Rattle.hg_base.specs.Lists.{onto}
-use Rattle.hg_base.specs.Transcript.{Said, last_of, said, said_from}
+use Rattle.hg_base.specs.Transcript.{Said, last_of, next_after, open_after, said, said_after, said_from, standing}
 use Rattle.hg_base.specs.declared.statement.Record.{Record}
+use Rattle.hg_base.specs.declared.statement.Statement.{Statement}
+use Rattle.hg_base.specs.declared.statement.Statement.TheVariants.{Begin, Get, Put, Del, Scan, Commit, Rollback, Gc}
 use Rattle.hg_base.specs.declared.line.Line.{Line}
+use Rattle.hg_base.specs.declared.line.Reply.{Reply}
 use Rattle.hg_base.proofs.RidOrder.{alike_numbers}
 use Rattle.hg_known.specs.declared.said.Last.{Last}
-use Rattle.hg_known.specs.Lines.{left_by, AreLasts}
+use Rattle.hg_known.specs.Lines.{left_by, number_of, AreLasts}
 
 -- a number has another entry, and no other changes
 abbrev pub Puts : {X : Type 0} → BTreeMap ℕ X → BTreeMap ℕ X → ℕ → X → Type 0
@@ -34,61 +35,54 @@ lasts_same old earlier now h none j = h j ∙ sym (ap (λ t. option_map left_by 
     go true = none
     go false = refl
 
--- ---- line by line
+pub reach_far : (n m : ℕ) (o : Option Last) → n ≤ m → IfSome o (λ l. number_of l ≤ n) → IfSome o (λ l. number_of l ≤ m)
+reach_far n m None most h = tt
+reach_far n m (Some l) most h = omega (arith, most, h)
 
--- the lines that are read, with those to come, are all lines
-pub record Reads (records : List Record) (lines : List Line) (k : ℕ) (done : List Said) : Type 0 where
-  pub rest : done ++ said_from (onto done []) (drop k records) (drop k lines) ≡ said_from [] records lines
+-- ---- line by line
 
 pub onto_push : {X : Type 0} (xs earlier : List X) (x : X) → onto (xs ++ x ∷ []) earlier ≡ x ∷ onto xs earlier
 onto_push [] earlier x = refl
 onto_push (y ∷ ys) earlier x = onto_push ys (y ∷ earlier) x
 
--- the next element, and those behind it
-pub next : {X : Type 0} (xs : List X) (i : ℕ) (x : X) → i < length xs → x ≡ get_or xs i x → drop i xs ≡ x ∷ drop (i + 1) xs
-next xs i x less e =
-    let step : drop i xs ≡ get_or xs i x ∷ drop (suc i) xs = drop-cons xs i x less in
-    let plus : suc i ≡ i + 1 = omega arith in
-    step ∙ (λ j. sym e j ∷ drop (plus j) xs)
+-- line k, read behind those before it
+pub read_at : (earlier : List Said) (records : List Record) (lines : List Line) (k : ℕ) (r : Record) (reply : Reply) (d : Said) → k < length records → k < length lines → r ≡ get_or records k r → ((line : Line) → line ≡ get_or lines k line → reply ≡ line.reply) →
+    get_or (said_from earlier records lines) k d ≡ said (onto (take k (said_from earlier records lines)) earlier) r reply
+read_at earlier [] lines k r reply d less short e f = absurd (omega (arith, less))
+read_at earlier (x ∷ rs) [] k r reply d less short e f = absurd (omega (arith, short))
+read_at earlier (x ∷ rs) (y ∷ ls) zero r reply d less short e f = λ i. said earlier (sym e i) (sym (f y refl) i)
+read_at earlier (x ∷ rs) (y ∷ ls) (suc k) r reply d less short e f = read_at (said earlier x y.reply ∷ earlier) rs ls k r reply d (omega (arith, less)) (omega (arith, short)) e f
 
-pub reads_first : (records : List Record) (lines : List Line) → Reads records lines 0 []
-reads_first records lines = record { rest = refl }
+-- a line for each record
+pub all_read : (earlier : List Said) (records : List Record) (lines : List Line) → length records ≡ length lines → length (said_from earlier records lines) ≡ length lines
+all_read earlier [] [] e = refl
+all_read earlier [] (line ∷ lines) e = absurd (omega (arith, e))
+all_read earlier (r ∷ rs) [] e = absurd (omega (arith, e))
+all_read earlier (r ∷ rs) (line ∷ lines) e = ap suc (all_read (said earlier r line.reply ∷ earlier) rs lines (omega (arith, e)))
 
-pub reads_next : (records : List Record) (lines : List Line) (k : ℕ) (done : List Said) (r : Record) (line : Line) (now : Said) → drop k records ≡ r ∷ drop (k + 1) records → drop k lines ≡ line ∷ drop (k + 1) lines → now ≡ said (onto done []) r line.reply → Reads records lines k done → Reads records lines (k + 1) (done ++ now ∷ [])
-reads_next records lines k done r line now e f is reads = record {
-  rest =
-      append_assoc done (now ∷ []) (said_from (onto (done ++ now ∷ []) []) (drop (k + 1) records) (drop (k + 1) lines))
-      ∙ (λ i. done ++ (is i ∷ said_from ((onto_push done [] now ∙ (λ j. is j ∷ onto done [])) i) (drop (k + 1) records) (drop (k + 1) lines)))
-      ∙ (λ i. done ++ said_from (onto done []) (sym e i) (sym f i))
-      ∙ reads.rest;
-}
+-- a line has its reply
+pub standing_reply : (o : Option Said) (x : ℕ) (r : Record) (reply : Reply) → (standing o x r reply).reply ≡ reply
+standing_reply None x r reply = refl
+standing_reply (Some opened) x r reply = refl
 
-pub none_left : (earlier : List Said) (records : List Record) (lines : List Line) (k : ℕ) → min (length records) (length lines) ≤ k → said_from earlier (drop k records) (drop k lines) ≡ []
-none_left earlier [] lines zero h = refl
-none_left earlier [] lines (suc k) h = refl
-none_left earlier (r ∷ rs) [] zero h = refl
-none_left earlier (r ∷ rs) [] (suc k) h = go (drop k rs)
-  where
-    go : (xs : List Record) → said_from earlier xs [] ≡ []
-    go [] = refl
-    go (x ∷ xs) = refl
-none_left earlier (r ∷ rs) (line ∷ lines) zero h = absurd (omega (arith, h))
-none_left earlier (r ∷ rs) (line ∷ lines) (suc k) h = let less : min (length rs) (length lines) ≤ k = omega (arith, h) in none_left earlier rs lines k less
+pub after_reply : (last : Option Said) (r : Record) (reply : Reply) (asked : Statement) → (said_after last r reply asked).reply ≡ reply
+after_reply last r reply (Begin scope) = refl
+after_reply last r reply (Gc kind) = refl
+after_reply last r reply (Get rid) = standing_reply (open_after last) (next_after last) r reply
+after_reply last r reply (Put rid row) = standing_reply (open_after last) (next_after last) r reply
+after_reply last r reply (Del rid) = standing_reply (open_after last) (next_after last) r reply
+after_reply last r reply (Scan table low high) = standing_reply (open_after last) (next_after last) r reply
+after_reply last r reply Commit = standing_reply (open_after last) (next_after last) r reply
+after_reply last r reply Rollback = standing_reply (open_after last) (next_after last) r reply
 
-pub reads_all : (records : List Record) (lines : List Line) (k : ℕ) (done : List Said) → min (length records) (length lines) ≤ k → Reads records lines k done → done ≡ said_from [] records lines
-reads_all records lines k done h reads = sym (append-nil done) ∙ (λ i. done ++ sym (none_left (onto done []) records lines k h) i) ∙ reads.rest
+pub reply_at : (earlier : List Said) (records : List Record) (lines : List Line) (k : ℕ) (line : Line) (d : Said) → length records ≡ length lines → k < length lines → line ≡ get_or lines k line → line.reply ≡ (get_or (said_from earlier records lines) k d).reply
+reply_at earlier [] [] k line d e less f = absurd (omega (arith, less))
+reply_at earlier [] (y ∷ ls) k line d e less f = absurd (omega (arith, e))
+reply_at earlier (r ∷ rs) [] k line d e less f = absurd (omega (arith, less))
+reply_at earlier (r ∷ rs) (y ∷ ls) zero line d e less f = (λ i. (f i).reply) ∙ sym (after_reply (last_of r.session earlier) r y.reply r.statement)
+reply_at earlier (r ∷ rs) (y ∷ ls) (suc k) line d e less f = reply_at (said earlier r y.reply ∷ earlier) rs ls k line d (omega (arith, e)) (omega (arith, less)) f
 
 pub mapped_at : {X Y : Type 0} (f : X → Y) (xs : List X) (k : ℕ) (d : X) → get_or (map f xs) k (f d) ≡ f (get_or xs k d)
 mapped_at f [] k d = refl
 mapped_at f (x ∷ xs) zero d = refl
 mapped_at f (x ∷ xs) (suc k) d = mapped_at f xs k d
-
--- the next of what a list is mapped to
-pub next_mapped : {X Y : Type 0} (f : X → Y) (xs : List X) (i : ℕ) (x : X) → i < length xs → x ≡ get_or xs i x → drop i (map f xs) ≡ f x ∷ drop (i + 1) (map f xs)
-next_mapped f xs i x less e = next (map f xs) i (f x) (subst (λ n. i < n) (sym (length-map xs f)) less) (ap f e ∙ sym (mapped_at f xs i x))
-
--- no more are read than there are lines
-pub few_read : (earlier : List Said) (records : List Record) (lines : List Line) → length (said_from earlier records lines) ≤ length lines
-few_read earlier [] lines = omega arith
-few_read earlier (r ∷ rs) [] = omega arith
-few_read earlier (r ∷ rs) (line ∷ lines) = let k = few_read (said earlier r line.reply ∷ earlier) rs lines in omega (arith, k)

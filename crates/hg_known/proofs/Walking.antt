@@ -4,7 +4,6 @@ use Rattle.std.specs.Prelude.{◌==◌, ◌||◌, option_map, max, nat_lt}
 use Rattle.std.specs.List.{list_any, cons_option}
 use Rattle.std.proofs.lemmas.Bool.Decides.{Decides-eqb}
 use Rattle.std.proofs.lemmas.Bool.{ltb-true, ltb-false}
-use Rattle.std.proofs.lemmas.List.{length-map}
 use Rattle.hg_base.specs.Lists.{Each, EachAfter, onto, greatest}
 use Rattle.hg_base.specs.History.{Commit}
 use Rattle.hg_base.specs.Transcript.{Said, committed, commit_by, commit_of, commits, commits_from, history_of}
@@ -18,7 +17,7 @@ use Rattle.std.specs.Ordering.{nat_cmp}
 use Rattle.hg_known.specs.declared.commits.Commits as kept
 use Rattle.hg_known.specs.Written.{IsOfHistory}
 use Rattle.hg_known.specs.Shown.{Shows, Fits, printed}
-use Rattle.hg_known.proofs.Reading.{mapped_at, onto_push}
+use Rattle.hg_known.proofs.Reading.{onto_push}
 use Rattle.hg_known.proofs.Whole.{commits_of, whole_of, history_writes}
 
 -- where line k is `now`: the lines up to it, and all lines
@@ -40,8 +39,12 @@ at_line xs k now less e =
     let plus : suc k ≡ k + 1 = omega arith in
     record { up_to = ap (λ n. take n xs) (sym plus) ∙ here.0; all = here.1 ∙ ap (λ n. take k xs ++ now ∷ drop n xs) plus }
 
-pub at_mapped : {X Y : Type 0} (f : X → Y) (xs : List X) (k : ℕ) (x : X) → k < length xs → x ≡ get_or xs k x → AtLine (map f xs) k (f x)
-at_mapped f xs k x less e = at_line (map f xs) k (f x) (subst (λ n. k < n) (sym (length-map xs f)) less) (ap f e ∙ sym (mapped_at f xs k x))
+-- where a reader stands at line k, the line that it reads
+pub at_reader : (reader : ℕ × List Said) (xs : List Said) (k : ℕ) (now : Said) → reader ≡ (k, xs) → k < length xs → now ≡ get_or reader.1 reader.0 now → AtLine xs k now
+at_reader reader xs k now e less is = at_line xs k now less (is ∙ (λ i. get_or (e i).1 (e i).0 now))
+
+pub reader_next : (old new : ℕ × List Said) (xs : List Said) (k : ℕ) → old ≡ (k, xs) → new ≡ (old.0 + 1, old.1) → new ≡ (k + 1, xs)
+reader_next old new xs k e is = is ∙ (λ i. ((e i).0 + 1, (e i).1))
 
 -- the lines so far, newest first
 abbrev pub earlier_at : {X : Type 0} → List X → ℕ → List X
@@ -187,6 +190,6 @@ each_more P xs k now at h p = subst (EachAfter P []) (sym at.up_to) (each_after_
 pub each_all : (P : List Said → Said → Type 0) (xs : List Said) (k : ℕ) → length xs ≤ k → EachAfter P [] (take k xs) → EachAfter P [] xs
 each_all P xs k over h = subst (EachAfter P []) (take_all xs k over) h
 
--- the item of a mapped list
-pub mapped_item : {X Y : Type 0} (f : X → Y) (xs : List X) (k : ℕ) (x : X) → x ≡ get_or xs k x → f x ≡ get_or (map f xs) k (f x)
-mapped_item f xs k x e = ap f e ∙ sym (mapped_at f xs k x)
+-- the line that a reader at line k reads
+pub read_item : (reader : ℕ × List Said) (xs : List Said) (k : ℕ) (now : Said) → reader ≡ (k, xs) → now ≡ get_or reader.1 reader.0 now → now ≡ get_or xs k now
+read_item reader xs k now e is = is ∙ (λ i. get_or (e i).1 (e i).0 now)

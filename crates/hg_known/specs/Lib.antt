@@ -1,3 +1,5 @@
+-- The records of lines, in their order.
+pub mod Sequenced
 -- Lines with their transactions.
 pub mod Lines
 -- What each transaction stored.

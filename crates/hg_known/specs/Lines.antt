@@ -1,5 +1,5 @@
 -- Lines as the audit keeps them.
-use Rattle.std.specs.Prelude.{◌≡◌, ℕ, ◌≤◌, List, map, Option, Some, None, option_map, IfSome, if◌then◌else◌}
+use Rattle.std.specs.Prelude.{◌≡◌, ℕ, ◌≤◌, List, Option, Some, None, option_map, IfSome, if◌then◌else◌}
 use Rattle.std.specs.BTreeMap.{BTreeMap, get}
 use Rattle.std.specs.Ordering.{nat_cmp}
 use Rattle.hg_base.specs.Transcript.{Said, only, table_of, ends, last_of}
@@ -9,7 +9,7 @@ use Rattle.hg_known.specs.declared.said.Last.TheVariants.{Over, Open}
 
 -- what a line says; a transaction of its own declares the statement's one table
 abbrev pub said_of : kept.Said → Said
-said_of s = record { session = s.session; place = s.place; transaction = s.transaction; at = s.at; scope = (if s.alone then only (table_of s.statement.now) else s.scope); alone = s.alone; statement = s.statement.now; reply = s.reply.now }
+said_of s = record { session = s.session; place = s.place; transaction = s.transaction; at = s.at; scope = (if s.alone then only (table_of s.statement) else s.scope); alone = s.alone; statement = s.statement; reply = s.reply.now }
 
 -- the transaction of a session's last line
 abbrev pub number_of : Last → ℕ
@@ -27,9 +27,6 @@ AreLasts lasts earlier = (j : ℕ) → get nat_cmp lasts j ≡ option_map left_b
 -- no transaction has a number over n
 abbrev pub ReachTo : ℕ → BTreeMap ℕ Last → Type 0
 ReachTo n lasts = (j : ℕ) → IfSome (get nat_cmp lasts j) (λ l. number_of l ≤ n)
-
-abbrev pub all_of : List kept.Said → List Said
-all_of lines = map said_of lines
 
 -- a session with the snapshot of its open transaction, by what its last line left
 abbrev pub open_left : ℕ → Option Last → Option (ℕ × ℕ)

@@ -3,7 +3,8 @@
 //! A text is checked without the engine, so what it says is gathered from its lines. Each structure here is seen by contracts as a
 //! function of the lines, in the words of `hg_base`:
 //!
-//!     Said       a line with the transaction in which it stands         said_from
+//!     Sequence   the records that lines answer, in their order          in_order
+//!     Lines      each line with the transaction in which it stands      said_from
 //!     Own        (transaction, record) -> its last stored image         image_in r (stored_in j x lines)
 //!     Writes     (record, commit number) -> image                       group_image r (group_at h n)
 //!     Over       the transactions that ended                            ends
@@ -15,6 +16,9 @@
 //! (record, snapshot) in `Writes`. No line stands in a transaction that ended before it, so `Own` forgets one at its end (`close`)
 //! where what is open is enough. `read_own` and `read_points` go over the lines only where a line asks for what they give.
 //!
+//! Neither records nor lines with their transactions are kept: a `Reader` makes each `Said` when its line is read, from the script, the
+//! reply and what the session's last line left.
+//!
 //! Two facts are decided on the way: whether the printed commit numbers give a history (`read_history`), and whether an update is
 //! lost in it (`keeps_updates`).
 #![tactic(auto)]
@@ -25,21 +29,25 @@ mod ends;
 mod gathering;
 mod heard;
 mod history;
+mod lines;
 mod marks;
 mod own;
 mod said;
+mod sequence;
 mod tally;
 mod updates;
 mod writes;
 
 pub use before::Before;
 pub use ends::{Numbers, Over};
-pub use gathering::{count_groups, do_name_writers, read_numbers, read_own, read_points};
+pub use gathering::{do_name_writers, read_numbers, read_own, read_points};
 pub use heard::{newer_of, snapshot_of};
 pub use history::read_history;
+pub use lines::{Lines, Reader};
 pub use marks::Points;
 pub use own::{LEAST, Own, Tx};
-pub use said::{Said, read_lines};
+pub use said::Said;
+pub use sequence::Sequence;
 pub use tally::{Tally, count_versions};
 pub use updates::keeps_updates;
 pub use writes::Writes;

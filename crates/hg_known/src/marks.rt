@@ -79,7 +79,7 @@ fn is_declared(said: &Said) -> bool
 {
     if said.alone {
         return matches!(
-            said.statement,
+            &said.statement,
             Statement::Get(_) | Statement::Put(..) | Statement::Del(_) | Statement::Scan { .. }
         );
     }

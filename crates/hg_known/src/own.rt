@@ -50,7 +50,7 @@ impl Model for Own {
 fn stored(said: &Said) -> Result<Option<(Rid, Image)>, NoMemory>
     ensures { IfOk result (λ found. option_map write_of found ≡ script.stored (said_of said.now)) }
 {
-    match (said.statement, &said.reply.answer) {
+    match (&said.statement, &said.reply.answer) {
         (Statement::Put(rid, row), Answer::Stored) => {
             let row = row.copy()?;
             Ok(Some((*rid, Image { row: Some(row) })))

@@ -1,21 +1,18 @@
 //! Lines, each read with the transaction in which it stands.
 
-ghost use Rattle.std.specs.Prelude.{◌≡◌, ℕ, ◌+◌, ◌<◌, ◌≤◌, ◌^◌, [], ◌∷◌, List, map, length, Option, Some, None, option_map, IfSome, IfOk, OnOk};
-ghost use Rattle.std.specs.BTreeMap.{get};
+ghost use Rattle.std.specs.Prelude.{◌≡◌, ℕ, ◌+◌, ◌<◌, ◌≤◌, ◌^◌, ◌∷◌, List, Option, Some, None, option_map, IfSome, IfOk, OnErr, OnOk};
+ghost use Rattle.std.specs.BTreeMap.{IsUnchanged, get};
 ghost use Rattle.std.specs.Ordering.{nat_cmp};
-ghost use Rattle.hg_base.specs.Lists.{EachAfter};
 ghost use Rattle.hg_base.specs.Transcript as script;
-ghost use Rattle.hg_base.specs.Transcript.{said_after, said_from};
-ghost use Rattle.hg_known.specs.Ended.{IsOpen};
-ghost use Rattle.hg_known.specs.Lines.{all_of, said_of, number_of, left_by, AreLasts, ReachTo};
+ghost use Rattle.hg_base.specs.Transcript.{said_after};
+ghost use Rattle.hg_known.specs.Lines.{said_of, number_of, left_by, AreLasts, ReachTo};
 
-use hg_base::{Answer, Line, NoMemory, Record, Reply, Scope, Statement};
-use std::alloc::Global;
+use hg_base::{Answer, NoMemory, Record, Reply, Scope, Statement};
 use std::collections::BTreeMap;
 
 /// A record with its reply, and the transaction in which it stands. Where it is a transaction of its own (`alone`), that
 /// declares the statement's one table, and `scope` says nothing.
-#[derive(Clone, Copy)]
+#[derive(Drop)]
 pub struct Said<'a> {
     pub session: u32,
     pub place: u64,
@@ -23,7 +20,7 @@ pub struct Said<'a> {
     pub at: u64,
     pub scope: Scope,
     pub alone: bool,
-    pub statement: &'a Statement,
+    pub statement: Statement,
     pub reply: &'a Reply,
 }
 
@@ -68,13 +65,13 @@ pub fn is_end(statement: &Statement) -> bool
 pub fn ends(said: &Said) -> bool
     ensures { result ≡ script.ends (said_of said.now) }
 {
-    said.alone || is_end(said.statement)
+    said.alone || is_end(&said.statement)
 }
 
 // The line of a record, behind the session's last.
-fn stand<'a>(last: Option<Last>, asked: &'a Record, reply: &'a Reply) -> Said<'a>
+fn stand<'a>(last: Option<Last>, asked: Record, reply: &'a Reply) -> Said<'a>
     requires { IfSome last (λ l. number_of l + 1 < 2 ^ 64) }
-    ensures said { (o : Option script.Said) → option_map left_by o ≡ last → said_of result ≡ said_after o asked.entry.now reply.entry.now asked.entry.now.statement }
+    ensures said { (o : Option script.Said) → option_map left_by o ≡ last → said_of result ≡ said_after o asked reply.entry.now asked.statement }
     ensures reach { IfSome last (λ l. result.transaction ≤ number_of l + 1) }
     ensures first { last ≡ None → result.transaction ≤ 1 }
 {
@@ -89,14 +86,14 @@ fn stand<'a>(last: Option<Last>, asked: &'a Record, reply: &'a Reply) -> Said<'a
         at: 0,
         scope: Scope::All,
         alone: false,
-        statement: &asked.statement,
+        statement: asked.statement,
         reply,
     };
-    match &asked.statement {
+    match bare.statement {
         Statement::Begin(scope) => Said {
             transaction: next,
             at: begun(reply),
-            scope: *scope,
+            scope,
             ..bare
         },
         Statement::Gc(_) => bare,
@@ -148,16 +145,17 @@ pub fn keep(lasts: &mut BTreeMap<u32, Last>, now: &Said) -> Result<(), NoMemory>
     Ok(())
 }
 
-// Reads the line of a record, and keeps what it leaves to the session's next.
-fn read_line<'a>(
+/// Reads the line of a record, and keeps what it leaves to the session's next.
+pub fn read_line<'a>(
     lasts: &mut BTreeMap<u32, Last>,
-    asked: &'a Record,
+    asked: Record,
     reply: &'a Reply,
 ) -> Result<Said<'a>, NoMemory>
     requires { ReachTo (2 ^ 63) lasts.old }
-    ensures said { IfOk result (λ now. (earlier : List script.Said) → AreLasts lasts.old earlier → said_of now ≡ script.said earlier asked.entry.now reply.entry.now) }
+    ensures said { IfOk result (λ now. (earlier : List script.Said) → AreLasts lasts.old earlier → said_of now ≡ script.said earlier asked reply.entry.now) }
     ensures lasts { IfOk result (λ now. (earlier : List script.Said) → AreLasts lasts.old earlier → AreLasts lasts.new (said_of now ∷ earlier)) }
     ensures reach { OnOk result ((n : ℕ) → ReachTo n lasts.old → ReachTo (n + 1) lasts.new) }
+    ensures refused { OnErr result (IsUnchanged lasts.old lasts.new) }
 {
     let last = lasts.get(&asked.session).copied();
     let now = stand(last, asked, reply);
@@ -166,24 +164,4 @@ fn read_line<'a>(
     }
     lasts.insert(now.session, left(&now))?;
     Ok(now)
-}
-
-/// Each line with its record, and the transaction in which it stands.
-pub fn read_lines<'a>(
-    alloc: Global,
-    records: &'a [Record],
-    lines: &'a [Line],
-) -> Result<Vec<Said<'a>>, NoMemory>
-    requires { length lines.now < 2 ^ 62 }
-    ensures said { IfOk result (λ all. all_of all.items ≡ said_from [] records.entry.now lines.entry.now) }
-    ensures open { IfOk result (λ all. EachAfter IsOpen [] (all_of all.items)) }
-{
-    let mut lasts = BTreeMap::new(alloc);
-    let many = records.len().min(lines.len());
-    let mut all = Vec::with_capacity(alloc, many)?;
-    for k in 0..many {
-        let now = read_line(&mut lasts, &records[k], &lines[k].reply)?;
-        all.push(now)?;
-    }
-    Ok(all)
 }

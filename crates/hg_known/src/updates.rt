@@ -6,14 +6,13 @@ ghost use Rattle.hg_base.specs.Lists.{EachAfter};
 ghost use Rattle.hg_base.specs.History.{NoLostUpdate};
 ghost use Rattle.hg_base.specs.Transcript.{history_of};
 ghost use Rattle.hg_base.specs.Sound.{IsWhole};
-ghost use Rattle.hg_known.specs.Lines.{all_of};
 ghost use Rattle.hg_known.specs.Owned.{own_at};
 ghost use Rattle.hg_known.specs.Ended.{IsOpen};
 ghost use Rattle.hg_known.specs.Written.{image_at, IsOfHistory};
 
 use crate::history::committed;
+use crate::lines::Lines;
 use crate::own::{LEAST, Own, Tx};
-use crate::said::Said;
 use crate::writes::Writes;
 use hg_base::{NoMemory, Rid};
 use std::alloc::Global;
@@ -46,16 +45,18 @@ fn loses_none(writes: &Writes, own: &Own, tx: Tx, at: u64, number: u64) -> bool
 }
 
 /// Whether no update is lost in the history.
-pub fn keeps_updates(alloc: Global, all: &[Said], writes: &Writes) -> Result<bool, NoMemory>
-    requires open { EachAfter IsOpen [] (all_of all.now) }
-    requires whole { IsWhole (all_of all.now) }
-    requires writes { IsOfHistory (history_of (all_of all.now)) writes.now }
-    ensures { IfOk result (λ kept. Decides kept (NoLostUpdate (history_of (all_of all.now)))) }
+pub fn keeps_updates(alloc: Global, all: &Lines<'_>, writes: &Writes) -> Result<bool, NoMemory>
+    requires open { EachAfter IsOpen [] all.now }
+    requires whole { IsWhole all.now }
+    requires writes { IsOfHistory (history_of all.now) writes.now }
+    ensures { IfOk result (λ kept. Decides kept (NoLostUpdate (history_of all.now))) }
 {
     let mut own = Own::new(alloc);
-    for said in all {
-        own.add(said)?;
-        if let Some(number) = committed(said) {
+    let mut reader = all.reader(alloc);
+    for _ in 0..all.len() {
+        let said = reader.read()?;
+        own.add(&said)?;
+        if let Some(number) = committed(&said) {
             let tx = Tx {
                 session: said.session,
                 number: said.transaction,
@@ -64,7 +65,7 @@ pub fn keeps_updates(alloc: Global, all: &[Said], writes: &Writes) -> Result<boo
                 return Ok(false);
             }
         }
-        own.close(said);
+        own.close(&said);
     }
     Ok(true)
 }

@@ -1,11 +1,10 @@
 use Rattle.std.proofs.Common.{◌≡◌, ◌<◌, ◌∙◌, sym, subst, arith, length, []}
-use Rattle.std.proofs.lemmas.List.{length-map}
 use Rattle.hg_base.proofs.ListFacts.{false_true}
 use Rattle.hg_decide.specs.Audit.{IsRightReply}
-use Rattle.hg_known.specs.Lines.{said_of, all_of}
+use Rattle.hg_known.specs.Lines.{said_of}
 use Rattle.hg_known.specs.Asked.{names_writer}
 use Rattle.hg_known.specs.Ended.{AreOver, AreOpenOwn}
-use Rattle.hg_known.proofs.Walking.{AtLine, at_mapped, earlier_at, earlier_next, each_more, each_all, mapped_item}
+use Rattle.hg_known.proofs.Walking.{AtLine, at_reader, earlier_at, earlier_next, reader_next, each_more, each_all, read_item}
 use Rattle.hg_known.proofs.Asking.{any_here}
 use Rattle.hg_known.proofs.Closing.{open_at, others_own}
 use Rattle.hg_audit.proofs.Conflicting.{part_at}
@@ -14,12 +13,13 @@ use Rattle.hg_audit.proofs.answered.first_unanswered.Goals as goal
 
 pub loop-k-preserved : goal.loop-k-preserved
 loop-k-preserved c =
-    let xs = all_of c.args.all.now in
+    let xs = c.args.all.now in
     let k = c.loop-k.k in
-    let less : k < length c.args.all.now = omega arith in
-    let now = said_of c.index-all-k.result in
-    let at : AtLine xs k now = at_mapped said_of c.args.all.now k c.index-all-k.result less c.index-all-k.is in
+    let less : k < length xs = omega (arith, c.len-k-end.ensures.same) in
+    let now = said_of c.in_ok-said.said in
+    let at : AtLine xs k now = at_reader c.loop-k.reader xs k now c.loop-k.invariant.reader less c.in_ok-said.ensures.said in
     record {
+      reader = reader_next c.loop-k.reader c.read.new.self xs k c.loop-k.invariant.reader c.in_ok-said.ensures.next;
       own = subst (AreOpenOwn c.close.new.self) (sym (earlier_next xs k now at)) (c.close.ensures (earlier_at xs k) (others_own c.loop-k.own c.add.new.self (earlier_at xs k) now c.loop-k.invariant.own (c.in_ok-add.ensures.added (earlier_at xs k))));
       over = λ some. subst (AreOver c.keep_over.new.over) (sym (earlier_next xs k now at)) (c.in_ok-keep_over.ensures (c.do_name_writers-asked.ensures ∙ some) (earlier_at xs k) (c.loop-k.invariant.over some));
       right = λ mode command knows. each_more (IsRightReply mode xs) xs k now at (c.loop-k.invariant.right mode command knows)
@@ -29,19 +29,16 @@ loop-k-preserved c =
 pub returns-then-not-is_answered : goal.returns-then-not-is_answered
 returns-then-not-is_answered c =
     λ mode command knows.
-    let xs = all_of c.args.all.now in
+    let xs = c.args.all.now in
     let k = c.loop-k.k in
-    let many : length xs ≡ length c.args.all.now = length-map c.args.all.now said_of in
-    let here : k < length c.args.all.now = omega arith in
-    let less : k < length xs = omega (arith, many) in
-    let now = said_of c.index-all-k.result in
-    let at : AtLine xs k now = at_mapped said_of c.args.all.now k c.index-all-k.result here c.index-all-k.is in
-    first_without (IsRightReply mode xs) [] xs k now less (mapped_item said_of c.args.all.now k c.index-all-k.result c.index-all-k.is) (c.loop-k.invariant.right mode command knows)
+    let less : k < length xs = omega (arith, c.len-k-end.ensures.same) in
+    let now = said_of c.in_ok-said.said in
+    let at : AtLine xs k now = at_reader c.loop-k.reader xs k now c.loop-k.invariant.reader less c.in_ok-said.ensures.said in
+    first_without (IsRightReply mode xs) [] xs k now less (read_item c.loop-k.reader xs k now c.loop-k.invariant.reader c.in_ok-said.ensures.said) (c.loop-k.invariant.right mode command knows)
     (λ p. false_true (sym c.if-not-is_answered.true ∙ (c.is_answered.ensures mode xs (earlier_at xs k) command knows (any_here names_writer xs k now at) (part_at xs k) (c.loop-k.invariant.own now.session now.transaction (open_at xs k now at c.requires)) c.loop-k.invariant.own (λ asks. c.loop-k.invariant.over (any_here names_writer xs k now at asks))).1 p))
 
 pub returns : goal.returns
 returns c =
     λ mode command knows.
-    let xs = all_of c.args.all.now in
-    let many : length xs ≡ length c.args.all.now = length-map c.args.all.now said_of in
-    each_all (IsRightReply mode xs) xs c.loop-k.k (omega (arith, many)) (c.loop-k.invariant.right mode command knows)
+    let xs = c.args.all.now in
+    each_all (IsRightReply mode xs) xs c.loop-k.k (omega (arith, c.len-k-end.ensures.same)) (c.loop-k.invariant.right mode command knows)

@@ -1,4 +1,4 @@
-use Rattle.std.proofs.Common.{take, []}
+use Rattle.std.proofs.Common.{◌≡◌, take, []}
 use Rattle.std.specs.Prelude.{IsTrue}
 use Rattle.std.specs.List.{list_any}
 use Rattle.hg_base.specs.Lists.{EachAfter}
@@ -6,7 +6,6 @@ use Rattle.hg_known.specs.Asked.{names_writer}
 use Rattle.hg_base.specs.Script.{Mode}
 use Rattle.hg_base.specs.Transcript.{history_of}
 use Rattle.hg_decide.specs.Audit.{IsRightReply}
-use Rattle.hg_known.specs.Lines.{all_of}
 use Rattle.hg_known.specs.Ended.{AreOver, AreOpenOwn}
 use Rattle.hg_audit.specs.Judged.{IsOf}
 use Rattle.hg_audit.specs.Known.{Knows}
@@ -15,7 +14,8 @@ use Rattle.hg_audit.proofs.answered.first_unanswered.Given as goal
 
 abbrev pub invariant-loop-k : goal.invariant-loop-k
 invariant-loop-k l = record {
-  own : AreOpenOwn l.own (earlier_at (all_of l.all) l.k);
-  over : IsTrue (list_any names_writer (all_of l.all)) → AreOver l.over (earlier_at (all_of l.all) l.k);
-  right : (mode : Mode) → IsOf l.facts.command mode → Knows (history_of (all_of l.all)) (all_of l.all) l.facts → EachAfter (IsRightReply mode (all_of l.all)) [] (take l.k (all_of l.all));
+  reader : l.reader ≡ (l.k, l.all);
+  own : AreOpenOwn l.own (earlier_at l.all l.k);
+  over : IsTrue (list_any names_writer l.all) → AreOver l.over (earlier_at l.all l.k);
+  right : (mode : Mode) → IsOf l.facts.command mode → Knows (history_of l.all) l.all l.facts → EachAfter (IsRightReply mode l.all) [] (take l.k l.all);
 }

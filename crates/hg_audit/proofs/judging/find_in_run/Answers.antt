@@ -1,31 +1,32 @@
-use Rattle.std.proofs.Common.{◌≡◌, ◌+◌, ◌*◌, ◌∙◌, sym, ap, subst, arith, length}
+use Rattle.std.proofs.Common.{◌≡◌, ℕ, ◌+◌, ◌*◌, List, ◌∙◌, sym, ap, subst, arith, length}
+use Rattle.hg_base.specs.declared.statement.Record.{Record}
+use Rattle.hg_base.specs.Script.{run}
 use Rattle.hg_base.specs.Shape.{HasShape}
-use Rattle.hg_audit.proofs.Sequencing.{shown_of, with_rounds, run_lines, not_in_shape}
+use Rattle.hg_base.specs.Transcript.{in_order}
+use Rattle.hg_known.specs.Sequenced.{shown_of, with_rounds}
+use Rattle.hg_known.proofs.Sequencing.{run_length}
+use Rattle.hg_audit.proofs.Sequencing.{shape_length, run_lines, not_in_shape, when_none, when_some}
 use Rattle.hg_audit.proofs.judging.find_in_run.Goals as goal
 
 pub returns-in_default : goal.returns-in_default
 returns-in_default c =
     λ rounds shape.
-    let s = shown_of c.args.script.now.records in
-    let lines = c.args.printed.now.lines in
-    let fit : length s + 3 * rounds ≡ length lines = run_lines s lines rounds shape in
-    let many : length c.in_ok-order.order.items ≡ length s = ap length c.in_ok-order.ensures in
-    let counted : c.len.result ≡ length c.in_ok-order.order.items = c.len.ensures ∙ c.in_ok-order.order.ok.0 in
-    let there : length c.as_slice-lines.result.now ≡ length lines = ap length c.as_slice-lines.ensures in
-    c.in_default.ensures rounds (omega (arith, fit, many, counted, there))
+    let records = c.args.script.now.records in
+    let many = length c.as_slice-lines.result.now in
+    when_none ((n : ℕ) → length (in_order (run n) records) ≡ many → ⊥) (λ (sequence : List Record). (n : ℕ) × (sequence ≡ in_order (run n) records) × (length sequence ≡ many)) c.in_ok-order.field-0 c.in_default.is c.in_ok-order.ensures rounds
+    (shape_length (in_order (run rounds) records) c.args.printed.now.lines shape ∙ sym (ap length c.as_slice-lines.ensures))
 
 pub returns-then-is_some : goal.returns-then-is_some
 returns-then-is_some c =
-    λ n shape.
-    let r = c.in-Some.rounds in
-    let s = shown_of c.args.script.now.records in
+    λ rounds shape.
+    let records = c.args.script.now.records in
+    let s = shown_of records in
     let lines = c.args.printed.now.lines in
-    let fit : length s + 3 * n ≡ length lines = run_lines s lines n shape in
-    let many : length c.in_ok-order.order.items ≡ length s = ap length c.in_ok-order.ensures in
-    let counted : c.len.result ≡ length c.in_ok-order.order.items = c.len.ensures ∙ c.in_ok-order.order.ok.0 in
-    let there : length c.as_slice-lines.result.now ≡ length lines = ap length c.as_slice-lines.ensures in
-    let told : c.len.result + 3 * r ≡ length c.as_slice-lines.result.now = c.in-Some.ensures in
-    let is : n ≡ r = omega (arith, fit, many, counted, there, told) in
-    let order : c.deref.result.now ≡ with_rounds s r = c.deref.ensures.value ∙ c.in_ok-add_all_rounds.ensures ∙ ap (λ ys. with_rounds ys r) c.in_ok-order.ensures in
-    not_in_shape c.deref.result.now c.as_slice-lines.result.now c.first_out_of_shape.result (sym c.is_some.ensures ∙ c.if-is_some.true) c.first_out_of_shape.ensures
-    (subst (HasShape c.deref.result.now) (sym c.as_slice-lines.ensures) (subst (λ rs. HasShape rs lines) (ap (with_rounds s) is ∙ sym order) shape))
+    let many = length c.as_slice-lines.result.now in
+    let made = when_some ((n : ℕ) → length (in_order (run n) records) ≡ many → ⊥) (λ (sequence : List Record). (n : ℕ) × (sequence ≡ in_order (run n) records) × (length sequence ≡ many)) c.in_ok-order.field-0 c.in-Some.order c.in-Some.is c.in_ok-order.ensures in
+    let fit : length s + 3 * rounds ≡ length lines = run_lines s lines rounds shape in
+    let told : length s + 3 * made.0 ≡ many = sym (run_length s made.0) ∙ ap length (sym made.1) ∙ made.2 in
+    let there : many ≡ length lines = ap length c.as_slice-lines.ensures in
+    let is : rounds ≡ made.0 = omega (arith, fit, told, there) in
+    not_in_shape c.in-Some.order c.as_slice-lines.result.now c.in_ok-first_out_of_shape.field-0 (sym c.is_some.ensures ∙ c.if-is_some.true) c.in_ok-first_out_of_shape.ensures
+    (subst (HasShape c.in-Some.order) (sym c.as_slice-lines.ensures) (subst (λ rs. HasShape rs lines) (ap (with_rounds s) is ∙ sym made.1) shape))

@@ -3,7 +3,6 @@ use Rattle.hg_base.specs.Lists.{EachAfter, onto}
 use Rattle.hg_base.specs.Script.{Mode}
 use Rattle.hg_base.specs.Transcript.{history_of}
 use Rattle.hg_decide.specs.Audit.{IsKnown}
-use Rattle.hg_known.specs.Lines.{all_of}
 use Rattle.hg_known.specs.Before.{AreBefore}
 use Rattle.hg_audit.specs.Judged.{IsOf}
 use Rattle.std.specs.Prelude.{IsTrue}
@@ -15,6 +14,7 @@ use Rattle.hg_audit.proofs.order.first_unordered.Given as goal
 
 abbrev pub invariant-loop-k : goal.invariant-loop-k
 invariant-loop-k l = record {
-  before : AreBefore l.before (earlier_at (all_of l.all) l.k);
-  right : (mode : Mode) → IsOf l.command mode → length (history_of (all_of l.all)) ≡ l.groups → (IsTrue (list_any tells_held (all_of l.all)) → ArePoints l.points (onto (all_of l.all) [])) → EachAfter (IsKnown mode (all_of l.all)) [] (take l.k (all_of l.all));
+  reader : l.reader ≡ (l.k, l.all);
+  before : AreBefore l.before (earlier_at l.all l.k);
+  right : (mode : Mode) → IsOf l.command mode → length (history_of l.all) ≡ l.groups → (IsTrue (list_any tells_held l.all) → ArePoints l.points (onto l.all [])) → EachAfter (IsKnown mode l.all) [] (take l.k l.all);
 }

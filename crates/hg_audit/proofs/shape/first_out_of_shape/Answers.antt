@@ -11,26 +11,26 @@ returns-then-not-is_line_of c =
     let records = c.args.records.now in
     let lines = c.args.lines.now in
     let k = c.loop-k.k in
-    let less : k < length records = omega (arith, c.min-count.ensures) in
-    let short : k < length lines = omega (arith, c.min-count.ensures) in
+    let less : k < length records = omega (arith, c.min-count.ensures, c.len.ensures) in
+    let short : k < length lines = omega (arith, c.min-count.ensures, c.len.ensures) in
     first_wrong records lines k less short c.loop-k.invariant
-    (λ r line is. false_true (sym c.if-not-is_line_of.true ∙ c.is_line_of.ensures.1 (subst (IsLineOf c.index-records-k.result) (sym c.index-lines-k.is) (at_line_of records lines k c.index-records-k.result c.index-lines-k.result r line less short c.index-records-k.is is))))
+    (λ r line is. false_true (sym c.if-not-is_line_of.true ∙ c.is_line_of.ensures.1 (subst (IsLineOf c.in_ok-asked.asked) (sym c.index-lines-k.is) (at_line_of records lines k c.in_ok-asked.asked c.index-lines-k.result r line less short c.in_ok-asked.ensures is))))
 
 pub loop-k-preserved : goal.loop-k-preserved
 loop-k-preserved c =
     let records = c.args.records.now in
     let lines = c.args.lines.now in
     let k = c.loop-k.k in
-    let less : k < length records = omega (arith, c.min-count.ensures) in
-    let short : k < length lines = omega (arith, c.min-count.ensures) in
+    let less : k < length records = omega (arith, c.min-count.ensures, c.len.ensures) in
+    let short : k < length lines = omega (arith, c.min-count.ensures, c.len.ensures) in
     fit_more records lines k c.loop-k.invariant
-    (λ r line. line_at records lines k c.index-records-k.result c.index-lines-k.result r line less short c.index-records-k.is (subst (IsLineOf c.index-records-k.result) c.index-lines-k.is (c.is_line_of.ensures.0 c.if-not-is_line_of.false)))
+    (λ r line. line_at records lines k c.in_ok-asked.asked c.index-lines-k.result r line less short c.in_ok-asked.ensures (subst (IsLineOf c.in_ok-asked.asked) c.index-lines-k.is (c.is_line_of.ensures.0 c.if-not-is_line_of.false)))
 
-pub returns-then-records-lines : goal.returns-then-records-lines
-returns-then-records-lines c =
+pub returns-then-len-lines : goal.returns-then-len-lines
+returns-then-len-lines c =
     let records = c.args.records.now in
     let lines = c.args.lines.now in
-    let same : length records ≡ length lines = let h = c.if-records-lines.true in grind (arith, nat_tests, h) in
+    let same : length records ≡ length lines = let h = c.if-len-lines.true in let many = c.len-2.ensures in grind (arith, nat_tests, h, many) in
     let done : c.loop-k.k ≡ length records = omega (arith, same, c.min-count.ensures) in
     all_fit records lines same (subst (Fit records lines) done c.loop-k.invariant)
 
@@ -38,7 +38,7 @@ pub returns : goal.returns
 returns c =
     let records = c.args.records.now in
     let lines = c.args.lines.now in
-    let done : c.loop-k.k ≡ min (length records) (length lines) = omega (arith, c.min-count.ensures) in
-    let count : min (length records) (length lines) ≡ c.min-count.result = omega (arith, c.min-count.ensures) in
+    let done : c.loop-k.k ≡ min (length records) (length lines) = omega (arith, c.min-count.ensures, c.len.ensures) in
+    let count : min (length records) (length lines) ≡ c.min-count.result = omega (arith, c.min-count.ensures, c.len.ensures) in
     subst (FirstOutOfShape records lines) count
-    (one_missing records lines (λ e. let h = c.if-records-lines.false in let same = e in grind (arith, nat_tests, h, same)) (subst (Fit records lines) done c.loop-k.invariant))
+    (one_missing records lines (λ e. let h = c.if-len-lines.false in let many = c.len-2.ensures in let same = e in grind (arith, nat_tests, h, many, same)) (subst (Fit records lines) done c.loop-k.invariant))
