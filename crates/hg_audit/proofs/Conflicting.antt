@@ -14,6 +14,7 @@ use Rattle.hg_known.specs.declared.own.Spot.{Spot}
 use Rattle.hg_known.proofs.Walking.{earlier_at}
 use Rattle.hg_audit.specs.Known.{IsPart}
 use Rattle.hg_known.specs.Owned.{own_at, AreOwn}
+use Rattle.hg_known.specs.Ended.{is_over, AreOpenOwn, ForgetsOver}
 
 -- whether a list of lines stores r in that transaction
 abbrev pub stores : ℕ → ℕ → Rid → List Said → Bool
@@ -136,3 +137,14 @@ still_shown all earlier session at r w n part other still d = (
   ),
   λ s. d.1 (onto_numbers (λ c. at < c) w.session w.transaction all [] s.0.after tt),
 )
+
+-- of what is kept of open transactions alone, whether a write is open still
+pub open_still : (own : List (Spot × Image)) (earlier : List Said) (r : Rid) (w : Writer) (b : Bool) → AreOpenOwn own earlier → ForgetsOver own earlier → b ≡ is_some (own_at own w.session w.transaction r) → Decides b (IsStillOpen earlier r w)
+open_still own earlier r w b is over e = (
+  λ t. go (is_over w.session w.transaction earlier) refl (sym e ∙ t),
+  λ s. e ∙ ap is_some (is w.session w.transaction s.opened r) ∙ s.does,
+)
+  where
+    go : (o : Bool) → is_over w.session w.transaction earlier ≡ o → is_some (own_at own w.session w.transaction r) ≡ true → IsStillOpen earlier r w
+    go true f t = absurd (false_true (sym (ap is_some (over w.session w.transaction f r)) ∙ t))
+    go false f t = record { does = sym (ap is_some (is w.session w.transaction f r)) ∙ t; opened = f }

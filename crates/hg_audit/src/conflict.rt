@@ -10,10 +10,9 @@ ghost use Rattle.hg_base.specs.Transcript as script;
 ghost use Rattle.hg_base.specs.Transcript.{stored_in, numbers_in, own_writes};
 ghost use Rattle.hg_base.specs.Conflicts as conflicts;
 ghost use Rattle.hg_base.specs.Conflicts.{ShowsNewer, ShowsOpen, ShowsCause, ShowsConflict, IsStillOpen};
-ghost use Rattle.hg_known.specs.Asked.{names_writer};
 ghost use Rattle.hg_known.specs.Lines.{said_of};
 ghost use Rattle.hg_known.specs.Owned.{AreOwn, HasOwn};
-ghost use Rattle.hg_known.specs.Ended.{AreOver, AreNumbers, AreOpenOwn};
+ghost use Rattle.hg_known.specs.Ended.{AreNumbers, AreOpenOwn, ForgetsOver};
 ghost use Rattle.hg_known.specs.Written.{IsOfHistory};
 ghost use Rattle.hg_audit.specs.Judged.{IsOf};
 ghost use Rattle.hg_audit.specs.Known.{Knows, IsAsked, IsPart};
@@ -21,7 +20,7 @@ ghost use Rattle.hg_audit.specs.Known.{Knows, IsAsked, IsPart};
 use crate::facts::Facts;
 use crate::reply::Command;
 use hg_base::{Answer, Rid, Statement, Writer};
-use hg_known::{Numbers, Over, Own, Said, Tx, Writes};
+use hg_known::{Numbers, Own, Said, Tx, Writes};
 
 // The record that a put or del names.
 fn target(statement: &Statement) -> Option<Rid>
@@ -70,30 +69,20 @@ fn shows_open(own: &Own, numbers: &Numbers, now: &Said, rid: Rid, writer: Writer
     numbers.are_after(tx, now.at)
 }
 
-// Whether the transaction stored the record before, and did not end.
-fn is_still_open(own: &Own, over: &Over, rid: Rid, writer: Writer) -> bool
-    ensures { (earlier : List script.Said) → AreOpenOwn own.now earlier → AreOver over.now earlier → Decides result (IsStillOpen earlier rid writer) }
+// Whether the transaction stored the record before, and did not end: of one that did nothing is kept.
+fn is_still_open(own: &Own, rid: Rid, writer: Writer) -> bool
+    ensures { (earlier : List script.Said) → AreOpenOwn own.now earlier → ForgetsOver own.now earlier → Decides result (IsStillOpen earlier rid writer) }
 {
     let tx = Tx {
         session: writer.session,
         number: writer.transaction,
     };
-    if over.has(tx) {
-        return false;
-    }
     own.has(tx, rid)
 }
 
 // Whether another session's transaction stored the record before, did not end, and is not committed at or below the snapshot.
-fn shows_still_open(
-    own: &Own,
-    over: &Over,
-    numbers: &Numbers,
-    now: &Said,
-    rid: Rid,
-    writer: Writer,
-) -> bool
-    ensures { (all earlier : List script.Said) → IsPart earlier all → AreOpenOwn own.now earlier → AreOver over.now earlier → AreNumbers numbers.now (onto all []) →
+fn shows_still_open(own: &Own, numbers: &Numbers, now: &Said, rid: Rid, writer: Writer) -> bool
+    ensures { (all earlier : List script.Said) → IsPart earlier all → AreOpenOwn own.now earlier → ForgetsOver own.now earlier → AreNumbers numbers.now (onto all []) →
         Decides result (ShowsOpen (stored_in writer.session writer.transaction all) (numbers_in writer.session writer.transaction all) now.now.session now.now.at rid writer × IsStillOpen earlier rid writer) }
 {
     let tx = Tx {
@@ -103,15 +92,15 @@ fn shows_still_open(
     if writer.session == now.session {
         return false;
     }
-    if !is_still_open(own, over, rid, writer) {
+    if !is_still_open(own, rid, writer) {
         return false;
     }
     numbers.are_after(tx, now.at)
 }
 
 // Whether the refusal of a write of that record shows its cause, where the transaction has not written it itself.
-fn shows_cause(facts: &Facts, own: &Own, over: &Over, now: &Said, rid: Rid) -> bool
-    ensures { (mode : Mode) (h : History) (all earlier : List script.Said) → IsOf facts.now.command mode → Knows h all facts.now → IsAsked all (said_of now.now) → IsPart earlier all → HasOwn own.now earlier (said_of now.now) → AreOpenOwn own.now earlier → (IsTrue (names_writer (said_of now.now)) → AreOver over.now earlier) → Decides result (ShowsCause mode h all earlier (said_of now.now) rid now.now.reply.now.answer) }
+fn shows_cause(facts: &Facts, own: &Own, now: &Said, rid: Rid) -> bool
+    ensures { (mode : Mode) (h : History) (all earlier : List script.Said) → IsOf facts.now.command mode → Knows h all facts.now → IsAsked all (said_of now.now) → IsPart earlier all → HasOwn own.now earlier (said_of now.now) → AreOpenOwn own.now earlier → ForgetsOver own.now earlier → Decides result (ShowsCause mode h all earlier (said_of now.now) rid now.now.reply.now.answer) }
 {
     match &now.reply.answer {
         Answer::Newer(number) => {
@@ -127,18 +116,18 @@ fn shows_cause(facts: &Facts, own: &Own, over: &Over, now: &Said, rid: Rid) -> b
             if facts.command == Command::Run {
                 return shows_open(facts.own, facts.numbers, now, rid, *writer);
             }
-            shows_still_open(own, over, facts.numbers, now, rid, *writer)
+            shows_still_open(own, facts.numbers, now, rid, *writer)
         }
         _ => true,
     }
 }
 
 /// Whether a write that is refused for a conflict shows its cause.
-pub fn shows_conflict(facts: &Facts, own: &Own, over: &Over, now: &Said) -> bool
-    ensures { (mode : Mode) (h : History) (all earlier : List script.Said) → IsOf facts.now.command mode → Knows h all facts.now → IsAsked all (said_of now.now) → IsPart earlier all → HasOwn own.now earlier (said_of now.now) → AreOpenOwn own.now earlier → (IsTrue (names_writer (said_of now.now)) → AreOver over.now earlier) → Decides result (ShowsConflict mode h all earlier (said_of now.now)) }
+pub fn shows_conflict(facts: &Facts, own: &Own, now: &Said) -> bool
+    ensures { (mode : Mode) (h : History) (all earlier : List script.Said) → IsOf facts.now.command mode → Knows h all facts.now → IsAsked all (said_of now.now) → IsPart earlier all → HasOwn own.now earlier (said_of now.now) → AreOpenOwn own.now earlier → ForgetsOver own.now earlier → Decides result (ShowsConflict mode h all earlier (said_of now.now)) }
 {
     match target(&now.statement) {
-        Some(rid) => shows_cause(facts, own, over, now, rid),
+        Some(rid) => shows_cause(facts, own, now, rid),
         None => true,
     }
 }

@@ -13,10 +13,11 @@ use Rattle.hg_base.specs.declared.image.Image.{Image}
 use Rattle.hg_base.specs.declared.line.Reply.{Reply}
 use Rattle.hg_base.specs.Lists.{EachAfter, onto}
 use Rattle.hg_base.specs.Transcript.{Said, is_of, is_end, ends, last_of, open_after, next_after, standing, said_after, said, said_from}
+use Rattle.hg_base.proofs.HistoryFacts.{and_parts}
 use Rattle.hg_base.proofs.ListFacts.{cases, false_true}
 use Rattle.hg_known.specs.declared.own.Spot.{Spot}
 use Rattle.hg_known.specs.Owned.{own_at, IsOwn, HasOwn}
-use Rattle.hg_known.specs.Ended.{is_over, IsOpen, AreOpenOwn}
+use Rattle.hg_known.specs.Ended.{is_over, IsOpen, AreOpenOwn, ForgetsOver}
 use Rattle.hg_known.proofs.Walking.{AtLine, earlier_at}
 
 -- a transaction that ended is none of those that may follow a session's last line
@@ -200,3 +201,43 @@ its_own old new earlier now own opened adds r = adds now.session now.transaction
 
 pub others_own : (old new : List (Spot × Image)) (earlier : List Said) (now : Said) → AreOpenOwn old earlier → Adds old new earlier now → (j x : ℕ) → IsFalse (is_over j x earlier) → (r : Rid) → IsOwn new (now ∷ earlier) j x r
 others_own old new earlier now own adds j x not_over r = adds j x r (own j x not_over r)
+
+-- ---- what is kept of no transaction that ended
+
+-- the line's own transaction is gone, and no other changes
+pub forgets : (old new : List (Spot × Image)) (earlier : List Said) (now : Said) → ((j x : ℕ) (r : Rid) → IsFalse (is_of j x now) → own_at new j x r ≡ own_at old j x r) → ((r : Rid) → own_at new now.session now.transaction r ≡ None) → ForgetsOver old earlier → ForgetsOver new (now ∷ earlier)
+forgets old new earlier now others gone over j x o r = go (is_of j x now) refl o
+  where
+    was : List Said
+    was = filter (is_of j x) earlier
+
+    go : (b : Bool) → is_of j x now ≡ b → list_any ends (cond b (now ∷ was) was) ≡ true → own_at new j x r ≡ None
+    go true is o =
+        let parts = and_parts (now.session == j) (now.transaction == x) is in
+        let s : now.session ≡ j = (Decides-eqb now.session j).0 parts.0 in
+        let t : now.transaction ≡ x = (Decides-eqb now.transaction x).0 parts.1 in
+        (λ i. own_at new (sym s i) (sym t i) r) ∙ gone r
+    go false is o = others j x r is ∙ over j x o r
+
+-- a line that ends none changes nothing
+pub forgets_on : (own : List (Spot × Image)) (earlier : List Said) (now : Said) → ends now ≡ false → ForgetsOver own earlier → ForgetsOver own (now ∷ earlier)
+forgets_on own earlier now e over j x o r = over j x (go (is_of j x now) o) r
+  where
+    was : List Said
+    was = filter (is_of j x) earlier
+
+    go : (b : Bool) → list_any ends (cond b (now ∷ was) was) ≡ true → list_any ends was ≡ true
+    go true o = sym (ap (λ t. t || list_any ends was) e) ∙ o
+    go false o = o
+
+-- a line stores nothing in a transaction that ended before it
+pub forgets_more : (old new : List (Spot × Image)) (earlier : List Said) (now : Said) → IsOpen earlier now → ((j x : ℕ) (r : Rid) → IsFalse (is_of j x now) → own_at new j x r ≡ own_at old j x r) → ForgetsOver old earlier → ForgetsOver new earlier
+forgets_more old new earlier now opened others over j x o r = others j x r (go (is_of j x now) refl) ∙ over j x o r
+  where
+    go : (b : Bool) → is_of j x now ≡ b → b ≡ false
+    go false is = refl
+    go true is =
+        let parts = and_parts (now.session == j) (now.transaction == x) is in
+        let s : now.session ≡ j = (Decides-eqb now.session j).0 parts.0 in
+        let t : now.transaction ≡ x = (Decides-eqb now.transaction x).0 parts.1 in
+        absurd (false_true (sym ((λ i. is_over (sym s i) (sym t i) earlier) ∙ opened) ∙ o))

@@ -1,34 +1,17 @@
 -- How transactions end, with one line more.
 use Rattle.std.proofs.Common.{◌≡◌, ℕ, ◌<◌, List, [], ◌∷◌, Bool, true, false, Option, Some, None, refl, sym, ap, ◌∙◌, subst, arith, cond}
-use Rattle.std.specs.Prelude.{◌==◌, ◌||◌, filter, filter_map, min, unwrap_or, nat_lt, Decides}
-use Rattle.std.specs.List.{cons_option, list_any}
+use Rattle.std.specs.Prelude.{◌==◌, filter, filter_map, min, unwrap_or, nat_lt, Decides}
+use Rattle.std.specs.List.{cons_option}
 use Rattle.std.specs.Option.{MatchOption}
 use Rattle.std.specs.BTreeMap.{BTreeMap, is_at, get}
-use Rattle.std.specs.BTreeSet.{BTreeSet, contains}
 use Rattle.std.proofs.lemmas.Bool.{ltb-true}
 use Rattle.std.proofs.lemmas.Bool.Decides.{Decides-eqb, Decides-ltb}
 use Rattle.hg_base.specs.Lists.{Each}
-use Rattle.hg_base.specs.Transcript.{Said, is_of, ends, committed, numbers_in}
+use Rattle.hg_base.specs.Transcript.{Said, is_of, committed, numbers_in}
 use Rattle.hg_base.proofs.HistoryFacts.{and_parts}
 use Rattle.hg_known.specs.declared.own.Tx.{Tx}
-use Rattle.hg_known.specs.Ended.{tx, tx_order, is_over, least_of}
+use Rattle.hg_known.specs.Ended.{tx, tx_order, least_of}
 use Rattle.hg_known.proofs.SpotOrder.{at_tx}
-
--- ---- ends
-
-pub over_more : (old new : BTreeSet Tx) (earlier : List Said) (now : Said) → ends now ≡ true → ((q : Tx) → contains tx_order new q ≡ cond (is_at (tx_order (tx now.session now.transaction)) q) true (contains tx_order old q)) → ((j x : ℕ) → contains tx_order old (tx j x) ≡ is_over j x earlier) → (j x : ℕ) → contains tx_order new (tx j x) ≡ is_over j x (now ∷ earlier)
-over_more old new earlier now e put h j x = put (tx j x) ∙ (λ i. cond (at_tx (tx now.session now.transaction) (tx j x) i) true (h j x i)) ∙ go (is_of j x now)
-  where
-    go : (b : Bool) → cond b true (is_over j x earlier) ≡ list_any ends (cond b (now ∷ filter (is_of j x) earlier) (filter (is_of j x) earlier))
-    go true = sym (ap (λ t. t || is_over j x earlier) e)
-    go false = refl
-
-pub over_same : (old : BTreeSet Tx) (earlier : List Said) (now : Said) → ends now ≡ false → ((j x : ℕ) → contains tx_order old (tx j x) ≡ is_over j x earlier) → (j x : ℕ) → contains tx_order old (tx j x) ≡ is_over j x (now ∷ earlier)
-over_same old earlier now e h j x = h j x ∙ go (is_of j x now)
-  where
-    go : (b : Bool) → is_over j x earlier ≡ list_any ends (cond b (now ∷ filter (is_of j x) earlier) (filter (is_of j x) earlier))
-    go true = sym (ap (λ t. t || is_over j x earlier) e)
-    go false = refl
 
 -- ---- numbers
 

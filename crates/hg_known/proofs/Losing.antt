@@ -1,5 +1,5 @@
 -- Commits that lose no update, record by record and line by line.
-use Rattle.std.proofs.Common.{◌≡◌, ℕ, ◌+◌, ◌<◌, ◌≤◌, List, [], ◌∷◌, ◌++◌, length, take, drop, true, false, Option, Some, None, refl, sym, ap, ◌∙◌, subst}
+use Rattle.std.proofs.Common.{◌≡◌, ℕ, ◌+◌, ◌<◌, ◌≤◌, List, [], ◌∷◌, ◌++◌, length, take, drop, cond, Bool, true, false, Option, Some, None, refl, sym, ap, ◌∙◌, subst}
 use Rattle.std.specs.Prelude.{IsSome, IfSome, option_map}
 use Rattle.std.specs.List.{cons_option}
 use Rattle.std.specs.declared.cmp.Ordering.{Ordering}
@@ -9,12 +9,13 @@ use Rattle.hg_base.specs.declared.rid.Rid.{Rid}
 use Rattle.hg_base.specs.declared.image.Image.{Image}
 use Rattle.hg_base.specs.RidOrder.{rid_cmp}
 use Rattle.hg_base.specs.Lists.{Each}
-use Rattle.hg_base.specs.History.{NoLostUpdate}
+use Rattle.hg_base.specs.History.{NoLostUpdate, same_rid}
 use Rattle.hg_base.specs.Transcript.{Said, committed, commit_by, commits, commits_from, history_of}
 use Rattle.hg_base.specs.Sound.{IsWhole}
 use Rattle.hg_base.proofs.RidOrder.{rids_total, at_rid}
 use Rattle.hg_base.proofs.HistoryFacts.{same_rid_equal}
-use Rattle.hg_base.proofs.ListFacts.{each_snoc}
+use Rattle.hg_base.proofs.ListFacts.{each_snoc, false_true}
+use Rattle.hg_known.proofs.SlotOrder.{none_if}
 use Rattle.hg_known.specs.declared.own.Spot.{Spot}
 use Rattle.hg_known.specs.declared.writes.Slot.{Slot}
 use Rattle.hg_known.specs.Written.{image_at, IsOfHistory}
@@ -59,6 +60,25 @@ going_on own j x P r found h p next = record { each = λ q e s. go q (rid_cmp r 
     go q Less f e s = absurd (is_not_none (own_at own j x q) (none_between own j x r found next q f e) s)
     go q Equal f e s = subst P (same_rid_equal r q (sym (at_rid r q) ∙ ap is_eq f)) p
     go q Greater f e s = h.each q (ap is_lt (rids_total.antisymm q r ∙ ap ordering_reverse f)) s
+
+-- of what the transaction stored, nothing stands before the next
+abbrev pub Left : List (Spot × Image) → ℕ → ℕ → Option Rid → Type 0
+Left own j x found = (q : Rid) → before found q ≡ true → own_at own j x q ≡ None
+
+pub left_first : (own : List (Spot × Image)) (j x : ℕ) (found : Option Rid) → IsNextOwn own j x (record { table = record { 0 = 0 }; key = 0 }) found → Left own j x found
+left_first own j x found next q e = none_if (own_at own j x q) (λ s. (going_first own j x (λ r. ⊥) found next).each q e s)
+
+pub left_on : (old new : List (Spot × Image)) (j x : ℕ) (r : Rid) (found : Option Rid) → ((q : Rid) → own_at new j x q ≡ cond (same_rid r q) None (own_at old j x q)) → IsNextAfter old j x r found → Left old j x (Some r) → Left new j x found
+left_on old new j x r found is next h q e = is q ∙ go (same_rid r q) refl
+  where
+    by : (o : Ordering) → rid_cmp r q ≡ o → same_rid r q ≡ false → own_at old j x q ≡ None
+    by Less f d = none_between old j x r found next q f e
+    by Equal f d = absurd (false_true (sym d ∙ sym (at_rid r q) ∙ ap is_eq f))
+    by Greater f d = h q (ap is_lt (rids_total.antisymm q r ∙ ap ordering_reverse f))
+
+    go : (b : Bool) → same_rid r q ≡ b → cond b None (own_at old j x q) ≡ None
+    go true d = refl
+    go false d = by (rid_cmp r q) refl d
 
 -- ---- line by line
 

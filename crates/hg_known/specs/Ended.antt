@@ -1,8 +1,7 @@
 -- How transactions end, and what is kept of it.
-use Rattle.std.specs.Prelude.{◌≡◌, ℕ, min, List, [], ◌∷◌, filter, Bool, IsFalse, Option, Some, None, unwrap_or}
+use Rattle.std.specs.Prelude.{◌≡◌, ℕ, min, List, [], ◌∷◌, filter, Bool, IsFalse, IsTrue, Option, Some, None, unwrap_or}
 use Rattle.std.specs.List.{list_any}
 use Rattle.std.specs.BTreeMap.{get}
-use Rattle.std.specs.BTreeSet.{contains}
 use Rattle.std.specs.declared.cmp.Ordering.{Ordering}
 use Rattle.std.specs.Ordering.{nat_cmp, ordering_then}
 use Rattle.hg_base.specs.declared.rid.Rid.{Rid}
@@ -10,9 +9,8 @@ use Rattle.hg_base.specs.declared.image.Image.{Image}
 use Rattle.hg_base.specs.Transcript.{Said, is_of, ends, numbers_in}
 use Rattle.hg_known.specs.declared.own.Tx.{Tx}
 use Rattle.hg_known.specs.declared.own.Spot.{Spot}
-use Rattle.hg_known.specs.declared.ends.Over.{Over}
 use Rattle.hg_known.specs.declared.ends.Numbers.{Numbers}
-use Rattle.hg_known.specs.Owned.{IsOwn}
+use Rattle.hg_known.specs.Owned.{IsOwn, own_at}
 
 abbrev pub tx : ℕ → ℕ → Tx
 tx j x = record { session = j; number = x }
@@ -23,9 +21,6 @@ tx_order a b = ordering_then (nat_cmp a.session b.session) (nat_cmp a.number b.n
 -- whether a line ends transaction x of session j
 abbrev pub is_over : ℕ → ℕ → List Said → Bool
 is_over j x lines = list_any ends (filter (is_of j x) lines)
-
-abbrev pub AreOver : Over → List Said → Type 0
-AreOver over earlier = (j x : ℕ) → contains tx_order over.ended (tx j x) ≡ is_over j x earlier
 
 -- the least, if there is one
 abbrev pub least_of : List ℕ → Option ℕ
@@ -42,3 +37,7 @@ IsOpen earlier now = IsFalse (is_over now.session now.transaction earlier)
 -- of each transaction that did not end, what it stored
 abbrev pub AreOpenOwn : List (Spot × Image) → List Said → Type 0
 AreOpenOwn own earlier = (j x : ℕ) → IsFalse (is_over j x earlier) → (r : Rid) → IsOwn own earlier j x r
+
+-- of each transaction that ended, nothing is kept
+abbrev pub ForgetsOver : List (Spot × Image) → List Said → Type 0
+ForgetsOver own earlier = (j x : ℕ) → IsTrue (is_over j x earlier) → (r : Rid) → own_at own j x r ≡ None

@@ -1,61 +1,23 @@
-//! How transactions end: with which commit number, and whether they did.
+//! With which commit number transactions end.
 
-ghost use Rattle.std.specs.Prelude.{◌≡◌, ℕ, ◌<◌, ◌∷◌, [], List, min, unwrap_or, Decides, OnOk};
+ghost use Rattle.std.specs.Prelude.{◌≡◌, ◌<◌, ◌∷◌, [], List, min, unwrap_or, Decides, OnOk};
 ghost use Rattle.hg_base.specs.Transcript as script;
 ghost use Rattle.hg_base.specs.Transcript.{numbers_in};
 ghost use Rattle.hg_base.specs.Lists.{Each};
 ghost use Rattle.hg_known.specs.Lines.{said_of};
-ghost use Rattle.hg_known.specs.Ended.{AreOver, AreNumbers, is_over};
+ghost use Rattle.hg_known.specs.Ended.{AreNumbers};
 
 use crate::history::committed;
 use crate::own::Tx;
-use crate::said::{Said, ends};
+use crate::said::Said;
 use hg_base::NoMemory;
 use std::alloc::Global;
-use std::collections::{BTreeMap, BTreeSet};
+use std::collections::BTreeMap;
 
 fn lesser(number: u64, least: Option<u64>) -> u64
     ensures { result ≡ min number (unwrap_or least number) }
 {
     number.min(least.unwrap_or(number))
-}
-
-/// The transactions that ended, by commit, by rollback, or by their one statement.
-#[derive(Drop)]
-pub struct Over {
-    pub(crate) ended: BTreeSet<Tx>,
-}
-
-impl Over {
-    /// None ended. It takes no memory.
-    pub fn new(alloc: Global) -> Over
-        ensures { AreOver result [] }
-    {
-        Over {
-            ended: BTreeSet::new(alloc),
-        }
-    }
-
-    /// Keeps whether a line ends its transaction.
-    pub fn add(&mut self, said: &Said) -> Result<(), NoMemory>
-        ensures { OnOk result ((earlier : List script.Said) → AreOver self.old earlier → AreOver self.new (said_of said.now ∷ earlier)) }
-    {
-        if !ends(said) {
-            return Ok(());
-        }
-        self.ended.insert(Tx {
-            session: said.session,
-            number: said.transaction,
-        })?;
-        Ok(())
-    }
-
-    /// Whether a line ended the transaction.
-    pub fn has(&self, tx: Tx) -> bool
-        ensures { (earlier : List script.Said) → AreOver self.now earlier → result ≡ is_over tx.session tx.number earlier }
-    {
-        self.ended.contains(&tx)
-    }
 }
 
 /// The least commit number of each transaction that has one.

@@ -35,8 +35,8 @@ fn names_writer(reply: &Reply) -> bool
     matches!(&reply.answer, Answer::OpenBy(_))
 }
 
-/// Whether a line is refused for an open write.
-pub fn do_name_writers(all: &Lines<'_>) -> bool
+// Whether a line is refused for an open write.
+fn do_name_writers(all: &Lines<'_>) -> bool
     ensures { result ≡ list_any asked.names_writer all.now }
 {
     for k in 0..all.len() {

@@ -7,7 +7,6 @@
 //!     Lines      each line with the transaction in which it stands      said_from
 //!     Own        (transaction, record) -> its last stored image         image_in r (stored_in j x lines)
 //!     Writes     (record, commit number) -> image                       group_image r (group_at h n)
-//!     Over       the transactions that ended                            ends
 //!     Numbers    transaction -> its least commit number                 numbers_in j x lines
 //!     Before     numbers, marks and open transactions before a line     known, greatest_commit, mark_of, open_of
 //!     Points     the snapshots that were printed                        prints
@@ -39,8 +38,8 @@ mod updates;
 mod writes;
 
 pub use before::Before;
-pub use ends::{Numbers, Over};
-pub use gathering::{do_name_writers, read_numbers, read_own, read_points};
+pub use ends::Numbers;
+pub use gathering::{read_numbers, read_own, read_points};
 pub use heard::{newer_of, snapshot_of};
 pub use history::read_history;
 pub use lines::{Lines, Reader};

@@ -2,11 +2,12 @@
 
 ghost use Rattle.std.specs.Prelude.{◌≡◌, ℕ, ◌∷◌, ◌<◌, ◌^◌, ◌&&◌, ◌==◌, [], List, Some, None, if◌then◌else◌, option_map, option_copied, is_some, IsFalse, IfSome, IfOk, OnOk};
 ghost use Rattle.hg_base.specs.Transcript as script;
+ghost use Rattle.hg_base.specs.Transcript.{is_of};
 ghost use Rattle.hg_base.specs.Counts.{first_write};
 ghost use Rattle.hg_known.specs.Lines.{said_of};
 ghost use Rattle.hg_base.specs.declared.rid.Rid.{Rid};
 ghost use Rattle.hg_base.specs.History.{same_rid};
-ghost use Rattle.hg_known.specs.Ended.{is_over, AreOpenOwn};
+ghost use Rattle.hg_known.specs.Ended.{is_over, AreOpenOwn, ForgetsOver};
 ghost use Rattle.hg_known.specs.Owned.{own_at, write_of, AreOwn, HasOwn, IsOwn, IsNextOwn, IsNextAfter};
 
 use crate::said::{Said, ends};
@@ -86,6 +87,7 @@ impl Own {
     pub fn add(&mut self, said: &Said) -> Result<bool, NoMemory>
         ensures first { IfOk result (λ first. (earlier : List script.Said) → HasOwn self.old earlier (said_of said.now) → first ≡ is_some (first_write earlier (said_of said.now))) }
         ensures added { OnOk result ((earlier : List script.Said) (j x : ℕ) (r : Rid) → IsOwn self.old earlier j x r → IsOwn self.new (said_of said.now ∷ earlier) j x r) }
+        ensures others { OnOk result ((j x : ℕ) (r : Rid) → IsFalse (is_of j x (said_of said.now)) → own_at self.new j x r ≡ own_at self.old j x r) }
     {
         let Some((rid, image)) = stored(said)? else {
             return Ok(false);
@@ -108,7 +110,8 @@ impl Own {
 
     // Forgets all that a transaction stored.
     fn forget(&mut self, tx: Tx)
-        ensures { (j x : ℕ) (r : Rid) → IsFalse ((tx.session == j) && (tx.number == x)) → own_at self.new j x r ≡ own_at self.old j x r }
+        ensures others { (j x : ℕ) (r : Rid) → IsFalse ((tx.session == j) && (tx.number == x)) → own_at self.new j x r ≡ own_at self.old j x r }
+        ensures gone { (r : Rid) → own_at self.new tx.session tx.number r ≡ None }
     {
         let mut found = self.next(tx, LEAST);
         while let Some(rid) = found {
@@ -119,7 +122,8 @@ impl Own {
 
     /// Forgets what the transaction of a line stored, where the line ends it: no later line stands in it.
     pub fn close(&mut self, said: &Said)
-        ensures { (earlier : List script.Said) → ((j x : ℕ) → IsFalse (is_over j x earlier) → (r : Rid) → IsOwn self.old (said_of said.now ∷ earlier) j x r) → AreOpenOwn self.new (said_of said.now ∷ earlier) }
+        ensures kept { (earlier : List script.Said) → ((j x : ℕ) → IsFalse (is_over j x earlier) → (r : Rid) → IsOwn self.old (said_of said.now ∷ earlier) j x r) → AreOpenOwn self.new (said_of said.now ∷ earlier) }
+        ensures over { (earlier : List script.Said) → ForgetsOver self.old earlier → ForgetsOver self.new (said_of said.now ∷ earlier) }
     {
         if !ends(said) {
             return;

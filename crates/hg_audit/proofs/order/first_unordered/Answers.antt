@@ -1,4 +1,4 @@
-use Rattle.std.proofs.Common.{◌≡◌, ◌<◌, ◌∙◌, sym, subst, arith, length, []}
+use Rattle.std.proofs.Common.{◌<◌, ◌∙◌, sym, subst, arith, length, []}
 use Rattle.hg_base.specs.Transcript.{history_of}
 use Rattle.hg_base.proofs.ListFacts.{false_true}
 use Rattle.hg_decide.specs.Audit.{IsKnown}

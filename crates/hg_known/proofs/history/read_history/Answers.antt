@@ -37,7 +37,7 @@ loop-preserved c =
     ] in
     record {
       reader = reader_next c.loop.reader c.read.new.self xs k c.loop.invariant.reader c.in_ok-said.ensures.next;
-      own = subst (AreOpenOwn c.close.new.self) (sym (earlier_next xs k now at)) (c.close.ensures (earlier_at xs k) (others_own c.loop.own c.add.new.self (earlier_at xs k) now c.loop.invariant.own (c.in_ok-add.ensures.added (earlier_at xs k))));
+      own = subst (AreOpenOwn c.close.new.self) (sym (earlier_next xs k now at)) (c.close.ensures.kept (earlier_at xs k) (others_own c.loop.own c.add.new.self (earlier_at xs k) now c.loop.invariant.own (c.in_ok-add.ensures.added (earlier_at xs k))));
       shows = kept.0;
       fine = kept.1;
     }

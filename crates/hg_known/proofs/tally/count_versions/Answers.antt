@@ -22,7 +22,7 @@ loop-preserved-then-not-first c =
     let fewer = c.loop.invariant.fewer in
     record {
       reader = reader_next c.loop.reader c.read.new.self xs k c.loop.invariant.reader c.in_ok-said.ensures.next;
-      own = subst (AreOpenOwn c.close.new.self) (sym (earlier_next xs k now at)) (c.close.ensures (earlier_at xs k) (others_own c.loop.own c.add.new.self (earlier_at xs k) now c.loop.invariant.own (c.in_ok-first.ensures.added (earlier_at xs k))));
+      own = subst (AreOpenOwn c.close.new.self) (sym (earlier_next xs k now at)) (c.close.ensures.kept (earlier_at xs k) (others_own c.loop.own c.add.new.self (earlier_at xs k) now c.loop.invariant.own (c.in_ok-first.ensures.added (earlier_at xs k))));
       made = c.loop.invariant.made ∙ ap length (sym same);
       undone = c.loop.invariant.undone ∙ ap (λ fs. length (filter (λ (said : Said). not (is_committed xs said)) fs)) (sym same);
       few = omega (arith, few);
@@ -47,7 +47,7 @@ loop-preserved c =
     ] in
     record {
       reader = reader_next c.loop.reader c.read.new.self xs k c.loop.invariant.reader c.in_ok-said.ensures.next;
-      own = subst (AreOpenOwn c.close.new.self) (sym (earlier_next xs k now at)) (c.close.ensures (earlier_at xs k) (others_own c.loop.own c.add.new.self (earlier_at xs k) now c.loop.invariant.own (c.in_ok-first.ensures.added (earlier_at xs k))));
+      own = subst (AreOpenOwn c.close.new.self) (sym (earlier_next xs k now at)) (c.close.ensures.kept (earlier_at xs k) (others_own c.loop.own c.add.new.self (earlier_at xs k) now c.loop.invariant.own (c.in_ok-first.ensures.added (earlier_at xs k))));
       made = ap (λ n. n + 1) c.loop.invariant.made ∙ sym (ap length more ∙ one_longer (first_writes (take k xs)) now);
       undone = undone.0;
       few = omega (arith, few);

@@ -31,7 +31,7 @@ loop-preserved c =
     let own = its_own c.loop.own c.add.new.self (earlier_at xs k) now c.loop.invariant.own (open_at xs k now at c.requires.open) (c.in_ok-add.ensures.added (earlier_at xs k)) in
     record {
       reader = reader_next c.loop.reader c.read.new.self xs k c.loop.invariant.reader c.in_ok-said.ensures.next;
-      own = subst (AreOpenOwn c.close.new.self) (sym (earlier_next xs k now at)) (c.close.ensures (earlier_at xs k) (others_own c.loop.own c.add.new.self (earlier_at xs k) now c.loop.invariant.own (c.in_ok-add.ensures.added (earlier_at xs k))));
+      own = subst (AreOpenOwn c.close.new.self) (sym (earlier_next xs k now at)) (c.close.ensures.kept (earlier_at xs k) (others_own c.loop.own c.add.new.self (earlier_at xs k) now c.loop.invariant.own (c.in_ok-add.ensures.added (earlier_at xs k))));
       kept = elim c.match-committed.branch [
         | in-Some+else-not-loses_none w ↦ so_far_more xs writes c.requires.whole c.requires.writes k now w.in-Some.number c.add.new.self at (sym c.committed.ensures ∙ w.in-Some.is) own (w.loses_none.ensures.0 w.if-not-loses_none.false) c.loop.invariant.kept
         | in_default w ↦ so_far_same xs writes c.requires.whole c.requires.writes k now at (sym c.committed.ensures ∙ w.in_default.is) c.loop.invariant.kept
