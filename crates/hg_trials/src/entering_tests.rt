@@ -259,7 +259,8 @@ fn a_session_begins_anew_between_two_loads(rt: HostRuntime) -> Result<(), Fail> 
         number: 2,
         declared: true,
         moved: false,
-    } = register else {
+    } = register
+    else {
         assert!(rt; false, "at {mark}");
         return Ok(());
     };
