@@ -70,8 +70,8 @@ begin_kept n scope (r ∷ undone) log (inr i) = begin_kept n scope undone log i
 begun_before : (register : Register) (log closed : List LogEntry) → Closes log closed → HasBegun register closed → HasBegun register log
 begun_before registers.Idle log closed c h = tt
 begun_before (registers.Entering f) log closed c h = tt
-begun_before (registers.Live n declared moved) log closed (inl (none, is)) (scope, (same, h)) = (scope, (same, subst (IsAmong (Began n scope)) is h))
-begun_before (registers.Live n declared moved) log closed (inr (some, (undone, all, is))) (scope, (same, h)) = (scope, (same, go (subst (IsAmong (Began n scope)) is h)))
+begun_before (registers.Live n declared moved) log closed (inl (none, is)) (scope, same, h) = (scope, same, subst (IsAmong (Began n scope)) is h)
+begun_before (registers.Live n declared moved) log closed (inr (some, (undone, all, is))) (scope, same, h) = (scope, same, go (subst (IsAmong (Began n scope)) is h))
   where
     go : IsAmong (Began n scope) (Over ∷ (map Undid undone ++ log)) → IsAmong (Began n scope) log
     go (inl e) = absurd (cc)

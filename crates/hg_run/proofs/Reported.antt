@@ -118,10 +118,10 @@ entries_met logs (e ∷ loaded) full h =
     go : (r : Register) (mask : Option ℕ) → IsRegister r → is_some mask ≡ shows_declared r → HasBegun r (logs e.0) → Each (WasMet logs) (live_entry e.0 r mask)
     go Idle mask w k b = tt
     go (Entering f) mask w k b = tt
-    go (Live number declared true) mask w k (scope, (same, b)) =
+    go (Live number declared true) mask w k (scope, same, b) =
         let bit : is_declared (masked_scope mask) ≡ declared = masked_declared mask ∙ k in
         ((subst (λ d. began_at d number (logs e.0) ≡ true) (sym (bit ∙ same)) (began_in number scope (logs e.0) b), bit ∙ w.declared refl), tt)
-    go (Live number declared false) mask w k (scope, (same, b)) =
+    go (Live number declared false) mask w k (scope, same, b) =
         let bit : is_declared (masked_scope mask) ≡ declared = masked_declared mask ∙ k in
         ((subst (λ d. began_at d number (logs e.0) ≡ true) (sym (bit ∙ same)) (began_in number scope (logs e.0) b), tt), tt)
 

@@ -189,7 +189,7 @@ module _ (e : Engine) (kind : Kind) (i : ℕ) (v v1 w : View) (sweep : Sweep) (o
   whole : (j : ℕ) → length (logs j) ≤ heard j (pass w).seen
   whole j = subst (λ sights. length (logs j) ≤ heard j sights) (sym round.seen) (heard_whole j (logs j) v1.sights (pass_heard j))
 
-  shows : (j : ℕ) → 0 < j → j ≤ sessions → IfSome (found j (pass w).loaded) (λ r. ShowsLog r (logs j))
+  shows : (j : ℕ) → 0 < j → j ≤ sessions → IfSome (found j (pass w).loaded) (λ r. ShowsLog r.register (logs j))
   shows zero low high = absurd (omega (arith, low))
   shows (suc k) low high =
       let many = there.many in
