@@ -19,7 +19,7 @@ pub record Knows (h : History) (all : List Said) (facts : Facts) : Type 0 where
   pub writes : IsOfHistory h facts.writes.now
   pub groups : length h ≡ facts.groups
   pub own : facts.command ≡ Run → IsTrue (list_any names_writer all) → AreOwn facts.own.now (onto all [])
-  pub numbers : AreNumbers facts.numbers.now (onto all [])
+  pub numbers : IsTrue (list_any names_writer all) → AreNumbers facts.numbers.now (onto all [])
 
 -- the writes of some history of so many groups
 abbrev pub HasHistory : List (Slot × Image) → ℕ → Type 0

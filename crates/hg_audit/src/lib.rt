@@ -18,12 +18,12 @@
 mod answered;
 mod conflict;
 mod facts;
+mod faults;
 mod fresh;
 mod judge;
 mod judging;
 mod laws;
 mod lines;
-mod order;
 mod place;
 mod reply;
 mod scan;

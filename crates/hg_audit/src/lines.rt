@@ -4,25 +4,25 @@ ghost use Rattle.std.specs.Prelude.{◌≡◌, ℕ, ◌<◌, ◌^◌, List, [], 
 ghost use Rattle.hg_base.specs.Lists.{EachAfter, onto};
 ghost use Rattle.hg_base.specs.Script.{Mode};
 ghost use Rattle.hg_audit.specs.Judged.{IsOf};
+ghost use Rattle.hg_base.specs.Sound.{IsWhole};
 ghost use Rattle.hg_base.specs.Transcript.{history_of};
 ghost use Rattle.std.specs.List.{list_any};
 ghost use Rattle.hg_audit.specs.declared.reply.Command.TheVariants.{Run};
 ghost use Rattle.hg_known.specs.Asked.{names_writer};
 ghost use Rattle.hg_known.specs.Owned.{AreOwn};
 ghost use Rattle.hg_known.specs.Ended.{IsOpen};
+ghost use Rattle.hg_known.specs.Tallied.{IsTally};
 ghost use Rattle.hg_known.specs.Written.{IsOfHistory};
-ghost use Rattle.hg_audit.specs.Found.{IsFound, IsJudged};
+ghost use Rattle.hg_audit.specs.Found.{IsFound, IsDecided};
 
-use crate::answered::first_unanswered;
 use crate::facts::Facts;
-use crate::order::first_unordered;
+use crate::faults::first_faults;
 use crate::reply::Command;
 use crate::shape::first_out_of_shape;
 use crate::totals::are_totals;
 use hg_base::{Line, NoMemory, Totals};
 use hg_known::{
-    Lines, Own, Sequence, Writes, count_versions, keeps_updates, read_history, read_numbers,
-    read_own, read_points,
+    Lines, Own, Sequence, Tally, Writes, read_history, read_numbers, read_own, read_points,
 };
 use std::alloc::Global;
 
@@ -47,22 +47,24 @@ fn read_stored(alloc: Global, command: Command, all: &Lines<'_>) -> Result<Own, 
     }
 }
 
-// The first line that is not right, or the totals, where the lines give this history.
+// Whether an update is lost, or the first line that is not right, or the totals, where the lines give this history.
 fn judge_lines(
     alloc: Global,
     command: Command,
     all: &Lines<'_>,
     writes: &Writes,
     groups: u64,
+    tally: Tally,
     totals: Totals,
 ) -> Result<Found, NoMemory>
     requires open { EachAfter IsOpen [] all.now }
     requires writes { IsOfHistory (history_of all.now) writes.now }
+    requires whole { IsWhole all.now }
     requires groups { length (history_of all.now) ≡ groups }
-    ensures { IfOk result (λ found. (mode : Mode) → IsOf command mode → IsJudged mode all.now totals found) }
+    requires tally { IsTally tally all.now }
+    ensures { IfOk result (λ found. (mode : Mode) → IsOf command mode → IsDecided mode all.now totals found) }
 {
     let numbers = read_numbers(alloc, all)?;
-    let tally = count_versions(alloc, &numbers, all)?;
     let own = read_stored(alloc, command, all)?;
     let facts = Facts {
         command,
@@ -71,11 +73,14 @@ fn judge_lines(
         own: &own,
         numbers: &numbers,
     };
-    if let Some(k) = first_unanswered(alloc, &facts, all)? {
+    let points = read_points(alloc, all)?;
+    let Some(faults) = first_faults(alloc, &facts, &points, all)? else {
+        return Ok(Found::Commits);
+    };
+    if let Some(k) = faults.unanswered {
         return Ok(Found::Reply(k));
     }
-    let points = read_points(alloc, all)?;
-    if let Some(k) = first_unordered(alloc, command, &points, groups, all)? {
+    if let Some(k) = faults.unordered {
         return Ok(Found::Fresh(k));
     }
     if !are_totals(tally, writes, groups, all, totals) {
@@ -99,11 +104,8 @@ pub fn find_fault(
         return Ok(Found::Shape(k));
     }
     let all = Lines::new(records, lines);
-    let Some((writes, groups)) = read_history(alloc, &all)? else {
+    let Some((writes, groups, tally)) = read_history(alloc, &all)? else {
         return Ok(Found::Commits);
     };
-    if !keeps_updates(alloc, &all, &writes)? {
-        return Ok(Found::Commits);
-    }
-    judge_lines(alloc, command, &all, &writes, groups, totals)
+    judge_lines(alloc, command, &all, &writes, groups, tally, totals)
 }

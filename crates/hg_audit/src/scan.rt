@@ -1,31 +1,18 @@
 //! Whether the rows of a scan are those that are seen.
 
-ghost use Rattle.std.specs.Prelude.{◌≡◌, ℕ, ◌≤◌, List, None, map, Decides};
-ghost use Rattle.hg_base.specs.History.{History, seen};
+ghost use Rattle.std.specs.Prelude.{◌≡◌, ℕ, ◌≤◌, List, None, map, Decides, unwrap_or, is_some, option_copied, if◌then◌else◌};
+ghost use Rattle.hg_base.specs.History.{History, nothing, seen};
 ghost use Rattle.hg_base.specs.Transcript as script;
 ghost use Rattle.hg_base.specs.Transcript.{own_writes};
 ghost use Rattle.hg_base.specs.Replies.{AreRows};
 ghost use Rattle.hg_known.specs.Lines.{said_of};
-ghost use Rattle.hg_known.specs.Owned.{HasOwn};
-ghost use Rattle.hg_known.specs.Written.{IsOfHistory, record_at};
-ghost use Rattle.hg_audit.specs.Seen.{IsNextKey, IsNextStored, NoneSeen, look};
+ghost use Rattle.hg_known.specs.Owned.{HasOwn, own_at};
+ghost use Rattle.hg_known.specs.Written.{IsOfHistory};
+ghost use Rattle.hg_audit.specs.Seen.{IsNextStored, NoneSeen, look, other_look, own_look};
 
 use crate::reply::{is_row, see};
 use hg_base::{Rid, Row, TableId};
 use hg_known::{Own, Said, Tx, Writes};
-
-// The least key of the table, at or over `from`, that the transaction or a group may have written.
-fn next_key(writes: &Writes, own: &Own, tx: Tx, table: TableId, from: u64) -> Option<u64>
-    ensures { IsNextKey own.now tx.session tx.number writes.now table from result }
-{
-    let written = writes.next_key(table, from);
-    let stored = next_stored(own, tx, table, from);
-    match (written, stored) {
-        (Some(written), Some(stored)) => Some(written.min(stored)),
-        (Some(written), None) => Some(written),
-        (None, stored) => stored,
-    }
-}
 
 // The least key of the table, at or over `from`, that the transaction stored.
 fn next_stored(own: &Own, tx: Tx, table: TableId, from: u64) -> Option<u64>
@@ -38,20 +25,26 @@ fn next_stored(own: &Own, tx: Tx, table: TableId, from: u64) -> Option<u64>
     Some(rid.key)
 }
 
-// Whether no key from `from` to `to` is seen as a row.
-fn none_seen(writes: &Writes, own: &Own, now: &Said, table: TableId, from: u64, to: u64) -> bool
-    ensures { (h : History) (earlier : List script.Said) → IsOfHistory h writes.now → HasOwn own.now earlier (said_of now.now) → Decides result (NoneSeen (look h earlier (said_of now.now) table) from to) }
+// Whether the last that the transaction stored of a record is a row.
+fn stores_row(own: &Own, tx: Tx, rid: Rid) -> bool
+    ensures { result ≡ is_some (unwrap_or (own_at own.now tx.session tx.number rid) nothing).row }
 {
-    let tx = Tx {
-        session: now.session,
-        number: now.transaction,
-    };
+    match own.image(tx, rid) {
+        Some(image) => image.row.is_some(),
+        None => false,
+    }
+}
+
+// Whether the transaction stored no row at a key from `from` to `to`.
+fn none_stored(own: &Own, tx: Tx, table: TableId, from: u64, to: u64) -> bool
+    ensures { Decides result (NoneSeen (own_look own.now tx.session tx.number table) from to) }
+{
     let mut from = from;
-    while let Some(key) = next_key(writes, own, tx, table, from) {
+    while let Some(key) = next_stored(own, tx, table, from) {
         if key > to {
             return true;
         }
-        if see(writes, own, now, Rid { table, key }).is_some() {
+        if stores_row(own, tx, Rid { table, key }) {
             return false;
         }
         if key == to {
@@ -60,6 +53,51 @@ fn none_seen(writes: &Writes, own: &Own, now: &Said, table: TableId, from: u64, 
         from = key + 1;
     }
     true
+}
+
+// Whether a row that is visible of a record is seen by the transaction, which did not store the record.
+fn is_shown(own: &Own, tx: Tx, rid: Rid, row: Option<&Row>) -> bool
+    ensures { result ≡ is_some (if is_some (own_at own.now tx.session tx.number rid) then None else option_copied row.entry) }
+{
+    row.is_some() && !own.has(tx, rid)
+}
+
+// Whether of no key from `from` to `to`, but for those that the transaction stored, a row is visible.
+fn none_shown(writes: &Writes, own: &Own, now: &Said, table: TableId, from: u64, to: u64) -> bool
+    ensures { (h : History) → IsOfHistory h writes.now → Decides result (NoneSeen (other_look h own.now now.now.session now.now.transaction now.now.at table) from to) }
+{
+    let tx = Tx {
+        session: now.session,
+        number: now.transaction,
+    };
+    let mut to = to;
+    while let Some((key, row)) = writes.last_shown(table, to, now.at) {
+        if key < from {
+            return true;
+        }
+        if is_shown(own, tx, Rid { table, key }, row) {
+            return false;
+        }
+        if key == from {
+            return true;
+        }
+        to = key - 1;
+    }
+    true
+}
+
+// Whether no key from `from` to `to` is seen as a row.
+fn none_seen(writes: &Writes, own: &Own, now: &Said, table: TableId, from: u64, to: u64) -> bool
+    ensures { (h : History) (earlier : List script.Said) → IsOfHistory h writes.now → HasOwn own.now earlier (said_of now.now) → Decides result (NoneSeen (look h earlier (said_of now.now) table) from to) }
+{
+    let tx = Tx {
+        session: now.session,
+        number: now.transaction,
+    };
+    if !none_stored(own, tx, table, from, to) {
+        return false;
+    }
+    none_shown(writes, own, now, table, from, to)
 }
 
 /// Whether these are the rows of the range that a line's transaction sees, by ascending key.

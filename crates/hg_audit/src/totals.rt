@@ -1,11 +1,12 @@
 //! Whether totals are those of the lines.
 
-ghost use Rattle.std.specs.Prelude.{◌≡◌, ◌+◌, ◌≤◌, ◌<◌, length, filter, not, sum_by, is_some, Decides};
+ghost use Rattle.std.specs.Prelude.{◌≡◌, ◌+◌, ◌≤◌, ◌<◌, length, sum_by, is_some, Decides};
 ghost use Rattle.std.specs.Option.{MatchOption};
 ghost use Rattle.hg_base.specs.History.{History, visible};
 ghost use Rattle.hg_base.specs.Transcript as script;
 ghost use Rattle.hg_base.specs.Transcript.{history_of};
-ghost use Rattle.hg_base.specs.Counts.{removed_by, live, first_writes, is_committed, AreTotals};
+ghost use Rattle.hg_base.specs.Counts.{removed_by, live, AreTotals};
+ghost use Rattle.hg_known.specs.Tallied.{IsTally};
 ghost use Rattle.hg_known.specs.Written.{IsOfHistory};
 ghost use Rattle.hg_audit.specs.Known.{HasHistory};
 
@@ -99,8 +100,7 @@ fn are_balanced(t: Totals) -> bool
 
 /// Whether these are the totals of the lines, of which so many versions were made and undone.
 pub fn are_totals(tally: Tally, writes: &Writes, groups: u64, all: &Lines<'_>, t: Totals) -> bool
-    requires made { tally.made ≡ length (first_writes all.now) }
-    requires undone { tally.undone ≡ length (filter (λ said. not (is_committed all.now said)) (first_writes all.now)) }
+    requires tally { IsTally tally all.now }
     requires writes { IsOfHistory (history_of all.now) writes.now }
     requires groups { length (history_of all.now) ≡ groups }
     ensures { Decides result (AreTotals all.now (history_of all.now) t) }

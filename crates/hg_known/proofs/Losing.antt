@@ -115,3 +115,18 @@ module _ (xs : List Said) (writes : List (Slot × Image)) (whole : IsWhole xs) (
       let split : commits xs ≡ commits (take k xs) ++ printed n (earlier_at xs k) now ∷ rest = ap commits at.all ∙ commits_append [] (take k xs) (now ∷ drop (k + 1) xs) ∙ ap (λ o. commits (take k xs) ++ cons_option (option_map (λ c. (c, commit_by (earlier_at xs k) now)) o) rest) e in
       let each = subst (Each (LosesNone (commits xs))) split (of_kept xs (commits_of xs whole) kept) in
       f (loses_line own (earlier_at xs k) now n is (each_right (LosesNone (commits xs)) (commits (take k xs)) (printed n (earlier_at xs k) now ∷ rest) each).0)
+
+  -- the same where it is decided of any line whether its commit, if it prints one, loses none
+  pub line_keeps : (k : ℕ) (now : Said) (own : List (Spot × Image)) → AtLine xs k now → HasOwn own (now ∷ earlier_at xs k) now → IfSome (committed now) (LineKeeps own writes now) → SoFar k → SoFar (k + 1)
+  line_keeps k now own at is keeps h = go (committed now) refl keeps
+    where
+      go : (o : Option ℕ) → committed now ≡ o → IfSome o (LineKeeps own writes now) → SoFar (k + 1)
+      go None e keeps = so_far_same k now at e h
+      go (Some n) e keeps = so_far_more k now n own at e is keeps h
+
+  pub line_lost : (k : ℕ) (now : Said) (own : List (Spot × Image)) → AtLine xs k now → HasOwn own (now ∷ earlier_at xs k) now → (IfSome (committed now) (LineKeeps own writes now) → ⊥) → NoLostUpdate (history_of xs) → ⊥
+  line_lost k now own at is f kept = go (committed now) refl f
+    where
+      go : (o : Option ℕ) → committed now ≡ o → (IfSome o (LineKeeps own writes now) → ⊥) → ⊥
+      go None e f = f tt
+      go (Some n) e f = one_lost k now n own at e is f kept

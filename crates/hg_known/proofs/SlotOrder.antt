@@ -1,5 +1,5 @@
 -- The order of slots, by record and then by number.
-use Rattle.std.proofs.Common.{◌≡◌, ℕ, ◌≤◌, ◌<◌, List, [], ◌∷◌, ◌++◌, Bool, true, false, Option, Some, None, refl, sym, ap, ◌∙◌, cond, subst, arith}
+use Rattle.std.proofs.Common.{◌≡◌, ℕ, ◌≤◌, ◌<◌, List, [], ◌∷◌, ◌++◌, Bool, true, false, Option, Some, None, ℤ, refl, sym, ap, ◌∙◌, cond, subst, arith}
 use Rattle.std.specs.Prelude.{◌&&◌, ◌==◌, IsSome, is_some, is_none, not}
 use Rattle.std.specs.declared.cmp.Ordering.{Ordering}
 use Rattle.std.specs.declared.cmp.Ordering.TheVariants.{Less, Equal, Greater}
@@ -12,11 +12,13 @@ use Rattle.std.proofs.lemmas.Bool.Decides.{nat_tests}
 use Rattle.hg_base.specs.declared.rid.Rid.{Rid}
 use Rattle.hg_base.specs.declared.rid.TableId.{TableId}
 use Rattle.hg_base.specs.declared.image.Image.{Image}
-use Rattle.hg_base.specs.History.{same_rid}
+use Rattle.hg_base.specs.History.{History, same_rid, visible}
 use Rattle.hg_base.specs.RidOrder.{rid_cmp}
+use Rattle.hg_base.proofs.ListFacts.{false_true}
+use Rattle.hg_known.proofs.Groups.{none_visible, last_visible}
 use Rattle.hg_base.proofs.RidOrder.{at_rid, alike_numbers, alike_parts}
 use Rattle.hg_known.specs.declared.writes.Slot.{Slot}
-use Rattle.hg_known.specs.Written.{same_slot, slot, slot_cmp, image_at, record_at, IsLastAt, IsNextWritten, IsNextRid}
+use Rattle.hg_known.specs.Written.{same_slot, slot, slot_cmp, image_at, record_at, IsLastAt, IsLastShown, IsNextRid, IsOfHistory}
 
 pub at_slot : (a b : Slot) → is_at (slot_cmp a) b ≡ same_slot a b
 at_slot a b = alike_parts (rid_cmp a.rid b.rid) (nat_cmp a.number b.number) ∙ (λ i. at_rid a.rid b.rid i && alike_numbers a.number b.number i)
@@ -97,54 +99,71 @@ pub not_false : (b : Bool) → not b ≡ false → b ≡ true
 not_false true e = refl
 not_false false e = cc
 
--- ---- the next key
+-- ---- the last key
 
-abbrev pub Rest : BTreeMap Slot Image → TableId → ℕ → List (Slot × Image) → Type 0
-Rest m t from rs = IsRangeOf slot_cmp (Included (slot (record_at t from) 0)) Unbounded m rs
-
-pub keys_in_order : (t : TableId) (a b n : ℕ) → a ≤ b → IsLeBy slot_cmp (slot (record_at t a) 0) (slot (record_at t b) n)
-keys_in_order t a b n h = grind (arith, nat_tests, h)
-
-pub key_at_most : (t : TableId) (e : Slot) (k n : ℕ) → IsLeBy slot_cmp e (slot (record_at t k) n) → e.rid.table.0 ≡ t.0 → e.rid.key ≤ k
-key_at_most t e k n h s = grind (arith, nat_tests, h, s)
-
-pub table_at_least : (t : TableId) (from : ℕ) (e : Slot) → IsLeBy slot_cmp (slot (record_at t from) 0) e → t.0 ≤ e.rid.table.0
-table_at_least t from e h = grind (arith, nat_tests, h)
+pub keys_in_order : (t : TableId) (a b n s : ℕ) → a ≤ b → n ≤ s → IsLeBy slot_cmp (slot (record_at t a) n) (slot (record_at t b) s)
+keys_in_order t a b n s h k = grind (arith, nat_tests, h, k)
 
 pub table_at_most : (t : TableId) (e : Slot) (k n : ℕ) → IsLeBy slot_cmp e (slot (record_at t k) n) → e.rid.table.0 ≤ t.0
 table_at_most t e k n h = grind (arith, nat_tests, h)
 
-pub key_at_least : (t : TableId) (from : ℕ) (e : Slot) → IsLeBy slot_cmp (slot (record_at t from) 0) e → e.rid.table.0 ≡ t.0 → from ≤ e.rid.key
-key_at_least t from e h s = grind (arith, nat_tests, h, s)
+pub key_at_most : (t : TableId) (e : Slot) (k n : ℕ) → IsLeBy slot_cmp e (slot (record_at t k) n) → e.rid.table.0 ≡ t.0 → e.rid.key ≤ k
+key_at_most t e k n h s = grind (arith, nat_tests, h, s)
 
-pub none_rest : (m : BTreeMap Slot Image) (t : TableId) (from : ℕ) (rs : List (Slot × Image)) → Rest m t from rs → rs ≡ [] → IsNextWritten m.entries t from None
-none_rest m t from rs h e k n le = sym (looked_up m.entries (slot (record_at t k) n)) ∙ h.5 e (slot (record_at t k) n) (keys_in_order t from k n le, tt)
+pub table_below : (t : TableId) (e : Slot) (k n : ℕ) → e.rid.table.0 < t.0 → is_lt (slot_cmp e (slot (record_at t k) n)) ≡ true
+table_below t e k n h = grind (arith, nat_tests, h)
 
--- the first entry from a record on
-pub record First (m : BTreeMap Slot Image) (t : TableId) (from : ℕ) (e : Slot) : Type 0 where
-  pub above : IsLeBy slot_cmp (slot (record_at t from) 0) e
-  pub least : (k n : ℕ) → from ≤ k → IsSome (image_at m.entries (record_at t k) n) → IsLeBy slot_cmp e (slot (record_at t k) n)
+pub key_below : (t : TableId) (e : Slot) (k n : ℕ) → e.rid.table.0 ≡ t.0 → e.rid.key < k → is_lt (slot_cmp e (slot (record_at t k) n)) ≡ true
+key_below t e k n s h = grind (arith, nat_tests, s, h)
 
-pub first_rest : (m : BTreeMap Slot Image) (t : TableId) (from : ℕ) (rs : List (Slot × Image)) (e : Slot) (image : Image) (more : List (Slot × Image)) → Rest m t from rs → rs ≡ (e, image) ∷ more → First m t from e
-first_rest m t from rs e image more h is =
-    let k : Rest m t from ((e, image) ∷ more) = subst (Rest m t from) is h in
+-- the last entry of a table up to a key and a number
+pub record LastKey (m : BTreeMap Slot Image) (t : TableId) (key s : ℕ) (e : Slot) (image : Image) : Type 0 where
+  pub within : IsLeBy slot_cmp e (slot (record_at t key) s)
+  pub found : lookup (same_slot e) m.entries ≡ Some image
+  pub last : (k n : ℕ) → k ≤ key → n ≤ s → IsSome (image_at m.entries (record_at t k) n) → is_lt (slot_cmp e (slot (record_at t k) n)) ≡ false
+
+pub last_key : (m : BTreeMap Slot Image) (t : TableId) (key s : ℕ) (es : List (Slot × Image)) (e : Slot) (image : Image) (front : List (Slot × Image)) → UpTo m (record_at t key) s es → es ≡ front ++ (e, image) ∷ [] → LastKey m t key s e image
+last_key m t key s es e image front h is =
+    let at = h.3 (e, image) front is in
     record {
-      above = k.1.0.0;
-      least = λ key n le there. k.2 (slot (record_at t key) n) (keys_in_order t from key n le, tt) (subst IsSome (sym (looked_up m.entries (slot (record_at t key) n))) there);
+      within = at.0.1;
+      found = sym (looked_up m.entries e) ∙ at.1;
+      last = λ k n below small there. h.4 (e, image) front is (slot (record_at t k) n) (tt, keys_in_order t k key n s below small) (subst IsSome (sym (looked_up m.entries (slot (record_at t k) n))) there);
     }
 
-pub rest_other : (m : BTreeMap Slot Image) (t : TableId) (from : ℕ) (e : Slot) → First m t from e → (e.rid.table.0 ≡ t.0 → ⊥) → IsNextWritten m.entries t from None
-rest_other m t from e first apart =
-    λ k n le. none_if (image_at m.entries (record_at t k) n) (λ there.
-    let low = table_at_least t from e first.above in
-    let high = table_at_most t e k n (first.least k n le there) in
-    apart (omega (arith, low, high)))
+-- no group up to a snapshot writes the key, so no row of it is visible
+pub unseen : (h : History) (es : List (Slot × Image)) (t : TableId) (k at : ℕ) → IsOfHistory h es → ((n : ℕ) → n ≤ at → image_at es (record_at t k) n ≡ None) → (visible h (record_at t k) at).row ≡ None
+unseen h es t k at shows none = ap (λ (i : Image). i.row) (none_visible h (record_at t k) at (λ n small. sym (shows (record_at t k) n) ∙ none n small))
 
-pub rest_found : (m : BTreeMap Slot Image) (t : TableId) (from : ℕ) (e : Slot) → First m t from e → e.rid.table.0 ≡ t.0 → IsNextWritten m.entries t from (Some e.rid.key)
-rest_found m t from e first same = (
-  key_at_least t from e first.above same,
-  λ k n le less. none_if (image_at m.entries (record_at t k) n) (λ there. let high = key_at_most t e k n (first.least k n le there) same in absurd (omega (arith, less, high))),
+pub no_key : (m : BTreeMap Slot Image) (t : TableId) (key s at : ℕ) (es : List (Slot × Image)) → at ≤ s → UpTo m (record_at t key) s es → es ≡ [] → (h : History) → IsOfHistory h m.entries → IsLastShown h t key at None
+no_key m t key s at es small range e h shows k below =
+    unseen h m.entries t k at shows (λ n fits. sym (looked_up m.entries (slot (record_at t k) n)) ∙ range.5 e (slot (record_at t k) n) (tt, keys_in_order t k key n s below (omega (arith, fits, small))))
+
+pub other_table : (m : BTreeMap Slot Image) (t : TableId) (key s at : ℕ) (e : Slot) (image : Image) → at ≤ s → LastKey m t key s e image → (e.rid.table.0 ≡ t.0 → ⊥) → (h : History) → IsOfHistory h m.entries → IsLastShown h t key at None
+other_table m t key s at e image small last apart h shows k below =
+    let most = table_at_most t e key s last.within in
+    let under : e.rid.table.0 < t.0 = le_not_same most apart in
+    unseen h m.entries t k at shows (λ n fits. none_if (image_at m.entries (record_at t k) n) (λ there. false_true (sym (last.last k n below (omega (arith, fits, small)) there) ∙ table_below t e k n under)))
+  where
+    le_not_same : {a b : ℕ} → a ≤ b → (a ≡ b → ⊥) → a < b
+    le_not_same l f = omega (arith, l, f)
+
+pub this_key : (m : BTreeMap Slot Image) (t : TableId) (key s at : ℕ) (e : Slot) (image : Image) (row : Option (List ℤ)) → at ≤ s → LastKey m t key s e image → e.rid.table.0 ≡ t.0 →
+    (h : History) → IsOfHistory h m.entries → row ≡ (visible h e.rid at).row → IsLastShown h t key at (Some (e.rid.key, row))
+this_key m t key s at e image row small last same h shows is = (
+  key_at_most t e key s last.within same,
+  is ∙ (λ i. (visible h (record { table = record { 0 = same i }; key = e.rid.key }) at).row),
+  λ k over below. unseen h m.entries t k at shows (λ n fits. none_if (image_at m.entries (record_at t k) n) (λ there. false_true (sym (last.last k n below (omega (arith, fits, small)) there) ∙ key_below t e k n same over))),
 )
+
+pub newest : (m : BTreeMap Slot Image) (t : TableId) (key s at : ℕ) (e : Slot) (image : Image) → at ≤ s → LastKey m t key s e image → e.rid.table.0 ≡ t.0 → e.number ≤ at → (h : History) → IsOfHistory h m.entries → image.row ≡ (visible h e.rid at).row
+newest m t key s at e image small last same fits h shows =
+    sym (ap (λ (i : Image). i.row) (last_visible h e.rid at e.number image fits (sym (shows e.rid e.number) ∙ last.found)
+    (λ n over within. sym (shows e.rid n) ∙ none_if (image_at m.entries e.rid n) (λ there.
+    false_true (sym (last.last e.rid.key n (key_at_most t e key s last.within same) (omega (arith, within, small)) (subst (λ r. IsSome (image_at m.entries r n)) its there)) ∙ sym (ap (λ r. is_lt (slot_cmp e (slot r n))) its) ∙ number_below e.rid e.number n over)))))
+  where
+    its : e.rid ≡ record_at t e.rid.key
+    its = λ i. record { table = record { 0 = same i }; key = e.rid.key }
 
 -- ---- the next record
 

@@ -1,33 +1,62 @@
 -- The first writes of records, line by line.
-use Rattle.std.proofs.Common.{◌≡◌, ℕ, ◌+◌, ◌≤◌, List, [], ◌∷◌, ◌++◌, length, take, Bool, true, false, Option, Some, None, refl, sym, ap, ◌∙◌, subst, arith, cond}
-use Rattle.std.specs.Prelude.{◌||◌, filter, filter_map, is_some, sum_by}
+use Rattle.std.proofs.Common.{◌≡◌, ℕ, suc, ◌+◌, ◌-◌, ◌≤◌, ◌<◌, List, [], ◌∷◌, length, take, Bool, true, false, Option, Some, None, refl, sym, ap, ◌∙◌, subst, arith, cond}
+use Rattle.std.specs.Prelude.{◌||◌, ◌==◌, filter, is_some, sum_by, unwrap_or, not, min}
 use Rattle.std.proofs.lemmas.List.Sums.{sum_by-append, sum_by-take-le}
 use Rattle.std.specs.List.{cons_option, list_any}
+use Rattle.std.specs.Int.{from_bool}
 use Rattle.std.specs.Option.{option_map_or}
 use Rattle.std.specs.Prelude.{is_none}
-use Rattle.std.proofs.lemmas.List.Elements.{filter-append}
-use Rattle.std.proofs.lemmas.List.{length-append}
+use Rattle.std.proofs.lemmas.List.{length-take}
+use Rattle.std.proofs.lemmas.List.Filters.{length-filter_both}
+use Rattle.std.proofs.lemmas.Bool.Decides.{Decides-eqb, nat_tests}
+use Rattle.std.specs.BTreeMap.{get, is_at}
+use Rattle.hg_base.specs.declared.statement.Statement.{Statement}
+use Rattle.hg_base.specs.declared.statement.Statement.TheVariants.{Begin, Get, Put, Del, Scan, Commit, Rollback, Gc}
 use Rattle.hg_base.specs.Lists.{onto}
-use Rattle.hg_base.specs.Transcript.{Said, is_of, committed, numbers_in, stored, own_writes}
+use Rattle.hg_base.specs.Transcript.{Said, is_of, is_end, ends, committed, committed_by, stored, own_writes}
 use Rattle.hg_base.specs.History.{Write, image_in}
 use Rattle.hg_base.specs.Counts.{first_write, first_writes, first_writes_from, is_committed}
-use Rattle.hg_base.proofs.ListFacts.{append_nil, cons_option_append}
-use Rattle.hg_known.specs.Ended.{least_of}
+use Rattle.hg_base.proofs.HistoryFacts.{and_parts}
+use Rattle.hg_base.proofs.ListFacts.{false_true}
+use Rattle.hg_known.specs.declared.own.Tx.{Tx}
+use Rattle.hg_known.specs.declared.tally.Tally.{Tally}
+use Rattle.hg_known.specs.declared.tally.Versions.{Versions}
+use Rattle.hg_known.specs.Ended.{tx, tx_order, is_over, IsOpen}
+use Rattle.hg_known.specs.Tallied.{firsts, AreTallied, IsTally}
 use Rattle.hg_known.proofs.Walking.{AtLine, earlier_at}
 use Rattle.hg_known.proofs.Pointing.{any_onto}
+use Rattle.hg_known.proofs.SpotOrder.{at_tx}
 
 -- ---- whether a transaction is committed
 
-pub some_number : (j x : ℕ) (lines : List Said) → is_some (least_of (numbers_in j x lines)) ≡ list_any (λ (s : Said). is_some (committed s)) (filter (is_of j x) lines)
-some_number j x lines = go (filter (is_of j x) lines)
+-- whether one of the lines prints a commit number for its transaction
+abbrev pub commits_one : List Said → Bool
+commits_one lines = list_any (λ (s : Said). is_some (committed s)) lines
+
+pub committed_ends : (s : Said) → ends s ≡ false → committed s ≡ None
+committed_ends s e = go s.alone s.statement refl refl
   where
-    go : (ls : List Said) → is_some (least_of (filter_map committed ls)) ≡ list_any (λ (s : Said). is_some (committed s)) ls
-    go [] = refl
-    go (s ∷ ls) = here (committed s) (go ls)
-      where
-        here : (o : Option ℕ) → is_some (least_of (filter_map committed ls)) ≡ list_any (λ (s : Said). is_some (committed s)) ls → is_some (least_of (cons_option o (filter_map committed ls))) ≡ (is_some o || list_any (λ (s : Said). is_some (committed s)) ls)
-        here None e = e
-        here (Some n) e = refl
+    by : (asked : Statement) → is_end asked ≡ false → committed_by asked s.reply.answer ≡ None
+    by Commit f = absurd (false_true (sym f))
+    by (Begin scope) f = refl
+    by (Get rid) f = refl
+    by (Put rid row) f = refl
+    by (Del rid) f = refl
+    by (Scan table low high) f = refl
+    by Rollback f = refl
+    by (Gc kind) f = refl
+
+    go : (b : Bool) (asked : Statement) → s.alone ≡ b → s.statement ≡ asked → cond b s.reply.number (committed_by asked s.reply.answer) ≡ None
+    go true asked f g = absurd (false_true (sym e ∙ ap (λ c. c || is_end s.statement) f))
+    go false asked f g = by asked (ap is_end (sym g) ∙ sym (ap (λ c. c || is_end s.statement) f) ∙ e)
+
+pub none_commits : (lines : List Said) → list_any ends lines ≡ false → commits_one lines ≡ false
+none_commits [] e = refl
+none_commits (s ∷ lines) e = go (ends s) refl e (none_commits lines)
+  where
+    go : (b : Bool) → ends s ≡ b → (b || list_any ends lines) ≡ false → (list_any ends lines ≡ false → commits_one lines ≡ false) → (is_some (committed s) || commits_one lines) ≡ false
+    go true f g more = absurd (false_true (sym g))
+    go false f g more = ap (λ o. is_some o || commits_one lines) (committed_ends s f) ∙ more g
 
 pub filter_onto : (q : Said → Bool) (xs es : List Said) → filter q (onto xs es) ≡ onto (filter q xs) (filter q es)
 filter_onto q [] es = refl
@@ -37,10 +66,9 @@ filter_onto q (x ∷ xs) es = filter_onto q xs (x ∷ es) ∙ go (q x)
     go true = refl
     go false = refl
 
-pub committed_is : (all : List Said) (now : Said) → is_some (least_of (numbers_in now.session now.transaction (onto all []))) ≡ is_committed all now
+pub committed_is : (all : List Said) (now : Said) → is_committed (onto all []) now ≡ is_committed all now
 committed_is all now =
-    some_number now.session now.transaction (onto all [])
-    ∙ ap (list_any (λ (s : Said). is_some (committed s))) (filter_onto (is_of now.session now.transaction) all [])
+    ap commits_one (filter_onto (is_of now.session now.transaction) all [])
     ∙ any_onto (λ (s : Said). is_some (committed s)) (filter (is_of now.session now.transaction) all) [] ∙ or_false (is_committed all now)
   where
     or_false : (b : Bool) → (b || false) ≡ b
@@ -48,10 +76,6 @@ committed_is all now =
     or_false false = refl
 
 -- ---- first writes
-
-pub firsts_snoc : (earlier xs : List Said) (now : Said) → first_writes_from earlier (xs ++ now ∷ []) ≡ first_writes_from earlier xs ++ cons_option (first_write (onto xs earlier) now) []
-firsts_snoc earlier [] now = refl
-firsts_snoc earlier (x ∷ xs) now = ap (cons_option (first_write earlier x)) (firsts_snoc (x ∷ earlier) xs now) ∙ cons_option_append (first_write earlier x) (first_writes_from (x ∷ earlier) xs) (cons_option (first_write (onto xs (x ∷ earlier)) now) [])
 
 pub first_is : (earlier : List Said) (now : Said) → is_some (first_write earlier now) ≡ true → first_write earlier now ≡ Some now
 first_is earlier now = go (option_map_or (λ (w : Write). is_none (image_in w.rid (own_writes earlier now))) (stored now) false)
@@ -64,24 +88,240 @@ pub first_isnt : (o : Option Said) → is_some o ≡ false → o ≡ None
 first_isnt None e = refl
 first_isnt (Some s) e = cc
 
-pub firsts_same : (xs : List Said) (k : ℕ) (now : Said) (b : Bool) → AtLine xs k now → b ≡ is_some (first_write (earlier_at xs k) now) → b ≡ false → first_writes (take (k + 1) xs) ≡ first_writes (take k xs)
-firsts_same xs k now b at e f =
-    ap first_writes at.up_to ∙ firsts_snoc [] (take k xs) now ∙ ap (λ o. first_writes (take k xs) ++ cons_option o []) (first_isnt (first_write (earlier_at xs k) now) (sym e ∙ f)) ∙ append_nil (first_writes (take k xs))
+pub firsts_next : (earlier : List Said) (now : Said) (b : Bool) → b ≡ is_some (first_write earlier now) → firsts (now ∷ earlier) ≡ cond b (now ∷ firsts earlier) (firsts earlier)
+firsts_next earlier now true e = ap (λ o. cons_option o (firsts earlier)) (first_is earlier now (sym e))
+firsts_next earlier now false e = ap (λ o. cons_option o (firsts earlier)) (first_isnt (first_write earlier now) (sym e))
 
-pub firsts_more : (xs : List Said) (k : ℕ) (now : Said) (b : Bool) → AtLine xs k now → b ≡ is_some (first_write (earlier_at xs k) now) → b ≡ true → first_writes (take (k + 1) xs) ≡ first_writes (take k xs) ++ now ∷ []
-firsts_more xs k now b at e f = ap first_writes at.up_to ∙ firsts_snoc [] (take k xs) now ∙ ap (λ o. first_writes (take k xs) ++ cons_option o []) (first_is (earlier_at xs k) now (sym e ∙ f))
+pub firsts_onto : (xs earlier : List Said) → firsts (onto xs earlier) ≡ onto (first_writes_from earlier xs) (firsts earlier)
+firsts_onto [] earlier = refl
+firsts_onto (x ∷ xs) earlier = firsts_onto xs (x ∷ earlier) ∙ go (first_write earlier x)
+  where
+    go : (o : Option Said) → onto (first_writes_from (x ∷ earlier) xs) (cons_option o (firsts earlier)) ≡ onto (cons_option o (first_writes_from (x ∷ earlier) xs)) (firsts earlier)
+    go None = refl
+    go (Some s) = refl
 
-pub one_longer : (xs : List Said) (now : Said) → length (xs ++ now ∷ []) ≡ length xs + 1
-one_longer xs now = length-append xs (now ∷ [])
+pub length_onto : {X : Type 0} (xs ys : List X) → length (onto xs ys) ≡ length xs + length ys
+length_onto [] ys = omega arith
+length_onto (x ∷ xs) ys = length_onto xs (x ∷ ys) ∙ omega arith
 
-pub filter_push : (q : Said → Bool) (xs : List Said) (now : Said) → filter q (xs ++ now ∷ []) ≡ filter q xs ++ cond (q now) (now ∷ []) []
-filter_push q xs now = filter-append q xs (now ∷ [])
+pub firsts_few : (earlier : List Said) → length (firsts earlier) ≤ length earlier
+firsts_few [] = omega arith
+firsts_few (now ∷ earlier) = go (first_write earlier now) (firsts_few earlier)
+  where
+    go : (o : Option Said) → length (firsts earlier) ≤ length earlier → length (cons_option o (firsts earlier)) ≤ suc (length earlier)
+    go None h = omega (arith, h)
+    go (Some s) h = omega (arith, h)
 
-pub one_counted : (q : Said → Bool) (old new : List Said) (now : Said) → new ≡ old ++ now ∷ [] → q now ≡ true → length (filter q new) ≡ length (filter q old) + 1
-one_counted q old new now e f = ap (λ xs. length (filter q xs)) e ∙ ap length (filter_push q old now) ∙ ap (λ b. length (filter q old ++ cond b (now ∷ []) [])) f ∙ one_longer (filter q old) now
+pub filter_few : {X : Type 0} (q : X → Bool) (xs : List X) → length (filter q xs) ≤ length xs
+filter_few q [] = omega arith
+filter_few q (x ∷ xs) = go (q x) (filter_few q xs)
+  where
+    go : (b : Bool) → length (filter q xs) ≤ length xs → length (cond b (x ∷ filter q xs) (filter q xs)) ≤ suc (length xs)
+    go true h = omega (arith, h)
+    go false h = omega (arith, h)
 
-pub none_counted : (q : Said → Bool) (old new : List Said) (now : Said) → new ≡ old ++ now ∷ [] → q now ≡ false → length (filter q new) ≡ length (filter q old)
-none_counted q old new now e f = ap (λ xs. length (filter q xs)) e ∙ ap length (filter_push q old now) ∙ ap (λ b. length (filter q old ++ cond b (now ∷ []) [])) f ∙ ap length (append_nil (filter q old))
+pub filter_head : {X : Type 0} (q : X → Bool) (x : X) (xs : List X) (b c : Bool) → q x ≡ c → length (filter q (cond b (x ∷ xs) xs)) ≡ length (filter q xs) + cond b (cond c 1 0) 0
+filter_head q x xs false c e = omega arith
+filter_head q x xs true c e = ap (λ d. length (cond d (x ∷ filter q xs) (filter q xs))) e ∙ go c
+  where
+    go : (c : Bool) → length (cond c (x ∷ filter q xs) (filter q xs)) ≡ length (filter q xs) + cond c 1 0
+    go true = omega arith
+    go false = omega arith
+
+-- ---- counts that lines bound
+
+pub one_more : (n m r limit : ℕ) (b : Bool) → r ≡ min (n + m) 18446744073709551615 → m ≡ from_bool b → n ≤ limit → limit < 4611686018427387904 → r ≡ n + cond b 1 0
+one_more n m r limit true e f low small = omega (arith, e, f, low, small)
+one_more n m r limit false e f low small = omega (arith, e, f, low, small)
+
+pub its_more : (n k r limit its : ℕ) (b : Bool) → r ≡ min (n + k) 18446744073709551615 → k ≡ its + cond b 1 0 → n ≤ limit → its ≤ limit → limit < 4611686018427387904 → r ≡ n + (its + cond b 1 0)
+its_more n k r limit its true e f low least small = omega (arith, e, f, low, least, small)
+its_more n k r limit its false e f low least small = omega (arith, e, f, low, least, small)
+
+-- ---- one line more
+
+pub same_of : (a b : Said) → is_of a.session a.transaction b ≡ is_of b.session b.transaction a
+same_of a b = grind (arith, nat_tests)
+
+pub of_itself : (a : Said) → is_of a.session a.transaction a ≡ true
+of_itself a = grind (arith, nat_tests)
+
+module _ (earlier : List Said) (now : Said) (opened : IsOpen earlier now) where
+  pub its_none : (f : Said) → is_of now.session now.transaction f ≡ true → is_committed earlier f ≡ false
+  its_none f e =
+      let parts = and_parts (f.session == now.session) (f.transaction == now.transaction) e in
+      let s : f.session ≡ now.session = (Decides-eqb f.session now.session).0 parts.0 in
+      let t : f.transaction ≡ now.transaction = (Decides-eqb f.transaction now.transaction).0 parts.1 in
+      (λ i. commits_one (filter (is_of (s i) (t i)) earlier)) ∙ none_commits (filter (is_of now.session now.transaction) earlier) opened
+
+  pub committed_more : (f : Said) (b : Bool) → is_of now.session now.transaction f ≡ b → is_committed (now ∷ earlier) f ≡ cond b (is_some (committed now)) (is_committed earlier f)
+  committed_more f b e = ap (λ d. commits_one (cond d (now ∷ filter (is_of f.session f.transaction) earlier) (filter (is_of f.session f.transaction) earlier))) (same_of f now ∙ e) ∙ go b e
+    where
+      last : (c : Bool) → (c || is_committed earlier f) ≡ cond c true (is_committed earlier f)
+      last true = refl
+      last false = refl
+
+      go : (b : Bool) → is_of now.session now.transaction f ≡ b → commits_one (cond b (now ∷ filter (is_of f.session f.transaction) earlier) (filter (is_of f.session f.transaction) earlier)) ≡ cond b (is_some (committed now)) (is_committed earlier f)
+      go false e = refl
+      go true e = ap (λ c. is_some (committed now) || c) (its_none f e) ∙ or_false (is_some (committed now))
+        where
+          or_false : (b : Bool) → (b || false) ≡ b
+          or_false true = refl
+          or_false false = refl
+
+  pub kept_more : (fs : List Said) → length (filter (is_committed (now ∷ earlier)) fs) ≡ length (filter (is_committed earlier) fs) + cond (is_some (committed now)) (length (filter (is_of now.session now.transaction) fs)) 0
+  kept_more [] = go (is_some (committed now))
+    where
+      go : (c : Bool) → 0 ≡ 0 + cond c 0 0
+      go true = omega arith
+      go false = omega arith
+  kept_more (f ∷ fs) = go (is_of now.session now.transaction f) refl (kept_more fs)
+    where
+      new : List Said
+      new = filter (is_committed (now ∷ earlier)) fs
+
+      old : List Said
+      old = filter (is_committed earlier) fs
+
+      its : List Said
+      its = filter (is_of now.session now.transaction) fs
+
+      mine : (c : Bool) → length new ≡ length old + cond c (length its) 0 → length (cond c (f ∷ new) new) ≡ length old + cond c (suc (length its)) 0
+      mine true h = omega (arith, h)
+      mine false h = h
+
+      other : (c d : Bool) → length new ≡ length old + cond c (length its) 0 → length (cond d (f ∷ new) new) ≡ length (cond d (f ∷ old) old) + cond c (length its) 0
+      other true true h = omega (arith, h)
+      other true false h = h
+      other false true h = omega (arith, h)
+      other false false h = h
+
+      go : (b : Bool) → is_of now.session now.transaction f ≡ b → length new ≡ length old + cond (is_some (committed now)) (length its) 0 →
+          length (cond (is_committed (now ∷ earlier) f) (f ∷ new) new) ≡ length (cond (is_committed earlier f) (f ∷ old) old) + cond (is_some (committed now)) (length (cond b (f ∷ its) its)) 0
+      go true e h =
+          (λ i. length (cond (committed_more f true e i) (f ∷ new) new)) ∙ mine (is_some (committed now)) h
+          ∙ sym (λ i. length (cond (its_none f e i) (f ∷ old) old) + cond (is_some (committed now)) (suc (length its)) 0)
+      go false e h = (λ i. length (cond (committed_more f false e i) (f ∷ new) new)) ∙ other (is_some (committed now)) (is_committed earlier f) h
+
+  pub still_not_over : (j x : ℕ) → is_over j x (now ∷ earlier) ≡ false → is_over j x earlier ≡ false
+  still_not_over j x = go (is_of j x now)
+    where
+      was : List Said
+      was = filter (is_of j x) earlier
+
+      some : (e : Bool) → (e || list_any ends was) ≡ false → list_any ends was ≡ false
+      some true o = absurd (false_true (sym o))
+      some false o = o
+
+      go : (b : Bool) → list_any ends (cond b (now ∷ was) was) ≡ false → list_any ends was ≡ false
+      go true o = some (ends now) o
+      go false o = o
+
+  -- what is counted after the line, where `b` says whether it is a first write
+  pub tallied_more : (old new : Versions) (b : Bool) → AreTallied old earlier → b ≡ is_some (first_write earlier now) → new.made ≡ old.made + cond b 1 0 →
+      new.kept ≡ old.kept + cond (is_some (committed now)) (unwrap_or (get tx_order old.pending (tx now.session now.transaction)) 0 + cond b 1 0) 0 →
+      ((j x : ℕ) → is_over j x (now ∷ earlier) ≡ false → unwrap_or (get tx_order new.pending (tx j x)) 0 ≡ unwrap_or (get tx_order old.pending (tx j x)) 0 + cond b (cond (is_of j x now) 1 0) 0) → AreTallied new (now ∷ earlier)
+  tallied_more old new b is e made kept pending = record {
+    made = made ∙ ap (λ n. n + cond b 1 0) is.made ∙ sym (ap length (firsts_next earlier now b e) ∙ longer b);
+    kept = kept ∙ (λ i. is.kept i + cond (is_some (committed now)) (is.pending now.session now.transaction opened i + cond b 1 0) 0) ∙ sym (all_kept (is_some (committed now)) refl);
+    pending = λ j x o.
+        pending j x o ∙ ap (λ n. n + cond b (cond (is_of j x now) 1 0) 0) (is.pending j x (still_not_over j x o))
+        ∙ sym (ap (λ fs. length (filter (is_of j x) fs)) (firsts_next earlier now b e) ∙ filter_head (is_of j x) now (firsts earlier) b (is_of j x now) refl);
+  }
+    where
+      fs : List Said
+      fs = firsts earlier
+
+      its : ℕ
+      its = length (filter (is_of now.session now.transaction) fs)
+
+      longer : (b : Bool) → length (cond b (now ∷ fs) fs) ≡ length fs + cond b 1 0
+      longer true = omega arith
+      longer false = omega arith
+
+      all_kept : (c : Bool) → is_some (committed now) ≡ c → length (filter (is_committed (now ∷ earlier)) (firsts (now ∷ earlier))) ≡ length (filter (is_committed earlier) fs) + cond c (its + cond b 1 0) 0
+      all_kept c f =
+          ap (λ gs. length (filter (is_committed (now ∷ earlier)) gs)) (firsts_next earlier now b e)
+          ∙ filter_head (is_committed (now ∷ earlier)) now fs b c (committed_more now true (of_itself now) ∙ f)
+          ∙ ap (λ n. n + cond b (cond c 1 0) 0) (kept_more fs ∙ ap (λ d. length (filter (is_committed earlier) fs) + cond d its 0) f)
+          ∙ sum b c
+        where
+          sum : (b c : Bool) → (length (filter (is_committed earlier) fs) + cond c its 0) + cond b (cond c 1 0) 0 ≡ length (filter (is_committed earlier) fs) + cond c (its + cond b 1 0) 0
+          sum true true = omega arith
+          sum true false = omega arith
+          sum false true = omega arith
+          sum false false = omega arith
+
+  -- none of the counts is over the lines
+  pub tallied_few : (old : Versions) → AreTallied old earlier → (old.made ≤ length earlier) × (old.kept ≤ length earlier) × (unwrap_or (get tx_order old.pending (tx now.session now.transaction)) 0 ≤ length earlier)
+  tallied_few old is =
+      let few = firsts_few earlier in
+      let one = is.made in
+      let two = is.kept in
+      let three = is.pending now.session now.transaction opened in
+      let fewer = filter_few (is_committed earlier) (firsts earlier) in
+      let fewest = filter_few (is_of now.session now.transaction) (firsts earlier) in
+      (omega (arith, one, few), omega (arith, two, fewer, few), omega (arith, three, fewest, few))
+
+  -- ---- by what is done with it
+
+  abbrev pub its_count : Versions → ℕ
+  its_count versions = unwrap_or (get tx_order versions.pending (tx now.session now.transaction)) 0
+
+  -- nothing is made, and nothing ends
+  pub tallied_idle : (old : Versions) (b : Bool) → AreTallied old earlier → b ≡ is_some (first_write earlier now) → b ≡ false → ends now ≡ false → AreTallied old (now ∷ earlier)
+  tallied_idle old b is e f g =
+      tallied_more old old false is (sym f ∙ e) (omega arith) (omega arith ∙ sym (ap (λ o. old.kept + cond (is_some o) (its_count old + 0) 0) (committed_ends now g))) (λ j x o. omega arith)
+
+  -- nothing ends
+  pub tallied_going : (old new : Versions) (b : Bool) (count : ℕ) → AreTallied old earlier → b ≡ is_some (first_write earlier now) → ends now ≡ false → new.made ≡ old.made + cond b 1 0 → new.kept ≡ old.kept → count ≡ its_count old + cond b 1 0 →
+      ((q : Tx) → get tx_order new.pending q ≡ cond (is_at (tx_order (tx now.session now.transaction)) q) (Some count) (get tx_order old.pending q)) → AreTallied new (now ∷ earlier)
+  tallied_going old new b count is e g made kept counts put =
+      tallied_more old new b is e made (kept ∙ omega arith ∙ sym (ap (λ o. old.kept + cond (is_some o) (its_count old + cond b 1 0) 0) (committed_ends now g)))
+      (λ j x o. ap (λ n. unwrap_or n 0) (put (tx j x)) ∙ (λ i. unwrap_or (cond (at_tx (tx now.session now.transaction) (tx j x) i) (Some count) (get tx_order old.pending (tx j x))) 0) ∙ go j x (is_of j x now) refl)
+    where
+      none : (b : Bool) (n : ℕ) → n ≡ n + cond b 0 0
+      none true n = omega arith
+      none false n = omega arith
+
+      go : (j x : ℕ) (c : Bool) → is_of j x now ≡ c → unwrap_or (cond c (Some count) (get tx_order old.pending (tx j x))) 0 ≡ unwrap_or (get tx_order old.pending (tx j x)) 0 + cond b (cond c 1 0) 0
+      go j x false f = none b (unwrap_or (get tx_order old.pending (tx j x)) 0)
+      go j x true f =
+          let parts = and_parts (now.session == j) (now.transaction == x) f in
+          let s : now.session ≡ j = (Decides-eqb now.session j).0 parts.0 in
+          let t : now.transaction ≡ x = (Decides-eqb now.transaction x).0 parts.1 in
+          counts ∙ (λ i. unwrap_or (get tx_order old.pending (tx (s i) (t i))) 0 + cond b 1 0)
+
+  -- its transaction ends
+  pub tallied_ended : (old new : Versions) (b : Bool) → AreTallied old earlier → b ≡ is_some (first_write earlier now) → ends now ≡ true → new.made ≡ old.made + cond b 1 0 →
+      new.kept ≡ old.kept + cond (is_some (committed now)) (its_count old + cond b 1 0) 0 → ((q : Tx) → get tx_order new.pending q ≡ cond (is_at (tx_order (tx now.session now.transaction)) q) None (get tx_order old.pending q)) → AreTallied new (now ∷ earlier)
+  tallied_ended old new b is e g made kept drop =
+      tallied_more old new b is e made kept
+      (λ j x o. ap (λ n. unwrap_or n 0) (drop (tx j x)) ∙ (λ i. unwrap_or (cond (at_tx (tx now.session now.transaction) (tx j x) i) None (get tx_order old.pending (tx j x))) 0) ∙ go j x (is_of j x now) o)
+    where
+      none : (b : Bool) (n : ℕ) → n ≡ n + cond b 0 0
+      none true n = omega arith
+      none false n = omega arith
+
+      go : (j x : ℕ) (c : Bool) → list_any ends (cond c (now ∷ filter (is_of j x) earlier) (filter (is_of j x) earlier)) ≡ false → unwrap_or (cond c None (get tx_order old.pending (tx j x))) 0 ≡ unwrap_or (get tx_order old.pending (tx j x)) 0 + cond b (cond c 1 0) 0
+      go j x false o = none b (unwrap_or (get tx_order old.pending (tx j x)) 0)
+      go j x true o = absurd (false_true (sym o ∙ ap (λ d. d || list_any ends (filter (is_of j x) earlier)) g))
+
+-- ---- all lines
+
+pub tallied_all : (all : List Said) (versions : Versions) (tally : Tally) → AreTallied versions (onto all []) → tally.made ≡ versions.made → tally.undone ≡ versions.made - versions.kept → IsTally tally all
+tallied_all all versions tally is made undone =
+    let q : Said → Bool = is_committed all in
+    let fs = first_writes all in
+    let here : firsts (onto all []) ≡ onto fs [] = firsts_onto all [] in
+    let many : versions.made ≡ length fs = is.made ∙ ap length here ∙ length_onto fs [] ∙ omega arith in
+    let kept : versions.kept ≡ length (filter q fs) =
+    is.kept ∙ (λ i. length (filter (λ f. committed_is all f i) (here i))) ∙ ap length (filter_onto q fs []) ∙ length_onto (filter q fs) [] ∙ omega arith in
+    let both = length-filter_both q (λ f. not (q f)) (λ f. refl) fs in
+    record { made = made ∙ many; undone = undone ∙ omega (arith, many, kept, both) }
+
+pub few_at : {X : Type 0} (xs : List X) (k : ℕ) {end : ℕ} → k < length xs → end < 4611686018427387904 → end ≡ length xs → length (earlier_at xs k) < 4611686018427387904
+few_at xs k less small same = let most = length-take k xs in let here = length_onto (take k xs) [] in omega (arith, here, most, less, small, same)
 
 -- ---- sums
 

@@ -8,6 +8,8 @@ pub mod Owned
 pub mod Written
 -- How transactions end.
 pub mod Ended
+-- How many versions they made.
+pub mod Tallied
 -- Which lines ask for what all lines say.
 pub mod Asked
 -- What printed commits have to be.

@@ -16,19 +16,6 @@ use crate::own::Own;
 use hg_base::{Answer, NoMemory, Reply};
 use std::alloc::Global;
 
-/// The commit number of each transaction.
-pub fn read_numbers(alloc: Global, all: &Lines<'_>) -> Result<Numbers, NoMemory>
-    ensures { IfOk result (λ numbers. AreNumbers numbers (onto all.now [])) }
-{
-    let mut numbers = Numbers::new(alloc);
-    let mut reader = all.reader(alloc);
-    for _ in 0..all.len() {
-        let said = reader.read()?;
-        numbers.add(&said)?;
-    }
-    Ok(numbers)
-}
-
 fn names_writer(reply: &Reply) -> bool
     ensures { (said : script.Said) → reply.now ≡ said.reply → result ≡ asked.names_writer said }
 {
@@ -45,6 +32,22 @@ fn do_name_writers(all: &Lines<'_>) -> bool
         }
     }
     false
+}
+
+/// The commit number of each transaction, where a line is refused for an open write: nothing else asks for it.
+pub fn read_numbers(alloc: Global, all: &Lines<'_>) -> Result<Numbers, NoMemory>
+    ensures { IfOk result (λ numbers. IsTrue (list_any asked.names_writer all.now) → AreNumbers numbers (onto all.now [])) }
+{
+    let mut numbers = Numbers::new(alloc);
+    if !do_name_writers(all) {
+        return Ok(numbers);
+    }
+    let mut reader = all.reader(alloc);
+    for _ in 0..all.len() {
+        let said = reader.read()?;
+        numbers.add(&said)?;
+    }
+    Ok(numbers)
 }
 
 /// What each transaction stores, where a line is refused for an open write: nothing else asks for it.

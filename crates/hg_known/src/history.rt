@@ -8,12 +8,14 @@ ghost use Rattle.hg_base.specs.Sound.{IsWhole};
 ghost use Rattle.hg_known.specs.Lines.{said_of};
 ghost use Rattle.hg_known.specs.Written.{IsOfHistory};
 ghost use Rattle.hg_known.specs.Ended.{IsOpen};
+ghost use Rattle.hg_known.specs.Tallied.{IsTally};
 ghost use Rattle.hg_base.specs.Lists.{EachAfter};
 
 use crate::commits::Commits;
 use crate::lines::Lines;
 use crate::own::Own;
 use crate::said::Said;
+use crate::tally::{Tally, Versions};
 use crate::writes::Writes;
 use hg_base::{Answer, NoMemory, Statement};
 use std::alloc::Global;
@@ -31,17 +33,23 @@ pub fn committed(said: &Said) -> Option<u64>
     }
 }
 
-/// What each group of the history writes and how many there are, where the printed numbers give one.
-pub fn read_history(alloc: Global, all: &Lines<'_>) -> Result<Option<(Writes, u64)>, NoMemory>
+/// What each group of the history writes, how many there are, and how many versions the lines made, where the printed numbers give a
+/// history.
+pub fn read_history(
+    alloc: Global,
+    all: &Lines<'_>,
+) -> Result<Option<(Writes, u64, Tally)>, NoMemory>
     requires { EachAfter IsOpen [] all.now }
-    ensures { IfOk result (λ found. MatchOption found (¬ IsWhole all.now) (λ p. IsWhole all.now × IsOfHistory (history_of all.now) p.0 × (length (history_of all.now) ≡ p.1))) }
+    ensures { IfOk result (λ found. MatchOption found (¬ IsWhole all.now) (λ p. IsWhole all.now × IsOfHistory (history_of all.now) p.0 × (length (history_of all.now) ≡ p.1) × IsTally p.2 all.now)) }
 {
     let mut own = Own::new(alloc);
     let mut commits = Commits::new(alloc);
+    let mut versions = Versions::new(alloc);
     let mut reader = all.reader(alloc);
     for _ in 0..all.len() {
         let said = reader.read()?;
-        own.add(&said)?;
+        let first = own.add(&said)?;
+        versions.add(&said, first)?;
         if let Some(number) = committed(&said) {
             if !commits.add(&own, &said, number)? {
                 return Ok(None);
@@ -55,5 +63,5 @@ pub fn read_history(alloc: Global, all: &Lines<'_>) -> Result<Option<(Writes, u6
         }
     }
     let groups = commits.greatest;
-    Ok(Some((commits.into_writes(), groups)))
+    Ok(Some((commits.into_writes(), groups, versions.tally())))
 }

@@ -13,13 +13,14 @@
 //!
 //! Each is an ordered map or set, so a look-up takes a time that is logarithmic in the lines. `visible` is the entry before
 //! (record, snapshot) in `Writes`. No line stands in a transaction that ended before it, so `Own` forgets one at its end (`close`)
-//! where what is open is enough. `read_own` and `read_points` go over the lines only where a line asks for what they give.
+//! where what is open is enough. `read_own`, `read_numbers` and `read_points` go over the lines only where a line asks for what they
+//! give.
 //!
 //! Neither records nor lines with their transactions are kept: a `Reader` makes each `Said` when its line is read, from the script, the
 //! reply and what the session's last line left.
 //!
-//! Two facts are decided on the way: whether the printed commit numbers give a history (`read_history`), and whether an update is
-//! lost in it (`keeps_updates`).
+//! Two facts are decided on the way: whether the printed commit numbers give a history (`read_history`, which counts the versions too),
+//! and of a line's commit, whether it overwrites what it did not see (`keeps_update`).
 #![tactic(auto)]
 
 mod before;
@@ -47,6 +48,6 @@ pub use marks::Points;
 pub use own::{LEAST, Own, Tx};
 pub use said::Said;
 pub use sequence::Sequence;
-pub use tally::{Tally, count_versions};
-pub use updates::keeps_updates;
+pub use tally::Tally;
+pub use updates::keeps_update;
 pub use writes::Writes;

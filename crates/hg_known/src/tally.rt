@@ -1,18 +1,19 @@
 //! How many versions were made and undone.
 
-ghost use Rattle.std.specs.Prelude.{◌≡◌, List, [], length, filter, not, is_some, IfOk};
-ghost use Rattle.hg_base.specs.Lists.{EachAfter, onto};
+ghost use Rattle.std.specs.Prelude.{◌≡◌, ◌<◌, ◌^◌, ◌∷◌, List, [], length, is_some, OnOk};
+ghost use Rattle.hg_base.specs.Lists.{onto};
 ghost use Rattle.hg_base.specs.Transcript as script;
-ghost use Rattle.hg_base.specs.Counts.{first_writes, is_committed};
+ghost use Rattle.hg_base.specs.Counts.{first_write};
 ghost use Rattle.hg_known.specs.Lines.{said_of};
-ghost use Rattle.hg_known.specs.Ended.{AreNumbers, IsOpen};
+ghost use Rattle.hg_known.specs.Ended.{IsOpen};
+ghost use Rattle.hg_known.specs.Tallied.{AreTallied, IsTally};
 
-use crate::ends::Numbers;
-use crate::lines::Lines;
-use crate::own::{Own, Tx};
-use crate::said::Said;
+use crate::history::committed;
+use crate::own::Tx;
+use crate::said::{Said, ends};
 use hg_base::NoMemory;
 use std::alloc::Global;
+use std::collections::BTreeMap;
 
 /// Versions: one for each record that a transaction writes, and those of transactions without a commit number.
 #[derive(Clone, Copy, Debug, PartialEq, Eq)]
@@ -21,38 +22,59 @@ pub struct Tally {
     pub undone: u64,
 }
 
-fn is_kept(numbers: &Numbers, said: &Said) -> bool
-    ensures { (all : List script.Said) → AreNumbers numbers.now (onto all []) → result ≡ is_committed all (said_of said.now) }
-{
-    let tx = Tx {
-        session: said.session,
-        number: said.transaction,
-    };
-    numbers.least.contains_key(&tx)
+/// How many versions lines made, how many of them have a commit number, and how many each open transaction made.
+#[derive(Drop)]
+pub struct Versions {
+    pub(crate) made: u64,
+    pub(crate) kept: u64,
+    pub(crate) pending: BTreeMap<Tx, u64>,
 }
 
-/// Counts the versions that lines make.
-pub fn count_versions(alloc: Global, numbers: &Numbers, all: &Lines<'_>) -> Result<Tally, NoMemory>
-    requires open { EachAfter IsOpen [] all.now }
-    requires numbers { AreNumbers numbers.now (onto all.now []) }
-    ensures made { IfOk result (λ tally. tally.made ≡ length (first_writes all.now)) }
-    ensures undone { IfOk result (λ tally. tally.undone ≡ length (filter (λ said. not (is_committed all.now said)) (first_writes all.now))) }
-{
-    let mut own = Own::new(alloc);
-    let mut made = 0u64;
-    let mut undone = 0u64;
-    let mut reader = all.reader(alloc);
-    for _ in 0..all.len() {
-        let said = reader.read()?;
-        let first = own.add(&said)?;
-        own.close(&said);
-        if !first {
-            continue;
-        }
-        made += 1;
-        if !is_kept(numbers, &said) {
-            undone += 1;
+impl Versions {
+    /// No line made any. It takes no memory.
+    pub fn new(alloc: Global) -> Versions
+        ensures { AreTallied result [] }
+    {
+        Versions {
+            made: 0,
+            kept: 0,
+            pending: BTreeMap::new(alloc),
         }
     }
-    Ok(Tally { made, undone })
+
+    /// Counts the version that a line makes where it is the first write of its record in its transaction.
+    pub fn add(&mut self, said: &Said, first: bool) -> Result<(), NoMemory>
+        ensures { OnOk result ((earlier : List script.Said) → AreTallied self.old earlier → IsOpen earlier (said_of said.now) → first ≡ is_some (first_write earlier (said_of said.now)) → length earlier < 2 ^ 62 → AreTallied self.new (said_of said.now ∷ earlier)) }
+    {
+        let ended = ends(said);
+        if !ended && !first {
+            return Ok(());
+        }
+        let tx = Tx {
+            session: said.session,
+            number: said.transaction,
+        };
+        let more = u64::from(first);
+        self.made = self.made.saturating_add(more);
+        if !ended {
+            let before = self.pending.get(&tx).copied().unwrap_or(0);
+            self.pending.insert(tx, before.saturating_add(more))?;
+            return Ok(());
+        }
+        let before = self.pending.remove(&tx).unwrap_or(0);
+        if committed(said).is_some() {
+            self.kept = self.kept.saturating_add(before.saturating_add(more));
+        }
+        Ok(())
+    }
+
+    /// What all lines made.
+    pub fn tally(&self) -> Tally
+        ensures { (all : List script.Said) → AreTallied self.now (onto all []) → IsTally result all }
+    {
+        Tally {
+            made: self.made,
+            undone: self.made.saturating_sub(self.kept),
+        }
+    }
 }

@@ -1,21 +1,17 @@
 //! Whether a commit overwrites what it did not see.
 
-ghost use Rattle.std.specs.Prelude.{◌≡◌, ℕ, ◌<◌, [], None, IsSome, IfOk, Decides};
+ghost use Rattle.std.specs.Prelude.{◌≡◌, ℕ, ◌<◌, None, IsSome, IfSome, Decides};
 ghost use Rattle.hg_base.specs.declared.rid.Rid.{Rid};
-ghost use Rattle.hg_base.specs.Lists.{EachAfter};
-ghost use Rattle.hg_base.specs.History.{NoLostUpdate};
-ghost use Rattle.hg_base.specs.Transcript.{history_of};
-ghost use Rattle.hg_base.specs.Sound.{IsWhole};
+ghost use Rattle.hg_base.specs.Transcript as script;
+ghost use Rattle.hg_known.specs.Lines.{said_of};
 ghost use Rattle.hg_known.specs.Owned.{own_at};
-ghost use Rattle.hg_known.specs.Ended.{IsOpen};
-ghost use Rattle.hg_known.specs.Written.{image_at, IsOfHistory};
+ghost use Rattle.hg_known.specs.Written.{image_at};
 
 use crate::history::committed;
-use crate::lines::Lines;
 use crate::own::{LEAST, Own, Tx};
+use crate::said::Said;
 use crate::writes::Writes;
-use hg_base::{NoMemory, Rid};
-use std::alloc::Global;
+use hg_base::Rid;
 
 // Whether no write of the record is numbered over a snapshot and below a number.
 fn is_kept(writes: &Writes, rid: Rid, at: u64, number: u64) -> bool
@@ -44,28 +40,19 @@ fn loses_none(writes: &Writes, own: &Own, tx: Tx, at: u64, number: u64) -> bool
     true
 }
 
-/// Whether no update is lost in the history.
-pub fn keeps_updates(alloc: Global, all: &Lines<'_>, writes: &Writes) -> Result<bool, NoMemory>
-    requires open { EachAfter IsOpen [] all.now }
-    requires whole { IsWhole all.now }
-    requires writes { IsOfHistory (history_of all.now) writes.now }
-    ensures { IfOk result (λ kept. Decides kept (NoLostUpdate (history_of all.now))) }
+/// Whether the commit of a line overwrites nothing that it did not see, where it prints a commit number.
+pub fn keeps_update(writes: &Writes, own: &Own, said: &Said) -> bool
+    ensures { Decides result (IfSome (script.committed (said_of said.now)) (λ number. (r : Rid) → IsSome (own_at own.now said.now.session said.now.transaction r) → (m : ℕ) → said.now.at < m → m < number → image_at writes.now r m ≡ None)) }
 {
-    let mut own = Own::new(alloc);
-    let mut reader = all.reader(alloc);
-    for _ in 0..all.len() {
-        let said = reader.read()?;
-        own.add(&said)?;
-        if let Some(number) = committed(&said) {
-            let tx = Tx {
-                session: said.session,
-                number: said.transaction,
-            };
-            if !loses_none(writes, &own, tx, said.at, number) {
-                return Ok(false);
-            }
-        }
-        own.close(&said);
+    let tx = Tx {
+        session: said.session,
+        number: said.transaction,
+    };
+    let Some(number) = committed(said) else {
+        return true;
+    };
+    if number <= said.at || number - said.at == 1 {
+        return true;
     }
-    Ok(true)
+    loses_none(writes, own, tx, said.at, number)
 }

@@ -1,9 +1,9 @@
 //! What each group of the history writes, by record and commit number.
 
-ghost use Rattle.std.specs.Prelude.{◌≡◌, ℕ, ◌<◌, ◌^◌, ◌&&◌, ◌==◌, [], Some, None, if◌then◌else◌, is_none, is_some, option_copied, IfOk, OnOk, IfSome};
+ghost use Rattle.std.specs.Prelude.{◌≡◌, ℕ, ◌<◌, ◌≤◌, ◌^◌, ◌&&◌, ◌==◌, [], Some, None, if◌then◌else◌, is_none, is_some, option_copied, IfOk, OnOk, IfSome};
 ghost use Rattle.hg_base.specs.declared.rid.Rid.{Rid};
 ghost use Rattle.hg_base.specs.History.{History, same_rid, visible, does_write};
-ghost use Rattle.hg_known.specs.Written.{image_at, told, IsLastAt, IsNextRid, IsNextWritten, IsOfHistory};
+ghost use Rattle.hg_known.specs.Written.{image_at, told, IsLastAt, IsLastShown, IsNextRid, IsOfHistory, shown};
 
 use crate::own::record_at;
 use hg_base::{Image, NoMemory, Rid, Row, TableId};
@@ -90,20 +90,24 @@ impl Writes {
         image.row.as_ref()
     }
 
-    /// No record of the table below that key, and at or over `from`, is written by any group, and none at all from there on
-    /// where there is no such key.
-    pub fn next_key(&self, table: TableId, from: u64) -> Option<u64>
-        ensures { IsNextWritten self.now table from result }
+    /// The greatest key of the table, at or below a key, that is written, with what is visible of it at a snapshot. Of no key over it
+    /// is a row visible, and of none at all where there is no such key.
+    pub fn last_shown(&self, table: TableId, key: u64, at: u64) -> Option<(u64, Option<&Row>)>
+        ensures within { IfSome result (λ found. found.0 ≤ key) }
+        ensures shown { (h : History) → IsOfHistory h self.now → IsLastShown h table key at (shown result) }
     {
-        let start = Slot {
-            rid: Rid { table, key: from },
-            number: 0,
+        let end = Slot {
+            rid: Rid { table, key },
+            number: u64::MAX,
         };
-        let (slot, _) = self.images.range(start..).next()?;
+        let (slot, image) = self.images.range(..=end).next_back()?;
         if slot.rid.table != table {
             return None;
         }
-        Some(slot.rid.key)
+        if slot.number <= at {
+            return Some((slot.rid.key, image.row.as_ref()));
+        }
+        Some((slot.rid.key, self.visible(slot.rid, at)))
     }
 
     /// The record of the least slot over a record and a number that is written.

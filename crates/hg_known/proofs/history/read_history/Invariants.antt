@@ -1,6 +1,7 @@
 use Rattle.std.proofs.Common.{◌≡◌, ℕ, take, ◌≤◌, ◌<◌}
 use Rattle.hg_base.specs.Transcript.{commits}
 use Rattle.hg_known.specs.Ended.{AreOpenOwn}
+use Rattle.hg_known.specs.Tallied.{AreTallied}
 use Rattle.hg_known.specs.Shown.{Shows}
 use Rattle.hg_known.specs.Commits.{has_number}
 use Rattle.hg_known.proofs.Walking.{Fine, earlier_at}
@@ -10,6 +11,7 @@ abbrev pub invariant-loop : goal.invariant-loop
 invariant-loop l = record {
   reader : l.reader ≡ (l.counter, l.all);
   own : AreOpenOwn l.own (earlier_at l.all l.counter);
+  versions : AreTallied l.versions (earlier_at l.all l.counter);
   shows : Shows l.commits (commits (take l.counter l.all));
   fine : Fine (commits (take l.counter l.all));
 }
