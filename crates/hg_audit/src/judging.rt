@@ -12,7 +12,7 @@ ghost use Rattle.hg_audit.specs.Verdict.{IsFinding, IsVerdict, IsOfRun, IsAudit,
 use crate::lines::{Found, find_fault};
 use crate::place::{first_of, last_of};
 use crate::reply::Command;
-use crate::sequence::has_session_report;
+use crate::reports::has_session_report;
 use crate::shape::first_out_of_shape;
 use crate::verdict::{Verdict, Why};
 use hg_base::{Line, NoMemory, Printed};

@@ -11,8 +11,9 @@
 //!     Fresh      a number is not in order with those before it                the line's first record
 //!     Totals     the totals are not those of the lines                        the last record
 //!
-//! `find_fault` decides the lines and totals, by what `hg_known` gathers of them. A scan looks for the next key that anybody wrote,
-//! from row to row.
+//! `find_fault` decides the lines and totals, by what `hg_known` gathers of them. Lost updates, replies and numbers are decided in one go
+//! over the lines (`first_faults`). Between the rows of a scan no key is seen: neither one that the transaction stored, nor another that
+//! anybody wrote.
 #![tactic(auto)]
 
 mod answered;
@@ -26,8 +27,8 @@ mod laws;
 mod lines;
 mod place;
 mod reply;
+mod reports;
 mod scan;
-mod sequence;
 mod shape;
 mod totals;
 mod verdict;
