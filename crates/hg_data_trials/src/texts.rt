@@ -95,41 +95,46 @@ fn keeps_lines_as_their_text(rt: HostRuntime) -> Result<(), Fail> {
     Ok(())
 }
 
-// Each of these makes another text of the one above, and is refused at that record.
+const CHANGED: &str = "\
+1: 1,3,begun,0 | \u{FEFF}1,3,begun,0
+1: 1,3,begun,0 | 1,3,begun,00
+1: 1,3,begun,0 | 1,3,at,0,begun,0
+2: 1,4,stored/ | 1,4,\"stored\"/
+2: 1,4,stored/ | 1,4,stored\r/
+2: 1,4,stored/ | 1,4,stored,/
+3: 1,4,stored/ | 1,4,stored//
+2: 1,4,stored/ | /
+5: 1,5,rows,2 | 1,5,rows,1
+6: 1,5,rows,2 | 1,5,rows,3
+5: 1,5,row,6,-8 | 1,5,row,6,-0
+5: 1,5,row,6,-8 | 1,5,row,6,9223372036854775808
+6: 1,6,row,1,2 | 1,6,row,1
+6: 1,6,row,1,2 | 1,6,row,1,2,3
+7: 1,7,committed,1 | 1,7,committed,18446744073709551616
+8: 2,8,at | 1,8,at
+8: 2,8,at | 2,16,at
+12: undeclared,t | undeclared,u
+18: 0,1,held,2 | 0,2,held,2
+18: 0,1,held,2 | 0,1,held,4294967296
+19: 0,2,swept | 0,2,stored
+20: total,made,1 | total,undone,1
+25: total,left,1/ | total,left,1
+25: total,left,1/ | 
+26: total,left,1/ | total,left,1//
+26: total,left,1/ | total,left,1/total,left,1/
+";
+
+// Each row says at which record the text above is refused, once what stands first is what stands then. `/` is a line feed.
 #[test]
 fn refuses_texts(rt: HostRuntime) -> Result<(), Fail> {
-    for (from, to, line) in [
-        ("1,3,begun,0", "\u{FEFF}1,3,begun,0", 1),
-        ("1,3,begun,0", "1,3,begun,00", 1),
-        ("1,3,begun,0", "1,3,at,0,begun,0", 1),
-        ("1,4,stored\n", "1,4,\"stored\"\n", 2),
-        ("1,4,stored\n", "1,4,stored\r\n", 2),
-        ("1,4,stored\n", "1,4,stored,\n", 2),
-        ("1,4,stored\n", "1,4,stored\n\n", 3),
-        ("1,4,stored\n", "\n", 2),
-        ("1,5,rows,2", "1,5,rows,1", 5),
-        ("1,5,rows,2", "1,5,rows,3", 6),
-        ("1,5,row,6,-8", "1,5,row,6,-0", 5),
-        ("1,5,row,6,-8", "1,5,row,6,9223372036854775808", 5),
-        ("1,6,row,1,2", "1,6,row,1", 6),
-        ("1,6,row,1,2", "1,6,row,1,2,3", 6),
-        ("1,7,committed,1", "1,7,committed,18446744073709551616", 7),
-        ("2,8,at", "1,8,at", 8),
-        ("2,8,at", "2,16,at", 8),
-        ("undeclared,t", "undeclared,u", 12),
-        ("0,1,held,2", "0,2,held,2", 18),
-        ("0,1,held,2", "0,1,held,4294967296", 18),
-        ("0,2,swept", "0,2,stored", 19),
-        ("total,made,1", "total,undone,1", 20),
-        ("total,left,1\n", "total,left,1", 25),
-        ("total,left,1\n", "", 25),
-        ("total,left,1\n", "total,left,1\n\n", 26),
-        ("total,left,1\n", "total,left,1\ntotal,left,1\n", 26),
-    ] {
+    for row in CHANGED.lines() {
+        let row = row.replace(rt.alloc(), "/", "\n")?;
+        let (line, change) = row.split_once(": ").expect(&rt, "a record");
+        let (from, to) = change.split_once(" | ").expect(&rt, "a change");
         let (before, after) = EACH_TEXT.split_once(from).expect(&rt, "it is there");
         let text = format!(in rt.alloc(); "{before}{to}{after}")?;
         let found = refused_line(rt.alloc(), EACH, text.as_bytes())?;
-        assert_eq!(rt; found, line, "at {to}");
+        assert_eq!(rt; found, line.parse::<u64>()?, "at {to}");
     }
     // The text of the own write without its last record, and a text of no bytes.
     let (short, _) = OWN_WRITE_TEXT

@@ -1,7 +1,6 @@
 //! Words, as a person types them.
 
-use hg_base::{DEFAULT_BUCKETS, DEFAULT_LONG, DEFAULT_ROUNDS};
-use hg_words::{Command, Options, WordsRefusal, read_words};
+use hg_words::{Options, WordsRefusal, read_words};
 use std::alloc::Global;
 use std::test::Fail;
 
@@ -14,75 +13,56 @@ fn read(alloc: Global, words: &str) -> Result<Result<Options, WordsRefusal>, Fai
     Ok(read_words(alloc, &all))
 }
 
-fn options(command: Command, buckets: u32, long: u64, rounds: u32) -> Options {
-    Options {
-        command,
-        buckets,
-        long,
-        rounds,
-    }
-}
+const TAKEN: &str = "\
+replay = Replay, buckets: 64, long: 4, rounds: 8
+replay --buckets 1 = Replay, buckets: 1, long: 4, rounds: 8
+run --rounds=2 --long 4 = Run, buckets: 64, long: 4, rounds: 2
+--long 1048576 run = Run, buckets: 64, long: 1048576, rounds: 8
+run --rounds 0 = Run, buckets: 64, long: 4, rounds: 0
+run --rounds 1000 --buckets 1024 = Run, buckets: 1024, long: 4, rounds: 1000
+load 7 = Load(7), buckets: 64, long: 4, rounds: 8
+load 18446744073709551615 --rounds 3 = Load(18446744073709551615), buckets: 64, long: 4, rounds: 3
+audit = Audit, buckets: 64, long: 4, rounds: 8
+audit --rounds 3 = Audit, buckets: 64, long: 4, rounds: 3
+";
 
 #[test]
 fn words_are_taken(rt: HostRuntime) -> Result<(), Fail> {
-    for (words, wanted) in [
-        (
-            "replay",
-            options(
-                Command::Replay,
-                DEFAULT_BUCKETS,
-                DEFAULT_LONG,
-                DEFAULT_ROUNDS,
-            ),
-        ),
-        ("replay --buckets 1", options(Command::Replay, 1, 4, 8)),
-        ("run --rounds=2 --long 4", options(Command::Run, 64, 4, 2)),
-        (
-            "--long 1048576 run",
-            options(Command::Run, 64, 1_048_576, 8),
-        ),
-        ("run --rounds 0", options(Command::Run, 64, 4, 0)),
-        (
-            "run --rounds 1000 --buckets 1024",
-            options(Command::Run, 1024, 4, 1000),
-        ),
-        ("load 7", options(Command::Load(7), 64, 4, 8)),
-        (
-            "load 18446744073709551615 --rounds 3",
-            options(Command::Load(18_446_744_073_709_551_615), 64, 4, 3),
-        ),
-        ("audit", options(Command::Audit, 64, 4, 8)),
-        ("audit --rounds 3", options(Command::Audit, 64, 4, 3)),
-    ] {
-        assert_eq!(rt; read(rt.alloc(), words)?, Ok(wanted), "at {words}");
+    for row in TAKEN.lines() {
+        let (words, wanted) = row.split_once(" = ").expect(&rt, "a row");
+        let found = format!(in rt.alloc(); "{:?}", read(rt.alloc(), words)?)?;
+        let wanted = format!(in rt.alloc(); "Ok(Options {{ command: {wanted} }})")?;
+        assert_eq!(rt; found.as_str(), wanted.as_str(), "at {words}");
     }
     Ok(())
 }
 
+const REFUSED: &str = "
+replay --buckets 0
+replay --buckets 1025
+replay --long 0
+replay --long 1048577
+run --rounds 1001
+run --rounds -1
+load
+load 18446744073709551616
+load x
+replay 7
+run 7
+audit 7
+replay replay
+walk
+Replay
+replay --fast
+replay --help
+--version
+replay --long 4 --long 5
+";
+
+// The first row has no word.
 #[test]
 fn words_are_refused(rt: HostRuntime) -> Result<(), Fail> {
-    for words in [
-        "",
-        "replay --buckets 0",
-        "replay --buckets 1025",
-        "replay --long 0",
-        "replay --long 1048577",
-        "run --rounds 1001",
-        "run --rounds -1",
-        "load",
-        "load 18446744073709551616",
-        "load x",
-        "replay 7",
-        "run 7",
-        "audit 7",
-        "replay replay",
-        "walk",
-        "Replay",
-        "replay --fast",
-        "replay --help",
-        "--version",
-        "replay --long 4 --long 5",
-    ] {
+    for words in REFUSED.lines() {
         assert_eq!(rt;
             read(rt.alloc(), words)?,
             Err(WordsRefusal::Usage),

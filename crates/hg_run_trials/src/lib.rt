@@ -3,6 +3,7 @@
 //!     serve_tests    statuses, failing sources and sinks, scripts that are replayed and what they print
 //!     run_tests      scripts that run in threads
 //!     audit_tests    what was printed, audited, and with one number changed
+//!     cases          scripts and what is printed for them
 //!     order          a gate that holds workers, so that they meet
 //!     watched        a source and a sink that watch how they are called
 //!
@@ -11,6 +12,8 @@
 
 #[cfg(test)]
 mod audit_tests;
+#[cfg(test)]
+mod cases;
 #[cfg(test)]
 mod order;
 #[cfg(test)]

@@ -2,13 +2,12 @@
 
 ghost use Rattle.std.specs.Prelude.{◌<◌, ◌≤◌};
 
+use crate::cases::{RUN, answers, written};
 use crate::order::Order;
 use hg_audit::{Verdict, audit};
-use hg_base::{
-    DEFAULT_BUCKETS, DEFAULT_LONG, Gate, MemorySink, MemorySource, NoGate, Printed, Totals,
-};
+use hg_base::{DEFAULT_BUCKETS, DEFAULT_LONG, NoGate, Printed, Totals};
 use hg_report::read_text;
-use hg_run::{Status, close, open_for, run_on, serve};
+use hg_run::{close, open_for, run_on};
 use hg_script::read_script;
 use hg_words::{Command, Options};
 use std::alloc::Global;
@@ -27,28 +26,7 @@ const INTERVAL: u32 = 103;
 const NO_TOTALS: &str =
     "total,made,0\ntotal,undone,0\ntotal,group,0\ntotal,table,0\ntotal,interval,0\ntotal,left,0\n";
 
-// The text that is written for a script, with words as they stand between spaces.
-fn written<R: Threads + Wait + Sync + Abort, G: Gate + Sync>(
-    rt: &R,
-    alloc: Global,
-    words: &str,
-    script: &str,
-    gate: &G,
-) -> Result<Vec<u8>, Fail> {
-    let mut all = Vec::new(alloc);
-    for word in words.split_whitespace() {
-        all.push(String::from_str(alloc, word)?)?;
-    }
-    let bytes = Vec::from_slice(alloc, script.as_bytes())?;
-    let mut source = MemorySource::new(bytes, 4096, Vec::new(alloc));
-    let mut sink = MemorySink::new(alloc, 4096, Vec::new(alloc));
-    sink.reserve(1_048_576)?;
-    let status = serve(rt, alloc, &all, &mut source, &mut sink, gate);
-    assert_eq!(rt; status, Status::Done, "at {words}");
-    Ok(Vec::from_slice(alloc, sink.bytes())?)
-}
-
-// What is printed for it, read again.
+// What is printed for a script, read again.
 fn printed<R: Threads + Wait + Sync + Abort>(
     rt: &R,
     alloc: Global,
@@ -81,17 +59,21 @@ fn balances<R: Abort>(rt: &R, totals: &Totals) {
     );
 }
 
-// Each collector reports each of its rounds, 8 where no word says how many. No round is made of 0.
+const ROUNDS: &str = "\
+run = 24
+run --rounds 0 = 0
+run --rounds=2 --long 4 = 6
+--buckets 1 run --rounds 1000 = 3000
+";
+
+// Each of three collectors reports each of its rounds, 8 where no word says how many. No round is made of 0.
 #[test]
 fn rounds_are_as_many_as_the_words_say(rt: HostRuntime) -> Result<(), Fail> {
-    for (words, rounds) in [
-        ("run", 8),
-        ("run --rounds 0", 0),
-        ("run --rounds=2 --long 4", 2),
-        ("--buckets 1 run --rounds 1000", 1000),
-    ] {
+    for row in ROUNDS.lines() {
+        let (words, rounds) = row.split_once(" = ").expect(&rt, "a row");
         let printed = printed(&rt, rt.alloc(), words, "")?;
-        assert_eq!(rt; printed.lines.as_slice().len(), 3 * rounds, "at {words}");
+        let reports = format!(in rt.alloc(); "{}", printed.lines.as_slice().len())?;
+        assert_eq!(rt; reports.as_str(), rounds, "at {words}");
         assert_eq!(rt; printed.totals.made, 0);
     }
     let text = written(&rt, rt.alloc(), "run --rounds 0", "", &NoGate)?;
@@ -99,42 +81,9 @@ fn rounds_are_as_many_as_the_words_say(rt: HostRuntime) -> Result<(), Fail> {
     Ok(())
 }
 
-// Scripts whose text is the same in every schedule, without rounds: all that is written before the totals, and how many versions
-// were made, undone, and taken at the end, and how many are left.
 #[test]
 fn scripts_run(rt: HostRuntime) -> Result<(), Fail> {
-    for (script, lines, [made, undone, table, left]) in [
-        (
-            "table,t,1\n1,begin\n1,put,t,5,7\n1,get,t,5\n1,commit\n",
-            "1,2,begun,0\n1,3,stored\n1,4,row,7\n1,5,committed,1\n",
-            [1, 0, 0, 1],
-        ),
-        // replies of one session stand together, by number
-        (
-            "table,t,1\n2,get,t,5\n1,get,t,5\n2,scan,t,0,9\n1,begin\n2,begin,t\n1,commit\n2,rollback\n",
-            "1,3,at,0,none\n1,5,begun,0\n1,7,ended\n2,2,at,0,none\n2,4,at,0,rows,0\n2,6,begun,0\n2,8,undone\n",
-            [0, 0, 0, 0],
-        ),
-        // what is open at the end is rolled back without a reply, and a `gc` makes no round
-        (
-            "table,t,1\n1,put,t,5,1\n1,begin\n1,put,t,5,2\n1,gc,table\n1,put,t,6,2\n",
-            "1,2,at,0,stored,committed,1\n1,3,begun,1\n1,4,stored\n1,5,beside\n1,6,stored\n",
-            [3, 2, 0, 1],
-        ),
-        // of many sessions the last one alone has something to do
-        (
-            "table,t,1\n64,put,t,5,1\n64,put,t,5,2\n64,del,t,5\n64,get,t,5\n",
-            "64,2,at,0,stored,committed,1\n64,3,at,1,stored,committed,2\n64,4,at,2,gone,committed,3\n64,5,at,3,none\n",
-            [3, 0, 3, 0],
-        ),
-    ] {
-        let want = format!(in rt.alloc();
-            "{lines}total,made,{made}\ntotal,undone,{undone}\ntotal,group,0\ntotal,table,{table}\ntotal,interval,0\ntotal,left,{left}\n"
-        )?;
-        let text = written(&rt, rt.alloc(), "run --rounds 0", script, &NoGate)?;
-        assert_eq!(rt; text.as_slice(), want.as_bytes(), "at {script}");
-    }
-    Ok(())
+    answers(&rt, rt.alloc(), "run --rounds 0", RUN)
 }
 
 // Session 1 is in a transaction while session 2 commits twice, and commits behind it.
