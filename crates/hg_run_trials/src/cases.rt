@@ -70,6 +70,10 @@ the same, taken when all is over
 table,t,1/2,put,t,5,10/1,begin/2,put,t,5,20/2,put,t,5,30/2,put,t,5,40/3,gc,group/1,get,t,5/1,commit/
 2,2,at,0,stored,committed,1/1,3,begun,1/2,4,at,1,stored,committed,2/2,5,at,2,stored,committed,3/2,6,at,3,stored,committed,4/3,7,swept,group,4,4,0/3,7,held,1,1,unmoved/1,8,row,10/1,9,ended/total,made,4/total,undone,0/total,group,0/total,table,3/total,interval,0/total,left,1/
 
+what was read at 6 stays until its reader ends
+table,t,1/2,put,t,1,7/2,put,t,1,7/2,put,t,2,7/2,put,t,1,7/2,put,t,2,7/2,put,t,1,7/1,begin/2,put,t,1,7/2,put,t,1,7/3,gc,group/1,rollback/3,gc,group/
+2,2,at,0,stored,committed,1/2,3,at,1,stored,committed,2/2,4,at,2,stored,committed,3/2,5,at,3,stored,committed,4/2,6,at,4,stored,committed,5/2,7,at,5,stored,committed,6/1,8,begun,6/2,9,at,6,stored,committed,7/2,10,at,7,stored,committed,8/3,11,swept,group,8,8,4/3,11,held,1,6,unmoved/1,12,undone/3,13,swept,group,8,8,2/total,made,8/total,undone,0/total,group,6/total,table,0/total,interval,0/total,left,2/
+
 a snapshot that is the number of a successor
 table,t,1/1,put,t,5,10/1,put,t,5,11/2,begin/1,put,t,5,12/3,gc,group/2,get,t,5/
 1,2,at,0,stored,committed,1/1,3,at,1,stored,committed,2/2,4,begun,2/1,5,at,2,stored,committed,3/3,6,swept,group,3,3,1/3,6,held,2,2,unmoved/2,7,row,11/total,made,3/total,undone,0/total,group,1/total,table,1/total,interval,0/total,left,1/

@@ -5,7 +5,7 @@ ghost use Rattle.std.specs.Prelude.{◌<◌, ◌≤◌};
 use crate::cases::{RUN, answers, written};
 use crate::order::Order;
 use hg_audit::{Verdict, audit};
-use hg_base::{DEFAULT_BUCKETS, DEFAULT_LONG, NoGate, Printed, Totals};
+use hg_base::{Answer, DEFAULT_BUCKETS, DEFAULT_LONG, NoGate, Printed, Totals};
 use hg_report::read_text;
 use hg_run::{close, open_for, run_on};
 use hg_script::read_script;
@@ -247,6 +247,77 @@ fn twenty_accounts_are_left(rt: HostRuntime) -> Result<(), Fail> {
     assert_eq!(rt; printed.totals.left, 20);
     assert_eq!(rt; printed.totals.undone, 0);
     balances(&rt, &printed.totals);
+    Ok(())
+}
+
+// Four sessions make 200 transactions each, which put one of fifty keys of the first table. Two more stay at a snapshot of all
+// tables and two at one of the second table, which these have put a row in: each of the four reads one record 300 times.
+fn long_readers(alloc: Global) -> Result<String, Fail> {
+    let mut script = String::from_str(alloc, "table,t,1\ntable,u,1\n")?;
+    for number in 0..200 {
+        for session in 1..5 {
+            let key = number % 50;
+            script.push_str(&format!(in alloc;
+                "{session},begin\n{session},put,t,{key},{number}\n{session},commit\n"
+            )?)?;
+        }
+    }
+    script.push_str("5,begin\n6,begin\n7,begin,u\n8,begin,u\n7,put,u,1,7\n8,put,u,2,8\n")?;
+    for _ in 0..300 {
+        script.push_str("5,get,t,7\n6,get,t,8\n7,get,u,1\n8,get,u,2\n")?;
+    }
+    script.push_str("5,commit\n6,commit\n7,commit\n8,commit\n")?;
+    Ok(script)
+}
+
+// What a reader reads stays the same, whatever the collectors take: else the text were unsound. Each record keeps one row.
+#[test]
+fn long_readers_stay_beside_the_collectors(rt: HostRuntime) -> Result<(), Fail> {
+    let source = long_readers(rt.alloc())?;
+    let words = "run --rounds 50";
+    let text = written(&rt, rt.alloc(), words, source.as_str(), &NoGate)?;
+    let script = read_script(rt.alloc(), source.as_bytes())?;
+    assert_eq!(rt; audit(rt.alloc(), &script, &text)?, Verdict::Sound);
+    let printed = read_text(rt.alloc(), &script, &text)?;
+    assert_eq!(rt; printed.totals.left, 52);
+    balances(&rt, &printed.totals);
+    Ok(())
+}
+
+// A reader stays at the commit of a hundred keys. A hundred times each of them is put once more, before a round of the interval
+// collector.
+fn rounds_beside_a_reader(alloc: Global) -> Result<String, Fail> {
+    let mut script = String::from_str(alloc, "table,t,1\n1,begin\n")?;
+    for round in 0..101 {
+        for key in 0..100 {
+            script.push_str(&format!(in alloc; "1,put,t,{key},{round}\n")?)?;
+        }
+        if round == 0 {
+            script.push_str("1,commit\n2,begin\n")?;
+        } else {
+            script.push_str("3,gc,interval\n")?;
+        }
+    }
+    script.push_str("2,get,t,7\n2,commit\n")?;
+    Ok(script)
+}
+
+// A round leaves the newest version of each key and the reader's. The rest of them goes at the end.
+#[test]
+fn a_round_leaves_two_versions_a_key(rt: HostRuntime) -> Result<(), Fail> {
+    let script = rounds_beside_a_reader(rt.alloc())?;
+    let printed = printed(&rt, rt.alloc(), "replay", script.as_str())?;
+    let mut rounds = 0u64;
+    for line in printed.lines.as_slice() {
+        if let Answer::Swept(sweep) = &line.reply.answer {
+            assert_eq!(rt; sweep.removed, if rounds == 0 { 0 } else { 100 });
+            rounds = rounds.wrapping_add(1);
+        }
+    }
+    assert_eq!(rt; rounds, 100);
+    let totals = printed.totals;
+    assert_eq!(rt; (totals.made, totals.interval), (10_100, 9_900));
+    assert_eq!(rt; (totals.table, totals.left), (100, 100));
     Ok(())
 }
 

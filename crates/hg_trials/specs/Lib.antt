@@ -1,5 +1,3 @@
 -- What seats are before a test, and between two of its commits.
 pub mod Ready
 pub mod Between
--- What sessions are once they ran.
-pub mod Runs
