@@ -1,6 +1,5 @@
 ghost use Rattle.std.specs.Prelude.{◌≡◌, ◌<◌, ◌^◌, ℕ, OnOk};
 ghost use Rattle.hg_base.specs.Lists.{Each};
-ghost use Rattle.hg_chain.specs.Places.{OthersStay, list_at};
 ghost use Rattle.hg_chain.specs.Sweeps.{Rises};
 ghost use Rattle.hg_chain.specs.Versions.{IsBelow};
 
@@ -27,22 +26,6 @@ fn add(alloc: Global, chain: &mut Chain, number: u64) -> Result<(), NoMemory>
         Err((_, refused)) => return Err(refused),
     }
     chain.stamp(BY, number);
-    Ok(())
-}
-
-// The same at a place.
-fn add_at(alloc: Global, chains: &mut Chains, place: u64, number: u64) -> Result<(), NoMemory>
-    requires place { place < 2 ^ 40 }
-    requires below { Each (IsBelow number) (list_at chains.old place) }
-    ensures here { OnOk result ((n : ℕ) → number < n → Each (IsBelow n) (list_at chains.new place)) }
-    ensures others { OthersStay place chains.old chains.new }
-{
-    let row = Row::from_slice(alloc, &[number.min(9) as i64])?;
-    match chains.install(place, BY, Image { row: Some(row) }) {
-        Ok(_) => {}
-        Err((_, refused)) => return Err(refused),
-    }
-    chains.stamp(place, BY, number);
     Ok(())
 }
 
@@ -143,90 +126,6 @@ fn the_newest_deletion_stays(rt: HostRuntime) -> Result<(), Fail> {
     assert_eq!(rt; swept.gone, 0);
     assert!(rt; swept.base_gone);
     assert!(rt; chain.visible(4).is_some());
-    Ok(())
-}
-
-// The rows of cuts_at_a_bound, at place 3. A version 6 at place 4 stays.
-#[test]
-fn cuts_at_a_place(rt: HostRuntime) -> Result<(), Fail> {
-    let cases = [
-        (5, Some(5), Some(5), 2, Some(7), None),
-        (0, None, None, 0, Some(7), Some(3)),
-        (9, Some(7), Some(7), 3, None, None),
-    ];
-    for (bound, number, image, gone, late, early) in cases {
-        let mut chains = Chains::new(rt.alloc());
-        add_at(rt.alloc(), &mut chains, 4, 6)?;
-        add_at(rt.alloc(), &mut chains, 3, 1)?;
-        add_at(rt.alloc(), &mut chains, 3, 3)?;
-        add_at(rt.alloc(), &mut chains, 3, 5)?;
-        add_at(rt.alloc(), &mut chains, 3, 7)?;
-        let cut = chains.cut(3, bound);
-        assert_eq!(rt;
-            cut.image.as_ref().map(|pair| pair.0),
-            number,
-            "cut at {bound}"
-        );
-        assert_eq!(rt;
-            value(cut.image.as_ref().map(|pair| &pair.1)),
-            image,
-            "image at {bound}"
-        );
-        assert_eq!(rt; cut.gone, gone, "others at {bound}");
-        assert_eq!(rt; value(chains.visible(3, 9)), late, "late reader at {bound}");
-        assert_eq!(rt;
-            value(chains.visible(3, 4)),
-            early,
-            "early reader at {bound}"
-        );
-        assert_eq!(rt; value(chains.visible(4, 9)), Some(6), "the other place");
-    }
-    Ok(())
-}
-
-fn sweep_at<L: Ledger>(
-    blank: Blank,
-    chains: &mut Chains,
-    place: u64,
-    horizon: u64,
-    snapshots: &[u64],
-) -> Swept
-    requires name { blank.name ≡ L.name }
-    requires parts { blank.parts ≡ L.parts }
-    requires some { 0 < blank.parts }
-    requires rises { Rises snapshots.now }
-{
-    let mut steps: Steps<L> = Steps::new(blank);
-    chains.sweep(place, None, horizon, snapshots, &mut steps)
-}
-
-// The rows of sweeps_between_snapshots, at place 3. A version 6 at place 4 stays.
-#[test]
-fn sweeps_at_a_place(rt: HostRuntime) -> Result<(), Fail> {
-    let cases = [
-        (9, 1, 5, 2, [9, 5, 5, 1, 1]),
-        (6, 1, 5, 1, [9, 7, 5, 1, 1]),
-        (9, 7, 7, 3, [9, 7, 0, 0, 0]),
-        (9, 8, 8, 3, [9, 7, 0, 0, 0]),
-        (9, 9, 9, 4, [9, 0, 0, 0, 0]),
-        (2, 9, 9, 0, [9, 7, 5, 3, 1]),
-    ];
-    for (horizon, low, high, gone, seen) in cases {
-        let mut chains = Chains::new(rt.alloc());
-        add_at(rt.alloc(), &mut chains, 4, 6)?;
-        add_at(rt.alloc(), &mut chains, 3, 1)?;
-        add_at(rt.alloc(), &mut chains, 3, 3)?;
-        add_at(rt.alloc(), &mut chains, 3, 5)?;
-        add_at(rt.alloc(), &mut chains, 3, 7)?;
-        add_at(rt.alloc(), &mut chains, 3, 9)?;
-        let snapshots = [low.min(high), high];
-        let swept = sweep_at::<Brand>(Blank::new(1), &mut chains, 3, horizon, &snapshots);
-        assert_eq!(rt; swept.gone, gone, "horizon {horizon}, {low} and {high}");
-        assert_eq!(rt; chains.free(), gone, "horizon {horizon}, {low} and {high}");
-        let left = [9, 7, 5, 3, 1].map(|at| value(chains.visible(3, at)).unwrap_or(0));
-        assert_eq!(rt; left, seen, "horizon {horizon}, {low} and {high}");
-        assert_eq!(rt; value(chains.visible(4, 9)), Some(6), "the other place");
-    }
     Ok(())
 }
 
