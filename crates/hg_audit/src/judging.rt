@@ -61,7 +61,7 @@ fn find(
 fn find_in_replay(alloc: Global, script: &Script, printed: &Printed) -> Result<Verdict, NoMemory>
     ensures { IfOk result (λ verdict. IsFinding replay script.now printed.now verdict) }
 {
-    let order = Sequence::of_replay(alloc, script)?;
+    let order = Sequence::of_replay(alloc, script);
     find(alloc, Command::Replay, &order, printed)
 }
 

@@ -1,5 +1,5 @@
 -- The records of a script in the order of their lines.
-use Rattle.std.specs.Prelude.{◌≡◌, ℕ, ◌+◌, ◌-◌, ◌<◌, List, ◌++◌, length, get_or, nat_lt, if◌then◌else◌}
+use Rattle.std.specs.Prelude.{◌≡◌, ℕ, ◌+◌, ◌-◌, ◌<◌, Bool, List, ◌++◌, length, map, get_or, nat_lt, if◌then◌else◌}
 use Rattle.std.specs.List.{flat_map}
 use Rattle.hg_base.specs.declared.report.Kind.{Kind}
 use Rattle.hg_base.specs.declared.report.Kind.TheVariants as kinds
@@ -31,6 +31,10 @@ shown_of records = flat_map (λ j. of_session j records) (sessions_of records)
 -- records, and behind them one for each round of each collector
 abbrev pub with_rounds : List Record → ℕ → List Record
 with_rounds shown n = shown ++ rounds_of kinds.Group n ++ rounds_of kinds.Table n ++ rounds_of kinds.Interval n
+
+-- the records of a script as they stand, or those at these indices with as many rounds
+abbrev pub sequence_of : Bool → Script → List ℕ → ℕ → List Record
+sequence_of plain script is n = if plain then script.records else with_rounds (map (record_at script) is) n
 
 abbrev pub round : Kind → ℕ → Record
 round kind n = record { place = n; session = 0; statement = Gc kind }

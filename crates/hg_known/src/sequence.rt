@@ -18,20 +18,22 @@ use std::marker::Model;
 #[derive(Drop)]
 pub struct Sequence<'a> {
     script: &'a Script,
-    // where they stand among the script's
+    // whether they are the script's as they stand
+    is_plain: bool,
+    // where they stand among the script's, where they don't
     indices: Vec<u32>,
     rounds: usize,
 }
 
 impl<'a> Model for Sequence<'a> {
-    ghost use Rattle.std.specs.Prelude.{◌+◌, ◌*◌, ◌<◌, ◌^◌, List, length, map};
+    ghost use Rattle.std.specs.Prelude.{◌+◌, ◌*◌, ◌<◌, ◌^◌, List, length};
     ghost use Rattle.hg_base.specs.Lists.{Each};
     ghost use Rattle.hg_base.specs.declared.statement.Record.{Record};
-    ghost use Rattle.hg_known.specs.Sequenced.{IsIndex, record_at, with_rounds};
+    ghost use Rattle.hg_known.specs.Sequenced.{IsIndex, sequence_of};
 
     ghost Value = { List Record };
 
-    ghost view = { λ s. with_rounds (map (record_at s.script.now) s.indices.items) s.rounds };
+    ghost view = { λ s. sequence_of s.is_plain s.script.now s.indices.items s.rounds };
 
     ghost invariant = { λ s. Each (IsIndex s.script.now) s.indices.items × (length s.indices.items + 3 * s.rounds < 2 ^ 64) };
 }
@@ -105,18 +107,15 @@ fn round(n: usize, rounds: usize) -> Record
 
 impl<'a> Sequence<'a> {
     /// The records as they stand.
-    pub fn of_replay(alloc: Global, script: &'a Script) -> Result<Sequence<'a>, NoMemory>
-        ensures { IfOk result (λ sequence. sequence ≡ script.entry.now.records) }
+    pub fn of_replay(alloc: Global, script: &'a Script) -> Sequence<'a>
+        ensures { result ≡ script.entry.now.records }
     {
-        let mut indices = Vec::with_capacity(alloc, script.record_count())?;
-        for k in 0..script.record_count() {
-            indices.push(k as u32)?;
-        }
-        Ok(Sequence {
+        Sequence {
             script,
-            indices,
+            is_plain: true,
+            indices: Vec::new(alloc),
             rounds: 0,
-        })
+        }
     }
 
     /// The records of each session by session number, with as many rounds of each collector as so many lines leave. There are none
@@ -135,6 +134,7 @@ impl<'a> Sequence<'a> {
         };
         Ok(Some(Sequence {
             script,
+            is_plain: false,
             indices,
             rounds,
         }))
@@ -143,6 +143,9 @@ impl<'a> Sequence<'a> {
     pub fn len(&self) -> usize
         ensures { result ≡ length self.now }
     {
+        if self.is_plain {
+            return self.script.record_count();
+        }
         self.indices.len() + 3 * self.rounds
     }
 
@@ -151,6 +154,9 @@ impl<'a> Sequence<'a> {
         requires { k < length self.now }
         ensures { IfOk result (λ r. r ≡ get_or self.now k r) }
     {
+        if self.is_plain {
+            return self.script.record(k);
+        }
         if k >= self.indices.len() {
             return Ok(round(k - self.indices.len(), self.rounds));
         }
