@@ -38,6 +38,3 @@ pub use laws::what_is_right_is_sound;
 pub use lines::{Found, find_fault};
 pub use reply::Command;
 pub use verdict::{Verdict, Why};
-
-#[cfg(test)]
-mod tests;

@@ -6,7 +6,7 @@ ghost use Rattle.hg_script.specs.Lawful.{IsLawful};
 use hg_audit::{Verdict, audit};
 use hg_base::{DEFAULT_BUCKETS, DEFAULT_LONG, DEFAULT_ROUNDS};
 use hg_run::{close, open_for, replay_on};
-use hg_script::{Script, make_script};
+use hg_script::{Script, make_script, read_script};
 use hg_words::{Command, Options};
 use std::alloc::Global;
 use std::sync::Wait;
@@ -44,6 +44,45 @@ fn replays_of_made_scripts_are_sound(rt: HostRuntime) -> Result<(), Fail> {
         let text = replayed(&rt, rt.alloc(), &script)?;
         let verdict = audit(rt.alloc(), &script, &text)?;
         assert_eq!(rt; verdict, Verdict::Sound, "at {seed}");
+    }
+    Ok(())
+}
+
+// Session 2 reads beside a write of session 1, and deletes it. In a run, the lines of session 1 come first, and then those of
+// session 2 and the reports of two rounds of each collector.
+const BESIDE: &str =
+    "table,t,1\n1,put,t,5,7\n2,begin\n1,put,t,5,8\n2,scan,t,0,9\n2,commit\n2,del,t,5\n";
+
+const BESIDE_TEXT: &str =
+    "1,2,at,0,stored,committed,1\n1,4,at,1,stored,committed,2\n2,3,begun,1\n2,5,rows,1\n2,5,row,5,7\n2,6,ended\n2,7,at,2,gone,committed,3\n0,1,swept,group,1,1,0\n0,1,held,2,1,unmoved\n0,2,swept,group,3,3,2\n0,1,swept,table,0,0,0\n0,2,swept,table,3,3,0\n0,1,swept,interval,2,2,0\n0,2,swept,interval,3,3,0\ntotal,made,3\ntotal,undone,0\ntotal,group,2\ntotal,table,1\ntotal,interval,0\ntotal,left,0\n";
+
+// What is not there at the snapshot; a mark that falls, of a collector's second report; a snapshot that session 2 never printed; a
+// report more of one collector, so that this is read as a replay, whose second line is of session 2; and totals.
+const FAULTS: &str = "\
+line: 4, why: Reply = 2,5,row,5,7 | 2,5,row,5,8
+line: 12, why: Fresh = 0,2,swept,table,3,3,0 | 0,2,swept,table,4,4,0
+line: 8, why: Fresh = 0,1,held,2,1 | 0,1,held,2,0
+line: 2, why: Shape = 0,2,swept,group,3,3,2/ | 0,2,swept,group,3,3,2/0,3,swept,group,3,3,0/
+line: 20, why: Totals = total,table,1 | total,table,2
+line: 20, why: Totals = total,group,2 | total,group,1
+";
+
+// Each row says where the text above is unsound and why, once what stands first is what stands then. `/` is a line feed.
+#[test]
+fn a_run_is_judged_as_one(rt: HostRuntime) -> Result<(), Fail> {
+    let script = read_script(rt.alloc(), BESIDE.as_bytes())?;
+    let verdict = audit(rt.alloc(), &script, BESIDE_TEXT.as_bytes())?;
+    assert_eq!(rt; verdict, Verdict::Sound);
+    for row in FAULTS.lines() {
+        let row = row.replace(rt.alloc(), "/", "\n")?;
+        let (fault, change) = row.split_once(" = ").expect(&rt, "a fault");
+        let (from, to) = change.split_once(" | ").expect(&rt, "a change");
+        let (before, after) = BESIDE_TEXT.split_once(from).expect(&rt, "it is there");
+        let text = format!(in rt.alloc(); "{before}{to}{after}")?;
+        let verdict = audit(rt.alloc(), &script, text.as_bytes())?;
+        let found = format!(in rt.alloc(); "{verdict:?}")?;
+        let told = format!(in rt.alloc(); "Unsound {{ {fault} }}")?;
+        assert_eq!(rt; found.as_str(), told.as_str(), "at {to}");
     }
     Ok(())
 }
