@@ -1,3 +1,2 @@
--- What the tests know of the numbers in a chain and in a bucket.
+-- What the tests know of the numbers in a chain.
 pub mod ChainFacts
-pub mod Numbers

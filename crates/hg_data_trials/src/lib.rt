@@ -2,8 +2,6 @@
 //!
 //!     values     rows, reports, sources and sinks
 //!     chains     one record's versions, alone and among others
-//!     places     places, the index, and lists by table
-//!     buckets    one bucket, call by call
 //!     scripts    accepted and refused ones
 //!     texts      printed, read, and refused
 //!     words      taken and refused
@@ -12,11 +10,7 @@
 #![tactic(auto)]
 
 #[cfg(test)]
-mod buckets;
-#[cfg(test)]
 mod chains;
-#[cfg(test)]
-mod places;
 #[cfg(test)]
 mod scripts;
 #[cfg(test)]

@@ -1,6 +1,7 @@
 //! Scripts, and what is answered to them.
 
-use hg_script::{Code, ScriptRefusal, make_script, read_script};
+use hg_base::NoMemory;
+use hg_script::{Code, Script, ScriptRefusal, make_script, read_script};
 use std::alloc::{AllocError, Global};
 use std::test::Fail;
 
@@ -10,33 +11,55 @@ fn parted(alloc: Global, row: &str) -> Result<(String, &str), AllocError> {
     Ok((script.replace(alloc, "/", "\n")?, answer))
 }
 
+// A record of a script, as it stands there: its place, its session and its statement. No text is there of one that is not.
+fn record_told(alloc: Global, script: &Script, index: usize) -> Result<String, NoMemory> {
+    if index >= script.record_count() {
+        return Ok(String::new(alloc));
+    }
+    let record = script.record(index)?;
+    Ok(format!(in alloc;
+        "{} {} {:?}",
+        record.place, record.session, record.statement
+    )?)
+}
+
+// The places of a session's records, each behind a space.
+fn places_of(alloc: Global, script: &Script, session: u32) -> Result<String, NoMemory> {
+    let mut places = String::new(alloc);
+    let mut list = script.records_of(session);
+    for _ in 0..script.record_count() {
+        let Some(record) = list.take_next()? else {
+            break;
+        };
+        write!(places, " {}", record.place)?;
+    }
+    Ok(places)
+}
+
 const STATEMENTS: &str = "\
-1,begin = Begin(All)
-1,begin,u = Begin(Declared(2))
-64,begin,u,t,u = Begin(Declared(3))
-1,get,t,18446744073709551615 = Get(Rid { table: TableId(0), key: 18446744073709551615 })
-1,put,t,5,-9223372036854775808 = Put(Rid { table: TableId(0), key: 5 }, Row { values: [-9223372036854775808] })
-1,put,u,0,1,2,3,4,5,6,7,8 = Put(Rid { table: TableId(1), key: 0 }, Row { values: [1, 2, 3, 4, 5, 6, 7, 8] })
-1,del,u,5 = Del(Rid { table: TableId(1), key: 5 })
-1,scan,u,9,3 = Scan { table: TableId(1), low: 9, high: 3 }
-1,begin/1,commit = Commit
-2,begin/1,begin/2,rollback = Rollback
-1,begin/1,rollback/1,begin,t,t = Begin(Declared(1))
+1,begin = 3 1 Begin(All)
+1,begin,u = 3 1 Begin(Declared(2))
+64,begin,u,t,u = 3 64 Begin(Declared(3))
+1,get,t,18446744073709551615 = 3 1 Get(Rid { table: TableId(0), key: 18446744073709551615 })
+1,put,t,5,-9223372036854775808 = 3 1 Put(Rid { table: TableId(0), key: 5 }, Row { values: [-9223372036854775808] })
+1,put,u,0,1,2,3,4,5,6,7,8 = 3 1 Put(Rid { table: TableId(1), key: 0 }, Row { values: [1, 2, 3, 4, 5, 6, 7, 8] })
+1,del,u,5 = 3 1 Del(Rid { table: TableId(1), key: 5 })
+1,scan,u,9,3 = 3 1 Scan { table: TableId(1), low: 9, high: 3 }
+1,begin/1,commit = 4 1 Commit
+2,begin/1,begin/2,rollback = 5 2 Rollback
+1,begin/1,rollback/1,begin,t,t = 5 1 Begin(Declared(1))
 ";
 
 // Each statement, behind a table `t` of one column and a table `u` of eight.
 #[test]
 fn reads_every_statement(rt: HostRuntime) -> Result<(), Fail> {
     for row in STATEMENTS.lines() {
-        let (records, statement) = parted(rt.alloc(), row)?;
+        let (records, told) = parted(rt.alloc(), row)?;
         let text = format!(in rt.alloc(); "table,t,1\ntable,u,8\n{records}\n")?;
         let script = read_script(rt.alloc(), text.as_bytes())?;
-        let count = script.record_count();
-        assert!(rt; count > 0, "at {row}");
-        let last = script.record(count - 1)?;
-        let found = format!(in rt.alloc(); "{:?}", last.statement)?;
-        assert_eq!(rt; found.as_str(), statement, "at {row}");
-        assert_eq!(rt; last.place, 2 + count as u64);
+        let last = script.record_count().saturating_sub(1);
+        let found = record_told(rt.alloc(), &script, last)?;
+        assert_eq!(rt; found.as_str(), told);
     }
     Ok(())
 }
@@ -150,12 +173,12 @@ fn name_tables(alloc: Global, many: u32) -> Result<(String, String), AllocError>
 }
 
 const NAMED: &str = "\
-,t64 = Begin(Declared(9223372036854775808))
-,t63,t64 = Begin(Declared(13835058055282163712))
-,t33 = Begin(Declared(4294967296))
-,t1 = Begin(Declared(1))
-,t10 = Begin(Declared(512))
-ALL = Begin(Declared(18446744073709551615))
+,t64 = 65 1 Begin(Declared(9223372036854775808))
+,t63,t64 = 65 1 Begin(Declared(13835058055282163712))
+,t33 = 65 1 Begin(Declared(4294967296))
+,t1 = 65 1 Begin(Declared(1))
+,t10 = 65 1 Begin(Declared(512))
+ALL = 65 1 Begin(Declared(18446744073709551615))
 ";
 
 // As many tables as a script may have, and the tables that a `begin` names of them: the last two, the first with a bit behind 32,
@@ -164,16 +187,12 @@ ALL = Begin(Declared(18446744073709551615))
 fn tables_are_named(rt: HostRuntime) -> Result<(), Fail> {
     let (records, names) = name_tables(rt.alloc(), 64)?;
     for row in NAMED.lines() {
-        let (named, statement) = row.split_once(" = ").expect(&rt, "a row");
+        let (named, told) = row.split_once(" = ").unwrap_or((row, ""));
         let named = named.replace(rt.alloc(), "ALL", &names)?;
         let text = format!(in rt.alloc(); "{records}1,begin{named}\n")?;
         let script = read_script(rt.alloc(), text.as_bytes())?;
-        assert_eq!(rt; script.tables().len(), 64);
-        assert!(rt; script.record_count() == 1, "at {row}");
-        let begin = script.record(0)?;
-        let found = format!(in rt.alloc(); "{:?}", begin.statement)?;
-        assert_eq!(rt; found.as_str(), statement, "at {row}");
-        assert_eq!(rt; begin.place, 65);
+        let found = record_told(rt.alloc(), &script, 0)?;
+        assert_eq!(rt; found.as_str(), told);
     }
     Ok(())
 }
@@ -218,17 +237,6 @@ fn records_are_counted(rt: HostRuntime) -> Result<(), Fail> {
     Ok(())
 }
 
-const LENT: &str = "\
-0:
-1: 3 6
-2:
-3: 2 4 7 8
-63:
-64: 5
-65:
-4294967295:
-";
-
 // The places of each session's records, where a table stands at the first place.
 #[test]
 fn lends_a_sessions_records(rt: HostRuntime) -> Result<(), Fail> {
@@ -236,54 +244,58 @@ fn lends_a_sessions_records(rt: HostRuntime) -> Result<(), Fail> {
         rt.alloc(),
         b"table,t,1\n3,begin\n1,get,t,1\n3,get,t,1\n64,put,t,1,9\n1,del,t,1\n3,commit\n3,get,t,2\n",
     )?;
-    for row in LENT.lines() {
-        let (word, _) = row.split_once(":").expect(&rt, "a session");
-        let session = word.parse::<u32>()?;
-        let mut list = script.records_of(session);
-        let mut found = format!(in rt.alloc(); "{session}:")?;
-        for _ in 0..script.record_count() {
-            let Some(record) = list.take_next()? else {
-                break;
-            };
-            assert_eq!(rt; record.session, session);
-            write!(found, " {}", record.place)?;
-        }
-        assert_eq!(rt; found.as_str(), row);
-        assert!(rt; list.take_next()?.is_none(), "after {session}");
+    let mut found = String::new(rt.alloc());
+    for session in [0, 1, 2, 3, 63, 64, 65, 4_294_967_295] {
+        let places = places_of(rt.alloc(), &script, session)?;
+        write!(found, "{session}:{places}\n")?;
     }
+    let want = "0:\n1: 3 6\n2:\n3: 2 4 7 8\n63:\n64: 5\n65:\n4294967295:\n";
+    assert_eq!(rt; found.as_str(), want);
     Ok(())
 }
 
 const MADE: &str = "\
-0 4 1 = Gc(Group)
-0 5 2 = Begin(All)
-0 8 5 = Begin(Declared(4))
-0 10 7 = Put(Rid { table: TableId(1), key: 210 }, Row { values: [382, 645] })
-0 12 1 = Scan { table: TableId(1), low: 18, high: 33 }
-0 13 2 = Commit
-0 16003 8 = Get(Rid { table: TableId(2), key: 84 })
-18446744073709551615 14 3 = Rollback
-18446744073709551615 15 4 = Put(Rid { table: TableId(2), key: 4 }, Row { values: [178] })
-4294967296 5 2 = Del(Rid { table: TableId(0), key: 125 })
-4294967296 15 4 = Gc(Table)
+4 1 Gc(Group)
+5 2 Begin(All)
+8 5 Begin(Declared(4))
+10 7 Put(Rid { table: TableId(1), key: 210 }, Row { values: [382, 645] })
+12 1 Scan { table: TableId(1), low: 18, high: 33 }
+13 2 Commit
+16003 8 Get(Rid { table: TableId(2), key: 84 })
+
+14 3 Rollback
+15 4 Put(Rid { table: TableId(2), key: 4 }, Row { values: [178] })
+5 2 Del(Rid { table: TableId(0), key: 125 })
+15 4 Gc(Table)
 ";
 
-// Some records of made scripts, by the same rules told to another language: of each its seed, place, session and statement.
+// Adds some records of the script of a seed, each on a line.
+fn tell_made(
+    alloc: Global,
+    told: &mut String,
+    seed: u64,
+    indices: &[usize],
+) -> Result<(), NoMemory> {
+    let script = make_script(alloc, seed)?;
+    for index in indices {
+        let record = record_told(alloc, &script, *index)?;
+        write!(told, "{record}\n")?;
+    }
+    Ok(())
+}
+
+// Some records of made scripts, by the same rules told to another language.
 #[test]
 fn makes_scripts(rt: HostRuntime) -> Result<(), Fail> {
-    for row in MADE.lines() {
-        let (seed, rest) = row.split_once(" ").expect(&rt, "a seed");
-        let (place, _) = rest.split_once(" ").expect(&rt, "a place");
-        let script = make_script(rt.alloc(), seed.parse::<u64>()?)?;
-        assert_eq!(rt; script.record_count(), 16_000);
-        let place = place.parse::<usize>()?;
-        assert!(rt; 4 <= place && place < 16_004);
-        let record = script.record(place - 4)?;
-        let text = format!(in rt.alloc();
-            "{} {} = {:?}",
-            record.place, record.session, record.statement
-        )?;
-        assert_eq!(rt; text.as_str(), rest, "of {seed}");
-    }
+    let mut told = String::new(rt.alloc());
+    tell_made(
+        rt.alloc(),
+        &mut told,
+        0,
+        &[0, 1, 4, 6, 8, 9, 15_999, 16_000],
+    )?;
+    tell_made(rt.alloc(), &mut told, u64::MAX, &[10, 11])?;
+    tell_made(rt.alloc(), &mut told, 4_294_967_296, &[1, 11])?;
+    assert_eq!(rt; told.as_str(), MADE);
     Ok(())
 }

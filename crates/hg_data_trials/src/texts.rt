@@ -1,7 +1,7 @@
 //! Texts, read and written again.
 
-use hg_base::{Printed, Totals};
-use hg_report::{TextRefusal, Transcript, read_text, reply_text, text_of, totals_text};
+use hg_base::Printed;
+use hg_report::{TextRefusal, read_text, reply_text, totals_text};
 use hg_script::{Script, read_script};
 use std::alloc::Global;
 use std::test::Fail;
@@ -31,31 +31,6 @@ const OWN_WRITE: &str = "table,t,1\n1,begin\n1,put,t,5,7\n1,get,t,5\n1,commit\n"
 const OWN_WRITE_TEXT: &str =
     "1,2,begun,0\n1,3,stored\n1,4,row,7\n1,5,committed,1\ntotal,made,1\ntotal,undone,0\ntotal,group,0\ntotal,table,0\ntotal,interval,0\ntotal,left,1\n";
 
-// Four lines and the totals, of ten records.
-#[test]
-fn reads_a_text(rt: HostRuntime) -> Result<(), Fail> {
-    let script = read_script(rt.alloc(), OWN_WRITE.as_bytes())?;
-    let printed = read_text(rt.alloc(), &script, OWN_WRITE_TEXT.as_bytes())?;
-    assert_eq!(rt; printed.lines.as_slice().len(), 4);
-    let totals = Totals {
-        made: 1,
-        undone: 0,
-        group: 0,
-        table: 0,
-        interval: 0,
-        left: 1,
-    };
-    assert_eq!(rt; printed.totals, totals);
-    let third = format!(in rt.alloc(); "{:?}", printed.lines.as_slice()[2])?;
-    assert_eq!(rt;
-        third.as_str(),
-        "Line { session: 1, place: 4, reply: Reply { at: None, answer: Found(Row { values: [7] }), number: None } }"
-    );
-    let text = text_of(rt.alloc(), &script, &printed)?;
-    assert_eq!(rt; text.as_slice(), OWN_WRITE_TEXT.as_bytes());
-    Ok(())
-}
-
 const EACH: &str =
     "table,t,1\ntable,u,2\n1,begin\n1,put,t,5,7\n1,scan,t,0,9\n1,get,u,3\n1,commit\n2,del,t,5\n2,put,t,5,1\n2,put,t,5,2\n1,begin,u\n1,get,t,5\n1,rollback\n2,begin\n2,commit\n";
 
@@ -70,28 +45,6 @@ fn writes_what_was_read(rt: HostRuntime) -> Result<(), Fail> {
     assert_eq!(rt; printed.lines.as_slice().len(), 15);
     let text = text_by_parts(rt.alloc(), &script, &printed)?;
     assert_eq!(rt; text.as_slice(), EACH_TEXT.as_bytes());
-    Ok(())
-}
-
-fn is_sent<T: Send>(_value: &T) {}
-
-// The same text by two transcripts, of which one is added to the other.
-#[test]
-fn keeps_lines_as_their_text(rt: HostRuntime) -> Result<(), Fail> {
-    let script = read_script(rt.alloc(), OWN_WRITE.as_bytes())?;
-    let printed = read_text(rt.alloc(), &script, OWN_WRITE_TEXT.as_bytes())?;
-    let lines = printed.lines.as_slice();
-    assert_eq!(rt; lines.len(), 4);
-    let mut transcript = Transcript::new(rt.alloc(), &script);
-    transcript.push(&lines[0])?;
-    transcript.push(&lines[1])?;
-    let mut more = Transcript::new(rt.alloc(), &script);
-    more.push(&lines[2])?;
-    more.push(&lines[3])?;
-    is_sent(&more);
-    transcript.append(&more)?;
-    let text = transcript.with_totals(&printed.totals)?;
-    assert_eq!(rt; text.as_slice(), OWN_WRITE_TEXT.as_bytes());
     Ok(())
 }
 
