@@ -2,7 +2,6 @@
 //!
 //!     lock, seat, register, snapshot, store, queue, batch    each by its own calls, in one thread and in two or more
 //!     entering    a session enters while others commit, or begins anew while a pass looks, step by step
-//!     session     each call once, at an engine of one thread
 //!     sharing     eight threads commit at one engine
 //!
 //! Nothing here is called by other crates.
@@ -20,8 +19,6 @@ mod queue_tests;
 mod register_tests;
 #[cfg(test)]
 mod seat_tests;
-#[cfg(test)]
-mod session_tests;
 #[cfg(test)]
 mod sharing_tests;
 #[cfg(test)]

@@ -154,17 +154,3 @@ fn eight_threads_commit_on_their_own_keys(rt: HostRuntime) -> Result<(), Fail> {
     assert_eq!(rt; tally.commits(), Some(1600));
     Ok(())
 }
-
-// Of those that write one key, the first to commit is refused nothing.
-#[test]
-fn eight_threads_commit_on_shared_keys(rt: HostRuntime) -> Result<(), Fail> {
-    let tables = [TableDecl { columns: 1 }];
-    let (engine, sessions, _) = Engine::open(rt.alloc(), 8, &tables[..], 8, 400)?;
-    let mut sessions = sessions.into_vec();
-    let tally = Tally::new(rt.alloc(), 1600)?;
-    let all = sessions.as_mut_slice();
-    commit_beside(&rt, rt.alloc(), &engine, all, 0, &tally);
-    let commits = tally.commits();
-    assert!(rt; matches!(commits, Some(200..=1600)));
-    Ok(())
-}
