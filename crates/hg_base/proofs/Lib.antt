@@ -1,5 +1,6 @@
 -- Words on lists, options and tests.
 pub mod ListFacts
+pub mod Numbers
 -- Histories, and the order of records.
 pub mod HistoryFacts
 pub mod RidOrder

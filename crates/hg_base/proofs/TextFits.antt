@@ -1,9 +1,8 @@
 -- What a reply that fits a script has of its values: the widths, and the table of its statement.
 use Rattle.std.proofs.Common.{◌≡◌, ℕ, ◌<◌, ◌^◌, List, [], ◌∷◌, length, Bool, true, false, Option, Some, None}
-use Rattle.std.specs.Prelude.{ℤ, IsTrue, IfSome, MatchOption, is_none, unwrap_or, ⊤}
+use Rattle.std.specs.Prelude.{IsTrue, IfSome, MatchOption, is_none, unwrap_or, ⊤}
 use Rattle.std.specs.Bool.{MatchBool}
 use Rattle.std.proofs.lemmas.Bool.{false≢true}
-use lib.Signed.{mag}
 use Rattle.hg_base.specs.declared.rid.TableId.{TableId}
 use Rattle.hg_base.specs.declared.statement.Statement.{Statement}
 use Rattle.hg_base.specs.declared.statement.Statement.TheVariants.{Begin, Get, Put, Del, Scan, Commit as CommitIt, Rollback, Gc}
@@ -15,93 +14,85 @@ use Rattle.hg_base.specs.Script.{Declaration}
 use Rattle.hg_base.specs.Transcript.{table_of}
 use Rattle.hg_base.specs.Text.{Fits64, Fits32, FitsRow, FitsRefusal, FitsBegin, FitsGet, FitsPut, FitsDel, FitsScan, FitsCommit, FitsRollback, FitsSweep, FitsReport, FitsGc, FitsAnswer, FitsReply, IsReport, is_write}
 
--- values of 64 bits
-abbrev pub AreWide : List ℤ → Type 0
-AreWide row = Each (λ v. mag v < 2 ^ 63) row
-
 -- an answer to a statement of that table
-abbrev pub IsPlain : TableId → Answer → Type 0
-IsPlain table (Begun s) = Fits64 s
-IsPlain table (Found row) = AreWide row
-IsPlain table (Rows rows) = Fits64 (length rows) × Each (λ p. Fits64 p.0 × AreWide p.1) rows
-IsPlain table (Committed c) = Fits64 c
-IsPlain table (Newer c) = Fits64 c
-IsPlain table (OpenBy writer) = Fits32 writer.session × Fits64 writer.transaction
-IsPlain table (Undeclared other) = other.0 ≡ table.0
-IsPlain table (Swept sweep) = FitsSweep sweep
-IsPlain table _ = ⊤
+abbrev pub IsPlain : List Declaration → TableId → Answer → Type 0
+IsPlain tables table (Begun s) = Fits64 s
+IsPlain tables table (Found row) = FitsRow tables table row
+IsPlain tables table (Rows rows) = Fits64 (length rows) × Each (λ p. Fits64 p.0 × FitsRow tables table p.1) rows
+IsPlain tables table (Committed c) = Fits64 c
+IsPlain tables table (Newer c) = Fits64 c
+IsPlain tables table (OpenBy writer) = Fits32 writer.session × Fits64 writer.transaction
+IsPlain tables table (Undeclared other) = other.0 ≡ table.0
+IsPlain tables table (Swept sweep) = FitsSweep sweep
+IsPlain tables table _ = ⊤
 
 -- and the reply
-pub record IsPlainReply (table : TableId) (reply : Reply) : Type 0 where
+pub record IsPlainReply (tables : List Declaration) (table : TableId) (reply : Reply) : Type 0 where
   pub at : IfSome reply.at Fits64
-  pub answer : IsPlain table reply.answer
+  pub answer : IsPlain tables table reply.answer
   pub number : IfSome reply.number (λ c. Fits64 c × IsTrue (is_write reply.answer))
 
-plain_refusal : (table : TableId) (answer : Answer) → FitsRefusal table answer → IsPlain table answer
-plain_refusal table (Newer c) h = h
-plain_refusal table (OpenBy writer) h = h
-plain_refusal table (Undeclared other) h = h
-plain_refusal table answer h = absurd h
+plain_refusal : (tables : List Declaration) (table : TableId) (answer : Answer) → FitsRefusal table answer → IsPlain tables table answer
+plain_refusal tables table (Newer c) h = h
+plain_refusal tables table (OpenBy writer) h = h
+plain_refusal tables table (Undeclared other) h = h
+plain_refusal tables table answer h = absurd h
 
-plain_begin : (table : TableId) (answer : Answer) → FitsBegin answer → IsPlain table answer
-plain_begin table (Begun s) h = h
-plain_begin table answer h = absurd h
+plain_begin : (tables : List Declaration) (table : TableId) (answer : Answer) → FitsBegin answer → IsPlain tables table answer
+plain_begin tables table (Begun s) h = h
+plain_begin tables table answer h = absurd h
 
-plain_get : (tables : List Declaration) (table : TableId) (answer : Answer) → FitsGet tables table answer → IsPlain table answer
-plain_get tables table (Found row) h = h.1
+plain_get : (tables : List Declaration) (table : TableId) (answer : Answer) → FitsGet tables table answer → IsPlain tables table answer
+plain_get tables table (Found row) h = h
 plain_get tables table Nothing h = tt
 plain_get tables table (Undeclared other) h = h
 plain_get tables table answer h = absurd h
 
-plain_put : (table : TableId) (answer : Answer) → FitsPut table answer → IsPlain table answer
-plain_put table Stored h = tt
-plain_put table answer h = plain_refusal table answer h
+plain_put : (tables : List Declaration) (table : TableId) (answer : Answer) → FitsPut table answer → IsPlain tables table answer
+plain_put tables table Stored h = tt
+plain_put tables table answer h = plain_refusal tables table answer h
 
-plain_del : (table : TableId) (answer : Answer) → FitsDel table answer → IsPlain table answer
-plain_del table Gone h = tt
-plain_del table Nothing h = tt
-plain_del table answer h = plain_refusal table answer h
+plain_del : (tables : List Declaration) (table : TableId) (answer : Answer) → FitsDel table answer → IsPlain tables table answer
+plain_del tables table Gone h = tt
+plain_del tables table Nothing h = tt
+plain_del tables table answer h = plain_refusal tables table answer h
 
-plain_rows : (tables : List Declaration) (table : TableId) (rows : List (ℕ × List ℤ)) → Each (λ p. Fits64 p.0 × FitsRow tables table p.1) rows → Each (λ p. Fits64 p.0 × AreWide p.1) rows
-plain_rows tables table [] h = tt
-plain_rows tables table (p ∷ ps) h = ((h.0.0, h.0.1.1), plain_rows tables table ps h.1)
-
-plain_scan : (tables : List Declaration) (table : TableId) (answer : Answer) → FitsScan tables table answer → IsPlain table answer
-plain_scan tables table (Rows rows) h = (h.0, plain_rows tables table rows h.1)
+plain_scan : (tables : List Declaration) (table : TableId) (answer : Answer) → FitsScan tables table answer → IsPlain tables table answer
+plain_scan tables table (Rows rows) h = h
 plain_scan tables table (Undeclared other) h = h
 plain_scan tables table answer h = absurd h
 
-plain_commit : (table : TableId) (answer : Answer) → FitsCommit answer → IsPlain table answer
-plain_commit table (Committed c) h = h
-plain_commit table Ended h = tt
-plain_commit table answer h = absurd h
+plain_commit : (tables : List Declaration) (table : TableId) (answer : Answer) → FitsCommit answer → IsPlain tables table answer
+plain_commit tables table (Committed c) h = h
+plain_commit tables table Ended h = tt
+plain_commit tables table answer h = absurd h
 
-plain_rollback : (table : TableId) (answer : Answer) → FitsRollback answer → IsPlain table answer
-plain_rollback table Undone h = tt
-plain_rollback table answer h = absurd h
+plain_rollback : (tables : List Declaration) (table : TableId) (answer : Answer) → FitsRollback answer → IsPlain tables table answer
+plain_rollback tables table Undone h = tt
+plain_rollback tables table answer h = absurd h
 
-plain_report : (table : TableId) (answer : Answer) → FitsReport answer → IsPlain table answer
-plain_report table (Swept sweep) h = h
-plain_report table answer h = absurd h
+plain_report : (tables : List Declaration) (table : TableId) (answer : Answer) → FitsReport answer → IsPlain tables table answer
+plain_report tables table (Swept sweep) h = h
+plain_report tables table answer h = absurd h
 
-plain_gc : (table : TableId) (answer : Answer) → FitsGc answer → IsPlain table answer
-plain_gc table Beside h = tt
-plain_gc table answer h = plain_report table answer h
+plain_gc : (tables : List Declaration) (table : TableId) (answer : Answer) → FitsGc answer → IsPlain tables table answer
+plain_gc tables table Beside h = tt
+plain_gc tables table answer h = plain_report tables table answer h
 
 -- the table of a statement, and the first where it names none
 abbrev pub named : Option Statement → TableId
 named None = record { 0 = 0 }
 named (Some statement) = unwrap_or (table_of statement) (record { 0 = 0 })
 
-plain_answer : (tables : List Declaration) (statement : Statement) (answer : Answer) → FitsAnswer tables statement answer → IsPlain (named (Some statement)) answer
-plain_answer tables (Begin scope) answer h = plain_begin _ answer h
+plain_answer : (tables : List Declaration) (statement : Statement) (answer : Answer) → FitsAnswer tables statement answer → IsPlain tables (named (Some statement)) answer
+plain_answer tables (Begin scope) answer h = plain_begin tables _ answer h
 plain_answer tables (Get r) answer h = plain_get tables r.table answer h
-plain_answer tables (Put r row) answer h = plain_put r.table answer h
-plain_answer tables (Del r) answer h = plain_del r.table answer h
+plain_answer tables (Put r row) answer h = plain_put tables r.table answer h
+plain_answer tables (Del r) answer h = plain_del tables r.table answer h
 plain_answer tables (Scan table low high) answer h = plain_scan tables table answer h
-plain_answer tables CommitIt answer h = plain_commit _ answer h
-plain_answer tables Rollback answer h = plain_rollback _ answer h
-plain_answer tables (Gc kind) answer h = plain_gc _ answer h
+plain_answer tables CommitIt answer h = plain_commit tables _ answer h
+plain_answer tables Rollback answer h = plain_rollback tables _ answer h
+plain_answer tables (Gc kind) answer h = plain_gc tables _ answer h
 
 wide_at : (at : Option ℕ) (P : Type 0) → IfSome at (λ s. Fits64 s × P) → IfSome at Fits64
 wide_at None P h = tt
@@ -112,7 +103,7 @@ none_holds P None h = tt
 none_holds P (Some n) h = absurd (false≢true h)
 
 -- so every reply that fits is plain
-pub plain_reply : (tables : List Declaration) (alone : Bool) (asked : Option Statement) (reply : Reply) → MatchBool alone (IsReport reply) (MatchOption asked ⊥ (λ statement. FitsReply tables statement reply)) → IsPlainReply (named asked) reply
-plain_reply tables true asked reply h = record { at = none_holds Fits64 reply.at h.at; answer = plain_report _ reply.answer h.answer; number = none_holds _ reply.number h.number }
+pub plain_reply : (tables : List Declaration) (alone : Bool) (asked : Option Statement) (reply : Reply) → MatchBool alone (IsReport reply) (MatchOption asked ⊥ (λ statement. FitsReply tables statement reply)) → IsPlainReply tables (named asked) reply
+plain_reply tables true asked reply h = record { at = none_holds Fits64 reply.at h.at; answer = plain_report tables _ reply.answer h.answer; number = none_holds _ reply.number h.number }
 plain_reply tables false None reply h = absurd h
 plain_reply tables false (Some statement) reply h = record { at = wide_at reply.at _ h.at; answer = plain_answer tables statement reply.answer h.answer; number = h.number }

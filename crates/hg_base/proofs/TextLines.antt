@@ -14,7 +14,7 @@ use Rattle.hg_base.proofs.TextReading.{begins_held, after_at, line_in, after_lin
 use Rattle.hg_base.proofs.TextReplies.{answer_read, records_left, commit_read, answer_begins, at_read, at_left, behind_at}
 
 module _ (script : Script) where
-  plain : (line : Line) → Fits script line → IsPlainReply (named (asked script.records line)) line.reply
+  plain : (line : Line) → Fits script line → IsPlainReply script.tables (named (asked script.records line)) line.reply
   plain line fit = plain_reply script.tables (line.session == 0) (asked script.records line) line.reply fit.reply
 
   -- the answer, and the commit number behind it
@@ -28,7 +28,7 @@ module _ (script : Script) where
     answer_left : after_at (told_as (codes "at") line.reply.at ++ answer_of line ++ number_of_commit line) ≡ answer_of line ++ number_of_commit line
     answer_left = at_left (answer_of line) (number_of_commit line) (answer_begins script.tables line.reply.answer (number_of_commit line)).0 line.reply.at
 
-    line_read : line_in script.records (line_records script.tables line ++ rest) ≡ line
+    line_read : line_in script.tables script.records (line_records script.tables line ++ rest) ≡ line
     line_read =
         let reply = plain line fit in
         let session : line.session < 2 ^ 64 = omega (arith, fit.session) in
@@ -73,7 +73,7 @@ module _ (script : Script) where
       sym (append_assoc (line_records script.tables a) (flat_map (line_records script.tables) ls) (totals_records t))
       ∙ e
       ∙ append_assoc (line_records script.tables b) (flat_map (line_records script.tables) ms) (totals_records u) in
-      let one : a ≡ b = sym (line_read a (records_of ls t) p.0 (begins ls t h)) ∙ ap (line_in script.records) f ∙ line_read b (records_of ms u) q.0 (begins ms u k) in
+      let one : a ≡ b = sym (line_read a (records_of ls t) p.0 (begins ls t h)) ∙ ap (line_in script.tables script.records) f ∙ line_read b (records_of ms u) q.0 (begins ms u k) in
       let more : records_of ls t ≡ records_of ms u = sym (line_left a (records_of ls t) p.0 (begins ls t h)) ∙ ap after_line f ∙ line_left b (records_of ms u) q.0 (begins ms u k) in
       let others = lines_told ls ms t u p.1 q.1 h k more in
       (ap (λ (line : Line). line ∷ ls) one ∙ ap (λ lines. b ∷ lines) others.0, others.1)

@@ -1,5 +1,5 @@
 -- How the records of a text are read: the first line, and what stands after it.
-use Rattle.std.proofs.Common.{ℕ, ℤ, List, [], ◌∷◌, get_or, take, drop, map, Bool, false, Option, Some, None}
+use Rattle.std.proofs.Common.{ℕ, List, [], ◌∷◌, get_or, take, drop, map, Bool, false, Option, Some, None}
 use Rattle.std.specs.Prelude.{◌||◌, codes, if◌then◌else◌}
 use Rattle.std.specs.Str.{bytes_eq}
 use Rattle.hg_base.specs.declared.rid.TableId.{TableId}
@@ -12,7 +12,12 @@ use Rattle.hg_base.specs.declared.line.Answer.TheVariants.{Begun, Stored, Found,
 use Rattle.hg_base.specs.declared.line.Reply.{Reply}
 use Rattle.hg_base.specs.declared.line.Line.{Line}
 use Rattle.hg_base.specs.declared.line.Totals.{Totals}
-use Rattle.hg_base.specs.Text.{Field, asked}
+use Rattle.hg_base.specs.declared.value.Column.{Column}
+use Rattle.hg_base.specs.declared.value.Column.TheVariants as columns
+use Rattle.hg_base.specs.declared.value.Value.{Value}
+use Rattle.hg_base.specs.declared.value.Value.TheVariants.{Number, Text}
+use Rattle.hg_base.specs.Script.{Declaration}
+use Rattle.hg_base.specs.Text.{Field, asked, kinds_of}
 use Rattle.hg_base.proofs.TextNumbers.{number_of, value_of}
 use Rattle.hg_base.proofs.TextFits.{named}
 
@@ -43,8 +48,18 @@ abbrev pub after_held : List (List Field) → List (List Field)
 after_held [] = []
 after_held (fields ∷ more) = if is_held fields then after_held more else fields ∷ more
 
-abbrev pub row_in : List Field → ℕ × List ℤ
-row_in fields = (number_in 3 fields, map value_of (drop 4 fields))
+-- what a field holds in a column of that kind, and what fields hold in columns
+abbrev pub value_in : Column → Field → Value
+value_in columns.Number field = Number (value_of field)
+value_in columns.Text field = Text field
+
+unfoldable pub values_in : List Column → List Field → List Value
+values_in [] fields = []
+values_in (kind ∷ kinds) [] = []
+values_in (kind ∷ kinds) (field ∷ fields) = value_in kind field ∷ values_in kinds fields
+
+abbrev pub row_in : List Column → List Field → ℕ × List Value
+row_in kinds fields = (number_in 3 fields, values_in kinds (drop 4 fields))
 
 abbrev pub kind_in : Field → Kind
 kind_in word = if bytes_eq word (codes "group") then kinds.Group else if bytes_eq word (codes "table") then kinds.Table else kinds.Interval
@@ -60,14 +75,14 @@ abbrev pub sweep_in : List Field → List (List Field) → Answer
 sweep_in fields more = Swept (record { kind = kind_in (get_or fields 1 []); mark = number_in 2 fields; horizon = number_in 3 fields; removed = number_in 4 fields; held = held_in more })
 
 -- the answer that begins with the first field, where `more` are the records after it
-abbrev pub answer_in : TableId → List Field → List (List Field) → Answer
-answer_in table fields more =
+abbrev pub answer_in : List Declaration → TableId → List Field → List (List Field) → Answer
+answer_in tables table fields more =
     if says 0 fields (codes "begun") then Begun (number_in 1 fields)
     else if says 0 fields (codes "stored") then Stored
-    else if says 0 fields (codes "row") then Found (map value_of (drop 1 fields))
+    else if says 0 fields (codes "row") then Found (values_in (kinds_of tables table) (drop 1 fields))
     else if says 0 fields (codes "none") then Nothing
     else if says 0 fields (codes "gone") then Gone
-    else if says 0 fields (codes "rows") then Rows (map row_in (take (number_in 1 fields) more))
+    else if says 0 fields (codes "rows") then Rows (map (row_in (kinds_of tables table)) (take (number_in 1 fields) more))
     else if says 0 fields (codes "committed") then Committed (number_in 1 fields)
     else if says 0 fields (codes "ended") then Ended
     else if says 0 fields (codes "undone") then Undone
@@ -97,21 +112,21 @@ at_in fields = if says 0 fields (codes "at") then Some (number_in 1 fields) else
 abbrev pub after_at : List Field → List Field
 after_at fields = if says 0 fields (codes "at") then drop 2 fields else fields
 
-abbrev pub reply_in : TableId → List Field → List (List Field) → Reply
-reply_in table fields more = record { at = at_in fields; answer = answer_in table (after_at fields) more; number = commit_in (after_at fields) }
+abbrev pub reply_in : List Declaration → TableId → List Field → List (List Field) → Reply
+reply_in tables table fields more = record { at = at_in fields; answer = answer_in tables table (after_at fields) more; number = commit_in (after_at fields) }
 
 -- a line of that session and place
 abbrev pub blank : ℕ → ℕ → Line
 blank session place = record { session = session; place = place; reply = record { at = None; answer = Beside; number = None } }
 
 -- the line whose reply may hold a table, which is that of the statement
-abbrev pub line_at : List Record → ℕ → ℕ → List Field → List (List Field) → Line
-line_at records session place fields more = record { session = session; place = place; reply = reply_in (named (asked records (blank session place))) fields more }
+abbrev pub line_at : List Declaration → List Record → ℕ → ℕ → List Field → List (List Field) → Line
+line_at tables records session place fields more = record { session = session; place = place; reply = reply_in tables (named (asked records (blank session place))) fields more }
 
 -- the first line, and the records after it
-abbrev pub line_in : List Record → List (List Field) → Line
-line_in records [] = blank 0 0
-line_in records (fields ∷ more) = line_at records (number_in 0 fields) (number_in 1 fields) (drop 2 fields) more
+abbrev pub line_in : List Declaration → List Record → List (List Field) → Line
+line_in tables records [] = blank 0 0
+line_in tables records (fields ∷ more) = line_at tables records (number_in 0 fields) (number_in 1 fields) (drop 2 fields) more
 
 abbrev pub after_line : List (List Field) → List (List Field)
 after_line [] = []

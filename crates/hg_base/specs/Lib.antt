@@ -1,5 +1,6 @@
 -- What a run may print. A reader meets the definitions in this order.
 pub mod Lists
+pub mod Values
 pub mod Script
 pub mod History
 pub mod RidOrder

@@ -1,6 +1,6 @@
 -- The replies are those of a table that never reclaims. Snapshot isolation; that a statement outside the declared
 -- tables is refused, and that a deletion of what is not seen writes nothing, is own.
-use Rattle.std.specs.Prelude.{◌≡◌, ℕ, ◌≤◌, ◌⊎◌, ℤ, List, [], ◌∷◌, length, map, Bool, true, false, ◌&&◌, ◌==◌, IsTrue, IsFalse, Some, None, is_some, IsSome, ⊤}
+use Rattle.std.specs.Prelude.{◌≡◌, ℕ, ◌≤◌, ◌⊎◌, List, [], ◌∷◌, length, map, Bool, true, false, ◌&&◌, ◌==◌, IsTrue, IsFalse, Some, None, is_some, IsSome, ⊤}
 use Rattle.std.specs.List.{list_any}
 use Rattle.std.specs.Bool.{MatchBool}
 use Rattle.hg_base.specs.declared.rid.Rid.{Rid}
@@ -11,6 +11,7 @@ use Rattle.hg_base.specs.declared.statement.Statement.{Statement}
 use Rattle.hg_base.specs.declared.statement.Statement.TheVariants.{Begin, Get, Put, Del, Scan, Commit as CommitIt, Rollback, Gc}
 use Rattle.hg_base.specs.declared.line.Answer.{Answer}
 use Rattle.hg_base.specs.declared.line.Answer.TheVariants.{Begun, Stored, Found, Nothing, Gone, Rows, Committed, Ended, Undone, Newer, OpenBy, Undeclared, Swept, Beside}
+use Rattle.hg_base.specs.declared.value.Value.{Value}
 use Rattle.hg_base.specs.Lists.{Each, Ascends}
 use Rattle.hg_base.specs.Script.{Mode, replay, run}
 use Rattle.hg_base.specs.History.{Write, History, seen}
@@ -42,7 +43,7 @@ IsDeleted image (OpenBy writer) = IsSome image.row
 IsDeleted image _ = ⊥
 
 -- every key of the range that is seen as a row, with that row, by ascending key
-pub record AreRows (look : ℕ → Image) (low : ℕ) (high : ℕ) (rows : List (ℕ × List ℤ)) : Type 0 where
+pub record AreRows (look : ℕ → Image) (low : ℕ) (high : ℕ) (rows : List (ℕ × List Value)) : Type 0 where
   pub ascend : Ascends (map (λ p. p.0) rows)
   pub each : Each (λ p. (low ≤ p.0) × (p.0 ≤ high) × ((look p.0).row ≡ Some p.1)) rows
   pub every : (key : ℕ) → low ≤ key → key ≤ high → IsTrue (list_any (λ p. p.0 == key) rows) ⊎ ((look key).row ≡ None)

@@ -1,10 +1,9 @@
 -- The records of a printed text, as lists of fields. The bytes are made of them by the row text of a CSV writer.
-use Rattle.std.specs.Prelude.{◌≡◌, ℕ, ℤ, ◌<◌, ◌^◌, List, [], ◌∷◌, ◌++◌, length, map, Bool, true, false, ◌&&◌, ◌==◌, Option, Some, None, find, is_some, is_none, IsTrue, IfSome, MatchOption, codes, decimal, if◌then◌else◌, ⊤}
+use Rattle.std.specs.Prelude.{◌≡◌, ℕ, ◌<◌, ◌^◌, List, [], ◌∷◌, ◌++◌, length, map, Bool, true, false, ◌&&◌, ◌==◌, Option, Some, None, find, is_some, is_none, IsTrue, IfSome, MatchOption, codes, decimal, if◌then◌else◌, ⊤}
 use Rattle.std.specs.Fmt.{signed_decimal}
 use Rattle.std.specs.List.{flat_map, slice_get}
 use Rattle.std.specs.Bool.{MatchBool}
 use Rattle.std.specs.Option.{option_map_or}
-use lib.Signed.{mag}
 use Rattle.hg_base.specs.declared.rid.TableId.{TableId}
 use Rattle.hg_base.specs.declared.statement.Statement.{Statement}
 use Rattle.hg_base.specs.declared.statement.Statement.TheVariants.{Begin, Get, Put, Del, Scan, Commit as CommitIt, Rollback, Gc}
@@ -19,7 +18,11 @@ use Rattle.hg_base.specs.declared.line.Reply.{Reply}
 use Rattle.hg_base.specs.declared.line.Line.{Line}
 use Rattle.hg_base.specs.declared.line.Totals.{Totals}
 use Rattle.hg_base.specs.declared.line.Printed.{Printed}
+use Rattle.hg_base.specs.declared.value.Column.{Column}
+use Rattle.hg_base.specs.declared.value.Value.{Value}
+use Rattle.hg_base.specs.declared.value.Value.TheVariants.{Number, Text}
 use Rattle.hg_base.specs.Lists.{Each}
+use Rattle.hg_base.specs.Values.{FitsColumns}
 use Rattle.hg_base.specs.Script.{Declaration, Script}
 use Rattle.hg_base.specs.Transcript.{table_of}
 
@@ -30,13 +33,18 @@ Field = List ℕ
 abbrev pub name_of : List Declaration → TableId → Field
 name_of tables table = option_map_or (λ d. d.name) (slice_get tables table.0) []
 
-abbrev pub columns_of : List Declaration → TableId → ℕ
-columns_of tables table = option_map_or (λ d. d.columns) (slice_get tables table.0) 0
+abbrev pub kinds_of : List Declaration → TableId → List Column
+kinds_of tables table = option_map_or (λ d. d.kinds) (slice_get tables table.0) []
 
 abbrev pub kind_word : Kind → Field
 kind_word kinds.Group = codes "group"
 kind_word kinds.Table = codes "table"
 kind_word kinds.Interval = codes "interval"
+
+-- a number in decimal digits, or the bytes of a text
+abbrev pub value_field : Value → Field
+value_field (Number v) = signed_decimal v
+value_field (Text t) = t
 
 -- ---- the records
 
@@ -44,7 +52,7 @@ kind_word kinds.Interval = codes "interval"
 abbrev pub answer_fields : List Declaration → Answer → List Field
 answer_fields tables (Begun s) = codes "begun" ∷ decimal s ∷ []
 answer_fields tables Stored = codes "stored" ∷ []
-answer_fields tables (Found row) = codes "row" ∷ map signed_decimal row
+answer_fields tables (Found row) = codes "row" ∷ map value_field row
 answer_fields tables Nothing = codes "none" ∷ []
 answer_fields tables Gone = codes "gone" ∷ []
 answer_fields tables (Rows rows) = codes "rows" ∷ decimal (length rows) ∷ []
@@ -60,8 +68,8 @@ answer_fields tables Beside = codes "beside" ∷ []
 abbrev pub held_fields : Told → List Field
 held_fields told = codes "held" ∷ decimal told.session ∷ decimal told.number ∷ (if told.moved then codes "moved" else codes "unmoved") ∷ []
 
-abbrev pub row_fields : ℕ × List ℤ → List Field
-row_fields p = codes "row" ∷ decimal p.0 ∷ map signed_decimal p.1
+abbrev pub row_fields : ℕ × List Value → List Field
+row_fields p = codes "row" ∷ decimal p.0 ∷ map value_field p.1
 
 -- the further records of a reply: the rows of a scan, the held snapshots of a report
 abbrev pub more_fields : Answer → List (List Field)
@@ -97,7 +105,7 @@ text_of row script printed = flat_map row (text_records script printed)
 
 -- ---- which lines fit a script
 
--- a number of 64 bits, as all that are printed but sessions, which have 32, and the values of rows, which have a sign
+-- a number of 64 bits, as all that are printed but sessions, which have 32, and the values of rows
 abbrev pub Fits64 : ℕ → Type 0
 Fits64 n = n < 2 ^ 64
 
@@ -105,8 +113,8 @@ abbrev pub Fits32 : ℕ → Type 0
 Fits32 n = n < 2 ^ 32
 
 -- a row of the table's columns
-abbrev pub FitsRow : List Declaration → TableId → List ℤ → Type 0
-FitsRow tables table row = (length row ≡ columns_of tables table) × Each (λ v. mag v < 2 ^ 63) row
+abbrev pub FitsRow : List Declaration → TableId → List Value → Type 0
+FitsRow tables table row = FitsColumns (kinds_of tables table) row
 
 abbrev pub FitsRefusal : TableId → Answer → Type 0
 FitsRefusal table (Newer c) = Fits64 c

@@ -30,6 +30,8 @@ mod standard;
 mod statement;
 mod steady;
 mod steps;
+mod text;
+mod value;
 mod writer;
 
 pub use fault::{Failed, NoMemory};
@@ -41,7 +43,7 @@ pub use laws::{
 pub use limits::{
     DEFAULT_BUCKETS, DEFAULT_LONG, DEFAULT_ROUNDS, MOST_BUCKETS, MOST_COLUMNS, MOST_LONG,
     MOST_NAME_BYTES, MOST_NUMBER, MOST_RECORDS, MOST_ROUNDS, MOST_SCRIPT_BYTES, MOST_SESSIONS,
-    MOST_TABLES,
+    MOST_TABLES, MOST_TEXT_BYTES,
 };
 pub use line::{Answer, Line, LineList, Printed, Reply, Totals};
 pub use memory::{MemorySink, MemorySource};
@@ -54,4 +56,6 @@ pub use standard::{StdinSource, StdoutSink};
 pub use statement::{Record, Statement};
 pub use steady::{SteadySink, SteadySource};
 pub use steps::Steps;
+pub use text::Text;
+pub use value::{Column, Value};
 pub use writer::Writer;

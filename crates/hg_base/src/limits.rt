@@ -9,6 +9,9 @@ pub const MOST_TABLES: u8 = 64;
 /// A table has from 1 to this many columns.
 pub const MOST_COLUMNS: u8 = 8;
 
+/// A text has from 0 to this many bytes.
+pub const MOST_TEXT_BYTES: usize = 64;
+
 /// A table's name has from 1 to this many bytes.
 pub const MOST_NAME_BYTES: usize = 32;
 
