@@ -74,6 +74,12 @@ fn numbers_of(alloc: Global, values: &[Value]) -> Result<Vec<i64>, NoMemory>
     Ok(values.iter().map(|value| value.number()).collect(alloc)?)
 }
 
+fn are_same_numbers(a: &[i64], b: &[i64]) -> bool
+    ensures { Decides result (a.now ≡ b.now) }
+{
+    a == b
+}
+
 fn are_same(a: &[Value], b: &[Value]) -> bool
     ensures { Decides result (a.now ≡ b.now) }
 {
@@ -159,7 +165,7 @@ impl Row {
     }
 
     /// Whether these are the same values.
-    #[tactic(auto, using(crate::proofs::Numbers::same_numbers, crate::proofs::Numbers::numbers_are_no_texts))]
+    #[tactic(auto, using(crate::proofs::Numbers::numbers_are_no_texts))]
     pub fn same(&self, other: &Row) -> bool
         ensures { Decides result (self.now ≡ other.now) }
     {
@@ -167,7 +173,7 @@ impl Row {
             (Held::Values(a), Held::Values(b)) => are_same(a, b),
             (Held::Values(_), _) => false,
             (_, Held::Values(_)) => false,
-            (a, b) => a.numbers() == b.numbers(),
+            (a, b) => are_same_numbers(a.numbers(), b.numbers()),
         }
     }
 
