@@ -10,15 +10,15 @@ use Rattle.std.specs.List.{flat_map}
 use Rattle.hg_base.specs.Text.{Field}
 use Rattle.hg_report.specs.Bytes.{field_bytes, further_bytes, record_bytes}
 use Rattle.hg_report.proofs.RecordBytes.{record_is}
-use Rattle.hg_report.proofs.Plain.{plain_value, plain_number, number_bytes}
+use Rattle.hg_report.proofs.Plain.{number_bytes, value_bytes}
 
 pub number_is : (n : ℕ) → further_bytes (decimal n) ≡ 44 ∷ decimal n
 unfolding field_bytes further_bytes
-number_is n = rw (plain_number n) refl
+number_is n = ap (λ t. 44 ∷ t) (number_bytes n)
 
 pub value_is : (v : ℤ) → further_bytes (signed_decimal v) ≡ 44 ∷ signed_decimal v
 unfolding field_bytes further_bytes
-value_is v = rw (plain_value v) refl
+value_is v = ap (λ t. 44 ∷ t) (value_bytes v)
 
 -- the record of a row, written from its end
 pub row_put : (old now last valued keyed whole : List ℕ) (x y z k : Field) (more : List Field) → last ≡ 10 ∷ [] → valued ≡ flat_map further_bytes more ++ last → keyed ≡ further_bytes k ++ valued

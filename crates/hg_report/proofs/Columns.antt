@@ -7,25 +7,27 @@ use Rattle.std.proofs.lemmas.Bool.{cases_Bool}
 use Rattle.hg_base.specs.declared.statement.Statement.{Statement}
 use Rattle.hg_base.specs.declared.statement.Statement.TheVariants.{Get, Put, Del, Scan}
 use Rattle.hg_base.specs.declared.statement.Record.{Record}
+use Rattle.hg_base.specs.declared.limits.TheConstants.{MOST_COLUMNS}
+use Rattle.hg_base.specs.declared.value.Column.{Column}
 use Rattle.hg_base.specs.Lists.{Each}
 use Rattle.hg_base.specs.Script.{Declaration, Script}
 use Rattle.hg_base.specs.Transcript.{table_of}
-use Rattle.hg_base.specs.Text.{columns_of}
+use Rattle.hg_base.specs.Text.{kinds_of}
 use Rattle.hg_script.specs.Lawful.{IsLawful, IsTable, IsStatement, FitsTables}
 use Rattle.hg_report.specs.Guess.{statement_at}
 
-pub record IsNarrow (columns : ℕ) : Type 0 where
-  pub some : 1 ≤ columns
-  pub most : columns ≤ 8
+pub record AreFew (kinds : List Column) : Type 0 where
+  pub some : 1 ≤ length kinds
+  pub most : length kinds ≤ MOST_COLUMNS
 
-among : (tables : List Declaration) (i : ℕ) → Each IsTable tables → i < length tables → IsNarrow (option_map_or (λ d. d.columns) (slice_get tables i) 0)
+among : (tables : List Declaration) (i : ℕ) → Each IsTable tables → i < length tables → AreFew (option_map_or (λ d. d.kinds) (slice_get tables i) [])
 among [] i h lt = absurd (omega arith)
 among (d ∷ ds) zero h lt = record { some = h.0.some; most = h.0.most }
 among (d ∷ ds) (suc i) h lt = among ds i h.1 (omega arith)
 
 -- where a statement names a table
 abbrev pub HasColumns : List Declaration → Statement → Type 0
-HasColumns tables statement = IfSome (table_of statement) (λ table. IsNarrow (columns_of tables table))
+HasColumns tables statement = IfSome (table_of statement) (λ table. AreFew (kinds_of tables table))
 
 of : (tables : List Declaration) (statement : Statement) → Each IsTable tables → FitsTables tables statement → HasColumns tables statement
 of tables (Get r) h k = among tables r.table.0 h k

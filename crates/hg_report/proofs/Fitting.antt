@@ -1,5 +1,5 @@
 -- Whatever is guessed fits the script: where it is written as the record stands there, the record may come next.
-use Rattle.std.proofs.Common.{◌≡◌, ◌<◌, ◌+◌, ◌^◌, ℕ, zero, suc, ℤ, List, [], ◌∷◌, ◌++◌, length, length-append, false, ◌==◌, ◌&&◌, Option, Some, None, nat_lt, nat_le, refl, arith, subst}
+use Rattle.std.proofs.Common.{◌≡◌, ◌<◌, ◌+◌, ◌^◌, ◌∙◌, ℕ, List, [], ◌∷◌, length, length-take, map, ap, false, ◌==◌, ◌&&◌, Option, Some, None, nat_lt, nat_le, refl, arith, subst}
 use Rattle.std.specs.Prelude.{IsTrue, IfSome, is_some, option_map, option_and_then, codes, ⊤}
 use Rattle.std.proofs.lemmas.Bool.{and_parts as both, ltb-true, cond_both}
 use Rattle.std.proofs.lemmas.Bool.Decides.{nat_tests}
@@ -7,6 +7,11 @@ use lib.Signed.{mag}
 use Rattle.hg_base.specs.declared.rid.TableId.{TableId}
 use Rattle.hg_base.specs.declared.rid.Rid.{Rid}
 use Rattle.hg_base.specs.declared.statement.Statement.{Statement}
+use Rattle.hg_base.specs.declared.limits.TheConstants.{MOST_COLUMNS, MOST_TEXT_BYTES}
+use Rattle.hg_base.specs.declared.value.Column.{Column}
+use Rattle.hg_base.specs.declared.value.Column.TheVariants as columns
+use Rattle.hg_base.specs.declared.value.Value.{Value}
+use Rattle.hg_base.specs.Values.{FitsColumns, FitsValue, kind_of}
 use Rattle.hg_base.specs.declared.statement.Statement.TheVariants.{Begin, Get, Put, Del, Scan, Commit as CommitIt, Rollback, Gc}
 use Rattle.hg_base.specs.declared.report.Told.{Told}
 use Rattle.hg_base.specs.declared.report.Sweep.{Sweep}
@@ -17,7 +22,7 @@ use Rattle.hg_base.specs.declared.line.Totals.{Totals}
 use Rattle.hg_base.specs.Lists.{Each}
 use Rattle.hg_base.specs.Script.{Declaration, Script}
 use Rattle.hg_base.specs.Transcript.{table_of}
-use Rattle.hg_base.specs.Text.{Field, Fits64, Fits32, FitsRow, FitsPut, FitsDel, FitsSweep, FitsAnswer, FitsReply, Fits, columns_of, is_write}
+use Rattle.hg_base.specs.Text.{Field, Fits64, Fits32, FitsRow, FitsPut, FitsDel, FitsSweep, FitsAnswer, FitsReply, Fits, kinds_of, is_write}
 use Rattle.hg_script.specs.declared.number.Integer.{Integer}
 use Rattle.hg_script.specs.declared.number.Integer.TheVariants as signed
 use Rattle.hg_script.specs.Number.{integer_of}
@@ -27,8 +32,8 @@ use Rattle.hg_report.specs.declared.piece.Piece.{Piece}
 use Rattle.hg_report.specs.declared.piece.Piece.TheVariants as piece
 use Rattle.hg_report.specs.declared.progress.Open.{Open}
 use Rattle.hg_report.specs.declared.progress.Open.TheVariants as opens
-use Rattle.hg_report.specs.Fields.{nth, says, number_in, session_in, narrow, integer_in, integer_value, values_in, row_in}
-use Rattle.hg_report.specs.Guess.{answer_guess, answer_place, answered_guess, at_guess, first_guess, head_guess, held_guess, number_guess, piece_of, refusal_guess, row_guess, statement_at, sweep_guess, table_columns}
+use Rattle.hg_report.specs.Fields.{nth, says, number_in, session_in, narrow, integer_value, text_in, value_in, values_in, row_in}
+use Rattle.hg_report.specs.Guess.{answer_guess, answer_place, answered_guess, at_guess, first_guess, head_guess, held_guess, number_guess, piece_of, refusal_guess, row_guess, statement_at, sweep_guess, the_table}
 use Rattle.hg_report.specs.Progress.{guess_after, scan_line, sweep_line}
 use Rattle.hg_report.proofs.Asking.{same_table}
 
@@ -43,39 +48,38 @@ narrow_fits k = cond_both (nat_lt k (2 ^ 32)) k 0 (λ x. x < 2 ^ 32) (λ e. ltb-
 pub session_fits : (fields : List Field) (i : ℕ) → Fits32 (session_in fields i)
 session_fits fields i = narrow_fits (number_in fields i)
 
-value_fits : (x : Integer) → IsNarrow x → mag (integer_value x) < 2 ^ 63
-value_fits signed.No h = omega arith
-value_fits signed.Over h = omega arith
-value_fits (signed.Is v) h = h
+wide : (x : Integer) → IsNarrow x → mag (integer_value x) < 2 ^ 63
+wide signed.No h = omega arith
+wide signed.Over h = omega arith
+wide (signed.Is v) h = h
 
-integer_fits : (fields : List Field) (i : ℕ) → mag (integer_in fields i) < 2 ^ 63
-integer_fits fields i = value_fits (integer_of (nth fields i)) (integer-narrow (nth fields i))
+-- ---- a row of these columns
 
-abbrev pub AreWide : List ℤ → Type 0
-AreWide row = Each (λ v. mag v < 2 ^ 63) row
+record IsOf (kind : Column) (value : Value) : Type 0 where
+  is : kind_of value ≡ kind
+  fits : FitsValue value
 
-wide_more : (row : List ℤ) (v : ℤ) → AreWide row → mag v < 2 ^ 63 → AreWide (row ++ v ∷ [])
-wide_more [] v h k = (k, tt)
-wide_more (x ∷ xs) v h k = (h.0, wide_more xs v h.1 k)
+value_fits : (kind : Column) (field : Field) → IsOf kind (value_in kind field)
+value_fits columns.Number field = record { is = refl; fits = wide (integer_of field) (integer-narrow field) }
+value_fits columns.Text field = record { is = refl; fits = omega (arith, length-take MOST_TEXT_BYTES (text_in field)) }
 
-values_fit : (fields : List Field) (i count : ℕ) → (length (values_in fields i count) ≡ count) × AreWide (values_in fields i count)
+values_fit : (fields : List Field) (i : ℕ) (kinds : List Column) → FitsColumns kinds (values_in fields i kinds)
 unfolding values_in
-values_fit fields i zero = (refl, tt)
-values_fit fields i (suc k) =
-    let before = values_fit fields i k in
-    (simp length-append (omega (arith, before.0)), wide_more (values_in fields i k) (integer_in fields (i + k)) before.1 (integer_fits fields (i + k)))
+values_fit fields i [] = (refl, tt)
+values_fit fields i (kind ∷ kinds) =
+    let first = value_fits kind (nth fields i) in
+    let others = values_fit fields (i + 1) kinds in
+    (ap (λ k. k ∷ map kind_of (values_in fields (i + 1) kinds)) first.is ∙ ap (λ ks. kind ∷ ks) others.0, (first.fits, others.1))
 
--- ---- a row of so many columns
+abbrev IsRow : List Column → Option (List Value) → Type 0
+IsRow kinds o = IfSome o (FitsColumns kinds)
 
-abbrev IsRow : ℕ → Option (List ℤ) → Type 0
-IsRow columns o = IfSome o (λ row. (length row ≡ columns) × AreWide row)
+row_fits : (fields : List Field) (i : ℕ) (kinds : List Column) → IsRow kinds (row_in fields i kinds)
+row_fits fields i kinds = cond_both (nat_le 1 (length kinds) && nat_le (length kinds) MOST_COLUMNS) (Some (values_in fields i kinds)) None (IsRow kinds) (λ e. values_fit fields i kinds) (λ e. tt)
 
-row_fits : (fields : List Field) (i columns : ℕ) → IsRow columns (row_in fields i columns)
-row_fits fields i columns = cond_both (nat_le 1 columns && nat_le columns 8) (Some (values_in fields i columns)) None (IsRow columns) (λ e. values_fit fields i columns) (λ e. tt)
-
--- a row with its key
-abbrev pub FitsKey : ℕ → ℕ × List ℤ → Type 0
-FitsKey columns p = Fits64 p.0 × (length p.1 ≡ columns) × AreWide p.1
+-- a row of a table with its key
+abbrev pub FitsKey : List Declaration → TableId → ℕ × List Value → Type 0
+FitsKey tables table p = Fits64 p.0 × FitsRow tables table p.1
 
 -- ---- answers
 
@@ -102,7 +106,7 @@ refusal_fits table fields i = cond_both (says fields (i + 1) (codes "newer")) (N
     (λ f. ((session_fits fields (i + 2), number_fits fields (i + 3)), (session_fits fields (i + 2), number_fits fields (i + 3)), tt))
     (λ f. (refl, refl, tt)))
 
-found_fits : (tables : List Declaration) (r : Rid) (o : Option (List ℤ)) → IsRow (columns_of tables r.table) o → IfSome (option_map Found o) (IsGuess tables (Get r))
+found_fits : (tables : List Declaration) (r : Rid) (o : Option (List Value)) → IsRow (kinds_of tables r.table) o → IfSome (option_map Found o) (IsGuess tables (Get r))
 found_fits tables r None h = tt
 found_fits tables r (Some row) h = (h, tt)
 
@@ -110,7 +114,7 @@ answer_fits : (tables : List Declaration) (statement : Statement) (fields : List
 answer_fits tables (Begin scope) fields i = (number_fits fields (i + 1), tt)
 answer_fits tables (Get r) fields i =
     let P = λ (o : Option Answer). IfSome o (IsGuess tables (Get r)) in
-    cond_both (says fields i (codes "row")) _ _ P (λ e. found_fits tables r _ (row_fits fields (i + 1) (columns_of tables r.table)))
+    cond_both (says fields i (codes "row")) _ _ P (λ e. found_fits tables r _ (row_fits fields (i + 1) (kinds_of tables r.table)))
     (λ e. cond_both (says fields i (codes "none")) (Some Nothing) (Some (Undeclared r.table)) P (λ f. (tt, tt)) (λ f. (refl, tt)))
 answer_fits tables (Put r row) fields i =
     let refused = refusal_fits r.table fields i in
@@ -137,20 +141,16 @@ IsShort _ = ⊤
 
 abbrev pub FitsHead : Script → Piece → Type 0
 FitsHead script (piece.Line line) = Fits script line × IsShort line.reply.answer
-FitsHead script (piece.Scan session place at columns left) = (rows : List (ℕ × List ℤ)) → length rows ≡ left → Each (FitsKey columns) rows → Fits script (scan_line session place at rows)
+FitsHead script (piece.Scan session place at table left) = (rows : List (ℕ × List Value)) → length rows ≡ left → Each (FitsKey script.tables table) rows → Fits script (scan_line session place at rows)
 FitsHead script (piece.Sweep session place sweep) = (sweep.held ≡ []) × Fits script (sweep_line session place sweep)
 FitsHead script _ = ⊥
-
-rows_fit : (tables : List Declaration) (table : TableId) (rows : List (ℕ × List ℤ)) → Each (FitsKey (columns_of tables table)) rows → Each (λ p. Fits64 p.0 × FitsRow tables table p.1) rows
-rows_fit tables table [] h = tt
-rows_fit tables table (p ∷ ps) h = ((h.0.0, (h.0.1, h.0.2)), rows_fit tables table ps h.1)
 
 number_fits_write : (answer : Answer) (fields : List Field) (i : ℕ) → IfSome (number_guess answer fields i) (λ c. Fits64 c × IsTrue (is_write answer))
 number_fits_write answer fields i = cond_both (is_write answer && says fields (i + 1) (codes "committed")) (Some (number_in fields (i + 2))) None (λ (o : Option ℕ). IfSome o (λ c. Fits64 c × IsTrue (is_write answer)))
     (λ e. (number_fits fields (i + 2), (both _ _ e).0)) (λ e. tt)
 
-rows_fit_statement : (tables : List Declaration) (statement : Statement) (rows more : List (ℕ × List ℤ)) → FitsAnswer tables statement (Rows rows) → Fits64 (length more) → Each (FitsKey (table_columns tables (asked_by statement))) more → FitsAnswer tables statement (Rows more)
-rows_fit_statement tables (Scan table low high) rows more h many each = (many, rows_fit tables table more each)
+rows_fit_statement : (tables : List Declaration) (statement : Statement) (rows more : List (ℕ × List Value)) → FitsAnswer tables statement (Rows rows) → Fits64 (length more) → Each (FitsKey tables (the_table (asked_by statement))) more → FitsAnswer tables statement (Rows more)
+rows_fit_statement tables (Scan table low high) rows more h many each = (many, each)
 rows_fit_statement tables statement rows more h many each = absurd h
 
 module _ (script : Script) (session place : ℕ) (narrow_session : Fits32 session) (wide_place : Fits64 place) (some : (session == 0) ≡ false) (statement : Statement) (is : statement_at script.records session place ≡ Some statement) where
@@ -161,15 +161,15 @@ module _ (script : Script) (session place : ℕ) (narrow_session : Fits32 sessio
     short_fits : (answer : Answer) → FitsAnswer script.tables statement answer → Fits script (record { session = session; place = place; reply = record { at = at; answer = answer; number = number_guess answer fields i } })
     short_fits answer h = line_fits _ (record { at = wide_at; answer = h; number = number_fits_write answer fields i })
 
-    scan_fits : (rows more : List (ℕ × List ℤ)) → FitsAnswer script.tables statement (Rows rows) → Fits64 (length more) → Each (FitsKey (table_columns script.tables (asked_by statement))) more → FitsAnswer script.tables statement (Rows more)
+    scan_fits : (rows more : List (ℕ × List Value)) → FitsAnswer script.tables statement (Rows rows) → Fits64 (length more) → Each (FitsKey script.tables (the_table (asked_by statement))) more → FitsAnswer script.tables statement (Rows more)
     scan_fits rows more h many each = rows_fit_statement script.tables statement rows more h many each
 
-    head_fits : (answer : Answer) → IsGuess script.tables statement answer → FitsHead script (piece_of script.tables (asked_by statement) session place at fields i answer)
+    head_fits : (answer : Answer) → IsGuess script.tables statement answer → FitsHead script (piece_of (asked_by statement) session place at fields i answer)
     head_fits (Rows rows) h = λ more many each. line_fits _ (record { at = wide_at; answer = scan_fits rows more h.0 (rw many (number_fits fields (i + 1))) each; number = tt })
     head_fits (Swept sweep) h = (h.1, line_fits _ (record { at = tt; answer = h.0; number = tt }))
     head_fits answer h = (short_fits answer h.0, tt)
 
-    pub answered_fits : (o : Option Answer) → IfSome o (IsGuess script.tables statement) → IfSome (option_map (piece_of script.tables (asked_by statement) session place at fields i) o) (FitsHead script)
+    pub answered_fits : (o : Option Answer) → IfSome o (IsGuess script.tables statement) → IfSome (option_map (piece_of (asked_by statement) session place at fields i) o) (FitsHead script)
     answered_fits None h = tt
     answered_fits (Some answer) h = head_fits answer h
 
@@ -200,7 +200,7 @@ module _ (script : Script) (fields : List Field) where
 -- no totals, and no scan with rows to come
 abbrev pub IsFree : Open → Type 0
 IsFree opens.Nothing = ⊤
-IsFree (opens.Scan session place at columns left rows) = left ≡ 0
+IsFree (opens.Scan session place at table left rows) = left ≡ 0
 IsFree (opens.Sweep session place sweep) = ⊤
 IsFree (opens.Totals index totals) = ⊥
 
@@ -213,7 +213,7 @@ FitsTold told = Fits32 told.session × Fits64 told.number
 
 pub data FitsNext (script : Script) : Open → Piece → Type 0 where
   comes_first : (state : Open) (next : Piece) → IsFree state → FitsFirst script next → FitsNext script state next
-  comes_row : (session place : ℕ) (at : Option ℕ) (columns left : ℕ) (rows : List (ℕ × List ℤ)) (key : ℕ) (values : List ℤ) → 0 < left → FitsKey columns (key, values) → FitsNext script (opens.Scan session place at columns left rows) (piece.Row session place key values)
+  comes_row : (session place : ℕ) (at : Option ℕ) (table : TableId) (left : ℕ) (rows : List (ℕ × List Value)) (key : ℕ) (values : List Value) → 0 < left → FitsKey script.tables table (key, values) → FitsNext script (opens.Scan session place at table left rows) (piece.Row session place key values)
   comes_held : (session place : ℕ) (sweep : Sweep) (told : Told) → FitsTold told → FitsNext script (opens.Sweep session place sweep) (piece.Held session place told)
   comes_total : (index : ℕ) (totals : Totals) (number : ℕ) → index < 6 → Fits64 number → FitsNext script (opens.Totals index totals) (piece.Total index number)
 
@@ -227,16 +227,16 @@ module _ (script : Script) (fields : List Field) where
   first_fits state free = cond_both (says fields 0 (codes "total")) (Some (piece.Total 0 (number_in fields 2))) (head_guess script fields) (λ (o : Option Piece). IfSome o (FitsNext script state))
       (λ e. comes_first state _ free (refl, number_fits fields 2)) (λ e. first_of_head state free _ (head_is_fit script fields))
 
-  row_guess_fits : (session place : ℕ) (at : Option ℕ) (columns left : ℕ) (rows : List (ℕ × List ℤ)) → 0 < left → (o : Option (List ℤ)) → IsRow columns o
-      → IfSome (option_map (λ values. piece.Row session place (number_in fields 3) values) o) (FitsNext script (opens.Scan session place at columns left rows))
-  row_guess_fits session place at columns left rows some None h = tt
-  row_guess_fits session place at columns left rows some (Some values) h = comes_row session place at columns left rows (number_in fields 3) values some (number_fits fields 3, h.0, h.1)
+  row_guess_fits : (session place : ℕ) (at : Option ℕ) (table : TableId) (left : ℕ) (rows : List (ℕ × List Value)) → 0 < left → (o : Option (List Value)) → IsRow (kinds_of script.tables table) o
+      → IfSome (option_map (λ values. piece.Row session place (number_in fields 3) values) o) (FitsNext script (opens.Scan session place at table left rows))
+  row_guess_fits session place at table left rows some None h = tt
+  row_guess_fits session place at table left rows some (Some values) h = comes_row session place at table left rows (number_in fields 3) values some (number_fits fields 3, h)
 
   pub guess_fits : (state : Open) → IfSome (guess_after script state fields) (FitsNext script state)
   guess_fits opens.Nothing = first_fits opens.Nothing tt
-  guess_fits (opens.Scan session place at columns left rows) = cond_both (nat_lt 0 left) (row_guess session place columns fields) (first_guess script fields) (λ (o : Option Piece). IfSome o (FitsNext script (opens.Scan session place at columns left rows)))
-      (λ e. row_guess_fits session place at columns left rows (ltb-true 0 left e) _ (row_fits fields 4 columns))
-      (λ e. first_fits (opens.Scan session place at columns left rows) (grind (arith, nat_tests, e)))
+  guess_fits (opens.Scan session place at table left rows) = cond_both (nat_lt 0 left) (row_guess script.tables session place table fields) (first_guess script fields) (λ (o : Option Piece). IfSome o (FitsNext script (opens.Scan session place at table left rows)))
+      (λ e. row_guess_fits session place at table left rows (ltb-true 0 left e) _ (row_fits fields 4 (kinds_of script.tables table)))
+      (λ e. first_fits (opens.Scan session place at table left rows) (grind (arith, nat_tests, e)))
   guess_fits (opens.Sweep session place sweep) = cond_both (says fields 2 (codes "held")) (Some (held_guess session place fields)) (first_guess script fields) (λ (o : Option Piece). IfSome o (FitsNext script (opens.Sweep session place sweep)))
       (λ e. comes_held session place sweep _ (session_fits fields 3, number_fits fields 4)) (λ e. first_fits (opens.Sweep session place sweep) tt)
   guess_fits (opens.Totals index totals) = cond_both (nat_lt index 6) (Some (piece.Total index (number_in fields 2))) None (λ (o : Option Piece). IfSome o (FitsNext script (opens.Totals index totals)))

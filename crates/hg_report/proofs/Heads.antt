@@ -1,7 +1,6 @@
 -- The first record of a line is guessed as that line.
-use Rattle.std.proofs.Common.{◌≡◌, ◌<◌, ◌+◌, ◌∙◌, ℕ, zero, suc, ℤ, List, [], ◌∷◌, ◌++◌, length, map, get_or, Option, Some, None, refl, sym, ap, arith}
+use Rattle.std.proofs.Common.{◌≡◌, ◌<◌, ◌+◌, ◌∙◌, ℕ, zero, suc, List, [], ◌∷◌, ◌++◌, length, map, get_or, Option, Some, None, refl, sym, ap, arith}
 use Rattle.std.specs.Prelude.{IsTrue, IfSome, codes, option_map}
-use Rattle.std.specs.Fmt.{signed_decimal}
 use Rattle.std.proofs.lemmas.Bool.{false≢true}
 use Rattle.hg_base.specs.declared.rid.TableId.{TableId}
 use Rattle.hg_base.specs.declared.scope.Scope.{Scope}
@@ -13,13 +12,15 @@ use Rattle.hg_base.specs.declared.report.Sweep.{Sweep}
 use Rattle.hg_base.specs.declared.writer.Writer.{Writer}
 use Rattle.hg_base.specs.declared.line.Answer.{Answer}
 use Rattle.hg_base.specs.declared.line.Answer.TheVariants.{Begun, Stored, Found, Nothing, Gone, Rows, Committed, Ended, Undone, Newer, OpenBy, Undeclared, Swept, Beside}
+use Rattle.hg_base.specs.declared.value.Value.{Value}
 use Rattle.hg_base.specs.Script.{Declaration}
-use Rattle.hg_base.specs.Text.{Field, Fits64, FitsRefusal, FitsBegin, FitsGet, FitsPut, FitsDel, FitsScan, FitsCommit, FitsRollback, FitsSweep, FitsGc, FitsAnswer, answer_fields, kind_word, told_as, columns_of, is_write}
+use Rattle.hg_base.specs.Text.{Field, Fits64, FitsRefusal, FitsBegin, FitsGet, FitsPut, FitsDel, FitsScan, FitsCommit, FitsRollback, FitsSweep, FitsGc, FitsAnswer, answer_fields, kind_word, told_as, kinds_of, value_field, is_write}
+use Rattle.hg_report.specs.Bytes.{field_bytes}
 use Rattle.hg_report.specs.Fields.{nth}
 use Rattle.hg_script.specs.Asked.{asked_by}
 use Rattle.hg_report.specs.Guess.{answer_guess, get_guess, put_guess, del_guess, scan_guess, commit_guess, gc_guess, refusal_guess, sweep_guess, kind_guess, number_guess}
 use Rattle.hg_report.proofs.ReadBack.{number_read, session_read, row_read}
-use Rattle.hg_report.proofs.Columns.{HasColumns, IsNarrow}
+use Rattle.hg_report.proofs.Columns.{HasColumns, AreFew}
 
 -- an answer without its rows or held snapshots
 abbrev pub emptied : Answer → Answer
@@ -27,7 +28,8 @@ emptied (Rows rows) = Rows []
 emptied (Swept sweep) = Swept (record sweep { held = [] })
 emptied answer = answer
 
-kind_read : (fields : List Field) (i : ℕ) (kind : Kind) → nth fields i ≡ kind_word kind → kind_guess fields i ≡ kind
+kind_read : (fields : List Field) (i : ℕ) (kind : Kind) → nth fields i ≡ field_bytes (kind_word kind) → kind_guess fields i ≡ kind
+unfolding field_bytes
 kind_read fields i kinds.Group e = rw e refl
 kind_read fields i kinds.Table e = rw e refl
 kind_read fields i kinds.Interval e = rw e refl
@@ -43,14 +45,14 @@ get-or-front [] ys k h = absurd (omega arith)
 get-or-front (x ∷ xs) ys zero h = refl
 get-or-front (x ∷ xs) ys (suc k) h = get-or-front xs ys k (omega arith)
 
-length_texts : (row : List ℤ) → length (map signed_decimal row) ≡ length row
-length_texts [] = refl
-length_texts (v ∷ vs) = ap suc (length_texts vs)
+length_fields : (row : List Value) → length (map value_field row) ≡ length row
+length_fields [] = refl
+length_fields (v ∷ vs) = ap suc (length_fields vs)
 
--- the fields from i on are these
-pub record AreFrom (fields : List Field) (i : ℕ) (rest : List Field) : Type 0 where
-  pub first : nth fields i ≡ nth rest 0
-  pub later : (k : ℕ) → nth fields (i + k) ≡ nth rest k
+-- from i on these stand
+pub record AreFrom (stood : List Field) (i : ℕ) (rest : List Field) : Type 0 where
+  pub first : nth stood i ≡ field_bytes (nth rest 0)
+  pub later : (k : ℕ) → nth stood (i + k) ≡ field_bytes (nth rest k)
 
 module _ (tables : List Declaration) (fields : List Field) (i : ℕ) (tail : List Field) where
   abbrev pub Answers : Answer → Type 0
@@ -78,6 +80,7 @@ module _ (tables : List Declaration) (fields : List Field) (i : ℕ) (tail : Lis
   refusal_same table answer h = absurd h
 
   refusal_read : (table : TableId) (answer : Answer) → Answers answer → FitsRefusal table answer → refusal_guess table fields i ≡ answer
+  unfolding field_bytes
   refusal_read table (Newer c) are h = rw (are.later 1) (ap Newer (number_read fields (i + 2) c h (are.later 2)))
   refusal_read table (OpenBy writer) are h = rw (are.later 1) (same_writer _ _ writer (session_read fields (i + 2) writer.session h.0 (are.later 2)) (number_read fields (i + 3) writer.transaction h.1 (are.later 3)))
   refusal_read table (Undeclared other) are h = rw (are.later 1) (undeclared table other h)
@@ -87,38 +90,45 @@ module _ (tables : List Declaration) (fields : List Field) (i : ℕ) (tail : Lis
   begin_read scope (Begun s) are h = ap (λ n. Some (Begun n)) (number_read fields (i + 1) s h (are.later 1))
   begin_read scope answer are h = absurd h
 
-  row_field : (row : List ℤ) → Answers (Found row) → (k : ℕ) → k < length row → nth fields ((i + 1) + k) ≡ get_or (map signed_decimal row) k []
+  row_field : (row : List Value) → Answers (Found row) → (k : ℕ) → k < length row → nth fields ((i + 1) + k) ≡ field_bytes (nth (map value_field row) k)
   row_field row are k h =
       let at : (i + 1) + k ≡ i + suc k = omega arith in
-      ap (nth fields) at ∙ are.later (suc k) ∙ get-or-front (map signed_decimal row) tail k (rw length_texts h)
+      ap (nth fields) at ∙ are.later (suc k) ∙ ap field_bytes (get-or-front (map value_field row) tail k (rw length_fields h))
 
-  get_read : (table : TableId) (answer : Answer) → Answers answer → IsNarrow (columns_of tables table) → FitsGet tables table answer → get_guess tables table fields i ≡ Some (emptied answer)
-  get_read table (Found row) are narrow h = rw are.first (ap (λ o. option_map Found o) (row_read fields (i + 1) row h.1 (row_field row are) (columns_of tables table) h.0 narrow.some narrow.most))
-  get_read table Nothing are narrow h = rw are.first refl
-  get_read table (Undeclared other) are narrow h = rw are.first (ap Some (undeclared table other h))
-  get_read table answer are narrow h = absurd h
+  get_read : (table : TableId) (answer : Answer) → Answers answer → AreFew (kinds_of tables table) → FitsGet tables table answer → get_guess tables table fields i ≡ Some (emptied answer)
+  unfolding field_bytes
+  get_read table (Found row) are few h = rw are.first (ap (λ o. option_map Found o) (row_read fields (i + 1) (kinds_of tables table) row h few (row_field row are)))
+  get_read table Nothing are few h = rw are.first refl
+  get_read table (Undeclared other) are few h = rw are.first (ap Some (undeclared table other h))
+  get_read table answer are few h = absurd h
 
   put_refused : (table : TableId) (answer : Answer) → Answers answer → FitsRefusal table answer → put_guess table fields i ≡ emptied answer
-  put_refused table answer are h = rw (are.first ∙ refused_first table answer h) (refusal_read table answer are h ∙ refusal_same table answer h)
+  unfolding field_bytes
+  put_refused table answer are h = rw (are.first ∙ ap field_bytes (refused_first table answer h)) (refusal_read table answer are h ∙ refusal_same table answer h)
 
   put_read : (table : TableId) (answer : Answer) → Answers answer → FitsPut table answer → put_guess table fields i ≡ emptied answer
+  unfolding field_bytes
   put_read table Stored are h = rw are.first refl
   put_read table answer are h = put_refused table answer are h
 
   del_refused : (table : TableId) (answer : Answer) → Answers answer → FitsRefusal table answer → del_guess table fields i ≡ emptied answer
-  del_refused table answer are h = rw (are.first ∙ refused_first table answer h) (refusal_read table answer are h ∙ refusal_same table answer h)
+  unfolding field_bytes
+  del_refused table answer are h = rw (are.first ∙ ap field_bytes (refused_first table answer h)) (refusal_read table answer are h ∙ refusal_same table answer h)
 
   del_read : (table : TableId) (answer : Answer) → Answers answer → FitsDel table answer → del_guess table fields i ≡ emptied answer
+  unfolding field_bytes
   del_read table Gone are h = rw are.first refl
   del_read table Nothing are h = rw are.first refl
   del_read table answer are h = del_refused table answer are h
 
   scan_read : (table : TableId) (answer : Answer) → Answers answer → FitsScan tables table answer → scan_guess table fields i ≡ emptied answer
+  unfolding field_bytes
   scan_read table (Rows rows) are h = rw are.first refl
   scan_read table (Undeclared other) are h = rw are.first (undeclared table other h)
   scan_read table answer are h = absurd h
 
   commit_read : (answer : Answer) → Answers answer → FitsCommit answer → commit_guess fields i ≡ emptied answer
+  unfolding field_bytes
   commit_read (Committed c) are h = rw are.first (ap Committed (number_read fields (i + 1) c h (are.later 1)))
   commit_read Ended are h = rw are.first refl
   commit_read answer are h = absurd h
@@ -128,23 +138,25 @@ module _ (tables : List Declaration) (fields : List Field) (i : ℕ) (tail : Lis
   rollback_read answer h = absurd h
 
   gc_read : (answer : Answer) → Answers answer → FitsGc answer → gc_guess fields i ≡ emptied answer
+  unfolding field_bytes
   gc_read Beside are h = rw are.first refl
   gc_read (Swept sweep) are h = rw are.first (ap Swept (sweep_read sweep are h))
   gc_read answer are h = absurd h
 
   pub answer_read : (statement : Statement) (answer : Answer) → Answers answer → HasColumns tables statement → FitsAnswer tables statement answer → answer_guess tables (asked_by statement) fields i ≡ Some (emptied answer)
-  answer_read (Begin scope) answer are narrow h = begin_read scope answer are h
-  answer_read (Get r) answer are narrow h = get_read r.table answer are narrow h
-  answer_read (Put r row) answer are narrow h = ap Some (put_read r.table answer are h)
-  answer_read (Del r) answer are narrow h = ap Some (del_read r.table answer are h)
-  answer_read (Scan table low high) answer are narrow h = ap Some (scan_read table answer are h)
-  answer_read CommitIt answer are narrow h = ap Some (commit_read answer are h)
-  answer_read Rollback answer are narrow h = ap Some (rollback_read answer h)
-  answer_read (Gc kind) answer are narrow h = ap Some (gc_read answer are h)
+  answer_read (Begin scope) answer are few h = begin_read scope answer are h
+  answer_read (Get r) answer are few h = get_read r.table answer are few h
+  answer_read (Put r row) answer are few h = ap Some (put_read r.table answer are h)
+  answer_read (Del r) answer are few h = ap Some (del_read r.table answer are h)
+  answer_read (Scan table low high) answer are few h = ap Some (scan_read table answer are h)
+  answer_read CommitIt answer are few h = ap Some (commit_read answer are h)
+  answer_read Rollback answer are few h = ap Some (rollback_read answer h)
+  answer_read (Gc kind) answer are few h = ap Some (gc_read answer are h)
 
 -- the commit number behind a stored write
 pub number_behind : (tables : List Declaration) (fields : List Field) (i : ℕ) (answer : Answer) (number : Option ℕ) → Answers tables fields i (told_as (codes "committed") number) answer → IfSome number (λ c. Fits64 c × IsTrue (is_write answer))
     → number_guess answer fields i ≡ number
+unfolding field_bytes
 number_behind tables fields i Stored None are h = rw (are.later 1) refl
 number_behind tables fields i Stored (Some c) are h = rw (are.later 1) (ap Some (number_read fields (i + 2) c h.0 (are.later 2)))
 number_behind tables fields i Gone None are h = rw (are.later 1) refl

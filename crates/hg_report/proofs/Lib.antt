@@ -13,6 +13,7 @@ pub mod Heads
 pub mod Running
 -- Bytes are parted into fields, and tell which records stand there.
 pub mod Plain
+pub mod Unquoted
 pub mod Backwards
 pub mod Parted
 pub mod Following

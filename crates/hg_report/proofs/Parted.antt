@@ -1,74 +1,87 @@
--- The bytes of a record whose fields call for no quotes are parted into these fields.
-use Rattle.std.proofs.Common.{◌≡◌, ◌<◌, ◌≤◌, ◌+◌, ◌-◌, ◌∙◌, ℕ, List, [], ◌∷◌, ◌++◌, ◌==◌, ◌||◌, length, take, drop, get_or, true, false, inl, inr, refl, sym, ap, subst, append_assoc, append-nil, length-drop, get_or-drop, arith}
+-- The bytes of a record are parted into its fields, as they stand.
+use Rattle.std.proofs.Common.{◌≡◌, ◌<◌, ◌≤◌, ◌+◌, ◌-◌, ◌∙◌, ℕ, List, [], ◌∷◌, ◌++◌, ◌==◌, ◌&&◌, ◌⊎◌, Bool, not, length, take, drop, get_or, true, false, inl, inr, refl, sym, ap, append_assoc, append-nil, length-drop, get_or-drop, arith}
+use Rattle.std.specs.Prelude.{if◌then◌else◌}
 use Rattle.std.specs.Borrow.{Bor}
 use Rattle.std.specs.List.{flat_map, list_any}
 use Rattle.std.proofs.lemmas.List.{map-append, drop_more, drop_all, take_more}
-use Rattle.std.proofs.lemmas.Bool.{cases_Bool, false≢true, eqb-true}
-use Rattle.csv.specs.Writing.{needs_byte}
-use Rattle.hg_base.specs.Lists.{Each}
+use Rattle.std.proofs.lemmas.Bool.{cases_Bool, eqb-true, false≢true}
+use Rattle.csv.specs.Writing.{escaped, needs_byte}
 use Rattle.hg_base.specs.Text.{Field}
 use Rattle.hg_report.specs.Bytes.{flexible_writer, record_bytes, field_bytes, further_bytes}
 use Rattle.hg_report.specs.Fields.{fields_of, parted}
-use Rattle.hg_report.proofs.Plain.{IsPlain}
-use Rattle.hg_report.proofs.RecordBytes.{record_is}
+use Rattle.hg_report.specs.Progress.{standing}
+use Rattle.hg_report.proofs.Plain.{IsPlain, inner}
+use Rattle.hg_report.proofs.RecordBytes.{escaped_other, record_is}
 
-true≢false : true ≡ false → ⊥
-true≢false e = false≢true (sym e)
+-- ---- over a field
 
-record IsInner (b : ℕ) (bytes : List ℕ) : Type 0 where
-  feed : (b == 10) ≡ false
-  comma : (b == 44) ≡ false
-  others : IsPlain bytes
+over_plain : (x field tail : List ℕ) → IsPlain x → parted false field (x ++ tail) ≡ parted false (field ++ x) tail
+unfolding parted
+over_plain [] field tail h = ap (λ f. parted false f tail) (sym (append-nil field))
+over_plain (b ∷ x) field tail h =
+    let is = inner b x h in
+    rw (is.feed, is.comma, is.quote) (over_plain x (field ++ b ∷ []) tail is.others ∙ ap (λ f. parted false f tail) (append_assoc field (b ∷ []) x))
 
-not_it : (k b : ℕ) (bytes : List ℕ) → (IsPlain (k ∷ bytes) → ⊥) → IsPlain (b ∷ bytes) → (b == k) ≡ false
-not_it k b bytes out h = elim (cases_Bool (b == k)) [
-  | inr other ↦ other
-  | inl same ↦ absurd (out (subst (λ c. IsPlain (c ∷ bytes)) (eqb-true b k same) h))
+within_quotes : (field : List ℕ) (b : ℕ) (tail : List ℕ) → (b == 34) ≡ false → parted true field (b ∷ tail) ≡ parted true (field ++ b ∷ []) tail
+unfolding parted
+within_quotes field b tail other = rw other refl
+
+-- a quote within quotes stands twice, so what is behind them is within quotes again
+over_escaped : (x field tail : List ℕ) → parted true field (escaped flexible_writer x ++ tail) ≡ parted true (field ++ escaped flexible_writer x) tail
+unfolding escaped parted
+over_escaped [] field tail = ap (λ f. parted true f tail) (sym (append-nil field))
+over_escaped (b ∷ x) field tail = elim (cases_Bool (b == 34)) [
+  | inl same ↦
+      let rest = escaped flexible_writer x in
+      rw (eqb-true b 34 same)
+      (over_escaped x ((field ++ 34 ∷ []) ++ 34 ∷ []) tail ∙ ap (λ f. parted true f tail) (append_assoc (field ++ 34 ∷ []) (34 ∷ []) rest ∙ append_assoc field (34 ∷ []) (34 ∷ rest)))
+  | inr other ↦
+      let same = escaped_other b x other in
+      ap (λ t. parted true field (t ++ tail)) same ∙ within_quotes field b (escaped flexible_writer x ++ tail) other ∙ over_escaped x (field ++ b ∷ []) tail
+      ∙ ap (λ f. parted true f tail) (append_assoc field (b ∷ []) (escaped flexible_writer x) ∙ ap (λ t. field ++ t) (sym same))
 ]
 
-others_plain : (b : ℕ) (bytes : List ℕ) → IsPlain (b ∷ bytes) → IsPlain bytes
-others_plain b bytes h = elim (cases_Bool (needs_byte flexible_writer b)) [
-  | inl needs ↦ absurd (true≢false (sym (ap (λ n. n || list_any (needs_byte flexible_writer) bytes) needs) ∙ h))
-  | inr not ↦ sym (ap (λ n. n || list_any (needs_byte flexible_writer) bytes) not) ∙ h
-]
-
-inner : (b : ℕ) (bytes : List ℕ) → IsPlain (b ∷ bytes) → IsInner b bytes
-inner b bytes h = record { feed = not_it 10 b bytes true≢false h; comma = not_it 44 b bytes true≢false h; others = others_plain b bytes h }
-
-parted_comma : (field x bytes : List ℕ) → IsPlain x → parted field (x ++ (44 ∷ bytes)) ≡ (field ++ x) ∷ parted [] bytes
+over_quoted : (x field tail : List ℕ) → parted false field ((34 ∷ (escaped flexible_writer x ++ 34 ∷ [])) ++ tail) ≡ parted false (field ++ 34 ∷ (escaped flexible_writer x ++ 34 ∷ [])) tail
 unfolding parted
-parted_comma field [] bytes h = ap (λ f. f ∷ parted [] bytes) (sym (append-nil field))
-parted_comma field (b ∷ x) bytes h =
-    let is = inner b x h in
-    rw (is.feed, is.comma) (parted_comma (field ++ b ∷ []) x bytes is.others ∙ ap (λ f. f ∷ parted [] bytes) (append_assoc field (b ∷ []) x))
+over_quoted x field tail =
+    let rest = escaped flexible_writer x in
+    ap (parted true (field ++ 34 ∷ [])) (append_assoc rest (34 ∷ []) tail) ∙ over_escaped x (field ++ 34 ∷ []) (34 ∷ tail)
+    ∙ ap (λ f. parted false f tail) (append_assoc (field ++ 34 ∷ []) rest (34 ∷ []) ∙ append_assoc field (34 ∷ []) (rest ++ 34 ∷ []))
 
-parted_feed : (field x bytes : List ℕ) → IsPlain x → parted field (x ++ (10 ∷ bytes)) ≡ (field ++ x) ∷ []
-unfolding parted
-parted_feed field [] bytes h = ap (λ f. f ∷ []) (sym (append-nil field))
-parted_feed field (b ∷ x) bytes h =
-    let is = inner b x h in
-    rw (is.feed, is.comma) (parted_feed (field ++ b ∷ []) x bytes is.others ∙ ap (λ f. f ∷ []) (append_assoc field (b ∷ []) x))
-
-plain_text : (x : Field) → IsPlain x → field_bytes x ≡ x
+over_field : (x field tail : List ℕ) → parted false field (field_bytes x ++ tail) ≡ parted false (field ++ field_bytes x) tail
 unfolding field_bytes
-plain_text x h = rw h refl
+over_field x field tail = elim (cases_Bool (list_any (needs_byte flexible_writer) x)) [
+  | inl needs ↦ rw needs (over_quoted x field tail)
+  | inr plain ↦ rw plain (over_plain x field tail plain)
+]
 
-further_plain : (x : Field) → IsPlain x → further_bytes x ≡ 44 ∷ x
-unfolding further_bytes
-further_plain x h = rw h refl
+-- ---- over a record
 
-parted_fields : (x : Field) (more : List Field) (rest : List ℕ) → IsPlain x → Each IsPlain more → parted [] (x ++ (flat_map further_bytes more ++ (10 ∷ rest))) ≡ x ∷ more
-parted_fields x [] rest h k = parted_feed [] x rest h
-parted_fields x (y ∷ more) rest h k =
-    let tail = flat_map further_bytes more ++ (10 ∷ rest) in
-    ap (λ t. parted [] (x ++ t)) (ap (λ t. (t ++ flat_map further_bytes more) ++ (10 ∷ rest)) (further_plain y k.0) ∙ append_assoc (44 ∷ y) (flat_map further_bytes more) (10 ∷ rest))
-    ∙ parted_comma [] x (y ++ tail) h ∙ ap (λ fs. x ∷ fs) (parted_fields y more rest k.0 k.1)
+further_is : (x : Field) → further_bytes x ≡ 44 ∷ field_bytes x
+unfolding field_bytes further_bytes
+further_is x = refl
 
-pub parted_record : (x y : Field) (more : List Field) (rest : List ℕ) → IsPlain x → Each IsPlain (y ∷ more) → parted [] (record_bytes (x ∷ y ∷ more) ++ rest) ≡ x ∷ y ∷ more
-parted_record x y more rest h k =
+at_feed : (field rest : List ℕ) → parted false field (10 ∷ rest) ≡ field ∷ []
+unfolding parted
+at_feed field rest = refl
+
+at_comma : (field rest : List ℕ) → parted false field (44 ∷ rest) ≡ field ∷ parted false [] rest
+unfolding parted
+at_comma field rest = refl
+
+over_more : (field : List ℕ) (more : List Field) (rest : List ℕ) → parted false field (flat_map further_bytes more ++ (10 ∷ rest)) ≡ field ∷ standing more
+over_more field [] rest = at_feed field rest
+over_more field (y ∷ more) rest =
+    let others = flat_map further_bytes more in
+    ap (λ t. parted false field ((t ++ others) ++ (10 ∷ rest))) (further_is y) ∙ at_comma field ((field_bytes y ++ others) ++ (10 ∷ rest))
+    ∙ ap (λ fs. field ∷ fs) (ap (parted false []) (append_assoc (field_bytes y) others (10 ∷ rest)) ∙ over_field y [] (others ++ (10 ∷ rest)) ∙ over_more (field_bytes y) more rest)
+
+pub parted_record : (x y : Field) (more : List Field) (rest : List ℕ) → parted false [] (record_bytes (x ∷ y ∷ more) ++ rest) ≡ standing (x ∷ y ∷ more)
+parted_record x y more rest =
     let tail = flat_map further_bytes (y ∷ more) in
-    ap (λ t. parted [] (t ++ rest)) (record_is x y more ∙ ap (λ f. (f ++ tail) ++ 10 ∷ []) (plain_text x h))
-    ∙ ap (parted []) (append_assoc (x ++ tail) (10 ∷ []) rest ∙ append_assoc x tail (10 ∷ rest)) ∙ parted_fields x (y ∷ more) rest h k
+    ap (λ t. parted false [] (t ++ rest)) (record_is x y more)
+    ∙ ap (parted false []) (append_assoc (field_bytes x ++ tail) (10 ∷ []) rest ∙ append_assoc (field_bytes x) tail (10 ∷ rest))
+    ∙ over_field x [] (tail ++ (10 ∷ rest)) ∙ over_more (field_bytes x) (y ∷ more) rest
 
 -- ---- byte by byte
 
@@ -80,29 +93,31 @@ pub fields_more : (row : List (Bor (List ℕ))) (f : Bor (List ℕ)) → fields_
 unfolding fields_of
 fields_more row f = map-append (λ (g : Bor (List ℕ)). g.now) row (f ∷ [])
 
-pub parted_none : (field : List ℕ) → parted field [] ≡ field ∷ []
+parted_none : (quoted : Bool) (field : List ℕ) → parted quoted field [] ≡ field ∷ []
 unfolding parted
-parted_none field = refl
+parted_none quoted field = refl
 
-module _ (field bytes : List ℕ) (i : ℕ) (within : i < length bytes) where
+-- whether what stands behind the byte is within quotes
+abbrev pub quoted_behind : Bool → ℕ → Bool
+quoted_behind quoted b = if b == 34 then not quoted else quoted
+
+module _ (quoted : Bool) (field bytes : List ℕ) (i : ℕ) (within : i < length bytes) where
   abbrev here : ℕ
   here = get_or bytes i 0
 
   abbrev tail : List ℕ
   tail = drop (i + 1) bytes
 
-  at_byte : parted field (drop i bytes) ≡ parted field (here ∷ tail)
-  at_byte = ap (parted field) (drop_more bytes i 0 within)
+  at_byte : parted quoted field (drop i bytes) ≡ parted quoted field (here ∷ tail)
+  at_byte = ap (parted quoted field) (drop_more bytes i 0 within)
 
-  pub parted_at_feed : here ≡ 10 → parted field (drop i bytes) ≡ field ∷ []
-  unfolding parted
-  parted_at_feed h = at_byte ∙ ap (λ b. parted field (b ∷ tail)) h
+  parted_at_feed : here ≡ 10 → quoted ≡ false → parted quoted field (drop i bytes) ≡ field ∷ []
+  parted_at_feed h out = at_byte ∙ ap (λ q. parted q field (here ∷ tail)) out ∙ ap (λ b. parted false field (b ∷ tail)) h ∙ at_feed field tail
 
-  pub parted_at_comma : here ≡ 44 → parted field (drop i bytes) ≡ field ∷ parted [] tail
-  unfolding parted
-  parted_at_comma h = at_byte ∙ ap (λ b. parted field (b ∷ tail)) h
+  parted_at_comma : here ≡ 44 → quoted ≡ false → parted quoted field (drop i bytes) ≡ field ∷ parted false [] tail
+  parted_at_comma h out = at_byte ∙ ap (λ q. parted q field (here ∷ tail)) out ∙ ap (λ b. parted false field (b ∷ tail)) h ∙ at_comma field tail
 
-  pub parted_inside : (here == 10) ≡ false → (here == 44) ≡ false → parted field (drop i bytes) ≡ parted (field ++ here ∷ []) tail
+  parted_inside : (not quoted && (here == 10)) ≡ false → (not quoted && (here == 44)) ≡ false → parted quoted field (drop i bytes) ≡ parted (quoted_behind quoted here) (field ++ here ∷ []) tail
   unfolding parted
   parted_inside h k = at_byte ∙ rw (h, k) refl
 
@@ -121,32 +136,41 @@ between_more bytes a i h k =
     ∙ ap (λ b. take (i - a) (drop a bytes) ++ b ∷ []) (get_or-drop a bytes (i - a) 0 ∙ ap (λ j. get_or bytes j 0) place)
 
 -- the fields so far, and what the rest is parted into
-abbrev pub So : List Field → List ℕ → ℕ → ℕ → Type 0
-So fields bytes a i = fields ++ parted (between bytes a i) (drop i bytes) ≡ parted [] bytes
+abbrev pub So : Bool → List Field → List ℕ → ℕ → ℕ → Type 0
+So quoted fields bytes a i = fields ++ parted quoted (between bytes a i) (drop i bytes) ≡ parted false [] bytes
 
-module _ (row new : List (Bor (List ℕ))) (f : Bor (List ℕ)) (bytes : List ℕ) (a i : ℕ) (pushed : new ≡ row ++ f ∷ []) (is : f.now ≡ between bytes a i) (so : So (fields_of row) bytes a i) where
-  closed : (more : List Field) → parted (between bytes a i) (drop i bytes) ≡ between bytes a i ∷ more → fields_of new ++ more ≡ parted [] bytes
+module _ (row new : List (Bor (List ℕ))) (f : Bor (List ℕ)) (bytes : List ℕ) (a i : ℕ) (quoted : Bool) (pushed : new ≡ row ++ f ∷ []) (is : f.now ≡ between bytes a i) (so : So quoted (fields_of row) bytes a i) where
+  closed : (more : List Field) → parted quoted (between bytes a i) (drop i bytes) ≡ between bytes a i ∷ more → fields_of new ++ more ≡ parted false [] bytes
   closed more h =
       ap (λ r. fields_of r ++ more) pushed ∙ ap (λ fs. fs ++ more) (fields_more row f) ∙ append_assoc (fields_of row) (f.now ∷ []) more
       ∙ ap (λ w. fields_of row ++ w ∷ more) is ∙ ap (λ fs. fields_of row ++ fs) (sym h) ∙ so
 
-  pub closed_at_feed : i < length bytes → get_or bytes i 0 ≡ 10 → fields_of new ≡ parted [] bytes
-  closed_at_feed within h = sym (append-nil (fields_of new)) ∙ closed [] (parted_at_feed (between bytes a i) bytes i within h)
+  pub closed_at_feed : i < length bytes → get_or bytes i 0 ≡ 10 → quoted ≡ false → fields_of new ≡ parted false [] bytes
+  closed_at_feed within h out = sym (append-nil (fields_of new)) ∙ closed [] (parted_at_feed quoted (between bytes a i) bytes i within h out)
 
-  pub closed_at_end : length bytes ≤ i → fields_of new ≡ parted [] bytes
-  closed_at_end over = sym (append-nil (fields_of new)) ∙ closed [] (ap (parted (between bytes a i)) (drop_all i bytes over) ∙ parted_none (between bytes a i))
+  pub closed_at_end : length bytes ≤ i → fields_of new ≡ parted false [] bytes
+  closed_at_end over = sym (append-nil (fields_of new)) ∙ closed [] (ap (parted quoted (between bytes a i)) (drop_all i bytes over) ∙ parted_none quoted (between bytes a i))
 
-  pub closed_at_comma : i < length bytes → get_or bytes i 0 ≡ 44 → So (fields_of new) bytes (i + 1) (i + 1)
-  closed_at_comma within h =
-      ap (λ w. fields_of new ++ parted w (drop (i + 1) bytes)) (between_none bytes (i + 1)) ∙ closed (parted [] (drop (i + 1) bytes)) (parted_at_comma (between bytes a i) bytes i within h)
+  pub closed_at_comma : i < length bytes → get_or bytes i 0 ≡ 44 → quoted ≡ false → So (quoted_behind quoted (get_or bytes i 0)) (fields_of new) bytes (i + 1) (i + 1)
+  closed_at_comma within h out =
+      ap (λ q. fields_of new ++ parted q (between bytes (i + 1) (i + 1)) (drop (i + 1) bytes)) (ap (quoted_behind quoted) h ∙ out)
+      ∙ ap (λ w. fields_of new ++ parted false w (drop (i + 1) bytes)) (between_none bytes (i + 1)) ∙ closed (parted false [] (drop (i + 1) bytes)) (parted_at_comma quoted (between bytes a i) bytes i within h out)
 
-apart : (a b : ℕ) → (a ≡ b → ⊥) → (a == b) ≡ false
-apart a b h = elim (cases_Bool (a == b)) [
-  | inl same ↦ absurd (h (eqb-true a b same))
+apart : (quoted : Bool) (b k : ℕ) → (b ≡ k → quoted ≡ false → ⊥) → (not quoted && (b == k)) ≡ false
+apart true b k h = refl
+apart false b k h = elim (cases_Bool (b == k)) [
+  | inl same ↦ absurd (h (eqb-true b k same) refl)
   | inr other ↦ other
 ]
 
-pub goes_on : (fields : List Field) (bytes : List ℕ) (a i : ℕ) → a ≤ i → i < length bytes → (get_or bytes i 0 ≡ 10 → ⊥) → (get_or bytes i 0 ≡ 44 → ⊥) → So fields bytes a i → So fields bytes a (i + 1)
-goes_on fields bytes a i h within feed comma so =
-    let inside = parted_inside (between bytes a i) bytes i within (apart _ 10 feed) (apart _ 44 comma) in
-    ap (λ w. fields ++ parted w (drop (i + 1) bytes)) (between_more bytes a i h within) ∙ ap (λ fs. fields ++ fs) (sym inside) ∙ so
+-- a test that fails, or is within quotes
+pub not_outside : (P : Type 0) (quoted : Bool) → (P × (quoted ≡ true)) ⊎ (P → ⊥) → P → quoted ≡ false → ⊥
+not_outside P quoted (inl (p, within)) q out = false≢true (sym out ∙ within)
+not_outside P quoted (inr fails) q out = fails q
+
+-- neither a line feed nor a comma, or within quotes
+pub goes_on : (quoted : Bool) (fields : List Field) (bytes : List ℕ) (a i : ℕ) → a ≤ i → i < length bytes → (get_or bytes i 0 ≡ 10 → quoted ≡ false → ⊥) → (get_or bytes i 0 ≡ 44 → quoted ≡ false → ⊥)
+    → So quoted fields bytes a i → So (quoted_behind quoted (get_or bytes i 0)) fields bytes a (i + 1)
+goes_on quoted fields bytes a i h within feed comma so =
+    let inside = parted_inside quoted (between bytes a i) bytes i within (apart quoted (get_or bytes i 0) 10 feed) (apart quoted (get_or bytes i 0) 44 comma) in
+    ap (λ w. fields ++ parted (quoted_behind quoted (get_or bytes i 0)) w (drop (i + 1) bytes)) (between_more bytes a i h within) ∙ ap (λ fs. fields ++ fs) (sym inside) ∙ so

@@ -1,8 +1,7 @@
 -- The records of a text that fits are taken one by one, and give what was printed.
-use Rattle.std.proofs.Common.{◌≡◌, ◌<◌, ◌+◌, ◌-◌, ◌∙◌, ℕ, suc, ℤ, List, [], ◌∷◌, ◌++◌, length, map, get_or, Bool, true, false, ◌==◌, ◌&&◌, Option, Some, None, nat_lt, refl, sym, ap, subst, append_assoc, inl, inr, arith}
+use Rattle.std.proofs.Common.{◌≡◌, ◌<◌, ◌+◌, ◌-◌, ◌∙◌, ℕ, suc, List, [], ◌∷◌, ◌++◌, length, map, Bool, true, false, ◌==◌, ◌&&◌, Option, Some, None, nat_lt, refl, sym, ap, subst, append_assoc, inl, inr, arith}
 use Rattle.std.specs.Prelude.{IsTrue, IfSome, MatchOption, codes, decimal, is_some, is_none, option_map, option_and_then, bytes_eq, if◌then◌else◌}
 use Rattle.std.specs.List.{flat_map}
-use Rattle.std.specs.Fmt.{signed_decimal}
 use Rattle.std.proofs.lemmas.Bool.{false≢true, cond-false, cond-true, MatchBool-at_true, MatchBool-at_false, eqb-true, lt-ltb, cases_Bool}
 use Rattle.std.proofs.lemmas.Bool.Decides.{nat_tests}
 use Rattle.std.proofs.lemmas.List.{append-nil}
@@ -16,27 +15,30 @@ use Rattle.hg_base.specs.declared.line.Answer.TheVariants.{Rows, Swept}
 use Rattle.hg_base.specs.declared.line.Line.{Line}
 use Rattle.hg_base.specs.declared.line.Totals.{Totals}
 use Rattle.hg_base.specs.declared.line.Printed.{Printed}
+use Rattle.hg_base.specs.declared.value.Value.{Value}
 use Rattle.hg_base.specs.Lists.{Each}
 use Rattle.hg_base.specs.Script.{Declaration, Script}
 use Rattle.hg_base.specs.Transcript.{table_of}
-use Rattle.hg_base.specs.Text.{Field, Fits64, Fits32, Fits, FitsRow, FitTotals, IsFit, FitsAnswer, FitsReply, FitsReport, FitsSweep, asked, columns_of, answer_fields, held_fields, row_fields, told_as, line_records, total_fields, totals_records, text_records, is_write}
+use Rattle.hg_base.specs.Text.{Field, Fits64, Fits32, Fits, FitTotals, IsFit, FitsAnswer, FitsReply, FitsReport, FitsSweep, asked, kinds_of, answer_fields, held_fields, row_fields, told_as, value_field, line_records, total_fields, totals_records, text_records, is_write}
 use Rattle.hg_base.proofs.TextNumbers.{number_is_no_word}
 use Rattle.hg_base.proofs.TextReplies.{answer_begins, behind_at}
 use Rattle.hg_script.specs.Lawful.{IsLawful}
+use Rattle.hg_report.specs.Bytes.{field_bytes}
 use Rattle.hg_report.specs.declared.piece.Piece.{Piece}
 use Rattle.hg_report.specs.declared.piece.Piece.TheVariants as piece
 use Rattle.hg_report.specs.declared.progress.Open.{Open}
 use Rattle.hg_report.specs.declared.progress.Open.TheVariants as opens
 use Rattle.hg_report.specs.declared.progress.Progress.{Progress}
-use Rattle.hg_report.specs.Fields.{says, number_in, session_in}
+use Rattle.hg_report.specs.Fields.{nth, says, number_in, session_in}
 use Rattle.hg_script.specs.Asked.{asked_by, table_asked}
-use Rattle.hg_report.specs.Guess.{behind, total_word, answer_place, answered_guess, at_guess, first_guess, head_guess, reply_guess, piece_of, statement_at, sweep_guess, table_columns}
-use Rattle.hg_report.specs.Progress.{guess_after, sweep_line, lines_of, no_totals, totals_of, with_total, after, at_start, IsNext, Runs}
+use Rattle.hg_report.specs.Guess.{behind, total_word, answer_place, answered_guess, at_guess, first_guess, head_guess, reply_guess, row_guess, piece_of, statement_at, sweep_guess, the_table}
+use Rattle.hg_report.specs.Progress.{guess_after, sweep_line, lines_of, no_totals, totals_of, with_total, after, at_start, standing, IsNext, Runs}
 use Rattle.hg_report.proofs.Asking.{same_table}
 use Rattle.hg_report.proofs.Fitting.{IsFree, IsShort, FitsKey, FitsTold}
 use Rattle.hg_report.proofs.Stands.{row_records}
 use Rattle.hg_report.proofs.ReadBack.{number_read, session_read, row_read}
-use Rattle.hg_report.proofs.Columns.{HasColumns, IsNarrow, columns_fit}
+use Rattle.hg_report.proofs.Columns.{HasColumns, AreFew, columns_fit}
+use Rattle.hg_report.proofs.Unquoted.{field_stands, says_no}
 use Rattle.hg_report.proofs.Heads.{Answers, emptied, answer_read, sweep_read, number_behind}
 
 -- ---- one step, and then others
@@ -51,13 +53,13 @@ one script a fields next h = (next, h, refl)
 -- a record that is no held snapshot's is the first of a line or of the totals
 free_guess : (script : Script) (state : Open) (fields : List Field) → IsFree state → says fields 2 (codes "held") ≡ false → guess_after script state fields ≡ first_guess script fields
 free_guess script opens.Nothing fields free h = refl
-free_guess script (opens.Scan session place at columns left rows) fields free h = let none : nat_lt 0 left ≡ false = grind (arith, nat_tests, free) in rw none refl
+free_guess script (opens.Scan session place at table left rows) fields free h = let none : nat_lt 0 left ≡ false = grind (arith, nat_tests, free) in rw none refl
 free_guess script (opens.Sweep session place sweep) fields free h = rw h refl
 free_guess script (opens.Totals index totals) fields free h = absurd free
 
 free_totals : (state : Open) → IsFree state → totals_of state ≡ no_totals
 free_totals opens.Nothing free = refl
-free_totals (opens.Scan session place at columns left rows) free = refl
+free_totals (opens.Scan session place at table left rows) free = refl
 free_totals (opens.Sweep session place sweep) free = refl
 free_totals (opens.Totals index totals) free = absurd free
 
@@ -66,11 +68,11 @@ free_totals (opens.Totals index totals) free = absurd free
 abbrev record_of : ℕ → ℕ → ℕ → ℕ → ℕ → ℕ → Totals
 record_of made undone group table interval left = record { made = made; undone = undone; group = group; table = table; interval = interval; left = left }
 
-row_fields_at : (s p w k : Field) (rest : List Field) (i : ℕ) → get_or (s ∷ p ∷ w ∷ k ∷ rest) (4 + i) [] ≡ get_or rest i []
-row_fields_at s p w k rest i = let at : 4 + i ≡ suc (suc (suc (suc i))) = omega arith in ap (λ n. get_or (s ∷ p ∷ w ∷ k ∷ rest) n []) at
+four_behind : (s p w k : Field) (rest : List Field) (i : ℕ) → nth (standing (s ∷ p ∷ w ∷ k ∷ rest)) (4 + i) ≡ field_bytes (nth rest i)
+four_behind s p w k rest i = let at : 4 + i ≡ suc (suc (suc (suc i))) = omega arith in ap (nth (standing (s ∷ p ∷ w ∷ k ∷ rest))) at ∙ field_stands rest i
 
-two_fields_at : (s p : Field) (rest : List Field) (i : ℕ) → get_or (s ∷ p ∷ rest) (2 + i) [] ≡ get_or rest i []
-two_fields_at s p rest i = let at : 2 + i ≡ suc (suc i) = omega arith in ap (λ n. get_or (s ∷ p ∷ rest) n []) at
+two_behind : (s p : Field) (rest : List Field) (i : ℕ) → nth (standing (s ∷ p ∷ rest)) (2 + i) ≡ field_bytes (nth rest i)
+two_behind s p rest i = let at : 2 + i ≡ suc (suc i) = omega arith in ap (nth (standing (s ∷ p ∷ rest))) at ∙ field_stands rest i
 
 and_none : (b : Bool) → (b && false) ≡ false
 and_none true = refl
@@ -81,24 +83,21 @@ scan_head : (session place left : ℕ) (at : Option ℕ) → behind session plac
 scan_head session place left None = refl
 scan_head session place left (Some s) = refl
 
-record ScanFacts (columns : ℕ) (rows : List (ℕ × List ℤ)) : Type 0 where
-  narrow : IsNarrow columns
+record ScanFacts (tables : List Declaration) (table : TableId) (rows : List (ℕ × List Value)) : Type 0 where
+  few : AreFew (kinds_of tables table)
   many : Fits64 (length rows)
-  each : Each (FitsKey columns) rows
+  each : Each (FitsKey tables table) rows
 
-keys_fit : (tables : List Declaration) (table : TableId) (rows : List (ℕ × List ℤ)) → Each (λ p. Fits64 p.0 × FitsRow tables table p.1) rows → Each (FitsKey (columns_of tables table)) rows
-keys_fit tables table [] h = tt
-keys_fit tables table (p ∷ ps) h = ((h.0.0, h.0.1.0, h.0.1.1), keys_fit tables table ps h.1)
-
-scan_facts : (tables : List Declaration) (statement : Statement) (rows : List (ℕ × List ℤ)) → FitsAnswer tables statement (Rows rows) → HasColumns tables statement → ScanFacts (table_columns tables (asked_by statement)) rows
-scan_facts tables (Scan table low high) rows h narrow = record { narrow = narrow; many = h.0; each = keys_fit tables table rows h.1 }
-scan_facts tables statement rows h narrow = absurd h
+scan_facts : (tables : List Declaration) (statement : Statement) (rows : List (ℕ × List Value)) → FitsAnswer tables statement (Rows rows) → HasColumns tables statement → ScanFacts tables (the_table (asked_by statement)) rows
+scan_facts tables (Scan table low high) rows h few = record { few = few; many = h.0; each = h.1 }
+scan_facts tables statement rows h few = absurd h
 
 sweep_facts : (tables : List Declaration) (statement : Statement) (sweep : Sweep) → FitsAnswer tables statement (Swept sweep) → FitsSweep sweep × (table_of statement ≡ None)
 sweep_facts tables (Gc kind) sweep h = (h, refl)
 sweep_facts tables statement sweep h = absurd h
 
-moved_read : (moved : Bool) → bytes_eq (if moved then codes "moved" else codes "unmoved") (codes "moved") ≡ moved
+moved_read : (moved : Bool) → bytes_eq (field_bytes (if moved then codes "moved" else codes "unmoved")) (codes "moved") ≡ moved
+unfolding field_bytes
 moved_read true = refl
 moved_read false = refl
 
@@ -116,16 +115,17 @@ module _ (script : Script) where
       → Runs script (telling lines (index + 1) (with_total index number t)) rest end → Runs script (telling lines index t) (total_fields (total_word index) number ∷ rest) end
   total_step lines index number t rest end h k runs =
       let fields = total_fields (total_word index) number in
-      let guess : guess_after script (opens.Totals index t) fields ≡ Some (piece.Total index number) =
-      rw (lt-ltb index 6 h) (ap (λ n. Some (piece.Total index n)) (number_read fields 2 number k refl)) in
+      let guess : guess_after script (opens.Totals index t) (standing fields) ≡ Some (piece.Total index number) =
+      rw (lt-ltb index 6 h) (ap (λ n. Some (piece.Total index n)) (number_read (standing fields) 2 number k refl)) in
       (piece.Total index number, record { guess = guess; is = refl }, subst (λ (lines : List Line). Runs script (telling lines (index + 1) (with_total index number t)) rest end) (sym (append-nil lines)) runs)
 
   total_first : (progress : Progress) (number : ℕ) (rest : List (List Field)) (end : Progress) → IsFree progress.last → Fits64 number
       → Runs script (telling (lines_of progress) 1 (with_total 0 number no_totals)) rest end → Runs script progress (total_fields (codes "made") number ∷ rest) end
+  unfolding field_bytes
   total_first progress number rest end free k runs =
       let fields = total_fields (codes "made") number in
-      let guess : guess_after script progress.last fields ≡ Some (piece.Total 0 number) =
-      free_guess script progress.last fields free (number_is_no_word number 104 _ k (omega arith)) ∙ ap (λ n. Some (piece.Total 0 n)) (number_read fields 2 number k refl) in
+      let guess : guess_after script progress.last (standing fields) ≡ Some (piece.Total 0 number) =
+      free_guess script progress.last (standing fields) free (says_no fields 2 104 _ refl (number_is_no_word number 104 _ k (omega arith))) ∙ ap (λ n. Some (piece.Total 0 n)) (number_read (standing fields) 2 number k refl) in
       (piece.Total 0 number, record { guess = guess; is = refl }, subst (λ (t : Totals). Runs script (telling (lines_of progress) 1 (with_total 0 number t)) rest end) (sym (free_totals progress.last free)) runs)
 
   totals_run : (progress : Progress) (t : Totals) → IsFree progress.last → FitTotals t → Runs script progress (totals_records t) (telling (lines_of progress) 6 t)
@@ -142,25 +142,29 @@ module _ (script : Script) where
 
   -- ---- rows and held snapshots
 
-  abbrev scanning : List Line → ℕ → ℕ → Option ℕ → ℕ → ℕ → List (ℕ × List ℤ) → Progress
-  scanning lines session place at columns left rows = record { lines = lines; last = opens.Scan session place at columns left rows }
+  abbrev scanning : List Line → ℕ → ℕ → Option ℕ → TableId → ℕ → List (ℕ × List Value) → Progress
+  scanning lines session place at table left rows = record { lines = lines; last = opens.Scan session place at table left rows }
 
-  rows_run : (lines : List Line) (session place : ℕ) (at : Option ℕ) (columns : ℕ) (done rows : List (ℕ × List ℤ)) → IsNarrow columns → Each (FitsKey columns) rows
-      → Runs script (scanning lines session place at columns (length rows) done) (row_records session place rows) (scanning lines session place at columns 0 (done ++ rows))
-  rows_run lines session place at columns done [] narrow h = ap (scanning lines session place at columns 0) (append-nil done)
-  rows_run lines session place at columns done (p ∷ ps) narrow h =
-      let fields = behind session place (row_fields p) in
-      let state = opens.Scan session place at columns (length (p ∷ ps)) done in
-      let key : number_in fields 3 ≡ p.0 = number_read fields 3 p.0 h.0.0 refl in
-      let values = row_read fields 4 p.1 h.0.2 (λ k lt. row_fields_at _ _ _ _ (map signed_decimal p.1) k) columns h.0.1 narrow.some narrow.most in
-      let guess : guess_after script state fields ≡ Some (piece.Row session place p.0 p.1) =
-      rw (lt-ltb 0 (length (p ∷ ps)) (omega arith)) (ap (λ o. option_map (λ row. piece.Row session place (number_in fields 3) row) o) values ∙ ap (λ k. Some (piece.Row session place k p.1)) key) in
+  row_guessed : (session place : ℕ) (table : TableId) (p : ℕ × List Value) → AreFew (kinds_of script.tables table) → FitsKey script.tables table p
+      → row_guess script.tables session place table (standing (behind session place (row_fields p))) ≡ Some (piece.Row session place p.0 p.1)
+  row_guessed session place table p few h =
+      let stood = standing (behind session place (row_fields p)) in
+      let values = row_read stood 4 (kinds_of script.tables table) p.1 h.1 few (λ k less. four_behind _ _ _ _ (map value_field p.1) k) in
+      ap (λ o. option_map (λ row. piece.Row session place (number_in stood 3) row) o) values ∙ ap (λ k. Some (piece.Row session place k p.1)) (number_read stood 3 p.0 h.0 refl)
+
+  rows_run : (lines : List Line) (session place : ℕ) (at : Option ℕ) (table : TableId) (done rows : List (ℕ × List Value)) → AreFew (kinds_of script.tables table) → Each (FitsKey script.tables table) rows
+      → Runs script (scanning lines session place at table (length rows) done) (row_records session place rows) (scanning lines session place at table 0 (done ++ rows))
+  rows_run lines session place at table done [] few h = ap (scanning lines session place at table 0) (append-nil done)
+  rows_run lines session place at table done (p ∷ ps) few h =
+      let stood = standing (behind session place (row_fields p)) in
+      let state = opens.Scan session place at table (length (p ∷ ps)) done in
+      let guess : guess_after script state stood ≡ Some (piece.Row session place p.0 p.1) = rw (lt-ltb 0 (length (p ∷ ps)) (omega arith)) (row_guessed session place table p few h.0) in
       let count : length (p ∷ ps) - 1 ≡ length ps = omega arith in
-      let rest = rows_run lines session place at columns (done ++ p ∷ []) ps narrow h.1 in (
+      let rest = rows_run lines session place at table (done ++ p ∷ []) ps few h.1 in (
         piece.Row session place p.0 p.1,
         record { guess = guess; is = refl },
-        subst (λ (n : ℕ). Runs script (scanning lines session place at columns n (done ++ p ∷ [])) (row_records session place ps) (scanning lines session place at columns 0 (done ++ p ∷ ps))) (sym count)
-            (subst (λ (rows : List (ℕ × List ℤ)). Runs script (scanning lines session place at columns (length ps) (done ++ p ∷ [])) (row_records session place ps) (scanning lines session place at columns 0 rows)) (append_assoc done (p ∷ []) ps) rest),
+        subst (λ (n : ℕ). Runs script (scanning lines session place at table n (done ++ p ∷ [])) (row_records session place ps) (scanning lines session place at table 0 (done ++ p ∷ ps))) (sym count)
+            (subst (λ (rows : List (ℕ × List Value)). Runs script (scanning lines session place at table (length ps) (done ++ p ∷ [])) (row_records session place ps) (scanning lines session place at table 0 rows)) (append_assoc done (p ∷ []) ps) rest),
       )
 
   abbrev reporting : List Line → ℕ → ℕ → Sweep → List Told → Progress
@@ -168,9 +172,10 @@ module _ (script : Script) where
 
   held_run : (lines : List Line) (session place : ℕ) (sweep : Sweep) (done held : List Told) → Each FitsTold held
       → Runs script (reporting lines session place sweep done) (map (behind session place) (map held_fields held)) (reporting lines session place sweep (done ++ held))
+  unfolding field_bytes
   held_run lines session place sweep done [] h = ap (reporting lines session place sweep) (append-nil done)
   held_run lines session place sweep done (told ∷ others) h =
-      let fields = behind session place (held_fields told) in
+      let fields = standing (behind session place (held_fields told)) in
       let told_same = same_told (session_in fields 3) told.session (number_in fields 4) told.number (says fields 5 (codes "moved")) told.moved (session_read fields 3 told.session h.0.0 refl) (number_read fields 4 told.number h.0.1 refl) (moved_read told.moved) in
       let guess : guess_after script (opens.Sweep session place (record sweep { held = done })) fields ≡ Some (piece.Held session place told) = ap (λ t. Some (piece.Held session place t)) told_same in
       let rest = held_run lines session place sweep (done ++ told ∷ []) others h.1 in (
@@ -190,15 +195,19 @@ module _ (script : Script) where
   abbrev head_fields : Line → List Field
   head_fields line = behind line.session line.place (told_as (codes "at") line.reply.at ++ answer_fields script.tables line.reply.answer ++ told_as (codes "committed") line.reply.number)
 
-  head_guess_of : (progress : Progress) (line : Line) → IsFree progress.last → Fits32 line.session → guess_after script progress.last (head_fields line) ≡ head_guess script (head_fields line)
+  -- and how they stand
+  abbrev stood : Line → List Field
+  stood line = standing (head_fields line)
+
+  head_guess_of : (progress : Progress) (line : Line) → IsFree progress.last → Fits32 line.session → guess_after script progress.last (stood line) ≡ head_guess script (stood line)
   head_guess_of progress line free h =
       let tail = told_as (codes "committed") line.reply.number in
       let no_held = behind_at (decimal line.session) (decimal line.place) (answer_fields script.tables line.reply.answer) tail line.reply.at (answer_begins script.tables line.reply.answer tail).1 in
-      let no_total : says (head_fields line) 0 (codes "total") ≡ false = number_is_no_word line.session 116 _ (omega (arith, h)) (omega arith) in
-      free_guess script progress.last (head_fields line) free no_held ∙ cond-false _ _ _ no_total
+      let no_total : says (stood line) 0 (codes "total") ≡ false = says_no (head_fields line) 0 116 _ refl (number_is_no_word line.session 116 _ (omega (arith, h)) (omega arith)) in
+      free_guess script progress.last (stood line) free (says_no (head_fields line) 2 104 _ refl no_held) ∙ cond-false _ _ _ no_total
 
   -- a report
-  sweep_runs : (progress : Progress) (session place : ℕ) (sweep : Sweep) → guess_after script progress.last (head_fields (sweep_line session place sweep)) ≡ Some (piece.Sweep session place (record sweep { held = [] })) → FitsSweep sweep
+  sweep_runs : (progress : Progress) (session place : ℕ) (sweep : Sweep) → guess_after script progress.last (stood (sweep_line session place sweep)) ≡ Some (piece.Sweep session place (record sweep { held = [] })) → FitsSweep sweep
       → LineRuns progress (sweep_line session place sweep)
   sweep_runs progress session place sweep guess h = record {
     end = reporting (lines_of progress) session place sweep sweep.held;
@@ -212,11 +221,11 @@ module _ (script : Script) where
   report_runs progress session place (Some s) answer number free zeroth wide a h n = absurd (false≢true a)
   report_runs progress session place None answer (Some c) free zeroth wide a h n = absurd (false≢true n)
   report_runs progress session place None (Swept sweep) None free zeroth wide a h n =
-      let fields = head_fields (sweep_line session place sweep) in
+      let fields = stood (sweep_line session place sweep) in
       let none : session ≡ 0 = eqb-true session 0 zeroth in
       let small : Fits32 session = omega (arith, none) in
       let read : session_in fields 0 ≡ 0 = session_read fields 0 session small refl ∙ none in
-      let are : Answers script.tables fields 2 [] (Swept sweep) = record { first = refl; later = two_fields_at (decimal session) (decimal place) (answer_fields script.tables (Swept sweep)) } in
+      let are : Answers script.tables fields 2 [] (Swept sweep) = record { first = refl; later = two_behind (decimal session) (decimal place) (answer_fields script.tables (Swept sweep)) } in
       let guess : guess_after script progress.last fields ≡ Some (piece.Sweep session place (record sweep { held = [] })) =
       head_guess_of progress (sweep_line session place sweep) free small
       ∙ cond-true (session_in fields 0 == 0) _ _ (ap (λ s. s == 0) read)
@@ -226,49 +235,55 @@ module _ (script : Script) where
       sweep_runs progress session place sweep guess h
   report_runs progress session place None answer None free zeroth wide a h n = absurd h
 
-  module _ (progress : Progress) (free : IsFree progress.last) (session place : ℕ) (small : Fits32 session) (wide : Fits64 place) (some : (session == 0) ≡ false) (statement : Statement) (is : statement_at script.records session place ≡ Some statement) (narrow : HasColumns script.tables statement) where
+  module _ (progress : Progress) (free : IsFree progress.last) (session place : ℕ) (small : Fits32 session) (wide : Fits64 place) (some : (session == 0) ≡ false) (statement : Statement) (is : statement_at script.records session place ≡ Some statement) (few : HasColumns script.tables statement) where
     abbrev line_of : Option ℕ → Answer → Option ℕ → Line
     line_of at answer number = record { session = session; place = place; reply = record { at = at; answer = answer; number = number } }
 
     abbrev IsAt : Option ℕ → Type 0
     IsAt at = IfSome at (λ s. Fits64 s × IsTrue (is_some (table_of statement)))
 
-    at_read : (at : Option ℕ) (answer : Answer) (number : Option ℕ) → IsAt at → at_guess (asked_by statement) (head_fields (line_of at answer number)) ≡ at
+    at_read : (at : Option ℕ) (answer : Answer) (number : Option ℕ) → IsAt at → at_guess (asked_by statement) (stood (line_of at answer number)) ≡ at
+    unfolding field_bytes
     at_read None answer number h =
-        let none = (answer_begins script.tables answer (told_as (codes "committed") number)).0 in
+        let none = says_no (head_fields (line_of None answer number)) 2 97 _ refl (answer_begins script.tables answer (told_as (codes "committed") number)).0 in
         cond-false _ _ _ (ap (λ b. is_some (table_asked (asked_by statement)) && b) none ∙ and_none (is_some (table_asked (asked_by statement))))
     at_read (Some s) answer number h =
-        let fields = head_fields (line_of (Some s) answer number) in
+        let fields = stood (line_of (Some s) answer number) in
         cond-true (is_some (table_asked (asked_by statement)) && true) _ _ (ap (λ b. b && true) (ap (λ (o : Option TableId). is_some o) (same_table statement) ∙ h.1)) ∙ ap Some (number_read fields 3 s h.0 refl)
 
-    answer_from : (at : Option ℕ) (answer : Answer) (number : Option ℕ) → Answers script.tables (head_fields (line_of at answer number)) (answer_place at) (told_as (codes "committed") number) answer
-    answer_from None answer number = record { first = refl; later = two_fields_at (decimal session) (decimal place) (answer_fields script.tables answer ++ told_as (codes "committed") number) }
-    answer_from (Some s) answer number = record { first = refl; later = row_fields_at (decimal session) (decimal place) (codes "at") (decimal s) (answer_fields script.tables answer ++ told_as (codes "committed") number) }
+    answer_from : (at : Option ℕ) (answer : Answer) (number : Option ℕ) → Answers script.tables (stood (line_of at answer number)) (answer_place at) (told_as (codes "committed") number) answer
+    answer_from None answer number =
+        let fields = answer_fields script.tables answer ++ told_as (codes "committed") number in
+        record { first = field_stands fields 0; later = two_behind (decimal session) (decimal place) fields }
+    answer_from (Some s) answer number =
+        let fields = answer_fields script.tables answer ++ told_as (codes "committed") number in
+        record { first = field_stands fields 0; later = four_behind (decimal session) (decimal place) (codes "at") (decimal s) fields }
 
     replied : (at : Option ℕ) (answer : Answer) (number : Option ℕ) → IsAt at → FitsAnswer script.tables statement answer
-        → guess_after script progress.last (head_fields (line_of at answer number)) ≡ Some (piece_of script.tables (asked_by statement) session place at (head_fields (line_of at answer number)) (answer_place at) (emptied answer))
+        → guess_after script progress.last (stood (line_of at answer number)) ≡ Some (piece_of (asked_by statement) session place at (stood (line_of at answer number)) (answer_place at) (emptied answer))
     replied at answer number h k =
         let line = line_of at answer number in
-        let fields = head_fields line in
+        let fields = stood line in
         head_guess_of progress line free small
         ∙ ap (λ s. if s == 0 then Some (piece.Sweep 0 (number_in fields 1) (sweep_guess fields 2)) else reply_guess script s (number_in fields 1) fields) (session_read fields 0 session small refl)
         ∙ cond-false (session == 0) _ _ some
         ∙ ap (λ p. reply_guess script session p fields) (number_read fields 1 place wide refl)
         ∙ ap (λ o. option_and_then (λ asked. answered_guess script.tables asked session place (at_guess asked fields) fields) (option_map asked_by o)) is
         ∙ ap (λ at. answered_guess script.tables (asked_by statement) session place at fields) (at_read at answer number h)
-        ∙ ap (λ o. option_map (piece_of script.tables (asked_by statement) session place at fields (answer_place at)) o)
-        (answer_read script.tables fields (answer_place at) (told_as (codes "committed") number) statement answer (answer_from at answer number) narrow k)
+        ∙ ap (λ o. option_map (piece_of (asked_by statement) session place at fields (answer_place at)) o)
+        (answer_read script.tables fields (answer_place at) (told_as (codes "committed") number) statement answer (answer_from at answer number) few k)
 
-    scan_line_runs : (at : Option ℕ) (rows : List (ℕ × List ℤ)) → IsAt at → FitsAnswer script.tables statement (Rows rows) → LineRuns progress (line_of at (Rows rows) None)
+    scan_line_runs : (at : Option ℕ) (rows : List (ℕ × List Value)) → IsAt at → FitsAnswer script.tables statement (Rows rows) → LineRuns progress (line_of at (Rows rows) None)
     scan_line_runs at rows h k =
-        let fields = head_fields (line_of at (Rows rows) None) in
-        let columns = table_columns script.tables (asked_by statement) in
-        let facts = scan_facts script.tables statement rows k narrow in
+        let fields = stood (line_of at (Rows rows) None) in
+        let table = the_table (asked_by statement) in
+        let facts = scan_facts script.tables statement rows k few in
         let count : number_in fields (answer_place at + 1) ≡ length rows = number_read fields (answer_place at + 1) (length rows) facts.many ((answer_from at (Rows rows) None).later 1) in
-        let guess : guess_after script progress.last fields ≡ Some (piece.Scan session place at columns (length rows)) = replied at (Rows rows) None h k ∙ ap (λ n. Some (piece.Scan session place at columns n)) count in
+        let guess : guess_after script progress.last fields ≡ Some (piece.Scan session place at table (length rows)) = replied at (Rows rows) None h k ∙ ap (λ n. Some (piece.Scan session place at table n)) count in
+        let is = scan_head session place (length rows) at in
         record {
-          end = scanning (lines_of progress) session place at columns 0 rows;
-          runs = (piece.Scan session place at columns (length rows), record { guess = guess; is = scan_head session place (length rows) at }, rows_run (lines_of progress) session place at columns [] rows facts.narrow facts.each);
+          end = scanning (lines_of progress) session place at table 0 rows;
+          runs = (piece.Scan session place at table (length rows), record { guess = guess; is = is }, rows_run (lines_of progress) session place at table [] rows facts.few facts.each);
           free = refl;
           lines = refl;
         }
@@ -278,7 +293,7 @@ module _ (script : Script) where
     short_runs at (Swept sweep) number short h k m = absurd short
     short_runs at answer number short h k m =
         let line = line_of at answer number in
-        let same = number_behind script.tables (head_fields line) (answer_place at) answer number (answer_from at answer number) m in
+        let same = number_behind script.tables (stood line) (answer_place at) answer number (answer_from at answer number) m in
         record {
           end = record { lines = lines_of progress ++ line ∷ []; last = opens.Nothing };
           runs = (piece.Line line, record { guess = replied at answer number h k ∙ ap (λ n. Some (piece.Line (line_of at answer n))) same; is = refl }, refl);
@@ -296,8 +311,8 @@ module _ (script : Script) where
 
   asked_runs : (progress : Progress) (line : Line) → IsFree progress.last → Fits32 line.session → Fits64 line.place → (line.session == 0) ≡ false → (o : Option Statement) → asked script.records line ≡ o → IfSome o (HasColumns script.tables)
       → MatchOption o ⊥ (λ statement. FitsReply script.tables statement line.reply) → LineRuns progress line
-  asked_runs progress line free small wide some None is narrow h = absurd h
-  asked_runs progress line free small wide some (Some statement) is narrow h = reply_runs progress free line.session line.place small wide some statement is narrow line.reply.at line.reply.answer line.reply.number h.at h.answer h.number
+  asked_runs progress line free small wide some None is few h = absurd h
+  asked_runs progress line free small wide some (Some statement) is few h = reply_runs progress free line.session line.place small wide some statement is few line.reply.at line.reply.answer line.reply.number h.at h.answer h.number
 
   line_runs : IsLawful script → (progress : Progress) (line : Line) → IsFree progress.last → Fits script line → LineRuns progress line
   line_runs lawful progress line free h = elim (cases_Bool (line.session == 0)) [

@@ -1,5 +1,5 @@
 -- What is taken are the first records of a text: those of the lines so far, and of what is begun.
-use Rattle.std.proofs.Common.{◌≡◌, ◌<◌, ◌≤◌, ◌+◌, ◌-◌, ◌∙◌, ℕ, zero, suc, ℤ, pos, List, [], ◌∷◌, ◌++◌, length, length-append, take, drop, take-append-drop, map, Bool, true, false, ◌==◌, Option, Some, None, refl, sym, ap, subst, append_assoc, arith}
+use Rattle.std.proofs.Common.{◌≡◌, ◌<◌, ◌≤◌, ◌+◌, ◌-◌, ◌∙◌, ℕ, zero, suc, pos, List, [], ◌∷◌, ◌++◌, length, length-append, take, drop, take-append-drop, map, Bool, true, false, ◌==◌, Option, Some, None, refl, sym, ap, subst, append_assoc, arith}
 use Rattle.std.specs.Prelude.{codes, decimal, ⊤}
 use Rattle.std.specs.List.{flat_map}
 use Rattle.std.proofs.lemmas.List.{append-nil, map-append, length-replicate}
@@ -7,6 +7,12 @@ use Rattle.std.proofs.lemmas.List.Concat.{flat_map-append}
 use Rattle.std.specs.Prelude.{IfSome, MatchOption, replicate}
 use Rattle.std.specs.Bool.{MatchBool}
 use Rattle.hg_base.specs.declared.statement.Statement.{Statement}
+use Rattle.hg_base.specs.declared.rid.TableId.{TableId}
+use Rattle.hg_base.specs.declared.value.Column.{Column}
+use Rattle.hg_base.specs.declared.value.Column.TheVariants as columns
+use Rattle.hg_base.specs.declared.value.Value.{Value}
+use Rattle.hg_base.specs.declared.value.Value.TheVariants.{Number, Text}
+use Rattle.hg_base.specs.Values.{FitsColumns}
 use Rattle.hg_base.specs.declared.statement.Statement.TheVariants.{Gc}
 use Rattle.hg_base.specs.declared.line.Reply.{Reply}
 use Rattle.hg_base.specs.declared.report.Told.{Told}
@@ -18,31 +24,31 @@ use Rattle.hg_base.specs.declared.line.Totals.{Totals}
 use Rattle.hg_base.specs.declared.line.Printed.{Printed}
 use Rattle.hg_base.specs.Lists.{Each}
 use Rattle.hg_base.specs.Script.{Declaration, Script}
-use Rattle.hg_base.specs.Text.{Field, Fits64, Fits, FitTotals, FitsAnswer, FitsReply, IsReport, asked, IsFit, answer_fields, held_fields, row_fields, more_fields, told_as, of_line, line_records, total_fields, totals_records, text_records}
+use Rattle.hg_base.specs.Text.{Field, Fits64, Fits, FitTotals, FitsAnswer, FitsReply, IsReport, asked, IsFit, answer_fields, held_fields, kinds_of, row_fields, more_fields, told_as, of_line, line_records, total_fields, totals_records, text_records}
 use Rattle.hg_report.specs.declared.piece.Piece.{Piece}
 use Rattle.hg_report.specs.declared.piece.Piece.TheVariants as piece
 use Rattle.hg_report.specs.declared.progress.Open.{Open}
 use Rattle.hg_report.specs.declared.progress.Open.TheVariants as opens
 use Rattle.hg_report.specs.declared.progress.Progress.{Progress}
 use Rattle.hg_report.specs.Guess.{behind, piece_fields, total_word}
-use Rattle.hg_report.specs.Progress.{scan_line, sweep_line, open_lines, no_totals, totals_of, with_total, after, at_start, IsNext, Runs}
-use Rattle.hg_report.proofs.Fitting.{AreWide, IsFree, FitsKey, FitsTold, IsShort, FitsFirst, FitsNext, comes_first, comes_row, comes_held, comes_total, guess_fits}
+use Rattle.hg_report.specs.Progress.{scan_line, sweep_line, open_lines, no_totals, totals_of, with_total, after, at_start, standing, IsNext, Runs}
+use Rattle.hg_report.proofs.Fitting.{IsFree, FitsKey, FitsTold, IsShort, FitsFirst, FitsNext, comes_first, comes_row, comes_held, comes_total, guess_fits}
 
 abbrev pub Records : Type 0
 Records = List (List Field)
 
-abbrev pub row_records : ℕ → ℕ → List (ℕ × List ℤ) → Records
+abbrev pub row_records : ℕ → ℕ → List (ℕ × List Value) → Records
 row_records session place rows = map (behind session place) (map row_fields rows)
 
 abbrev pub open_records : List Declaration → Open → Records
 open_records tables opens.Nothing = []
-open_records tables (opens.Scan session place at columns left rows) = behind session place (told_as (codes "at") at ++ codes "rows" ∷ decimal (length rows + left) ∷ []) ∷ row_records session place rows
+open_records tables (opens.Scan session place at table left rows) = behind session place (told_as (codes "at") at ++ codes "rows" ∷ decimal (length rows + left) ∷ []) ∷ row_records session place rows
 open_records tables (opens.Sweep session place sweep) = line_records tables (sweep_line session place sweep)
 open_records tables (opens.Totals index totals) = take index (totals_records totals)
 
 abbrev pub FitsOpen : Script → Open → Type 0
 FitsOpen script opens.Nothing = ⊤
-FitsOpen script (opens.Scan session place at columns left rows) = (more : List (ℕ × List ℤ)) → length more ≡ left → Each (FitsKey columns) more → Fits script (scan_line session place at (rows ++ more))
+FitsOpen script (opens.Scan session place at table left rows) = (more : List (ℕ × List Value)) → length more ≡ left → Each (FitsKey script.tables table) more → Fits script (scan_line session place at (rows ++ more))
 FitsOpen script (opens.Sweep session place sweep) = Fits script (sweep_line session place sweep)
 FitsOpen script (opens.Totals index totals) = FitTotals totals × (index ≤ 6)
 
@@ -66,7 +72,7 @@ count_whole n = omega arith
 count_none : (n : ℕ) → 0 + n ≡ n
 count_none n = omega arith
 
-scan_records : (tables : List Declaration) (session place : ℕ) (at : Option ℕ) (rows : List (ℕ × List ℤ))
+scan_records : (tables : List Declaration) (session place : ℕ) (at : Option ℕ) (rows : List (ℕ × List Value))
     → line_records tables (scan_line session place at rows) ≡ behind session place (told_as (codes "at") at ++ codes "rows" ∷ decimal (length rows) ∷ []) ∷ row_records session place rows
 scan_records tables session place None rows = refl
 scan_records tables session place (Some s) rows = refl
@@ -103,6 +109,16 @@ held_answer : (tables : List Declaration) (statement : Statement) (sweep : Sweep
 held_answer tables (Gc kind) sweep told h k = (h.0, h.1, h.2, each-append FitsTold sweep.held (told ∷ []) h.3 (k, tt))
 held_answer tables statement sweep told h k = absurd h
 
+-- a value of a column, and a row
+abbrev pub any_value : Column → Value
+any_value columns.Number = Number (pos 0)
+any_value columns.Text = Text []
+
+any_row : (kinds : List Column) → FitsColumns kinds (map any_value kinds)
+any_row [] = (refl, tt)
+any_row (columns.Number ∷ kinds) = let others = any_row kinds in (ap (λ ks. columns.Number ∷ ks) others.0, (omega arith, others.1))
+any_row (columns.Text ∷ kinds) = let others = any_row kinds in (ap (λ ks. columns.Text ∷ ks) others.0, (omega arith, others.1))
+
 module _ (script : Script) where
   abbrev pub written : List Line → Records
   written lines = flat_map (line_records script.tables) lines
@@ -118,9 +134,9 @@ module _ (script : Script) where
   closed : (lines : List Line) (state : Open) (records : Records) → IsFree state → Each (Fits script) lines → FitsOpen script state → records ≡ written lines ++ open_records script.tables state
       → AreWhole (lines ++ open_lines state) records
   closed lines opens.Nothing records free each fits is = record { fit = rw append-nil each; are = rw append-nil (is ∙ append-nil (written lines)) }
-  closed lines (opens.Scan session place at columns left rows) records free each fits is =
+  closed lines (opens.Scan session place at table left rows) records free each fits is =
       let line = scan_line session place at rows in
-      let whole : Fits script line = subst (λ (all : List (ℕ × List ℤ)). Fits script (scan_line session place at all)) (append-nil rows) (fits [] (sym free) tt) in
+      let whole : Fits script line = subst (λ (all : List (ℕ × List Value)). Fits script (scan_line session place at all)) (append-nil rows) (fits [] (sym free) tt) in
       let count : decimal (length rows + left) ≡ decimal (length rows) = ap decimal (ap (λ n. length rows + n) free ∙ count_whole (length rows)) in
       record {
         fit = each-append (Fits script) lines (line ∷ []) each (whole, tt);
@@ -135,7 +151,7 @@ module _ (script : Script) where
 
   free_totals : (state : Open) → IsFree state → totals_of state ≡ no_totals
   free_totals opens.Nothing free = refl
-  free_totals (opens.Scan session place at columns left rows) free = refl
+  free_totals (opens.Scan session place at table left rows) free = refl
   free_totals (opens.Sweep session place sweep) free = refl
   free_totals (opens.Totals index totals) free = absurd free
 
@@ -155,10 +171,10 @@ module _ (script : Script) where
         ∙ ap (λ more. written (lines ++ open_lines state) ++ piece_fields script.tables (piece.Line line) ∷ more) (sym (short_more line line.reply.answer h.1))
         ∙ sym (written_more (lines ++ open_lines state) line) ∙ sym (append-nil (written ((lines ++ open_lines state) ++ line ∷ [])));
   }
-  first_stands lines state records (piece.Scan session place at columns left) free whole h = record {
+  first_stands lines state records (piece.Scan session place at table left) free whole h = record {
     lines = whole.fit;
     last = h;
-    is = ap (λ all. all ++ piece_fields script.tables (piece.Scan session place at columns left) ∷ []) whole.are
+    is = ap (λ all. all ++ piece_fields script.tables (piece.Scan session place at table left) ∷ []) whole.are
         ∙ ap (λ n. written (lines ++ open_lines state) ++ behind session place (told_as (codes "at") at ++ codes "rows" ∷ decimal n ∷ []) ∷ []) (sym (count_none left));
   }
   first_stands lines state records (piece.Sweep session place sweep) free whole h = record {
@@ -181,7 +197,7 @@ module _ (script : Script) where
 
   -- ---- a row, a held snapshot, and the other totals
 
-  rows_more : (session place : ℕ) (rows : List (ℕ × List ℤ)) (p : ℕ × List ℤ) → row_records session place (rows ++ p ∷ []) ≡ row_records session place rows ++ behind session place (row_fields p) ∷ []
+  rows_more : (session place : ℕ) (rows : List (ℕ × List Value)) (p : ℕ × List Value) → row_records session place (rows ++ p ∷ []) ≡ row_records session place rows ++ behind session place (row_fields p) ∷ []
   rows_more session place rows p = ap (map (behind session place)) (map-append row_fields rows (p ∷ [])) ∙ map-append (behind session place) (map row_fields rows) (row_fields p ∷ [])
 
   held_more : (session place : ℕ) (held : List Told) (told : Told) → map (behind session place) (map held_fields (held ++ told ∷ [])) ≡ map (behind session place) (map held_fields held) ++ behind session place (held_fields told) ∷ []
@@ -203,12 +219,12 @@ module _ (script : Script) where
   stepped_from : (lines : List Line) (state : Open) (records : Records) (next : Piece) → Each (Fits script) lines → FitsOpen script state → records ≡ written lines ++ open_records script.tables state → FitsNext script state next
       → Stands script (after (record { lines = lines; last = state }) next) (records ++ piece_fields script.tables next ∷ [])
   stepped_from lines _ records _ each fits is (comes_first state next free h) = first_stands lines state records next free (closed lines state records free each fits is) h
-  stepped_from lines _ records _ each fits is (comes_row session place at columns left rows key values some h) =
+  stepped_from lines _ records _ each fits is (comes_row session place at table left rows key values some h) =
       let count : length rows + left ≡ length (rows ++ (key, values) ∷ []) + (left - 1) = simp length-append (omega arith) in record {
         lines = each;
-        last = λ more many all. subst (λ (rows : List (ℕ × List ℤ)). Fits script (scan_line session place at rows)) (sym (append_assoc rows ((key, values) ∷ []) more)) (fits ((key, values) ∷ more) (omega (arith, many)) (h, all));
+        last = λ more many all. subst (λ (rows : List (ℕ × List Value)). Fits script (scan_line session place at rows)) (sym (append_assoc rows ((key, values) ∷ []) more)) (fits ((key, values) ∷ more) (omega (arith, many)) (h, all));
         is = ap (λ all. all ++ behind session place (row_fields (key, values)) ∷ []) is
-            ∙ append_assoc (written lines) (open_records script.tables (opens.Scan session place at columns left rows)) (behind session place (row_fields (key, values)) ∷ [])
+            ∙ append_assoc (written lines) (open_records script.tables (opens.Scan session place at table left rows)) (behind session place (row_fields (key, values)) ∷ [])
             ∙ ap (λ n. written lines ++ (behind session place (told_as (codes "at") at ++ codes "rows" ∷ decimal n ∷ []) ∷ (row_records session place rows ++ behind session place (row_fields (key, values)) ∷ []))) count
             ∙ ap (λ more. written lines ++ (behind session place (told_as (codes "at") at ++ codes "rows" ∷ decimal (length (rows ++ (key, values) ∷ []) + (left - 1)) ∷ []) ∷ more)) (sym (rows_more session place rows (key, values)));
       }
@@ -238,7 +254,7 @@ module _ (script : Script) where
   at_start_stands = record { lines = tt; last = tt; is = refl }
 
   next_fits : (progress : Progress) (fields : List Field) (next : Piece) → IsNext script progress fields next → FitsNext script progress.last next
-  next_fits progress fields next h = subst (λ (o : Option Piece). IfSome o (FitsNext script progress.last)) h.guess (guess_fits script fields progress.last)
+  next_fits progress fields next h = subst (λ (o : Option Piece). IfSome o (FitsNext script progress.last)) h.guess (guess_fits script (standing fields) progress.last)
 
   pub runs_stand : (progress end : Progress) (before records : Records) → Stands script progress before → Runs script progress records end → Stands script end (before ++ records)
   runs_stand progress end before [] h k = subst (λ (p : Progress). Stands script p (before ++ [])) (sym k) (subst (Stands script progress) (sym (append-nil before)) h)
@@ -268,36 +284,32 @@ module _ (script : Script) where
     are = ap (λ (records : Records). records ++ totals_records no_totals) (sym h.are);
   }
 
-  abbrev pub fill : ℕ → ℕ → List (ℕ × List ℤ)
-  fill columns left = replicate left (0, replicate columns (pos 0))
+  abbrev pub fill : TableId → ℕ → List (ℕ × List Value)
+  fill table left = replicate left (0, map any_value (kinds_of script.tables table))
 
-  zeros_wide : (columns : ℕ) → AreWide (replicate columns (pos 0))
-  zeros_wide zero = tt
-  zeros_wide (suc columns) = (omega arith, zeros_wide columns)
-
-  pub fill_fits : (columns left : ℕ) → Each (FitsKey columns) (fill columns left)
-  fill_fits columns zero = tt
-  fill_fits columns (suc left) = ((omega arith, length-replicate columns (pos 0), zeros_wide columns), fill_fits columns left)
+  fill_fits : (table : TableId) (left : ℕ) → Each (FitsKey script.tables table) (fill table left)
+  fill_fits table zero = tt
+  fill_fits table (suc left) = ((omega arith, any_row (kinds_of script.tables table)), fill_fits table left)
 
   stands_begin : (lines : List Line) (state : Open) (records : Records) → Stands script (record { lines = lines; last = state }) records → Begins records
   stands_begin lines opens.Nothing records h = free_begins _ records (closed lines opens.Nothing records tt h.lines h.last h.is)
   stands_begin lines (opens.Sweep session place sweep) records h = free_begins _ records (closed lines (opens.Sweep session place sweep) records tt h.lines h.last h.is)
-  stands_begin lines (opens.Scan session place at columns left rows) records h =
-      let line = scan_line session place at (rows ++ fill columns left) in
-      let many : length (fill columns left) ≡ left = length-replicate left _ in
-      let count : length rows + left ≡ length (rows ++ fill columns left) = simp length-append (omega (arith, many)) in
-      let all : row_records session place (rows ++ fill columns left) ≡ row_records session place rows ++ row_records session place (fill columns left) =
-      ap (map (behind session place)) (map-append row_fields rows (fill columns left)) ∙ map-append (behind session place) (map row_fields rows) (map row_fields (fill columns left)) in
+  stands_begin lines (opens.Scan session place at table left rows) records h =
+      let line = scan_line session place at (rows ++ fill table left) in
+      let many : length (fill table left) ≡ left = length-replicate left _ in
+      let count : length rows + left ≡ length (rows ++ fill table left) = simp length-append (omega (arith, many)) in
+      let all : row_records session place (rows ++ fill table left) ≡ row_records session place rows ++ row_records session place (fill table left) =
+      ap (map (behind session place)) (map-append row_fields rows (fill table left)) ∙ map-append (behind session place) (map row_fields rows) (map row_fields (fill table left)) in
       record {
         printed = record { lines = lines ++ line ∷ []; totals = no_totals };
-        fits = record { lines = each-append (Fits script) lines (line ∷ []) h.lines (h.last (fill columns left) many (fill_fits columns left), tt); totals = no_totals_fit };
-        more = row_records session place (fill columns left) ++ totals_records no_totals;
+        fits = record { lines = each-append (Fits script) lines (line ∷ []) h.lines (h.last (fill table left) many (fill_fits table left), tt); totals = no_totals_fit };
+        more = row_records session place (fill table left) ++ totals_records no_totals;
         are = ap (λ all. all ++ totals_records no_totals) (written_more lines line)
-            ∙ ap (λ all. (written lines ++ all) ++ totals_records no_totals) (scan_records script.tables session place at (rows ++ fill columns left))
-            ∙ ap (λ n. (written lines ++ (behind session place (told_as (codes "at") at ++ codes "rows" ∷ decimal n ∷ []) ∷ row_records session place (rows ++ fill columns left))) ++ totals_records no_totals) (sym count)
+            ∙ ap (λ all. (written lines ++ all) ++ totals_records no_totals) (scan_records script.tables session place at (rows ++ fill table left))
+            ∙ ap (λ n. (written lines ++ (behind session place (told_as (codes "at") at ++ codes "rows" ∷ decimal n ∷ []) ∷ row_records session place (rows ++ fill table left))) ++ totals_records no_totals) (sym count)
             ∙ ap (λ all. (written lines ++ (behind session place (told_as (codes "at") at ++ codes "rows" ∷ decimal (length rows + left) ∷ []) ∷ all)) ++ totals_records no_totals) all
-            ∙ regroup (written lines) (open_records script.tables (opens.Scan session place at columns left rows)) (row_records session place (fill columns left)) (totals_records no_totals)
-            ∙ ap (λ records. records ++ (row_records session place (fill columns left) ++ totals_records no_totals)) (sym h.is);
+            ∙ regroup (written lines) (open_records script.tables (opens.Scan session place at table left rows)) (row_records session place (fill table left)) (totals_records no_totals)
+            ∙ ap (λ records. records ++ (row_records session place (fill table left) ++ totals_records no_totals)) (sym h.is);
       }
   stands_begin lines (opens.Totals index totals) records h = record {
     printed = record { lines = lines; totals = totals };

@@ -15,10 +15,10 @@ use Rattle.hg_report.proofs.Fitting.{FitsFirst, FitsNext, comes_first, comes_row
 same_piece : (a b : Piece) → Some a ≡ Some b → a ≡ b
 same_piece a b e = cc e
 
-pub takes_none : (script : Script) (old new : Progress) (fields : List Field) (bytes text : List ℕ) (guessed : Piece) → Some guessed ≡ guess_after script old.last fields → text ≡ record_bytes (piece_fields script.tables guessed)
-    → ((rest : List ℕ) → bytes ≡ text ++ rest → ⊥) → Takes script old fields bytes new None
-takes_none script old new fields bytes text guessed g w without next is rest e =
-    let same : Some guessed ≡ Some next = g ∙ is.guess in
+pub takes_none : (script : Script) (old new : Progress) (stood : List Field) (bytes text : List ℕ) (guessed : Piece) → Some guessed ≡ guess_after script old.last stood → text ≡ record_bytes (piece_fields script.tables guessed)
+    → ((rest : List ℕ) → bytes ≡ text ++ rest → ⊥) → Takes script old stood bytes new None
+takes_none script old new stood bytes text guessed g w without fields next is stands rest e =
+    let same : Some guessed ≡ Some next = g ∙ ap (guess_after script old.last) (sym stands) ∙ is.guess in
     without rest (e ∙ ap (λ (f : List Field). record_bytes f ++ rest) (sym is.is ∙ ap (piece_fields script.tables) (sym (same_piece guessed next same))) ∙ ap (λ (t : List ℕ). t ++ rest) (sym w))
 
 abbrev BelowSix : Piece → Type 0
@@ -31,7 +31,7 @@ first_below script next h = tt
 
 below : (script : Script) (state : Open) (next : Piece) → FitsNext script state next → BelowSix next
 below script _ _ (comes_first state next free h) = first_below script next h
-below script _ _ (comes_row session place at columns left rows key values some h) = tt
+below script _ _ (comes_row session place at table left rows key values some h) = tt
 below script _ _ (comes_held session place sweep told h) = tt
 below script _ _ (comes_total index totals number h k) = h
 

@@ -1,6 +1,11 @@
--- The fields of a record and what they say, each read whether it is written well or not.
-use Rattle.std.specs.Prelude.{ℕ, zero, suc, ℤ, pos, ◌+◌, ◌^◌, ◌&&◌, ◌==◌, List, [], ◌∷◌, ◌++◌, map, get_or, bytes_eq, nat_lt, nat_le, Bool, Option, Some, None, if◌then◌else◌}
+-- The fields of a record as they stand, with their quotes, and what they say, each read whether it is written well or not.
+use Rattle.std.specs.Prelude.{ℕ, ℤ, pos, ◌+◌, ◌^◌, ◌&&◌, ◌==◌, List, [], ◌∷◌, ◌++◌, length, take, drop, map, get_or, slice_index, bytes_eq, nat_lt, nat_le, Bool, true, false, not, Option, Some, None, if◌then◌else◌}
 use Rattle.std.specs.Borrow.{Bor}
+use Rattle.hg_base.specs.declared.limits.TheConstants.{MOST_COLUMNS, MOST_TEXT_BYTES}
+use Rattle.hg_base.specs.declared.value.Column.{Column}
+use Rattle.hg_base.specs.declared.value.Column.TheVariants as columns
+use Rattle.hg_base.specs.declared.value.Value.{Value}
+use Rattle.hg_base.specs.declared.value.Value.TheVariants.{Number, Text}
 use Rattle.hg_base.specs.Text.{Field}
 use Rattle.hg_script.specs.declared.number.Integer.{Integer}
 use Rattle.hg_script.specs.declared.number.Integer.TheVariants as signed
@@ -10,11 +15,14 @@ use Rattle.hg_script.specs.Number.{natural_of, value_of, integer_of}
 unfoldable pub fields_of : List (Bor (List ℕ)) → List Field
 fields_of row = map (λ f. f.now) row
 
--- The fields of the record at the start of some bytes: what stands between its commas, up to the line feed. The first of them
--- begins with the bytes `field`. Quotes mean nothing here.
-unfoldable pub parted : List ℕ → List ℕ → List Field
-parted field [] = field ∷ []
-parted field (b ∷ bytes) = if b == 10 then field ∷ [] else if b == 44 then field ∷ parted [] bytes else parted (field ++ b ∷ []) bytes
+-- The fields of the record at the start of some bytes: what stands between its commas, up to the line feed. Between quotes both
+-- are bytes as any other. The first of them begins with the bytes `field`, and is within quotes where `quoted` says so.
+unfoldable pub parted : Bool → List ℕ → List ℕ → List Field
+parted quoted field [] = field ∷ []
+parted quoted field (b ∷ bytes) =
+    if not quoted && b == 10 then field ∷ []
+    else if not quoted && b == 44 then field ∷ parted false [] bytes
+    else parted (if b == 34 then not quoted else quoted) (field ++ b ∷ []) bytes
 
 -- the field at a place, counted from 0, and no bytes where there is none
 abbrev pub nth : List Field → ℕ → Field
@@ -39,15 +47,33 @@ abbrev pub integer_value : Integer → ℤ
 integer_value (signed.Is value) = value
 integer_value _ = pos 0
 
--- the value that the field is
-abbrev pub integer_in : List Field → ℕ → ℤ
-integer_in fields i = integer_value (integer_of (nth fields i))
+-- whether a quote is left out: the second of two stands for one, and the byte before it was left out
+abbrev pub goes : Bool → ℕ → Bool
+goes before b = b == 34 && not before
 
--- the values of the n fields from i on
-unfoldable pub values_in : List Field → ℕ → ℕ → List ℤ
-values_in fields i zero = []
-values_in fields i (suc n) = values_in fields i n ++ integer_in fields (i + n) ∷ []
+-- The bytes behind a field's first quote, without the quotes that are left out. `before` says whether the byte before was.
+unfoldable pub unquoted : Bool → List ℕ → List ℕ
+unquoted before [] = []
+unquoted before (b ∷ bytes) = if goes before b then unquoted true bytes else b ∷ unquoted false bytes
 
--- a row of so many values
-abbrev pub row_in : List Field → ℕ → ℕ → Option (List ℤ)
-row_in fields i columns = if nat_le 1 columns && nat_le columns 8 then Some (values_in fields i columns) else None
+-- the text that the field is, without its quotes
+abbrev pub text_in : Field → List ℕ
+text_in field = if slice_index field 0 == 34 then unquoted false (drop 1 field) else field
+
+-- the value of a column that the field is, of a text its first 64 bytes
+abbrev pub value_in : Column → Field → Value
+value_in columns.Number field = Number (integer_value (integer_of field))
+value_in columns.Text field = Text (take MOST_TEXT_BYTES (text_in field))
+
+abbrev pub holds_text : Column → Bool
+holds_text columns.Number = false
+holds_text columns.Text = true
+
+-- the values of these columns, from field i on
+unfoldable pub values_in : List Field → ℕ → List Column → List Value
+values_in fields i [] = []
+values_in fields i (kind ∷ kinds) = value_in kind (nth fields i) ∷ values_in fields (i + 1) kinds
+
+-- a row of these columns
+abbrev pub row_in : List Field → ℕ → List Column → Option (List Value)
+row_in fields i kinds = if nat_le 1 (length kinds) && nat_le (length kinds) MOST_COLUMNS then Some (values_in fields i kinds) else None

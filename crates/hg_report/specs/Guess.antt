@@ -1,5 +1,6 @@
--- What a record says if it may come next. A guess need not be right: it is, where the record is the one that would be written for it.
-use Rattle.std.specs.Prelude.{ℕ, ◌+◌, List, [], ◌∷◌, ◌++◌, ◌==◌, ◌&&◌, Option, Some, None, find, is_some, option_map, option_and_then, codes, decimal, if◌then◌else◌}
+-- What a record says if it may come next, by its fields as they stand. A guess need not be right: it is, where the record is the
+-- one that would be written for it.
+use Rattle.std.specs.Prelude.{ℕ, ◌+◌, List, [], ◌∷◌, ◌++◌, ◌==◌, ◌&&◌, Option, Some, None, find, is_some, option_map, option_and_then, unwrap_or, codes, decimal, if◌then◌else◌}
 use Rattle.std.specs.Option.{option_map_or}
 use Rattle.hg_base.specs.declared.rid.TableId.{TableId}
 use Rattle.hg_base.specs.declared.statement.Statement.{Statement}
@@ -10,7 +11,7 @@ use Rattle.hg_base.specs.declared.report.Sweep.{Sweep}
 use Rattle.hg_base.specs.declared.line.Answer.{Answer}
 use Rattle.hg_base.specs.declared.line.Answer.TheVariants.{Begun, Stored, Found, Nothing, Gone, Rows, Committed, Ended, Undone, Newer, OpenBy, Undeclared, Swept, Beside}
 use Rattle.hg_base.specs.Script.{Declaration, Script}
-use Rattle.hg_base.specs.Text.{Field, columns_of, answer_fields, held_fields, row_fields, told_as, total_fields, is_write}
+use Rattle.hg_base.specs.Text.{Field, kinds_of, answer_fields, held_fields, row_fields, told_as, total_fields, is_write}
 use Rattle.hg_script.specs.declared.asked.Asked.{Asked}
 use Rattle.hg_script.specs.declared.asked.Asked.TheVariants.{Begin, Get, Put, Del, Scan, Commit as CommitIt, Rollback, Gc}
 use Rattle.hg_script.specs.Asked.{asked_by, table_asked}
@@ -33,7 +34,7 @@ total_word index =
 -- the fields of a piece. A line stands here for its first record.
 abbrev pub piece_fields : List Declaration → Piece → List Field
 piece_fields tables (piece.Line line) = behind line.session line.place (told_as (codes "at") line.reply.at ++ answer_fields tables line.reply.answer ++ told_as (codes "committed") line.reply.number)
-piece_fields tables (piece.Scan session place at columns left) = behind session place (told_as (codes "at") at ++ codes "rows" ∷ decimal left ∷ [])
+piece_fields tables (piece.Scan session place at table left) = behind session place (told_as (codes "at") at ++ codes "rows" ∷ decimal left ∷ [])
 piece_fields tables (piece.Sweep session place sweep) = behind session place (answer_fields tables (Swept sweep))
 piece_fields tables (piece.Row session place key row) = behind session place (row_fields (key, row))
 piece_fields tables (piece.Held session place told) = behind session place (held_fields told)
@@ -57,7 +58,7 @@ refusal_guess table fields i =
 -- by what the statement asks; the rows of a scan come later
 abbrev pub get_guess : List Declaration → TableId → List Field → ℕ → Option Answer
 get_guess tables table fields i =
-    if says fields i (codes "row") then option_map Found (row_in fields (i + 1) (columns_of tables table))
+    if says fields i (codes "row") then option_map Found (row_in fields (i + 1) (kinds_of tables table))
     else if says fields i (codes "none") then Some Nothing else Some (Undeclared table)
 
 abbrev pub put_guess : TableId → List Field → ℕ → Answer
@@ -99,19 +100,20 @@ answer_place at = if is_some at then 4 else 2
 abbrev pub number_guess : Answer → List Field → ℕ → Option ℕ
 number_guess answer fields i = if is_write answer && says fields (i + 1) (codes "committed") then Some (number_in fields (i + 2)) else None
 
-abbrev pub table_columns : List Declaration → Asked → ℕ
-table_columns tables asked = option_map_or (λ table. columns_of tables table) (table_asked asked) 0
+-- the table that is named, and the first where none is
+abbrev pub the_table : Asked → TableId
+the_table asked = unwrap_or (table_asked asked) (record { 0 = 0 })
 
 -- the piece that an answer is
-abbrev pub piece_of : List Declaration → Asked → ℕ → ℕ → Option ℕ → List Field → ℕ → Answer → Piece
-piece_of tables asked session place at fields i (Rows rows) = piece.Scan session place at (table_columns tables asked) (number_in fields (i + 1))
-piece_of tables asked session place at fields i (Swept sweep) = piece.Sweep session place sweep
-piece_of tables asked session place at fields i answer =
+abbrev pub piece_of : Asked → ℕ → ℕ → Option ℕ → List Field → ℕ → Answer → Piece
+piece_of asked session place at fields i (Rows rows) = piece.Scan session place at (the_table asked) (number_in fields (i + 1))
+piece_of asked session place at fields i (Swept sweep) = piece.Sweep session place sweep
+piece_of asked session place at fields i answer =
     piece.Line (record { session = session; place = place; reply = record { at = at; answer = answer; number = number_guess answer fields i } })
 
 abbrev pub answered_guess : List Declaration → Asked → ℕ → ℕ → Option ℕ → List Field → Option Piece
 answered_guess tables asked session place at fields =
-    option_map (piece_of tables asked session place at fields (answer_place at)) (answer_guess tables asked fields (answer_place at))
+    option_map (piece_of asked session place at fields (answer_place at)) (answer_guess tables asked fields (answer_place at))
 
 -- the statement of that session and place
 abbrev pub statement_at : List Record → ℕ → ℕ → Option Statement
@@ -136,8 +138,8 @@ abbrev pub first_guess : Script → List Field → Option Piece
 first_guess script fields = if says fields 0 (codes "total") then Some (piece.Total 0 (number_in fields 2)) else head_guess script fields
 
 -- the rows and held snapshots of a line of that session and place
-abbrev pub row_guess : ℕ → ℕ → ℕ → List Field → Option Piece
-row_guess session place columns fields = option_map (λ row. piece.Row session place (number_in fields 3) row) (row_in fields 4 columns)
+abbrev pub row_guess : List Declaration → ℕ → ℕ → TableId → List Field → Option Piece
+row_guess tables session place table fields = option_map (λ row. piece.Row session place (number_in fields 3) row) (row_in fields 4 (kinds_of tables table))
 
 abbrev pub held_guess : ℕ → ℕ → List Field → Piece
 held_guess session place fields = piece.Held session place (record { session = session_in fields 3; number = number_in fields 4; moved = says fields 5 (codes "moved") })

@@ -1,6 +1,7 @@
 -- How far a reader has come, and what may come next.
-use Rattle.std.specs.Prelude.{◌≡◌, ℕ, ℤ, ◌+◌, ◌-◌, List, [], ◌∷◌, ◌++◌, ◌==◌, Option, Some, None, codes, nat_lt, if◌then◌else◌}
+use Rattle.std.specs.Prelude.{◌≡◌, ℕ, ◌+◌, ◌-◌, List, [], ◌∷◌, ◌++◌, ◌==◌, map, Option, Some, None, codes, nat_lt, if◌then◌else◌}
 use Rattle.hg_base.specs.declared.report.Told.{Told}
+use Rattle.hg_base.specs.declared.value.Value.{Value}
 use Rattle.hg_base.specs.declared.report.Sweep.{Sweep}
 use Rattle.hg_base.specs.declared.line.Answer.TheVariants.{Rows, Swept}
 use Rattle.hg_base.specs.declared.line.Line.{Line}
@@ -12,7 +13,7 @@ use Rattle.hg_report.specs.declared.piece.Piece.TheVariants as piece
 use Rattle.hg_report.specs.declared.progress.Open.{Open}
 use Rattle.hg_report.specs.declared.progress.Open.TheVariants as opens
 use Rattle.hg_report.specs.declared.progress.Progress.{Progress}
-use Rattle.hg_report.specs.Bytes.{record_bytes}
+use Rattle.hg_report.specs.Bytes.{field_bytes, record_bytes}
 use Rattle.hg_report.specs.Fields.{says, number_in}
 use Rattle.hg_report.specs.Guess.{piece_fields, first_guess, row_guess, held_guess}
 
@@ -20,14 +21,14 @@ use Rattle.hg_report.specs.Guess.{piece_fields, first_guess, row_guess, held_gue
 
 abbrev pub guess_after : Script → Open → List Field → Option Piece
 guess_after script opens.Nothing fields = first_guess script fields
-guess_after script (opens.Scan session place at columns left rows) fields = if nat_lt 0 left then row_guess session place columns fields else first_guess script fields
+guess_after script (opens.Scan session place at table left rows) fields = if nat_lt 0 left then row_guess script.tables session place table fields else first_guess script fields
 guess_after script (opens.Sweep session place sweep) fields = if says fields 2 (codes "held") then Some (held_guess session place fields) else first_guess script fields
 guess_after script (opens.Totals index totals) fields = if nat_lt index 6 then Some (piece.Total index (number_in fields 2)) else None
 
 -- ---- what a piece adds
 
 -- the line whose records may go on
-abbrev pub scan_line : ℕ → ℕ → Option ℕ → List (ℕ × List ℤ) → Line
+abbrev pub scan_line : ℕ → ℕ → Option ℕ → List (ℕ × List Value) → Line
 scan_line session place at rows = record { session = session; place = place; reply = record { at = at; answer = Rows rows; number = None } }
 
 abbrev pub sweep_line : ℕ → ℕ → Sweep → Line
@@ -35,7 +36,7 @@ sweep_line session place sweep = record { session = session; place = place; repl
 
 abbrev pub open_lines : Open → List Line
 open_lines opens.Nothing = []
-open_lines (opens.Scan session place at columns left rows) = scan_line session place at rows ∷ []
+open_lines (opens.Scan session place at table left rows) = scan_line session place at rows ∷ []
 open_lines (opens.Sweep session place sweep) = sweep_line session place sweep ∷ []
 open_lines (opens.Totals index totals) = []
 
@@ -56,8 +57,8 @@ with_total index number totals =
     if index == 0 then record totals { made = number } else if index == 1 then record totals { undone = number } else if index == 2 then record totals { group = number }
     else if index == 3 then record totals { table = number } else if index == 4 then record totals { interval = number } else record totals { left = number }
 
-abbrev pub with_row : Open → ℕ × List ℤ → Open
-with_row (opens.Scan session place at columns left rows) p = opens.Scan session place at columns (left - 1) (rows ++ p ∷ [])
+abbrev pub with_row : Open → ℕ × List Value → Open
+with_row (opens.Scan session place at table left rows) p = opens.Scan session place at table (left - 1) (rows ++ p ∷ [])
 with_row state p = state
 
 abbrev pub with_held : Open → Told → Open
@@ -66,7 +67,7 @@ with_held state told = state
 
 abbrev pub after : Progress → Piece → Progress
 after progress (piece.Line line) = record { lines = lines_of progress ++ line ∷ []; last = opens.Nothing }
-after progress (piece.Scan session place at columns left) = record { lines = lines_of progress; last = opens.Scan session place at columns left [] }
+after progress (piece.Scan session place at table left) = record { lines = lines_of progress; last = opens.Scan session place at table left [] }
 after progress (piece.Sweep session place sweep) = record { lines = lines_of progress; last = opens.Sweep session place sweep }
 after progress (piece.Row session place key row) = record progress { last = with_row progress.last (key, row) }
 after progress (piece.Held session place told) = record progress { last = with_held progress.last told }
@@ -82,17 +83,22 @@ finished lines totals = record { lines = lines; last = opens.Totals 6 totals }
 
 -- ---- one record
 
+-- fields as they stand in a text
+abbrev pub standing : List Field → List Field
+standing fields = map field_bytes fields
+
 -- the record is the one that is written for what it is taken for
 pub record IsNext (script : Script) (progress : Progress) (fields : List Field) (next : Piece) : Type 0 where
-  pub guess : guess_after script progress.last fields ≡ Some next
+  pub guess : guess_after script progress.last (standing fields) ≡ Some next
   pub is : piece_fields script.tables next ≡ fields
 
--- The record at the start of the bytes, of which these are the fields, is taken, and the bytes after it are left. Or none stands
--- there that may come next.
+-- The record at the start of the bytes, whose fields stand there as these, is taken, and the bytes after it are left. Or none
+-- stands there that may come next.
 abbrev pub Takes : Script → Progress → List Field → List ℕ → Progress → Option (List ℕ) → Type 0
-Takes script old fields bytes new None = (next : Piece) → IsNext script old fields next → (rest : List ℕ) → bytes ≡ record_bytes fields ++ rest → ⊥
-Takes script old fields bytes new (Some rest) =
-    (next : Piece) × (guess_after script old.last fields ≡ Some next) × (bytes ≡ record_bytes (piece_fields script.tables next) ++ rest) × (new ≡ after old next)
+Takes script old stood bytes new None =
+    (fields : List Field) (next : Piece) → IsNext script old fields next → standing fields ≡ stood → (rest : List ℕ) → bytes ≡ record_bytes fields ++ rest → ⊥
+Takes script old stood bytes new (Some rest) =
+    (next : Piece) × (guess_after script old.last stood ≡ Some next) × (bytes ≡ record_bytes (piece_fields script.tables next) ++ rest) × (new ≡ after old next)
 
 -- the records are taken one by one
 abbrev pub Runs : Script → Progress → List (List Field) → Progress → Type 0

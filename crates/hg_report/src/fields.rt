@@ -1,34 +1,43 @@
-//! The fields of a record and what they say, each read whether it is written well or not.
+//! The fields of a record as they stand, with their quotes, and what they say, each read whether it is written well or not.
 
-ghost use Rattle.std.specs.Prelude.{◌≡◌, ◌≤◌, [], IfOk, OnOk};
-ghost use Rattle.hg_report.specs.Fields.{fields_of, integer_in, integer_value, narrow, nth, number_in, parted, row_in, says, session_in};
+ghost use Rattle.std.specs.Prelude.{◌≡◌, ◌==◌, [], OnOk, false, if◌then◌else◌, not};
+ghost use Rattle.hg_report.specs.Fields.{fields_of, narrow, nth, number_in, parted, says, session_in};
 
-use hg_base::{NoMemory, Row};
-use hg_script::{Integer, read_integer, read_natural};
-use std::alloc::Global;
+use hg_base::NoMemory;
+use hg_script::read_natural;
 
-/// Parts the record at the start of the bytes at its commas, up to its line feed. No field of a text has quotes.
+// Whether what stands behind the byte is within quotes.
+fn is_quoted_behind(quoted: bool, b: u8) -> bool
+    ensures { result ≡ (if b == 34 then not quoted else quoted) }
+{
+    if b == b'"' { !quoted } else { quoted }
+}
+
+/// Parts the record at the start of the bytes at its commas, up to its line feed, where these stand outside of quotes.
 pub(crate) fn part<'a>(bytes: &'a [u8], fields: &mut Vec<&'a [u8]>) -> Result<(), NoMemory>
-    ensures { OnOk result (fields_of fields.new.items ≡ parted [] bytes.now) }
+    ensures { OnOk result (fields_of fields.new.items ≡ parted false [] bytes.now) }
 {
     fields.clear();
     let mut start = 0;
+    let mut quoted = false;
     for i in 0..bytes.len() {
-        if bytes[i] == b'\n' {
+        if bytes[i] == b'\n' && !quoted {
             fields.push(&bytes[start..i])?;
             return Ok(());
         }
-        if bytes[i] == b',' {
+        if bytes[i] == b',' && !quoted {
             fields.push(&bytes[start..i])?;
             start = i + 1;
         }
+        quoted = is_quoted_behind(quoted, bytes[i]);
     }
     fields.push(&bytes[start..])?;
     Ok(())
 }
 
+/// The field at a place, counted from 0, and no bytes where there is none.
 #[tactic(auto, unfolding(crate::specs::Fields::fields_of))]
-fn field<'a>(row: &[&'a [u8]], i: usize) -> &'a [u8]
+pub(crate) fn field<'a>(row: &[&'a [u8]], i: usize) -> &'a [u8]
     ensures { result.now ≡ nth (fields_of row.now) i }
 {
     match row.get(i) {
@@ -62,42 +71,4 @@ pub(crate) fn session_in(row: &[&[u8]], i: usize) -> u32
     ensures { result ≡ session_in (fields_of row.now) i }
 {
     narrow(number_in(row, i))
-}
-
-fn integer_value(integer: Integer) -> i64
-    ensures { result ≡ integer_value integer }
-{
-    match integer {
-        Integer::No => 0,
-        Integer::Over => 0,
-        Integer::Is(value) => value,
-    }
-}
-
-fn integer_in(row: &[&[u8]], i: usize) -> i64
-    ensures { result ≡ integer_in (fields_of row.now) i }
-{
-    integer_value(read_integer(field(row, i)))
-}
-
-/// The row of so many values, from field `i` on.
-pub(crate) fn row_in(
-    alloc: Global,
-    row: &[&[u8]],
-    i: usize,
-    columns: u8,
-) -> Result<Option<Row>, NoMemory>
-    requires { i ≤ 8 }
-    ensures { IfOk result (λ o. o ≡ row_in (fields_of row.now) i columns) }
-{
-    if !(1 <= columns && columns <= 8) {
-        return Ok(None);
-    }
-    let mut values = [0; 8];
-    let count = columns as usize;
-    for k in 0..count {
-        values[k] = integer_in(row, i + k);
-    }
-    let row = Row::from_slice(alloc, &values[..count])?;
-    Ok(Some(row))
 }

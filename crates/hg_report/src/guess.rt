@@ -1,25 +1,26 @@
 //! What a record says if it may come next.
 
 ghost use Rattle.std.specs.Prelude.{◌≡◌, ◌≢◌, ℕ, ◌+◌, ◌<◌, ◌≤◌, IfNone, IfOk, IfSome, length};
-ghost use Rattle.hg_base.specs.Text.{columns_of, is_write};
-ghost use Rattle.hg_script.specs.Numbered.{AreNumbered};
+ghost use Rattle.hg_base.specs.Text.{is_write, kinds_of};
+ghost use Rattle.hg_script.specs.Numbered.{AreNumbered, records_before};
 ghost use Rattle.hg_report.specs.Fields.{fields_of};
-ghost use Rattle.hg_report.specs.Guess.{answer_guess, answer_place, answered_guess, asked_at, at_guess, commit_guess, del_guess, first_guess, gc_guess, get_guess, head_guess, held_guess, kind_guess, number_guess, piece_of, put_guess, refusal_guess, reply_guess, row_guess, scan_guess, sweep_guess, table_columns};
+ghost use Rattle.hg_report.specs.Guess.{answer_guess, answer_place, answered_guess, asked_at, at_guess, commit_guess, del_guess, first_guess, gc_guess, get_guess, head_guess, held_guess, kind_guess, number_guess, piece_of, put_guess, refusal_guess, reply_guess, row_guess, scan_guess, sweep_guess, the_table};
 
-use crate::fields::{number_in, row_in, says, session_in};
+use crate::fields::{number_in, says, session_in};
 use crate::piece::Piece;
+use crate::values::row_in;
 use hg_base::{
-    Answer, Kind, Line, NoMemory, Reply, RowList, Sweep, TableId, Told, ToldList, Writer,
+    Answer, Column, Kind, Line, NoMemory, Reply, RowList, Sweep, TableId, Told, ToldList, Writer,
 };
 use hg_script::{Asked, Script, Table};
 use std::alloc::Global;
 
-fn columns_of(tables: &[Table], table: TableId) -> u8
-    ensures { result ≡ columns_of tables.now table }
+fn kinds_of(tables: &[Table], table: TableId) -> &[Column]
+    ensures { result.now ≡ kinds_of tables.now table }
 {
     match tables.get(table.0 as usize) {
-        Some(table) => table.columns(),
-        None => 0,
+        Some(table) => table.kinds(),
+        None => &[],
     }
 }
 
@@ -75,7 +76,7 @@ fn get_guess(
     ensures { IfOk result (λ o. o ≡ get_guess tables.now table (fields_of row.now) i) }
 {
     if says(row, i, b"row") {
-        return match row_in(alloc, row, i + 1, columns_of(tables, table))? {
+        return match row_in(alloc, row, i + 1, kinds_of(tables, table))? {
             Some(values) => Ok(Some(Answer::Found(values))),
             None => Ok(None),
         };
@@ -174,13 +175,10 @@ fn at_guess(asked: Asked, row: &[&[u8]]) -> Option<u64>
     }
 }
 
-fn table_columns(tables: &[Table], asked: Asked) -> u8
-    ensures { result ≡ table_columns tables.now asked }
+fn the_table(asked: Asked) -> TableId
+    ensures { result ≡ the_table asked }
 {
-    match asked.table() {
-        Some(table) => columns_of(tables, table),
-        None => 0,
-    }
+    asked.table().unwrap_or(TableId(0))
 }
 
 fn is_write(answer: &Answer) -> bool
@@ -213,7 +211,6 @@ fn answer_place(at: Option<u64>) -> usize
 
 // The piece that an answer is.
 fn piece_of(
-    tables: &[Table],
     asked: Asked,
     session: u32,
     place: u64,
@@ -223,14 +220,14 @@ fn piece_of(
     answer: Answer,
 ) -> Piece
     requires { i ≤ 4 }
-    ensures { result ≡ piece_of tables.now asked session place at (fields_of row.now) i answer }
+    ensures { result ≡ piece_of asked session place at (fields_of row.now) i answer }
 {
     match answer {
         Answer::Rows(_) => Piece::Scan {
             session,
             place,
             at,
-            columns: table_columns(tables, asked),
+            table: the_table(asked),
             left: number_in(row, i + 1),
         },
         Answer::Swept(sweep) => Piece::Sweep {
@@ -262,19 +259,20 @@ fn answered_guess(
     let at = at_guess(asked, row);
     let i = answer_place(at);
     match answer_guess(alloc, tables, asked, row, i)? {
-        Some(answer) => Ok(Some(piece_of(tables, asked, session, place, at, row, i, answer))),
+        Some(answer) => Ok(Some(piece_of(asked, session, place, at, row, i, answer))),
         None => Ok(None),
     }
 }
 
-// The index of the record of that place. Places go on from the tables.
+// The index of the record of that place. Places go on from the records before the statements.
 fn index_of(script: &Script, place: u64) -> Option<usize>
-    ensures found { IfSome result (λ i. (i < length script.now.records) × (place ≡ length script.now.tables + i + 1)) }
+    ensures found { IfSome result (λ i. (i < length script.now.records) × (place ≡ records_before script.now + i + 1)) }
     ensures places { AreNumbered script.now }
-    ensures none { IfNone result ((i : ℕ) → i < length script.now.records → place ≢ length script.now.tables + i + 1) }
+    ensures none { IfNone result ((i : ℕ) → i < length script.now.records → place ≢ records_before script.now + i + 1) }
 {
     let count = script.record_count();
-    let i = place.checked_sub(script.tables().len() as u64 + 1)? as usize;
+    let behind = place.checked_sub(script.records_before() as u64)?;
+    let i = behind.checked_sub(1)? as usize;
     if i < count { Some(i) } else { None }
 }
 
@@ -339,14 +337,15 @@ pub(crate) fn first_guess(
 /// A row of a scan.
 pub(crate) fn row_guess(
     alloc: Global,
+    tables: &[Table],
     session: u32,
     place: u64,
-    columns: u8,
+    table: TableId,
     row: &[&[u8]],
 ) -> Result<Option<Piece>, NoMemory>
-    ensures { IfOk result (λ o. o ≡ row_guess session place columns (fields_of row.now)) }
+    ensures { IfOk result (λ o. o ≡ row_guess tables.now session place table (fields_of row.now)) }
 {
-    match row_in(alloc, row, 4, columns)? {
+    match row_in(alloc, row, 4, kinds_of(tables, table))? {
         Some(values) => Ok(Some(Piece::Row {
             session,
             place,

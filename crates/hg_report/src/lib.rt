@@ -16,10 +16,14 @@
 //! what was printed exactly where the bytes are those that these two calls write for it, and else the first record with
 //! which the bytes do not begin a text (`IsRefusedAt`). `text_of` is the text of all that was printed.
 //!
-//! The reader guesses. It parts a record at its commas (`part`), takes what the record would say if it may come next (`guess`),
-//! writes that, and compares the bytes. So whatever differs from what is written, as a number with a zero before it, a quote,
-//! a carriage return or a field too many, is refused at its record, and no rule says so besides. Parting needs no quotes: a
-//! text has words, numbers and names of tables alone.
+//! A text of a row stands as a CSV writer writes it: in quotes where it has a comma, a quote or the end of a line, and each quote
+//! within them twice. So one record may stand on several lines.
+//!
+//! The reader guesses. It parts a record at the commas outside of quotes (`part`), takes what the record would say if it may come
+//! next (`guess`), writes that, and compares the bytes. So whatever differs from what is written, as a number with a zero before
+//! it, quotes that are not called for, a carriage return or a field too many, is refused at its record, and no rule says so
+//! besides. Fields stand with their quotes while a record is guessed: words and numbers have none, and only a text of a row is
+//! read without them (`text_in`).
 #![tactic(auto)]
 
 mod bytes;
@@ -34,6 +38,7 @@ mod refusal;
 mod row_start;
 mod told;
 mod transcript;
+mod values;
 mod writing;
 
 pub use law::{bytes_determine_values, one_record_is_refused};

@@ -5,7 +5,7 @@ ghost use Rattle.hg_report.specs.Bytes.{record_bytes};
 ghost use Rattle.hg_report.specs.Guess.{piece_fields, total_word};
 
 use crate::writing::{write_head, write_held, write_row, write_scan, write_sweep, write_total};
-use hg_base::{Line, NoMemory, Row, Sweep, Told};
+use hg_base::{Line, NoMemory, Row, Sweep, TableId, Told};
 use hg_script::Table;
 
 /// What one record says.
@@ -18,7 +18,7 @@ pub enum Piece {
         session: u32,
         place: u64,
         at: Option<u64>,
-        columns: u8,
+        table: TableId,
         left: u64,
     },
     /// The first record of a report.

@@ -9,7 +9,9 @@ ghost use Rattle.hg_report.specs.declared.piece.Piece.TheVariants as pieces;
 use crate::fields::{number_in, says};
 use crate::guess::{first_guess, held_guess, row_guess};
 use crate::piece::Piece;
-use hg_base::{Answer, Line, LineList, NoMemory, Reply, Row, RowList, Sweep, Told, Totals};
+use hg_base::{
+    Answer, Line, LineList, NoMemory, Reply, Row, RowList, Sweep, TableId, Told, Totals,
+};
 use hg_script::Script;
 use std::alloc::Global;
 use std::mem;
@@ -23,7 +25,7 @@ pub enum Open {
         session: u32,
         place: u64,
         at: Option<u64>,
-        columns: u8,
+        table: TableId,
         left: u64,
         rows: RowList,
     },
@@ -128,12 +130,12 @@ impl Open {
             Open::Scan {
                 session,
                 place,
-                columns,
+                table,
                 left,
                 ..
             } => {
                 if *left > 0 {
-                    row_guess(alloc, *session, *place, *columns, row)
+                    row_guess(alloc, script.tables(), *session, *place, *table, row)
                 } else {
                     first_guess(alloc, script, row)
                 }
@@ -224,7 +226,7 @@ impl Progress {
                 session,
                 place,
                 at,
-                columns,
+                table,
                 left,
             } => {
                 self.close()?;
@@ -232,7 +234,7 @@ impl Progress {
                     session,
                     place,
                     at,
-                    columns,
+                    table,
                     left,
                     rows: RowList::from(Vec::new(alloc)),
                 };

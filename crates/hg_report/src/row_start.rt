@@ -1,6 +1,7 @@
 //! What the rows of a scan have in common.
 
-ghost use Rattle.std.specs.Prelude.{◌≡◌, ◌≤◌, ◌++◌, OnOk, codes, decimal, drop, length};
+ghost use Rattle.std.specs.Prelude.{◌≡◌, ◌≤◌, ◌++◌, OnOk, codes, decimal, drop, length, map};
+ghost use Rattle.hg_base.specs.declared.value.Value.TheVariants.{Number};
 ghost use Rattle.hg_base.specs.Text.{row_fields};
 ghost use Rattle.hg_report.specs.Bytes.{field_bytes, further_bytes, record_bytes};
 ghost use Rattle.hg_report.specs.Guess.{behind};
@@ -13,7 +14,7 @@ use itoa::write_digits;
 // A session, a place and the word of a row take no more bytes.
 const START_ROOM: usize = 48;
 
-// That start, a key, two values and the end of a record take no more bytes.
+// That start, a key, two numbers and the end of a record take no more bytes.
 const RECORD_ROOM: usize = 128;
 
 /// What the record of each row of a scan begins with: it is written once for all of them. It lies at the end of its bytes.
@@ -53,10 +54,10 @@ impl RowStart {
         end - START_ROOM + self.from
     }
 
-    // Adds the record of one row of so few values that the record lies on the stack.
+    // Adds the record of one row of so few numbers that the record lies on the stack.
     fn write_short(&self, text: &mut Vec<u8>, key: u64, values: &[i64]) -> Result<(), NoMemory>
         requires { length values.now ≤ 2 }
-        ensures { OnOk result (text.new.items ≡ text.old.items ++ record_bytes (behind self.now.session self.now.place (row_fields (key, values.now)))) }
+        ensures { OnOk result (text.new.items ≡ text.old.items ++ record_bytes (behind self.now.session self.now.place (row_fields (key, map Number values.now)))) }
     {
         let mut record = [0; RECORD_ROOM];
         record[RECORD_ROOM - 1] = b'\n';
@@ -71,10 +72,9 @@ impl RowStart {
     pub fn write(&self, text: &mut Vec<u8>, key: u64, row: &Row) -> Result<(), NoMemory>
         ensures { OnOk result (text.new.items ≡ text.old.items ++ record_bytes (behind self.now.session self.now.place (row_fields (key, row.now)))) }
     {
-        let values = row.values();
-        if values.len() <= 2 {
-            return self.write_short(text, key, values);
+        match row.numbers() {
+            Some(values) if values.len() <= 2 => self.write_short(text, key, values),
+            _ => write_row(text, self.session, self.place, key, row),
         }
-        write_row(text, self.session, self.place, key, row)
     }
 }

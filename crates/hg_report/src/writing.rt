@@ -5,7 +5,7 @@ ghost use Rattle.std.specs.Fmt.{signed_decimal};
 ghost use Rattle.std.specs.List.{flat_map, list_any};
 ghost use Rattle.csv.specs.Writing.{needs_byte};
 ghost use Rattle.hg_base.specs.declared.line.Answer.TheVariants.{Swept};
-ghost use Rattle.hg_base.specs.Text.{answer_fields, held_fields, kind_word, line_records, more_fields, name_of, of_line, row_fields, text_of, told_as, total_fields, totals_records};
+ghost use Rattle.hg_base.specs.Text.{answer_fields, held_fields, kind_word, line_records, more_fields, name_of, of_line, row_fields, text_of, told_as, total_fields, totals_records, value_field};
 ghost use Rattle.hg_report.specs.Bytes.{flexible_writer, further_bytes, record_bytes};
 ghost use Rattle.hg_report.specs.Guess.{behind};
 
@@ -13,7 +13,9 @@ use crate::bytes::{
     add_field, add_number, add_plain, add_value, begin_record, begin_reply, end_record,
 };
 use crate::row_start::RowStart;
-use hg_base::{Answer, Kind, Line, NoMemory, Printed, Reply, Row, Sweep, TableId, Told, Totals};
+use hg_base::{
+    Answer, Kind, Line, NoMemory, Printed, Reply, Row, Sweep, TableId, Told, Totals, Value,
+};
 use hg_script::{Script, Table};
 use std::alloc::Global;
 
@@ -36,13 +38,41 @@ fn kind_word(kind: Kind) -> &'static [u8]
     }
 }
 
-fn add_row(text: &mut Vec<u8>, row: &Row) -> Result<(), NoMemory>
-    ensures { OnOk result (text.new.items ≡ text.old.items ++ flat_map further_bytes (map signed_decimal row.now)) }
+fn add_numbers(text: &mut Vec<u8>, numbers: &[i64]) -> Result<(), NoMemory>
+    ensures { OnOk result (text.new.items ≡ text.old.items ++ flat_map further_bytes (map signed_decimal numbers.now)) }
 {
-    for value in row.values() {
-        add_value(text, *value)?;
+    for n in numbers {
+        add_value(text, *n)?;
     }
     Ok(())
+}
+
+fn add_number_or_text(text: &mut Vec<u8>, value: &Value) -> Result<(), NoMemory>
+    ensures { OnOk result (text.new.items ≡ text.old.items ++ further_bytes (value_field value.now)) }
+{
+    match value {
+        Value::Number(n) => add_value(text, *n),
+        Value::Text(bytes) => add_field(text, bytes.as_bytes()),
+    }
+}
+
+fn add_values(text: &mut Vec<u8>, row: &Row) -> Result<(), NoMemory>
+    ensures { OnOk result (text.new.items ≡ text.old.items ++ flat_map further_bytes (map value_field row.now)) }
+{
+    for i in 0..row.len() {
+        add_number_or_text(text, &row.value(i))?;
+    }
+    Ok(())
+}
+
+#[tactic(auto, using(crate::proofs::RecordBytes::numbers_are))]
+fn add_row(text: &mut Vec<u8>, row: &Row) -> Result<(), NoMemory>
+    ensures { OnOk result (text.new.items ≡ text.old.items ++ flat_map further_bytes (map value_field row.now)) }
+{
+    match row.numbers() {
+        Some(numbers) => add_numbers(text, numbers),
+        None => add_values(text, row),
+    }
 }
 
 // A number behind its word, where it is printed.

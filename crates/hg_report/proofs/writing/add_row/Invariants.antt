@@ -1,8 +1,0 @@
-use Rattle.std.proofs.Common.{◌≡◌, ◌++◌, map, take}
-use Rattle.std.specs.Fmt.{signed_decimal}
-use Rattle.std.specs.List.{flat_map}
-use Rattle.hg_report.specs.Bytes.{further_bytes}
-use Rattle.hg_report.proofs.writing.add_row.Given as goal
-
-abbrev pub invariant-loop-value : goal.invariant-loop-value
-invariant-loop-value l = l.text.items ≡ l.initial.text.items ++ flat_map further_bytes (map signed_decimal (take l.value-index l.value-items))
