@@ -8,6 +8,7 @@ pub mod Scopes
 pub mod Places
 pub mod Sets
 pub mod Taken
+pub mod Typed
 pub mod Widths
 -- A script stays lawful, record by record.
 pub mod Open

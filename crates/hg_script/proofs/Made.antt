@@ -1,20 +1,23 @@
 -- A script that is made keeps the rules, statement by statement.
-use Rattle.std.proofs.Common.{◌≡◌, ◌∙◌, ◌+◌, ◌*◌, ◌/◌, ◌%◌, ◌<◌, ◌^◌, ℕ, zero, suc, pos, Bool, true, false, List, [], ◌∷◌, ◌++◌, length, map, fold, if◌then◌else◌, refl, sym, ap, subst, arith, length-append, append_assoc, nat_le}
+use Rattle.std.proofs.Common.{◌≡◌, ◌∙◌, ◌+◌, ◌*◌, ◌/◌, ◌%◌, ◌<◌, ◌^◌, ℕ, zero, suc, pos, Bool, true, false, List, [], ◌∷◌, ◌++◌, length, map, fold, if◌then◌else◌, inl, refl, sym, ap, subst, arith, length-append, append_assoc, nat_le}
 use Rattle.std.proofs.lemmas.Nat.{mod_below}
 use Rattle.std.proofs.Math.Nat.{mod-add-mod}
 use Rattle.std.specs.List.{IsDistinct}
-use lib.Signed.{mag}
 use Rattle.hg_base.specs.declared.limits.TheConstants.{MOST_SESSIONS}
 use Rattle.hg_base.specs.declared.statement.Record.{Record}
 use Rattle.hg_base.specs.Lists.{Each, numbers_from}
 use Rattle.hg_base.specs.Script.{Script}
-use Rattle.hg_base.specs.Text.{columns_of}
+use Rattle.hg_base.specs.Text.{kinds_of}
+use Rattle.hg_base.specs.Values.{FitsValue, kind_of}
+use Rattle.hg_base.specs.declared.value.Column.{Column}
+use Rattle.hg_base.specs.declared.value.Value.TheVariants.{Number}
 use Rattle.hg_base.proofs.ListFacts.{append_nil}
-use Rattle.hg_script.proofs.Lawful.{Grown, Lies, statement-more, with-statement}
+use Rattle.hg_script.proofs.Lawful.{AreNumbers, Grown, Lies, numbers-at, statement-more, with-statement}
 use Rattle.hg_script.specs.declared.choice.Choice.{Choice}
 use Rattle.hg_script.specs.declared.choice.Choice.TheVariants.{Begin, BeginC, Get, Put, Del, Scan, Commit, Rollback, Gc}
 use Rattle.hg_script.specs.Generator.{AreMade, IsMade, below, chosen, chosen_in, draws_of, drawn, inside, made_tables, next_state, outside, record_after, state_after, state_behind, statement_at, statement_by, table_drawn}
-use Rattle.hg_script.specs.Lawful.{FitsTables, HasWidths, MayStand}
+use Rattle.hg_script.specs.Numbered.{many_before, records_before}
+use Rattle.hg_script.specs.Lawful.{FitsTables, HasNumbers, HasWidths, MayStand}
 use Rattle.hg_script.specs.Rules.{is_open}
 
 -- ---- draws
@@ -45,19 +48,25 @@ fold-one f b (y ∷ xs) x = fold-one f (f b y) xs x
 
 -- ---- statements
 
-row-many : (columns n x : ℕ) → length (map (λ k. pos (drawn k 1000 x)) (numbers_from n columns)) ≡ columns
-row-many zero n x = refl
-row-many (suc columns) n x = ap suc (row-many columns (suc n) x)
+row-kinds : (kinds : List Column) (n x : ℕ) → AreNumbers kinds → map kind_of (map (λ k. Number (pos (drawn k 1000 x))) (numbers_from n (length kinds))) ≡ kinds
+row-kinds [] n x h = refl
+row-kinds (k ∷ ks) n x h = ap (λ c. c ∷ map kind_of (map (λ k. Number (pos (drawn k 1000 x))) (numbers_from (suc n) (length ks)))) (sym h.0) ∙ ap (λ cs. k ∷ cs) (row-kinds ks (suc n) x h.1)
 
-row-narrow : (columns n x : ℕ) → Each (λ v. mag v < 2 ^ 63) (map (λ k. pos (drawn k 1000 x)) (numbers_from n columns))
+row-narrow : (columns n x : ℕ) → Each FitsValue (map (λ k. Number (pos (drawn k 1000 x))) (numbers_from n columns))
 row-narrow zero n x = tt
 row-narrow (suc columns) n x = (omega (arith, below-lt 1000 (state_after n x) (omega arith)), row-narrow columns (suc n) x)
+
+made-numbers : Each HasNumbers made_tables
+made-numbers = ((refl, tt), ((refl, (refl, tt)), ((refl, tt), tt)))
+
+made-kinds : (x : ℕ) → AreNumbers (kinds_of made_tables (table_drawn x))
+made-kinds x = numbers-at made_tables (table_drawn x).0 made-numbers
 
 fits : (x : ℕ) (c : Choice) → FitsTables made_tables (statement_by x c)
 fits x Begin = tt
 fits x BeginC = (omega arith, omega arith)
 fits x Get = below-lt 3 (state_after 2 x) (omega arith)
-fits x Put = (below-lt 3 (state_after 2 x) (omega arith), row-many (columns_of made_tables (table_drawn x)) 1 (state_after 3 x))
+fits x Put = (below-lt 3 (state_after 2 x) (omega arith), row-kinds (kinds_of made_tables (table_drawn x)) 1 (state_after 3 x) (made-kinds x))
 fits x Del = below-lt 3 (state_after 2 x) (omega arith)
 fits x Scan = below-lt 3 (state_after 2 x) (omega arith)
 fits x Commit = tt
@@ -74,7 +83,7 @@ widths x c = go c
     go Begin = tt
     go BeginC = tt
     go Get = omega (arith, key)
-    go Put = (omega (arith, key), row-narrow (columns_of made_tables (table_drawn x)) 1 (state_after 3 x))
+    go Put = (omega (arith, key), row-narrow (length (kinds_of made_tables (table_drawn x))) 1 (state_after 3 x))
     go Del = omega (arith, key)
     go Scan = (omega (arith, key), omega (arith, key))
     go Commit = tt
@@ -109,6 +118,7 @@ same-record seed place i x rs here many state =
 
 -- the script of a seed after so many statements, where the state is x
 pub record Making (seed i x : ℕ) (s : Script) : Type 0 where
+  pub version : s.version ≡ 1
   pub tables : s.tables ≡ made_tables
   pub many : length s.records ≡ i
   pub each : AreMade seed [] s.records
@@ -116,18 +126,19 @@ pub record Making (seed i x : ℕ) (s : Script) : Type 0 where
   pub grown : Grown (i + 4) s
 
 pub making-more : (seed i x : ℕ) (s : Script) → Making seed i x s → i < 16000
-    → Making seed (i + 1) (state_after (draws_of (statement_at x (is_open (i % 8 + 1) s.records))) x) (with-statement (length s.tables + length s.records + 1) s (i % 8 + 1) (statement_at x (is_open (i % 8 + 1) s.records)))
+    → Making seed (i + 1) (state_after (draws_of (statement_at x (is_open (i % 8 + 1) s.records))) x) (with-statement (records_before s + length s.records + 1) s (i % 8 + 1) (statement_at x (is_open (i % 8 + 1) s.records)))
 making-more seed i x s m more =
     let session = i % 8 + 1 in
     let st = statement_at x (is_open session s.records) in
-    let place = length s.tables + length s.records + 1 in
-    let here : place ≡ i + 4 = omega (arith, ap length m.tables, m.many) in
+    let place = records_before s + length s.records + 1 in
+    let here : place ≡ i + 4 = ap (λ v. many_before v (length s.tables) + length s.records + 1) m.version ∙ omega (arith, ap length m.tables, m.many) in
     let added : Record = record { place = place; session = session; statement = st } in
     let lies : Lies 1 MOST_SESSIONS session = record { some = omega arith; most = omega (arith, mod_below i 8 (omega arith)) } in
     let c = chosen (is_open session s.records) (drawn 1 16 x) in
     let fitting : FitsTables s.tables st = subst (λ ts. FitsTables ts st) (sym m.tables) (fits x c) in
     let grown = statement-more (i + 4) s session st m.grown (omega (arith, more)) lies fitting (widths x c) (may x (is_open session s.records)) in
     let order : i + 4 + 1 ≡ i + 1 + 4 = omega arith in record {
+      version = m.version;
       tables = m.tables;
       many = omega (arith, m.many, length-append s.records (added ∷ []));
       each = made-one seed [] s.records added m.each (same-record seed place i x s.records here m.many m.state);
@@ -136,15 +147,18 @@ making-more seed i x s m more =
     }
 
 -- the tables alone
-pub making-none : (seed : ℕ) → Making seed 0 seed (record { tables = made_tables; records = [] })
+pub making-none : (seed : ℕ) → Making seed 0 seed (record { version = 1; tables = made_tables; records = [] })
 unfolding IsDistinct
 making-none seed = record {
+  version = refl;
   tables = refl;
   many = refl;
   each = tt;
   state = refl;
   grown = record {
     lawful = record {
+      version = inl refl;
+      numbers = λ one. made-numbers;
       most = omega arith;
       records = omega arith;
       tables = (record { name = refl; some = omega arith; most = omega arith }, (record { name = refl; some = omega arith; most = omega arith }, (record { name = refl; some = omega arith; most = omega arith }, tt)));
@@ -173,4 +187,5 @@ pub made-once : (seed : ℕ) (s t : Script) → IsMade seed s → IsMade seed t 
 made-once seed s t h k =
     let tables : s.tables ≡ t.tables = h.tables ∙ sym k.tables in
     let records : s.records ≡ t.records = one seed [] s.records t.records (h.many ∙ sym k.many) h.each k.each in
-    ap (λ ts. record { tables = ts; records = s.records }) tables ∙ ap (λ rs. record { tables = t.tables; records = rs }) records
+    let version : s.version ≡ t.version = h.version ∙ sym k.version in
+    ap (λ v. record { version = v; tables = s.tables; records = s.records }) version ∙ ap (λ ts. record { version = t.version; tables = ts; records = s.records }) tables ∙ ap (λ rs. record { version = t.version; tables = t.tables; records = rs }) records

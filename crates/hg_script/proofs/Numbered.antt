@@ -1,9 +1,14 @@
 -- Statements as records, by counted places.
-use Rattle.std.proofs.Common.{◌≡◌, ◌<◌, ◌+◌, ◌∙◌, ℕ, zero, suc, List, [], ◌∷◌, ◌++◌, length, map, get_or, refl, ap, arith}
+use Rattle.std.proofs.Common.{◌≡◌, ◌<◌, ◌≤◌, ◌==◌, ◌+◌, ◌∙◌, ℕ, zero, suc, List, [], ◌∷◌, ◌++◌, length, map, get_or, refl, ap, arith}
+use Rattle.std.proofs.lemmas.Bool.{cond_both}
 use Rattle.hg_base.specs.declared.statement.Record.{Record}
 use Rattle.hg_base.specs.declared.statement.Statement.{Statement}
 use Rattle.hg_script.specs.Asked.{asked_by, said_by}
-use Rattle.hg_script.specs.Numbered.{numbered}
+use Rattle.hg_script.specs.Numbered.{many_before, numbered}
+
+-- at most one record more than the tables
+pub few_before : (version tables : ℕ) → many_before version tables ≤ tables + 1
+few_before version tables = cond_both (version == 1) 0 1 (λ (n : ℕ). tables + n ≤ tables + 1) (λ e. omega arith) (λ e. omega arith)
 
 pub numbered_many : (place : ℕ) (xs : List (ℕ × Statement)) → length (numbered place xs) ≡ length xs
 numbered_many place [] = refl

@@ -1,84 +1,108 @@
 -- Statements whose values stand in one list.
-use Rattle.std.proofs.Common.{◌≡◌, ◌≤◌, ◌<◌, ◌+◌, ◌∙◌, ℕ, zero, suc, ℤ, List, [], ◌∷◌, ◌++◌, length, length-drop, map, take, drop, max, fold, get_or, refl, ap, arith, length-append}
-use Rattle.std.proofs.Math.Seq.{take-append-le, drop-append-le, drop-append_seam}
-use Rattle.std.proofs.lemmas.List.{map-append, take_all}
+use Rattle.std.proofs.Common.{◌≡◌, ◌≤◌, ◌<◌, ◌+◌, ◌∙◌, ℕ, zero, suc, ℤ, false, List, [], ◌∷◌, ◌++◌, length, length-drop, map, take, drop, max, fold, get_or, refl, ap, arith, length-append}
+use Rattle.std.specs.List.{list_any}
+use Rattle.std.proofs.Math.ListN.{get_or-append}
+use Rattle.std.proofs.Math.Seq.{get_or-append_seam, take-append-le, drop-append-le, drop-append_seam}
+use Rattle.std.proofs.lemmas.List.{length-map, map-append, take_all}
 use Rattle.hg_base.specs.Lists.{Each, greatest}
+use Rattle.hg_base.specs.declared.rid.Rid.{Rid}
+use Rattle.hg_base.specs.declared.value.Value.{Value}
+use Rattle.hg_base.specs.declared.value.Value.TheVariants.{Number}
+use Rattle.hg_base.specs.Values.{is_text, number_of}
 use Rattle.hg_base.specs.declared.statement.Statement.{Statement}
 use Rattle.hg_base.specs.declared.statement.Statement.TheVariants as say
-use Rattle.hg_base.proofs.ListFacts.{each_keeps}
+use Rattle.hg_base.proofs.ListFacts.{cases, each_keeps}
+use Rattle.hg_base.proofs.Numbers.{numbers_alone}
 use Rattle.hg_script.specs.declared.statements.Entry.{Entry}
 use Rattle.hg_script.specs.declared.statements.Packed.{Packed}
-use Rattle.hg_script.specs.declared.statements.Packed.TheVariants.{Begin, Get, Put, Del, Scan, Commit, Rollback, Gc}
+use Rattle.hg_script.specs.declared.statements.Packed.TheVariants.{Begin, Get, Put, PutRow, Del, Scan, Commit, Rollback, Gc}
 use Rattle.hg_script.specs.Links.{led, sessions_in}
-use Rattle.hg_script.specs.Packed.{HasRow, HasSession, IsWithin, added, packed_as, statement_in, unpacked}
+use Rattle.hg_script.specs.Packed.{HasRow, HasSession, IsWithin, added, added_rows, packed_as, statement_in, unpacked}
 
 -- ---- one statement
 
-pub comes_back : (values : List ℤ) (s : Statement) → statement_in (values ++ added s) (packed_as (length values) s) ≡ s
-comes_back values (say.Begin scope) = refl
-comes_back values (say.Get rid) = refl
-comes_back values (say.Put rid row) = rw (drop-append_seam values row, take_all (length row) row (omega arith)) refl
-comes_back values (say.Del rid) = refl
-comes_back values (say.Scan table low high) = refl
-comes_back values say.Commit = refl
-comes_back values say.Rollback = refl
-comes_back values (say.Gc kind) = refl
+-- numbers have no text, and are those of their values
+pub no_texts : (ns : List ℤ) → list_any is_text (map Number ns) ≡ false
+no_texts [] = refl
+no_texts (n ∷ ns) = no_texts ns
 
-row_stays : (values more : List ℤ) (first count : ℕ) → first + count ≤ length values → take count (drop first (values ++ more)) ≡ take count (drop first values)
-row_stays values more first count within = rw (drop-append-le first values more (omega (arith, within))) (take-append-le count (drop first values) more (omega (arith, within, length-drop first values)))
+pub numbers_back : (ns : List ℤ) → map number_of (map Number ns) ≡ ns
+numbers_back [] = refl
+numbers_back (n ∷ ns) = ap (λ rest. n ∷ rest) (numbers_back ns)
 
-stays : (values more : List ℤ) (p : Packed) → HasRow (length values) p → statement_in (values ++ more) p ≡ statement_in values p
-stays values more (Begin scope) h = refl
-stays values more (Get rid) h = refl
-stays values more (Put rid span) h = ap (say.Put rid) (row_stays values more span.first span.count h.2)
-stays values more (Del rid) h = refl
-stays values more (Scan table low high) h = refl
-stays values more Commit h = refl
-stays values more Rollback h = refl
-stays values more (Gc kind) h = refl
+put_back : (ns : List ℤ) (rows : List (List Value)) (rid : Rid) (row : List Value) → statement_in (ns ++ added (say.Put rid row)) (rows ++ added_rows (say.Put rid row)) (packed_as (length ns) (length rows) (say.Put rid row)) ≡ say.Put rid row
+put_back ns rows rid row = cases (list_any is_text row)
+    (λ e. rw e (ap (say.Put rid) (get_or-append_seam rows row [] [])))
+    (λ e. rw e (rw (drop-append_seam ns (map number_of row), take_all (length row) (map number_of row) (omega (arith, length-map row number_of))) (ap (say.Put rid) (numbers_alone row e))))
 
-more_room : (many more : ℕ) (p : Packed) → many ≤ more → HasRow many p → HasRow more p
-more_room many more (Begin scope) le h = tt
-more_room many more (Get rid) le h = tt
-more_room many more (Put rid span) le h = (h.0, h.1, omega (arith, le, h.2))
-more_room many more (Del rid) le h = tt
-more_room many more (Scan table low high) le h = tt
-more_room many more Commit le h = tt
-more_room many more Rollback le h = tt
-more_room many more (Gc kind) le h = tt
+pub comes_back : (ns : List ℤ) (rows : List (List Value)) (s : Statement) → statement_in (ns ++ added s) (rows ++ added_rows s) (packed_as (length ns) (length rows) s) ≡ s
+comes_back ns rows (say.Begin scope) = refl
+comes_back ns rows (say.Get rid) = refl
+comes_back ns rows (say.Put rid row) = put_back ns rows rid row
+comes_back ns rows (say.Del rid) = refl
+comes_back ns rows (say.Scan table low high) = refl
+comes_back ns rows say.Commit = refl
+comes_back ns rows say.Rollback = refl
+comes_back ns rows (say.Gc kind) = refl
+
+row_stays : (ns more : List ℤ) (first count : ℕ) → first + count ≤ length ns → take count (drop first (ns ++ more)) ≡ take count (drop first ns)
+row_stays ns more first count within = rw (drop-append-le first ns more (omega (arith, within))) (take-append-le count (drop first ns) more (omega (arith, within, length-drop first ns)))
+
+stays : (ns more : List ℤ) (rows others : List (List Value)) (p : Packed) → HasRow (length ns) (length rows) p → statement_in (ns ++ more) (rows ++ others) p ≡ statement_in ns rows p
+stays ns more rows others (Begin scope) h = refl
+stays ns more rows others (Get rid) h = refl
+stays ns more rows others (Put rid span) h = ap (λ xs. say.Put rid (map Number xs)) (row_stays ns more span.first span.count h.2)
+stays ns more rows others (PutRow rid i) h = ap (say.Put rid) (get_or-append rows others [] i h)
+stays ns more rows others (Del rid) h = refl
+stays ns more rows others (Scan table low high) h = refl
+stays ns more rows others Commit h = refl
+stays ns more rows others Rollback h = refl
+stays ns more rows others (Gc kind) h = refl
+
+more_room : (n m k l : ℕ) (p : Packed) → n ≤ m → k ≤ l → HasRow n k p → HasRow m l p
+more_room n m k l (Begin scope) le less h = tt
+more_room n m k l (Get rid) le less h = tt
+more_room n m k l (Put rid span) le less h = (h.0, h.1, omega (arith, le, h.2))
+more_room n m k l (PutRow rid i) le less h = omega (arith, less, h)
+more_room n m k l (Del rid) le less h = tt
+more_room n m k l (Scan table low high) le less h = tt
+more_room n m k l Commit le less h = tt
+more_room n m k l Rollback le less h = tt
+more_room n m k l (Gc kind) le less h = tt
 
 -- ---- all statements
 
-all_stay : (values more : List ℤ) (es : List Entry) → Each (IsWithin (length values)) es → map (unpacked (values ++ more)) es ≡ map (unpacked values) es
-all_stay values more [] h = refl
-all_stay values more (e ∷ es) h = rw (stays values more e.packed h.0, all_stay values more es h.1) refl
+all_stay : (ns more : List ℤ) (rows others : List (List Value)) (es : List Entry) → Each (IsWithin (length ns) (length rows)) es → map (unpacked (ns ++ more) (rows ++ others)) es ≡ map (unpacked ns rows) es
+all_stay ns more rows others [] h = refl
+all_stay ns more rows others (e ∷ es) h = rw (stays ns more rows others e.packed h.0, all_stay ns more rows others es h.1) refl
 
 -- one statement more
-pub one_more : (values : List ℤ) (es : List Entry) (session next : ℕ) (s : Statement) → Each (IsWithin (length values)) es
-    → map (unpacked (values ++ added s)) (es ++ (record { session = session; next = next; packed = packed_as (length values) s }) ∷ []) ≡ map (unpacked values) es ++ (session, s) ∷ []
-one_more values es session next s h =
-    let e : Entry = record { session = session; next = next; packed = packed_as (length values) s } in
-    map-append (unpacked (values ++ added s)) es (e ∷ []) ∙ rw (all_stay values (added s) es h, comes_back values s) refl
+pub one_more : (ns : List ℤ) (rows : List (List Value)) (es : List Entry) (session next : ℕ) (s : Statement) → Each (IsWithin (length ns) (length rows)) es
+    → map (unpacked (ns ++ added s) (rows ++ added_rows s)) (es ++ (record { session = session; next = next; packed = packed_as (length ns) (length rows) s }) ∷ []) ≡ map (unpacked ns rows) es ++ (session, s) ∷ []
+one_more ns rows es session next s h =
+    let e : Entry = record { session = session; next = next; packed = packed_as (length ns) (length rows) s } in
+    map-append (unpacked (ns ++ added s) (rows ++ added_rows s)) es (e ∷ []) ∙ rw (all_stay ns (added s) rows (added_rows s) es h, comes_back ns rows s) refl
 
-pub within_more : (values more : List ℤ) (es : List Entry) → Each (IsWithin (length values)) es → Each (IsWithin (length (values ++ more))) es
-within_more values more es h =
-    each_keeps (IsWithin (length values)) (IsWithin (length (values ++ more))) (λ e k. more_room (length values) (length (values ++ more)) e.packed (omega (arith, length-append values more)) k) es h
+pub within_more : (ns more : List ℤ) (rows others : List (List Value)) (es : List Entry) → Each (IsWithin (length ns) (length rows)) es → Each (IsWithin (length (ns ++ more)) (length (rows ++ others))) es
+within_more ns more rows others es h =
+    each_keeps (IsWithin (length ns) (length rows)) (IsWithin (length (ns ++ more)) (length (rows ++ others)))
+    (λ e k. more_room (length ns) (length (ns ++ more)) (length rows) (length (rows ++ others)) e.packed (omega (arith, length-append ns more)) (omega (arith, length-append rows others)) k) es h
 
-pub fold_greatest : (n : ℕ) (values : List ℤ) (es : List Entry) → fold (λ (most : ℕ) (e : Entry). max most e.session) n es ≡ max n (greatest (map (λ said. said.0) (map (unpacked values) es)))
-fold_greatest n values [] = omega arith
-fold_greatest n values (e ∷ es) = omega (arith, fold_greatest (max n e.session) values es)
+pub fold_greatest : (n : ℕ) (ns : List ℤ) (rows : List (List Value)) (es : List Entry) → fold (λ (most : ℕ) (e : Entry). max most e.session) n es ≡ max n (greatest (map (λ said. said.0) (map (unpacked ns rows) es)))
+fold_greatest n ns rows [] = omega arith
+fold_greatest n ns rows (e ∷ es) = omega (arith, fold_greatest (max n e.session) ns rows es)
 
 -- ---- where an entry leads says nothing of its statement
 
-pub led_unpacked : (values : List ℤ) (l i : ℕ) (es : List Entry) → map (unpacked values) (led l i es) ≡ map (unpacked values) es
-led_unpacked values l i [] = refl
-led_unpacked values zero i (e ∷ es) = refl
-led_unpacked values (suc l) i (e ∷ es) = ap (λ said. unpacked values e ∷ said) (led_unpacked values l i es)
+pub led_unpacked : (ns : List ℤ) (rows : List (List Value)) (l i : ℕ) (es : List Entry) → map (unpacked ns rows) (led l i es) ≡ map (unpacked ns rows) es
+led_unpacked ns rows l i [] = refl
+led_unpacked ns rows zero i (e ∷ es) = refl
+led_unpacked ns rows (suc l) i (e ∷ es) = ap (λ said. unpacked ns rows e ∷ said) (led_unpacked ns rows l i es)
 
-pub led_within : (many l i : ℕ) (es : List Entry) → Each (IsWithin many) es → Each (IsWithin many) (led l i es)
-led_within many l i [] h = tt
-led_within many zero i (e ∷ es) h = h
-led_within many (suc l) i (e ∷ es) h = (h.0, led_within many l i es h.1)
+pub led_within : (n k l i : ℕ) (es : List Entry) → Each (IsWithin n k) es → Each (IsWithin n k) (led l i es)
+led_within n k l i [] h = tt
+led_within n k zero i (e ∷ es) h = h
+led_within n k (suc l) i (e ∷ es) h = (h.0, led_within n k l i es h.1)
 
 pub led_session : (l i : ℕ) (es : List Entry) → Each HasSession es → Each HasSession (led l i es)
 led_session l i [] h = tt
@@ -86,11 +110,11 @@ led_session zero i (e ∷ es) h = h
 led_session (suc l) i (e ∷ es) h = (h.0, led_session l i es h.1)
 
 -- the sessions are those of the entries
-pub unpacked_sessions : (values : List ℤ) (es : List Entry) → map (λ (said : ℕ × Statement). said.0) (map (unpacked values) es) ≡ sessions_in es
-unpacked_sessions values [] = refl
-unpacked_sessions values (e ∷ es) = ap (λ ks. e.session ∷ ks) (unpacked_sessions values es)
+pub unpacked_sessions : (ns : List ℤ) (rows : List (List Value)) (es : List Entry) → map (λ (said : ℕ × Statement). said.0) (map (unpacked ns rows) es) ≡ sessions_in es
+unpacked_sessions ns rows [] = refl
+unpacked_sessions ns rows (e ∷ es) = ap (λ ks. e.session ∷ ks) (unpacked_sessions ns rows es)
 
-pub unpacked_session : (values : List ℤ) (es : List Entry) (i : ℕ) (said : ℕ × Statement) (e : Entry) → i < length es → (get_or (map (unpacked values) es) i said).0 ≡ (get_or es i e).session
-unpacked_session values [] i said e less = absurd (omega (arith, less))
-unpacked_session values (x ∷ es) zero said e less = refl
-unpacked_session values (x ∷ es) (suc i) said e less = unpacked_session values es i said e (omega (arith, less))
+pub unpacked_session : (ns : List ℤ) (rows : List (List Value)) (es : List Entry) (i : ℕ) (said : ℕ × Statement) (e : Entry) → i < length es → (get_or (map (unpacked ns rows) es) i said).0 ≡ (get_or es i e).session
+unpacked_session ns rows [] i said e less = absurd (omega (arith, less))
+unpacked_session ns rows (x ∷ es) zero said e less = refl
+unpacked_session ns rows (x ∷ es) (suc i) said e less = unpacked_session ns rows es i said e (omega (arith, less))

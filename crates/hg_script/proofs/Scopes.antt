@@ -9,8 +9,7 @@ use Rattle.hg_base.specs.declared.rid.TableId.{TableId}
 use Rattle.hg_base.specs.declared.scope.Scope.TheVariants.{All, Declared}
 use Rattle.hg_base.specs.Script.{Declaration}
 use Rattle.hg_script.specs.Fields.{Field, Fields, nth}
-use Rattle.hg_script.specs.Draft.{has_name, scope_named, set_named, table_at, table_named, with_named, with_table}
-use Rattle.hg_script.specs.Rules.{first_table}
+use Rattle.hg_script.specs.Draft.{first_table, has_name, scope_named, set_named, table_at, table_named, with_named, with_table}
 use Rattle.hg_script.specs.Lawful.{IsAmong, IsScope}
 use Rattle.hg_script.proofs.Rows.{rest-at}
 
@@ -49,7 +48,7 @@ among-by : (tables : List Declaration) (name : Field) (place : Option ℕ) → p
     → not (is_some (option_map table_at place)) ≡ false
     → IsAmong tables (unwrap_or (option_map table_at place) first_table)
 among-by tables name None e h = absurd (let bad : ⊥ = cc h in bad)
-among-by tables name (Some i) e h = (position-Some (has_name name) tables i (record { name = []; columns = 0 }) e).0
+among-by tables name (Some i) e h = (position-Some (has_name name) tables i (record { name = []; kinds = [] }) e).0
 
 -- a table that is found is one of the tables
 pub among : (tables : List Declaration) (name : Field) → not (is_some (table_named tables name)) ≡ false → IsAmong tables (unwrap_or (table_named tables name) first_table)

@@ -1,6 +1,12 @@
 -- The numbers of fields have their widths.
-use Rattle.std.proofs.Common.{◌<◌, ◌≤◌, ◌^◌, ℕ, zero, suc, ℤ, pos, neg_ℤ, List, [], ◌∷◌, drop, get_or, ◌==◌, nat_lt, nat_le, arith}
+use Rattle.std.proofs.Common.{◌<◌, ◌≤◌, ◌^◌, ℕ, zero, suc, pos, neg_ℤ, List, [], ◌∷◌, length, drop, get_or, Option, Some, None, IfSome, option_map, unwrap_or, ◌==◌, nat_lt, nat_le, arith}
 use Rattle.std.specs.Prelude.{⊤}
+use Rattle.hg_base.specs.declared.limits.TheConstants.{MOST_TEXT_BYTES}
+use Rattle.hg_base.specs.declared.value.Column.{Column}
+use Rattle.hg_base.specs.declared.value.Column.TheVariants as column
+use Rattle.hg_base.specs.declared.value.Value.{Value}
+use Rattle.hg_base.specs.declared.value.Value.TheVariants.{Text}
+use Rattle.hg_base.specs.Values.{FitsValue}
 use Rattle.std.specs.Str.Parse.{digits_value}
 use Rattle.std.proofs.lemmas.Bool.{ltb-true, leb-true, cond_both}
 use lib.Signed.{mag}
@@ -11,10 +17,10 @@ use Rattle.hg_script.specs.declared.number.Natural.TheVariants as n
 use Rattle.hg_script.specs.declared.number.Integer.{Integer}
 use Rattle.hg_script.specs.declared.number.Integer.TheVariants as signed
 use Rattle.hg_script.specs.declared.values.Values.{Values}
-use Rattle.hg_script.specs.declared.values.Values.TheVariants.{No, Over, Are}
+use Rattle.hg_script.specs.declared.values.Values.TheVariants.{No, Over, Bad, Are}
 use Rattle.hg_script.specs.Number.{natural_of, integer_of, value_of, plus, minus, is_natural}
 use Rattle.hg_script.specs.Fields.{Field}
-use Rattle.hg_script.specs.Draft.{before, values_of}
+use Rattle.hg_script.specs.Draft.{and_then, before, number_in, numbers_in, row_in, typed_in, value_in, values_by}
 use Rattle.hg_script.specs.Meaning.{row_of}
 
 pub natural-fits : (text : List ℕ) → Fits64 (value_of (natural_of text))
@@ -50,18 +56,50 @@ integer-narrow text =
 
 -- ---- rows
 
-abbrev pub AreNarrow : List ℤ → Type 0
-AreNarrow row = Each (λ v. mag v < 2 ^ 63) row
+abbrev pub AreFit : List Value → Type 0
+AreFit row = Each FitsValue row
 
-before-narrow : (x : Integer) (rest : Values) → IsNarrow x → AreNarrow (row_of rest) → AreNarrow (row_of (before x rest))
-before-narrow signed.No rest h k = tt
-before-narrow signed.Over No h k = tt
-before-narrow signed.Over Over h k = tt
-before-narrow signed.Over (Are row) h k = tt
-before-narrow (signed.Is v) No h k = tt
-before-narrow (signed.Is v) Over h k = tt
-before-narrow (signed.Is v) (Are row) h k = (h, k)
+before-fits : (x : Integer) (rest : Values) → IsNarrow x → AreFit (row_of rest) → AreFit (row_of (before x rest))
+before-fits signed.No rest h k = tt
+before-fits signed.Over No h k = tt
+before-fits signed.Over Over h k = tt
+before-fits signed.Over (Bad n) h k = tt
+before-fits signed.Over (Are row) h k = tt
+before-fits (signed.Is v) No h k = tt
+before-fits (signed.Is v) Over h k = tt
+before-fits (signed.Is v) (Bad n) h k = tt
+before-fits (signed.Is v) (Are row) h k = (h, k)
 
-pub values-narrow : (fields : List Field) → AreNarrow (row_of (values_of fields))
-values-narrow [] = tt
-values-narrow (f ∷ fs) = before-narrow (integer_of f) (values_of fs) (integer-narrow f) (values-narrow fs)
+numbers-fit : (fields : List Field) → AreFit (row_of (numbers_in fields))
+numbers-fit [] = tt
+numbers-fit (f ∷ fs) = before-fits (integer_of f) (numbers_in fs) (integer-narrow f) (numbers-fit fs)
+
+-- a value, if it is there, fits
+number-fits : (x : Integer) → IsNarrow x → IfSome (number_in x) FitsValue
+number-fits signed.No h = tt
+number-fits signed.Over h = tt
+number-fits (signed.Is v) h = h
+
+value-fits : (kind : Column) (f : Field) → IfSome (value_in kind f) FitsValue
+value-fits column.Number f = number-fits (integer_of f) (integer-narrow f)
+value-fits column.Text f = cond_both (nat_le (length f) MOST_TEXT_BYTES) (Some (Text f)) None (λ (o : Option Value). IfSome o FitsValue) (λ e. leb-true _ _ e) (λ e. tt)
+
+both-fit : (o : Option Value) (more : Option (List Value)) → IfSome o FitsValue → IfSome more AreFit → IfSome (and_then o more) AreFit
+both-fit None more h k = tt
+both-fit (Some v) None h k = tt
+both-fit (Some v) (Some vs) h k = (h, k)
+
+row-fits : (kinds : List Column) (fields : List Field) → IfSome (row_in kinds fields) AreFit
+row-fits [] [] = tt
+row-fits [] (f ∷ fs) = tt
+row-fits (k ∷ ks) [] = tt
+row-fits (k ∷ ks) (f ∷ fs) = both-fit (value_in k f) (row_in ks fs) (value-fits k f) (row-fits ks fs)
+
+given-fits : (o : Option (List Value)) (n : ℕ) → IfSome o AreFit → AreFit (row_of (unwrap_or (option_map Are o) (Bad n)))
+given-fits None n h = tt
+given-fits (Some row) n h = h
+
+-- each value of a put fits
+pub values-fit : (version : ℕ) (kinds : List Column) (fields : List Field) → AreFit (row_of (values_by version kinds fields))
+values-fit version kinds fields =
+    cond_both (version == 1) (numbers_in fields) (typed_in kinds fields) (λ (values : Values). AreFit (row_of values)) (λ e. numbers-fit fields) (λ e. given-fits (row_in kinds fields) (length fields) (row-fits kinds fields))

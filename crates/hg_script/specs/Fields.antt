@@ -1,8 +1,8 @@
 -- A record as the list of its fields, and the word that says what it is.
-use Rattle.std.specs.Prelude.{ℕ, List, [], get_or, codes, bytes_eq, Option, Some, None, if◌then◌else◌}
+use Rattle.std.specs.Prelude.{ℕ, ◌==◌, ◌&&◌, List, [], get_or, codes, bytes_eq, Option, Some, None, Bool, if◌then◌else◌}
 use Rattle.csv.specs.Reading.{default_config, records, strip_bom}
 use Rattle.hg_script.specs.declared.word.Word.{Word}
-use Rattle.hg_script.specs.declared.word.Word.TheVariants.{Table, Begin, Get, Put, Del, Scan, Commit, Rollback, Gc}
+use Rattle.hg_script.specs.declared.word.Word.TheVariants.{Version, Table, Begin, Get, Put, Del, Scan, Commit, Rollback, Gc}
 
 -- a field is its bytes
 abbrev pub Field : Type 0
@@ -32,6 +32,14 @@ statement_word word =
     else (if bytes_eq word (codes "gc") then Some Gc
     else None)))))))
 
--- A table record is one whose first field is `table`. Every other is a session's, and its second field is its word.
-abbrev pub word_of : Fields → Option Word
-word_of r = if bytes_eq (nth r 0) (codes "table") then Some Table else statement_word (nth r 1)
+-- whether the record at this place is the version's: the first record alone may be
+abbrev pub is_version : ℕ → Fields → Bool
+is_version place r = (place == 1) && bytes_eq (nth r 0) (codes "version")
+
+-- The version record is the first one, where its first field is `version`. A table record is one whose first field is `table`.
+-- Every other is a session's, and its second field is its word.
+abbrev pub word_of : ℕ → Fields → Option Word
+word_of place r =
+    if is_version place r then Some Version
+    else (if bytes_eq (nth r 0) (codes "table") then Some Table
+    else statement_word (nth r 1))

@@ -1,5 +1,5 @@
 -- The script that is made from a seed: three tables, and 16,000 statements that sessions 1 to 8 make in turn, by numbers that are drawn.
-use Rattle.std.specs.Prelude.{◌≡◌, ℕ, ℤ, zero, suc, pos, ◌+◌, ◌*◌, ◌/◌, ◌%◌, ◌^◌, List, [], ◌∷◌, ◌++◌, length, map, fold, codes, Bool, ◌==◌, nat_le, if◌then◌else◌, ⊤}
+use Rattle.std.specs.Prelude.{◌≡◌, ℕ, zero, suc, pos, ◌+◌, ◌*◌, ◌/◌, ◌%◌, ◌^◌, List, [], ◌∷◌, ◌++◌, length, map, fold, codes, Bool, ◌==◌, nat_le, if◌then◌else◌, ⊤}
 use Rattle.hg_base.specs.declared.rid.Rid.{Rid}
 use Rattle.hg_base.specs.declared.rid.TableId.{TableId}
 use Rattle.hg_base.specs.declared.scope.Scope.TheVariants.{All, Declared}
@@ -8,9 +8,12 @@ use Rattle.hg_base.specs.declared.report.Kind.TheVariants as kinds
 use Rattle.hg_base.specs.declared.statement.Record.{Record}
 use Rattle.hg_base.specs.declared.statement.Statement.{Statement}
 use Rattle.hg_base.specs.declared.statement.Statement.TheVariants as say
+use Rattle.hg_base.specs.declared.value.Column.TheVariants as columns
+use Rattle.hg_base.specs.declared.value.Value.{Value}
+use Rattle.hg_base.specs.declared.value.Value.TheVariants.{Number}
 use Rattle.hg_base.specs.Lists.{numbers_from}
 use Rattle.hg_base.specs.Script.{Declaration, Script}
-use Rattle.hg_base.specs.Text.{columns_of}
+use Rattle.hg_base.specs.Text.{kinds_of}
 use Rattle.hg_script.specs.declared.choice.Choice.{Choice}
 use Rattle.hg_script.specs.declared.choice.Choice.TheVariants.{Begin, BeginC, Get, Put, Del, Scan, Commit, Rollback, Gc}
 use Rattle.hg_script.specs.Draft.{table_at}
@@ -71,9 +74,9 @@ chosen within r = chosen_in (if within then inside else outside) r
 
 -- ---- statements
 
--- tables a, b and c, of one, two and one columns
+-- tables a, b and c, of one, two and one columns of numbers
 abbrev pub made_tables : List Declaration
-made_tables = (record { name = codes "a"; columns = 1 }) ∷ (record { name = codes "b"; columns = 2 }) ∷ (record { name = codes "c"; columns = 1 }) ∷ []
+made_tables = (record { name = codes "a"; kinds = columns.Number ∷ [] }) ∷ (record { name = codes "b"; kinds = columns.Number ∷ columns.Number ∷ [] }) ∷ (record { name = codes "c"; kinds = columns.Number ∷ [] }) ∷ []
 
 -- The first draw makes the choice, the second gives the table, and the third the key.
 abbrev pub table_drawn : ℕ → TableId
@@ -83,8 +86,8 @@ abbrev pub rid_drawn : ℕ → Rid
 rid_drawn x = record { table = table_drawn x; key = drawn 3 256 x }
 
 -- a draw for each column
-abbrev pub row_drawn : ℕ → ℕ → List ℤ
-row_drawn columns x = map (λ n. pos (drawn n 1000 x)) (numbers_from 1 columns)
+abbrev pub row_drawn : ℕ → ℕ → List Value
+row_drawn columns x = map (λ n. Number (pos (drawn n 1000 x))) (numbers_from 1 columns)
 
 abbrev pub kind_at : ℕ → Kind
 kind_at n = if n == 0 then kinds.Group else (if n == 1 then kinds.Table else kinds.Interval)
@@ -94,7 +97,7 @@ abbrev pub statement_by : ℕ → Choice → Statement
 statement_by x Begin = say.Begin All
 statement_by x BeginC = say.Begin (Declared (2 ^ 2))
 statement_by x Get = say.Get (rid_drawn x)
-statement_by x Put = say.Put (rid_drawn x) (row_drawn (columns_of made_tables (table_drawn x)) (state_after 3 x))
+statement_by x Put = say.Put (rid_drawn x) (row_drawn (length (kinds_of made_tables (table_drawn x))) (state_after 3 x))
 statement_by x Del = say.Del (rid_drawn x)
 statement_by x Scan = say.Scan (table_drawn x) (drawn 3 256 x) (drawn 3 256 x + 15)
 statement_by x Commit = say.Commit
@@ -135,6 +138,7 @@ AreMade seed before (r ∷ rs) = (r ≡ record_after seed before) × AreMade see
 
 -- the script of a seed: there is one
 pub record IsMade (seed : ℕ) (s : Script) : Type 0 where
+  pub version : s.version ≡ 1
   pub tables : s.tables ≡ made_tables
   pub many : length s.records ≡ 16000
   pub each : AreMade seed [] s.records

@@ -1,7 +1,6 @@
 -- What a script is that breaks no rule, in words of its own.
-use Rattle.std.specs.Prelude.{◌≡◌, ◌+◌, ◌<◌, ◌≤◌, ◌^◌, List, [], ◌∷◌, ◌++◌, length, map, Bool, IsTrue, IsFalse, bytes_eq, ⊤}
+use Rattle.std.specs.Prelude.{◌≡◌, ◌⊎◌, ◌+◌, ◌<◌, ◌≤◌, ◌^◌, List, [], ◌∷◌, ◌++◌, length, map, Bool, IsTrue, IsFalse, bytes_eq, ⊤}
 use Rattle.std.specs.List.{IsDistinct}
-use lib.Signed.{mag}
 use Rattle.hg_base.specs.declared.limits.TheConstants.{MOST_SESSIONS, MOST_TABLES, MOST_COLUMNS, MOST_RECORDS}
 use Rattle.hg_base.specs.declared.rid.TableId.{TableId}
 use Rattle.hg_base.specs.declared.scope.Scope.{Scope}
@@ -9,17 +8,24 @@ use Rattle.hg_base.specs.declared.scope.Scope.TheVariants.{All, Declared}
 use Rattle.hg_base.specs.declared.statement.Record.{Record}
 use Rattle.hg_base.specs.declared.statement.Statement.{Statement}
 use Rattle.hg_base.specs.declared.statement.Statement.TheVariants as say
+use Rattle.hg_base.specs.declared.value.Column.TheVariants as columns
+use Rattle.hg_base.specs.Values.{FitsValue, kind_of}
 use Rattle.hg_base.specs.Lists.{Each, Ascends}
 use Rattle.hg_base.specs.Script.{Declaration, Script}
-use Rattle.hg_base.specs.Text.{Fits64, columns_of}
+use Rattle.hg_base.specs.Text.{Fits64, kinds_of}
 use Rattle.hg_script.specs.Draft.{is_name}
+use Rattle.hg_script.specs.Numbered.{records_before}
 use Rattle.hg_script.specs.Rules.{is_open}
 
 -- a table by a name, of some columns
 pub record IsTable (d : Declaration) : Type 0 where
   pub name : IsTrue (is_name d.name)
-  pub some : 1 ≤ d.columns
-  pub most : d.columns ≤ MOST_COLUMNS
+  pub some : 1 ≤ length d.kinds
+  pub most : length d.kinds ≤ MOST_COLUMNS
+
+-- a table of numbers alone
+abbrev pub HasNumbers : Declaration → Type 0
+HasNumbers d = Each (λ kind. kind ≡ columns.Number) d.kinds
 
 -- one of the tables
 abbrev pub IsAmong : List Declaration → TableId → Type 0
@@ -30,22 +36,22 @@ abbrev pub IsScope : List Declaration → Scope → Type 0
 IsScope tables All = ⊤
 IsScope tables (Declared mask) = (1 ≤ mask) × (mask < 2 ^ length tables)
 
--- A statement on tables that are declared, and a row of as many values as its table has columns. A scan may have its ends in any order.
+-- A statement on tables that are declared, and a row of the kinds that its table has. A scan may have its ends in any order.
 abbrev pub FitsTables : List Declaration → Statement → Type 0
 FitsTables tables (say.Begin scope) = IsScope tables scope
 FitsTables tables (say.Get r) = IsAmong tables r.table
-FitsTables tables (say.Put r row) = IsAmong tables r.table × (length row ≡ columns_of tables r.table)
+FitsTables tables (say.Put r row) = IsAmong tables r.table × (map kind_of row ≡ kinds_of tables r.table)
 FitsTables tables (say.Del r) = IsAmong tables r.table
 FitsTables tables (say.Scan table low high) = IsAmong tables table
 FitsTables tables say.Commit = ⊤
 FitsTables tables say.Rollback = ⊤
 FitsTables tables (say.Gc kind) = ⊤
 
--- Keys and the ends of a scan are numbers of 64 bits, and so are values, with their sign.
+-- Keys and the ends of a scan are numbers of 64 bits, and values are such numbers with a sign, or texts of at most 64 bytes.
 abbrev pub HasWidths : Statement → Type 0
 HasWidths (say.Begin scope) = ⊤
 HasWidths (say.Get r) = Fits64 r.key
-HasWidths (say.Put r row) = Fits64 r.key × Each (λ v. mag v < 2 ^ 63) row
+HasWidths (say.Put r row) = Fits64 r.key × Each FitsValue row
 HasWidths (say.Del r) = Fits64 r.key
 HasWidths (say.Scan table low high) = Fits64 low × Fits64 high
 HasWidths say.Commit = ⊤
@@ -77,11 +83,13 @@ abbrev pub AreInOrder : List Record → List Record → Type 0
 AreInOrder before [] = ⊤
 AreInOrder before (r ∷ rs) = MayStand (is_open r.session before) r.statement × AreInOrder (before ++ r ∷ []) rs
 
--- No more tables and no more records than there may be, tables by distinct names, and statements that fit them, in order, by
--- ascending place.
+-- One of two versions, of which the first has numbers alone, no more tables and no more records than there may be, tables by
+-- distinct names, and statements that fit them, in order, by ascending place.
 pub record IsLawful (s : Script) : Type 0 where
+  pub version : (s.version ≡ 1) ⊎ (s.version ≡ 2)
+  pub numbers : s.version ≡ 1 → Each HasNumbers s.tables
   pub most : length s.tables ≤ MOST_TABLES
-  pub records : length s.tables + length s.records ≤ MOST_RECORDS
+  pub records : records_before s + length s.records ≤ MOST_RECORDS
   pub tables : Each IsTable s.tables
   pub names : IsDistinct bytes_eq (map (λ d. d.name) s.tables)
   pub statements : Each (IsStatement s.tables) s.records

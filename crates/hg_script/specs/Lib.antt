@@ -9,6 +9,7 @@ pub mod Lawful
 pub mod Generator
 pub mod Asked
 -- What the reader keeps.
+pub mod Typed
 pub mod Places
 pub mod Sessions
 pub mod Packed

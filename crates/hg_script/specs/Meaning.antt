@@ -1,5 +1,5 @@
 -- The first record that breaks a rule, with its first code, and the script that the records give.
-use Rattle.std.specs.Prelude.{◌≡◌, ℕ, ℤ, ◌+◌, List, [], ◌∷◌, ◌++◌, length, drop, Bool, false, Option, Some, None, is_none, option_map, unwrap_or, if◌then◌else◌, ⊤}
+use Rattle.std.specs.Prelude.{◌≡◌, ℕ, ◌+◌, List, [], ◌∷◌, ◌++◌, length, drop, Bool, false, Option, Some, None, is_none, option_map, unwrap_or, if◌then◌else◌, ⊤}
 use Rattle.std.specs.Option.{option_map_or}
 use Rattle.hg_base.specs.declared.rid.Rid.{Rid}
 use Rattle.hg_base.specs.declared.rid.TableId.{TableId}
@@ -7,9 +7,13 @@ use Rattle.hg_base.specs.declared.scope.Scope.TheVariants.{All}
 use Rattle.hg_base.specs.declared.report.Kind.TheVariants.{Group}
 use Rattle.hg_base.specs.declared.statement.Statement.{Statement}
 use Rattle.hg_base.specs.declared.statement.Statement.TheVariants as say
-use Rattle.hg_base.specs.Script.{Declaration, Script}
+use Rattle.hg_base.specs.declared.value.Column.{Column}
+use Rattle.hg_base.specs.declared.value.Value.{Value}
+use Rattle.hg_base.specs.Script.{Script}
+use Rattle.hg_script.specs.declared.columns.Columns.{Columns}
+use Rattle.hg_script.specs.declared.columns.Columns.TheVariants as columns
 use Rattle.hg_script.specs.declared.code.Code.{Code}
-use Rattle.hg_script.specs.declared.code.Code.TheVariants.{Count, Word as BadWord, Fields as BadFields, Number, Range, Name, Columns, Order}
+use Rattle.hg_script.specs.declared.code.Code.TheVariants.{Count, Word as BadWord, Fields as BadFields, Number, Range, Name, Columns as BadColumns, Value as BadValue, Order}
 use Rattle.hg_script.specs.declared.refusal.ScriptRefusal.{ScriptRefusal}
 use Rattle.hg_script.specs.declared.refusal.ScriptRefusal.TheVariants.{At, NoMemory}
 use Rattle.hg_script.specs.declared.number.Natural.{Natural}
@@ -19,17 +23,17 @@ use Rattle.hg_script.specs.declared.word.Word.{Word}
 use Rattle.hg_script.specs.declared.draft.Ask.{Ask}
 use Rattle.hg_script.specs.declared.draft.Ask.TheVariants.{Begin, Get, Put, Del, Scan, Commit, Rollback, Gc}
 use Rattle.hg_script.specs.declared.draft.Draft.{Draft}
-use Rattle.hg_script.specs.declared.draft.Draft.TheVariants.{Table, Session}
+use Rattle.hg_script.specs.declared.draft.Draft.TheVariants.{Version, Table, Session}
 use Rattle.hg_script.specs.Number.{value_of}
 use Rattle.hg_script.specs.Fields.{Fields, nth, word_of}
-use Rattle.hg_script.specs.Draft.{draft_of}
-use Rattle.hg_script.specs.Rules.{count_breaks, fields_breaks, number_breaks, range_breaks, name_breaks, columns_breaks, order_breaks, first_table}
+use Rattle.hg_script.specs.Draft.{draft_of, first_table}
+use Rattle.hg_script.specs.Rules.{count_breaks, fields_breaks, number_breaks, range_breaks, name_breaks, columns_breaks, value_breaks, order_breaks}
 
 -- ---- the codes
 
 -- a record's draft, if it has a word
-abbrev pub read_as : List Declaration → Fields → Option Draft
-read_as tables r = option_map (λ word. draft_of tables word r) (word_of r)
+abbrev pub read_as : ℕ → Script → Fields → Option Draft
+read_as place s r = option_map (λ word. draft_of s.version s.tables word r) (word_of place r)
 
 -- whether P holds of what is there
 abbrev pub holds_of : {X : Type 0} → (X → Bool) → Option X → Bool
@@ -44,7 +48,8 @@ code_table place s r word draft =
     ∷ (Number, holds_of number_breaks draft)
     ∷ (Range, holds_of range_breaks draft)
     ∷ (Name, holds_of name_breaks draft)
-    ∷ (Columns, holds_of (columns_breaks s.tables) draft)
+    ∷ (BadColumns, holds_of (columns_breaks s.tables) draft)
+    ∷ (BadValue, holds_of value_breaks draft)
     ∷ (Order, holds_of (order_breaks s.records) draft)
     ∷ []
 
@@ -54,7 +59,7 @@ first_broken ((code, breaks) ∷ more) = if breaks then Some code else first_bro
 
 -- the first code whose rule the record breaks
 unfoldable pub first_code : ℕ → Script → Fields → Option Code
-first_code place s r = first_broken (code_table place s r (word_of r) (read_as s.tables r))
+first_code place s r = first_broken (code_table place s r (word_of place r) (read_as place s r))
 
 -- the first of the codes from the fourth on, which ask for the draft alone
 unfoldable pub draft_code : Script → Draft → Option Code
@@ -63,9 +68,14 @@ draft_code s d = first_broken (drop 3 (code_table 1 s [] None (Some d)))
 -- ---- what a record adds
 
 -- the row that values are, and no values where they are none
-abbrev pub row_of : Values → List ℤ
+abbrev pub row_of : Values → List Value
 row_of (Are row) = row
 row_of _ = []
+
+-- the kinds that columns are, and none where they are no columns
+abbrev pub kinds_in : Columns → List Column
+kinds_in (columns.Are kinds) = kinds
+kinds_in _ = []
 
 -- the record of this key
 abbrev pub rid_of : Option TableId → Natural → Rid
@@ -84,18 +94,19 @@ statement_of (Gc kind) = say.Gc (unwrap_or kind Group)
 
 -- The script with one more record that has its fields. A table's name stands in its second field.
 abbrev pub with_draft : ℕ → Script → Fields → Draft → Script
-with_draft place s r (Table fresh columns) = record s { tables = s.tables ++ (record { name = nth r 1; columns = value_of columns }) ∷ [] }
+with_draft place s r (Version version) = record s { version = value_of version }
+with_draft place s r (Table fresh cols) = record s { tables = s.tables ++ (record { name = nth r 1; kinds = kinds_in cols }) ∷ [] }
 with_draft place s r (Session session ask) = record s { records = s.records ++ (record { place = place; session = value_of session; statement = statement_of ask }) ∷ [] }
 
 -- the script with one more record
 unfoldable pub with_row : ℕ → Script → Fields → Script
-with_row place s r = option_map_or (with_draft place s r) (read_as s.tables r) s
+with_row place s r = option_map_or (with_draft place s r) (read_as place s r) s
 
 -- ---- all records
 
--- the script of no records
+-- the script of no records, which is one of version 1
 abbrev pub nothing : Script
-nothing = record { tables = []; records = [] }
+nothing = record { version = 1; tables = []; records = [] }
 
 -- a record's code, or else what the records after it give
 abbrev pub or_next : ℕ → Option Code → Option (ℕ × Code) → Option (ℕ × Code)

@@ -1,50 +1,61 @@
--- Statements whose values stand in one list of all values.
-use Rattle.std.specs.Prelude.{ℕ, ℤ, ◌+◌, ◌≤◌, List, [], length, take, drop, ⊤}
+-- Statements whose values stand in lists of all values: numbers, and rows with a text.
+use Rattle.std.specs.Prelude.{ℕ, ℤ, ◌+◌, ◌<◌, ◌≤◌, List, [], ◌∷◌, length, map, take, drop, get_or, if◌then◌else◌, ⊤}
+use Rattle.std.specs.List.{list_any}
 use Rattle.hg_base.specs.declared.limits.TheConstants.{MOST_COLUMNS, MOST_SESSIONS}
 use Rattle.hg_base.specs.declared.statement.Statement.{Statement}
 use Rattle.hg_base.specs.declared.statement.Statement.TheVariants as say
+use Rattle.hg_base.specs.declared.value.Value.{Value}
+use Rattle.hg_base.specs.declared.value.Value.TheVariants.{Number}
+use Rattle.hg_base.specs.Values.{is_text, number_of}
 use Rattle.hg_script.specs.declared.statements.Entry.{Entry}
 use Rattle.hg_script.specs.declared.statements.Packed.{Packed}
-use Rattle.hg_script.specs.declared.statements.Packed.TheVariants.{Begin, Get, Put, Del, Scan, Commit, Rollback, Gc}
+use Rattle.hg_script.specs.declared.statements.Packed.TheVariants.{Begin, Get, Put, PutRow, Del, Scan, Commit, Rollback, Gc}
 
--- the statement, where these are all values
-abbrev pub statement_in : List ℤ → Packed → Statement
-statement_in values (Begin scope) = say.Begin scope
-statement_in values (Get rid) = say.Get rid
-statement_in values (Put rid span) = say.Put rid (take span.count (drop span.first values))
-statement_in values (Del rid) = say.Del rid
-statement_in values (Scan table low high) = say.Scan table low high
-statement_in values Commit = say.Commit
-statement_in values Rollback = say.Rollback
-statement_in values (Gc kind) = say.Gc kind
+-- the statement, where these are all numbers and all rows with a text
+abbrev pub statement_in : List ℤ → List (List Value) → Packed → Statement
+statement_in numbers rows (Begin scope) = say.Begin scope
+statement_in numbers rows (Get rid) = say.Get rid
+statement_in numbers rows (Put rid span) = say.Put rid (map Number (take span.count (drop span.first numbers)))
+statement_in numbers rows (PutRow rid i) = say.Put rid (get_or rows i [])
+statement_in numbers rows (Del rid) = say.Del rid
+statement_in numbers rows (Scan table low high) = say.Scan table low high
+statement_in numbers rows Commit = say.Commit
+statement_in numbers rows Rollback = say.Rollback
+statement_in numbers rows (Gc kind) = say.Gc kind
 
 -- a session with its statement
-abbrev pub unpacked : List ℤ → Entry → ℕ × Statement
-unpacked values e = (e.session, statement_in values e.packed)
+abbrev pub unpacked : List ℤ → List (List Value) → Entry → ℕ × Statement
+unpacked numbers rows e = (e.session, statement_in numbers rows e.packed)
 
--- its row stands among so many values
-abbrev pub HasRow : ℕ → Packed → Type 0
-HasRow many (Put rid span) = (1 ≤ span.count) × (span.count ≤ MOST_COLUMNS) × (span.first + span.count ≤ many)
-HasRow many _ = ⊤
+-- its row stands among so many numbers, or so many rows
+abbrev pub HasRow : ℕ → ℕ → Packed → Type 0
+HasRow numbers rows (Put rid span) = (1 ≤ span.count) × (span.count ≤ MOST_COLUMNS) × (span.first + span.count ≤ numbers)
+HasRow numbers rows (PutRow rid i) = i < rows
+HasRow numbers rows _ = ⊤
 
-abbrev pub IsWithin : ℕ → Entry → Type 0
-IsWithin many e = HasRow many e.packed
+abbrev pub IsWithin : ℕ → ℕ → Entry → Type 0
+IsWithin numbers rows e = HasRow numbers rows e.packed
 
 abbrev pub HasSession : Entry → Type 0
 HasSession e = e.session ≤ MOST_SESSIONS
 
--- the statement, whose values stand behind so many
-abbrev pub packed_as : ℕ → Statement → Packed
-packed_as many (say.Begin scope) = Begin scope
-packed_as many (say.Get rid) = Get rid
-packed_as many (say.Put rid row) = Put rid (record { first = many; count = length row })
-packed_as many (say.Del rid) = Del rid
-packed_as many (say.Scan table low high) = Scan table low high
-packed_as many say.Commit = Commit
-packed_as many say.Rollback = Rollback
-packed_as many (say.Gc kind) = Gc kind
+-- the statement, whose values stand behind so many numbers or so many rows
+abbrev pub packed_as : ℕ → ℕ → Statement → Packed
+packed_as numbers rows (say.Begin scope) = Begin scope
+packed_as numbers rows (say.Get rid) = Get rid
+packed_as numbers rows (say.Put rid row) = if list_any is_text row then PutRow rid rows else Put rid (record { first = numbers; count = length row })
+packed_as numbers rows (say.Del rid) = Del rid
+packed_as numbers rows (say.Scan table low high) = Scan table low high
+packed_as numbers rows say.Commit = Commit
+packed_as numbers rows say.Rollback = Rollback
+packed_as numbers rows (say.Gc kind) = Gc kind
 
--- the values of a statement
+-- the numbers of a statement whose row has no text
 abbrev pub added : Statement → List ℤ
-added (say.Put rid row) = row
+added (say.Put rid row) = if list_any is_text row then [] else map number_of row
 added _ = []
+
+-- the row of a statement, if it has a text
+abbrev pub added_rows : Statement → List (List Value)
+added_rows (say.Put rid row) = if list_any is_text row then row ∷ [] else []
+added_rows _ = []

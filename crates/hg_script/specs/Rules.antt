@@ -1,20 +1,21 @@
 -- Which records break which rule: one test for each code.
-use Rattle.std.specs.Prelude.{ℕ, List, length, fold, Bool, true, false, not, ◌&&◌, ◌||◌, ◌==◌, nat_lt, nat_le, Option, Some, is_some, unwrap_or, if◌then◌else◌}
-use Rattle.hg_base.specs.declared.limits.TheConstants.{MOST_RECORDS, MOST_TABLES, MOST_COLUMNS, MOST_SESSIONS}
-use Rattle.hg_base.specs.declared.rid.TableId.{TableId}
+use Rattle.std.specs.Prelude.{ℕ, List, length, fold, Bool, true, false, not, ◌&&◌, ◌||◌, ◌==◌, nat_lt, nat_le, Option, Some, is_some, if◌then◌else◌}
+use Rattle.hg_base.specs.declared.limits.TheConstants.{MOST_RECORDS, MOST_TABLES, MOST_SESSIONS}
 use Rattle.hg_base.specs.declared.statement.Record.{Record}
 use Rattle.hg_base.specs.declared.statement.Statement.{Statement}
 use Rattle.hg_base.specs.declared.statement.Statement.TheVariants as say
 use Rattle.hg_base.specs.Script.{Declaration}
-use Rattle.hg_base.specs.Text.{columns_of}
+use Rattle.hg_script.specs.declared.columns.Columns.{Columns}
+use Rattle.hg_script.specs.declared.columns.Columns.TheVariants as columns
 use Rattle.hg_script.specs.declared.values.Values.{Values}
-use Rattle.hg_script.specs.declared.values.Values.TheVariants.{No, Over, Are}
+use Rattle.hg_script.specs.declared.values.Values.TheVariants.{No, Over, Bad, Are}
 use Rattle.hg_script.specs.declared.word.Word.{Word}
 use Rattle.hg_script.specs.declared.word.Word.TheVariants as word
 use Rattle.hg_script.specs.declared.draft.Ask.{Ask}
 use Rattle.hg_script.specs.declared.draft.Ask.TheVariants.{Begin, Get, Put, Del, Scan, Commit, Rollback, Gc}
 use Rattle.hg_script.specs.declared.draft.Draft.{Draft}
-use Rattle.hg_script.specs.declared.draft.Draft.TheVariants.{Table, Session}
+use Rattle.hg_script.specs.declared.draft.Draft.TheVariants.{Version, Table, Session}
+use Rattle.hg_script.specs.Draft.{kinds_at}
 use Rattle.hg_script.specs.Number.{is_no, is_over, is_between, value_of}
 
 -- ---- Count: one record too many, or one table
@@ -29,6 +30,7 @@ count_breaks place tables w = nat_lt MOST_RECORDS place || (is_table w && nat_le
 -- ---- Fields: a number of fields that the word does not have
 
 abbrev pub fields_breaks : Word → ℕ → Bool
+fields_breaks word.Version n = not (n == 2)
 fields_breaks word.Table n = not (n == 3)
 fields_breaks word.Begin n = nat_lt n 2 || nat_lt 66 n
 fields_breaks word.Get n = not (n == 4)
@@ -40,6 +42,10 @@ fields_breaks word.Rollback n = not (n == 2)
 fields_breaks word.Gc n = not (n == 3)
 
 -- ---- Number: a field that is not written as a number
+
+abbrev pub is_no_columns : Columns → Bool
+is_no_columns columns.No = true
+is_no_columns _ = false
 
 abbrev pub is_no_values : Values → Bool
 is_no_values No = true
@@ -56,10 +62,15 @@ ask_number_breaks Rollback = false
 ask_number_breaks (Gc kind) = false
 
 abbrev pub number_breaks : Draft → Bool
-number_breaks (Table fresh columns) = is_no columns
+number_breaks (Version version) = is_no version
+number_breaks (Table fresh cols) = is_no_columns cols
 number_breaks (Session session ask) = is_no session || ask_number_breaks ask
 
--- ---- Range: a number that is too small or too great
+-- ---- Range: another version than 2, a number that is too small or too great, or columns other than 1 to 8
+
+abbrev pub is_over_columns : Columns → Bool
+is_over_columns columns.Over = true
+is_over_columns _ = false
 
 abbrev pub is_over_values : Values → Bool
 is_over_values Over = true
@@ -76,7 +87,8 @@ ask_range_breaks Rollback = false
 ask_range_breaks (Gc kind) = false
 
 abbrev pub range_breaks : Draft → Bool
-range_breaks (Table fresh columns) = not (is_between 1 MOST_COLUMNS columns)
+range_breaks (Version version) = not (is_between 2 2 version)
+range_breaks (Table fresh cols) = is_over_columns cols
 range_breaks (Session session ask) = not (is_between 1 MOST_SESSIONS session) || ask_range_breaks ask
 
 -- ---- Name: a name that no table may take, or that no table has, or that no collector has
@@ -92,27 +104,40 @@ ask_name_breaks Rollback = false
 ask_name_breaks (Gc kind) = not (is_some kind)
 
 abbrev pub name_breaks : Draft → Bool
-name_breaks (Table fresh columns) = not fresh
+name_breaks (Version version) = false
+name_breaks (Table fresh cols) = not fresh
 name_breaks (Session session ask) = ask_name_breaks ask
 
 -- ---- Columns: a row of another length than its table's
 
--- what stands for a table that is not declared
-abbrev pub first_table : TableId
-first_table = record { 0 = 0 }
-
--- how many, and 0 where they are no row
+-- how many, and 0 where they are no row of numbers
 abbrev pub count_of : Values → ℕ
 count_of (Are row) = length row
+count_of (Bad count) = count
 count_of _ = 0
 
 abbrev pub ask_columns_breaks : List Declaration → Ask → Bool
-ask_columns_breaks tables (Put table key values) = not (columns_of tables (unwrap_or table first_table) == count_of values)
+ask_columns_breaks tables (Put table key values) = not (length (kinds_at tables table) == count_of values)
 ask_columns_breaks tables _ = false
 
 abbrev pub columns_breaks : List Declaration → Draft → Bool
-columns_breaks tables (Table fresh columns) = false
+columns_breaks tables (Version version) = false
+columns_breaks tables (Table fresh cols) = false
 columns_breaks tables (Session session ask) = ask_columns_breaks tables ask
+
+-- ---- Value: a row that has a value of another kind than its column
+
+abbrev pub is_bad_values : Values → Bool
+is_bad_values (Bad count) = true
+is_bad_values _ = false
+
+abbrev pub ask_value_breaks : Ask → Bool
+ask_value_breaks (Put table key values) = is_bad_values values
+ask_value_breaks _ = false
+
+abbrev pub value_breaks : Draft → Bool
+value_breaks (Session session ask) = ask_value_breaks ask
+value_breaks _ = false
 
 -- ---- Order: a record that does not fit those before it
 
@@ -138,5 +163,6 @@ ask_order_breaks within Rollback = not within
 ask_order_breaks within _ = false
 
 abbrev pub order_breaks : List Record → Draft → Bool
-order_breaks records (Table fresh columns) = nat_lt 0 (length records)
+order_breaks records (Version version) = false
+order_breaks records (Table fresh cols) = nat_lt 0 (length records)
 order_breaks records (Session session ask) = ask_order_breaks (is_open (value_of session) records) ask

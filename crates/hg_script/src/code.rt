@@ -13,6 +13,7 @@ pub enum Code {
     Range,
     Name,
     Columns,
+    Value,
     Order,
 }
 
@@ -31,6 +32,7 @@ impl fmt::Display for Code {
             Code::Range => "Range",
             Code::Name => "Name",
             Code::Columns => "Columns",
+            Code::Value => "Value",
             Code::Order => "Order",
         };
         write!(f, "{name}")

@@ -3,12 +3,13 @@
 ghost use Rattle.std.specs.Prelude.{◌≡◌, IfOk, false, length};
 ghost use Rattle.csv.specs.Records.{fields_of};
 ghost use Rattle.hg_script.specs.Draft.{draft_of};
-ghost use Rattle.hg_script.specs.Rules.{ask_number_breaks, ask_range_breaks, fields_breaks};
+ghost use Rattle.hg_script.specs.Rules.{ask_number_breaks, ask_range_breaks, ask_value_breaks, fields_breaks};
 ghost use Rattle.hg_script.specs.Meaning.{rid_of, statement_of};
 
+use crate::columns::Columns;
 use crate::kind::find_kind;
 use crate::number::{Natural, read_natural};
-use crate::rules::FIRST_TABLE;
+use crate::rules::{FIRST_TABLE, kinds_at};
 use crate::scope::find_scope;
 use crate::tables::Tables;
 use crate::values::Values;
@@ -52,8 +53,9 @@ pub enum Ask {
 /// A record that has the fields of its word.
 #[derive(Debug, Drop)]
 pub enum Draft {
-    /// Whether the name is one that a table may take, and the number of columns.
-    Table { fresh: bool, columns: Natural },
+    Version(Natural),
+    /// Whether the name is one that a table may take, and the columns.
+    Table { fresh: bool, columns: Columns },
     Session { session: Natural, ask: Ask },
 }
 
@@ -71,6 +73,7 @@ impl Ask {
     pub(crate) fn into_statement(self) -> Statement
         requires number { ask_number_breaks self ≡ false }
         requires range { ask_range_breaks self ≡ false }
+        requires value { ask_value_breaks self ≡ false }
         ensures { result ≡ statement_of self }
     {
         match self {
@@ -97,17 +100,19 @@ impl Draft {
     /// Reads the fields of a record that has as many as its word asks for.
     pub(crate) fn read(
         alloc: Global,
+        version: u8,
         tables: &Tables,
         word: Word,
         row: &ByteRecord,
     ) -> Result<Draft, NoMemory>
         requires fields { fields_breaks word (length (fields_of row.now)) ≡ false }
-        ensures { IfOk result (λ draft. draft ≡ draft_of tables.now word (fields_of row.now)) }
+        ensures { IfOk result (λ draft. draft ≡ draft_of version tables.now word (fields_of row.now)) }
     {
         let ask = match word {
+            Word::Version => return Ok(Draft::Version(read_natural(field(row, 1)))),
             Word::Table => return Ok(Draft::Table {
                 fresh: tables.is_free(field(row, 1)),
-                columns: read_natural(field(row, 2)),
+                columns: Columns::read(alloc, version, field(row, 2))?,
             }),
             Word::Begin => Ask::Begin {
                 scope: find_scope(tables, row),
@@ -116,11 +121,14 @@ impl Draft {
                 table: tables.find(field(row, 2)),
                 key: read_natural(field(row, 3)),
             },
-            Word::Put => Ask::Put {
-                table: tables.find(field(row, 2)),
-                key: read_natural(field(row, 3)),
-                values: Values::read(alloc, row)?,
-            },
+            Word::Put => {
+                let table = tables.find(field(row, 2));
+                Ask::Put {
+                    table,
+                    key: read_natural(field(row, 3)),
+                    values: Values::read(alloc, version, kinds_at(tables.as_slice(), table), row)?,
+                }
+            }
             Word::Del => Ask::Del {
                 table: tables.find(field(row, 2)),
                 key: read_natural(field(row, 3)),

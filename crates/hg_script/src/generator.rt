@@ -4,12 +4,13 @@
 //! transactions declare table c alone, and name the others nevertheless.
 
 ghost use Rattle.std.specs.Prelude.{◌≡◌, ◌<◌, [], IfOk, OnOk, length};
-ghost use Rattle.hg_base.specs.Text.{columns_of};
+ghost use Rattle.hg_base.specs.Text.{kinds_of};
 ghost use Rattle.hg_script.specs.Draft.{table_at};
 ghost use Rattle.hg_script.specs.Generator.{IsMade, draws_of, drawn, kind_at, made_tables, row_drawn, state_after, statement_at};
 ghost use Rattle.hg_script.specs.Lawful.{IsLawful};
 
 use crate::choice::Choice;
+use crate::columns::Kinds;
 use crate::draws::Draws;
 use crate::script::Script;
 use crate::sessions::OpenSessions;
@@ -27,12 +28,12 @@ const C: TableId = TableId(2);
 
 // A script of the tables alone.
 fn declare_tables(alloc: Global) -> Result<Script, NoMemory>
-    ensures { IfOk result (λ s. s ≡ record { tables = made_tables; records = [] }) }
+    ensures { IfOk result (λ s. s ≡ record { version = 1; tables = made_tables; records = [] }) }
 {
     let mut script = Script::new(alloc);
-    script.declare(Table::new(alloc, b"a", 1)?)?;
-    script.declare(Table::new(alloc, b"b", 2)?)?;
-    script.declare(Table::new(alloc, b"c", 1)?)?;
+    script.declare(Table::new(alloc, b"a", Kinds::of_numbers(alloc, 1)?)?)?;
+    script.declare(Table::new(alloc, b"b", Kinds::of_numbers(alloc, 2)?)?)?;
+    script.declare(Table::new(alloc, b"c", Kinds::of_numbers(alloc, 1)?)?)?;
     Ok(script)
 }
 
@@ -62,8 +63,8 @@ fn draw_rid(draws: &mut Draws) -> Rid
 // A value for each column.
 fn draw_row(alloc: Global, draws: &mut Draws, table: TableId) -> Result<Row, NoMemory>
     requires { table.0 < length made_tables }
-    ensures row { IfOk result (λ row. row ≡ row_drawn (columns_of made_tables table) draws.old) }
-    ensures state { OnOk result (draws.new ≡ state_after (columns_of made_tables table) draws.old) }
+    ensures row { IfOk result (λ row. row ≡ row_drawn (length (kinds_of made_tables table)) draws.old) }
+    ensures state { OnOk result (draws.new ≡ state_after (length (kinds_of made_tables table)) draws.old) }
 {
     let first = draws.below(1000) as i64;
     if table != B {

@@ -47,6 +47,7 @@
 mod asked;
 mod choice;
 mod code;
+mod columns;
 mod draft;
 mod draws;
 mod ends;

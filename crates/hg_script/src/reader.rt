@@ -6,9 +6,10 @@ ghost use Rattle.csv.specs.Records.{fields_of};
 ghost use Rattle.hg_script.specs.declared.refusal.ScriptRefusal.TheVariants as refusal;
 ghost use Rattle.hg_script.specs.Fields.{rows_of, word_of};
 ghost use Rattle.hg_script.specs.Draft.{draft_of};
-ghost use Rattle.hg_script.specs.Rules.{count_breaks, name_breaks, number_breaks, order_breaks, range_breaks};
+ghost use Rattle.hg_script.specs.Rules.{count_breaks, name_breaks, number_breaks, order_breaks, range_breaks, value_breaks};
 ghost use Rattle.hg_script.specs.Meaning.{TellsCode, TellsRefusal, first_code, refusal_of, script_of, with_draft, with_row};
 ghost use Rattle.hg_script.specs.Lawful.{IsLawful};
+ghost use Rattle.hg_script.specs.Numbered.{records_before};
 ghost use Rattle.hg_script.specs.Sessions.{KnowsOpen};
 
 use crate::code::Code;
@@ -36,19 +37,22 @@ fn add(
     requires known { KnowsOpen sessions.old.flags script.old.records }
     requires room { length script.old.records < MOST_RECORDS }
     requires count { count_breaks place script.old.tables (Some word) ≡ false }
-    requires draft { draft ≡ draft_of script.old.tables word (fields_of row.now) }
+    requires word { word_of place (fields_of row.now) ≡ Some word }
+    requires draft { draft ≡ draft_of script.old.version script.old.tables word (fields_of row.now) }
     requires number { number_breaks draft ≡ false }
     requires range { range_breaks draft ≡ false }
     requires name { name_breaks draft ≡ false }
+    requires value { value_breaks draft ≡ false }
     requires order { order_breaks script.old.records draft ≡ false }
-    requires next { place ≡ length script.old.tables + length script.old.records + 1 }
+    requires next { place ≡ records_before script.old + length script.old.records + 1 }
     ensures script { OnOk result (script.new ≡ with_draft place script.old (fields_of row.now) draft) }
-    ensures next { OnOk result (place + 1 ≡ length script.new.tables + length script.new.records + 1) }
+    ensures next { OnOk result (place + 1 ≡ records_before script.new + length script.new.records + 1) }
     ensures known { OnOk result (KnowsOpen sessions.new.flags script.new.records) }
 {
     match draft {
+        Draft::Version(version) => script.set_version(version.value() as u8),
         Draft::Table { columns, .. } => {
-            let table = Table::new(alloc, field(row, 1), columns.value() as u8)?;
+            let table = Table::new(alloc, field(row, 1), columns.into_kinds())?;
             script.declare(table)?;
         }
         Draft::Session { session, ask } => {
@@ -71,15 +75,15 @@ fn take(
     row: &ByteRecord,
 ) -> Result<(), ScriptRefusal>
     requires known { KnowsOpen sessions.old.flags script.old.records }
-    requires next { place ≡ length script.old.tables + length script.old.records + 1 }
+    requires next { place ≡ records_before script.old + length script.old.records + 1 }
     ensures none { OnOk result (first_code place script.old (fields_of row.now) ≡ None) }
     ensures script { OnOk result (script.new ≡ with_row place script.old (fields_of row.now)) }
     ensures known { OnOk result (KnowsOpen sessions.new.flags script.new.records) }
     ensures most { OnOk result (place ≤ MOST_RECORDS) }
-    ensures next { OnOk result (place + 1 ≡ length script.new.tables + length script.new.records + 1) }
+    ensures next { OnOk result (place + 1 ≡ records_before script.new + length script.new.records + 1) }
     ensures at { IfErr result (TellsCode place (first_code place script.old (fields_of row.now))) }
 {
-    let word = Word::read(row);
+    let word = Word::read(place, row);
     if breaks_count(place, script.tables(), word) {
         return Err(refused(place, Code::Count));
     }
@@ -89,7 +93,7 @@ fn take(
     if breaks_fields(word, row.len()) {
         return Err(refused(place, Code::Fields));
     }
-    let draft = Draft::read(alloc, script.named(), word, row)?;
+    let draft = Draft::read(alloc, script.version(), script.named(), word, row)?;
     if let Some(code) = draft.code(script, sessions) {
         return Err(refused(place, code));
     }

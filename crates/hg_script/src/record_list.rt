@@ -42,7 +42,7 @@ impl<'a> RecordList<'a> {
         }
     }
 
-    /// The next record, made anew: it takes no memory but for a row of more than two values. A refusal leaves all that are to
+    /// The next record, made anew: it takes no memory but for a row with a text or of more than two numbers. A refusal leaves all that are to
     /// come.
     pub fn take_next(&mut self) -> Result<Option<Record>, NoMemory>
         ensures some { IfOk result (λ next. IfSome next (λ r. self.old ≡ r ∷ self.new)) }

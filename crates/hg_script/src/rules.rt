@@ -1,8 +1,8 @@
 //! The rules, one test for each code.
 
 ghost use Rattle.std.specs.Prelude.{◌≡◌, IfNone, false};
-ghost use Rattle.hg_base.specs.Text as base;
-ghost use Rattle.hg_script.specs.Rules.{ask_columns_breaks, ask_name_breaks, ask_number_breaks, ask_order_breaks, ask_range_breaks, columns_breaks, count_breaks, fields_breaks, name_breaks, number_breaks, order_breaks, range_breaks};
+ghost use Rattle.hg_script.specs.Rules.{ask_columns_breaks, ask_name_breaks, ask_number_breaks, ask_order_breaks, ask_range_breaks, ask_value_breaks, columns_breaks, count_breaks, fields_breaks, name_breaks, number_breaks, order_breaks, range_breaks, value_breaks};
+ghost use Rattle.hg_script.specs.Draft as draft;
 ghost use Rattle.hg_script.specs.Meaning.{draft_code};
 ghost use Rattle.hg_script.specs.Sessions.{KnowsOpen};
 
@@ -12,7 +12,7 @@ use crate::script::Script;
 use crate::sessions::OpenSessions;
 use crate::table::Table;
 use crate::word::Word;
-use hg_base::{MOST_COLUMNS, MOST_RECORDS, MOST_SESSIONS, MOST_TABLES, TableId};
+use hg_base::{Column, MOST_RECORDS, MOST_SESSIONS, MOST_TABLES, TableId};
 
 /// What stands for a table that is not declared, where no rule asks for one.
 pub(crate) const FIRST_TABLE: TableId = TableId(0);
@@ -27,6 +27,7 @@ pub(crate) fn breaks_fields(word: Word, count: usize) -> bool
     ensures { result ≡ fields_breaks word count }
 {
     match word {
+        Word::Version => count != 2,
         Word::Table => count != 3,
         Word::Begin => count < 2 || count > 66,
         Word::Get => count != 4,
@@ -39,12 +40,13 @@ pub(crate) fn breaks_fields(word: Word, count: usize) -> bool
     }
 }
 
-fn columns_of(tables: &[Table], table: TableId) -> u8
-    ensures { result ≡ base.columns_of tables.now table }
+/// The columns of the table that is named.
+pub(crate) fn kinds_at(tables: &[Table], table: Option<TableId>) -> &[Column]
+    ensures { result.now ≡ draft.kinds_at tables.now table }
 {
-    match tables.get(table.0 as usize) {
-        Some(table) => table.columns(),
-        None => 0,
+    match tables.get(table.unwrap_or(FIRST_TABLE).0 as usize) {
+        Some(table) => table.kinds(),
+        None => &[],
     }
 }
 
@@ -100,9 +102,22 @@ impl Ask {
         match self {
             Ask::Begin { .. } => false,
             Ask::Get { .. } => false,
-            Ask::Put { table, values, .. } => {
-                columns_of(tables, table.unwrap_or(FIRST_TABLE)) as usize != values.count()
-            }
+            Ask::Put { table, values, .. } => { kinds_at(tables, *table).len() != values.count() }
+            Ask::Del { .. } => false,
+            Ask::Scan { .. } => false,
+            Ask::Commit => false,
+            Ask::Rollback => false,
+            Ask::Gc { .. } => false,
+        }
+    }
+
+    fn breaks_value(&self) -> bool
+        ensures { result ≡ ask_value_breaks self.now }
+    {
+        match self {
+            Ask::Begin { .. } => false,
+            Ask::Get { .. } => false,
+            Ask::Put { values, .. } => values.is_bad(),
             Ask::Del { .. } => false,
             Ask::Scan { .. } => false,
             Ask::Commit => false,
@@ -132,6 +147,7 @@ impl Draft {
         ensures { result ≡ number_breaks self.now }
     {
         match self {
+            Draft::Version(version) => version.is_no(),
             Draft::Table { columns, .. } => columns.is_no(),
             Draft::Session { session, ask } => session.is_no() || ask.breaks_number(),
         }
@@ -141,7 +157,8 @@ impl Draft {
         ensures { result ≡ range_breaks self.now }
     {
         match self {
-            Draft::Table { columns, .. } => !columns.is_between(1, MOST_COLUMNS as u64),
+            Draft::Version(version) => !version.is_between(2, 2),
+            Draft::Table { columns, .. } => columns.is_over(),
             Draft::Session { session, ask } => {
                 !session.is_between(1, MOST_SESSIONS as u64) || ask.breaks_range()
             }
@@ -152,6 +169,7 @@ impl Draft {
         ensures { result ≡ name_breaks self.now }
     {
         match self {
+            Draft::Version(_) => false,
             Draft::Table { fresh, .. } => !*fresh,
             Draft::Session { ask, .. } => ask.breaks_name(),
         }
@@ -161,8 +179,19 @@ impl Draft {
         ensures { result ≡ columns_breaks tables.now self.now }
     {
         match self {
+            Draft::Version(_) => false,
             Draft::Table { .. } => false,
             Draft::Session { ask, .. } => ask.breaks_columns(tables),
+        }
+    }
+
+    fn breaks_value(&self) -> bool
+        ensures { result ≡ value_breaks self.now }
+    {
+        match self {
+            Draft::Version(_) => false,
+            Draft::Table { .. } => false,
+            Draft::Session { ask, .. } => ask.breaks_value(),
         }
     }
 
@@ -172,6 +201,7 @@ impl Draft {
         ensures { result ≡ order_breaks script.now.records self.now }
     {
         match self {
+            Draft::Version(_) => false,
             Draft::Table { .. } => script.record_count() > 0,
             Draft::Session { session, ask } => ask.breaks_order(sessions.is_open(session.value())),
         }
@@ -185,6 +215,7 @@ impl Draft {
         ensures number { IfNone result (number_breaks self.now ≡ false) }
         ensures range { IfNone result (range_breaks self.now ≡ false) }
         ensures name { IfNone result (name_breaks self.now ≡ false) }
+        ensures value { IfNone result (value_breaks self.now ≡ false) }
         ensures order { IfNone result (order_breaks script.now.records self.now ≡ false) }
     {
         if self.breaks_number() {
@@ -195,6 +226,8 @@ impl Draft {
             Some(Code::Name)
         } else if self.breaks_columns(script.tables()) {
             Some(Code::Columns)
+        } else if self.breaks_value() {
+            Some(Code::Value)
         } else if self.breaks_order(script, sessions) {
             Some(Code::Order)
         } else {

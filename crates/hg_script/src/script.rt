@@ -8,7 +8,7 @@ ghost use Rattle.hg_script.specs.Asked.{said_by};
 ghost use Rattle.hg_script.specs.Draft.{table_named};
 ghost use Rattle.hg_script.specs.Links.{next_from};
 ghost use Rattle.hg_script.specs.Meaning.{nothing};
-ghost use Rattle.hg_script.specs.Numbered.{AreNumbered};
+ghost use Rattle.hg_script.specs.Numbered.{AreNumbered, records_before};
 
 use crate::asked::Asked;
 use crate::record_list::RecordList;
@@ -19,9 +19,10 @@ use hg_base::{MOST_RECORDS, MOST_SESSIONS, MOST_TABLES, NoMemory, Record, Statem
 use std::alloc::Global;
 use std::marker::Model;
 
-/// The tables in the order in which they are declared, and the statements in the order in which they stand.
+/// The version, the tables in the order in which they are declared, and the statements in the order in which they stand.
 #[derive(Debug, Drop)]
 pub struct Script {
+    version: u8,
     tables: Tables,
     statements: StatementList,
 }
@@ -30,11 +31,11 @@ impl Model for Script {
     ghost use Rattle.std.specs.Prelude.{◌≤◌, ◌+◌, length};
     ghost use Rattle.hg_base.specs.Script as base;
     ghost use Rattle.hg_base.specs.declared.limits.TheConstants.{MOST_RECORDS, MOST_TABLES};
-    ghost use Rattle.hg_script.specs.Numbered.{numbered};
+    ghost use Rattle.hg_script.specs.Numbered.{many_before, numbered};
 
     ghost Value = { base.Script };
 
-    ghost view = { λ s. record { tables = s.tables; records = numbered (length s.tables + 1) s.statements } };
+    ghost view = { λ s. record { version = s.version; tables = s.tables; records = numbered (many_before s.version (length s.tables) + 1) s.statements } };
 
     ghost invariant = { λ s. (length s.tables ≤ MOST_TABLES) × (length s.statements ≤ MOST_RECORDS) };
 }
@@ -44,9 +45,24 @@ impl Script {
         ensures { result ≡ nothing }
     {
         Script {
+            version: 1,
             tables: Tables::new(alloc),
             statements: StatementList::new(alloc),
         }
+    }
+
+    /// 1 where no record says another.
+    pub fn version(&self) -> u8
+        ensures { result ≡ self.now.version }
+    {
+        self.version
+    }
+
+    /// How many records stand before the statements: the tables, and the version record of version 2.
+    pub fn records_before(&self) -> usize
+        ensures { result ≡ records_before self.now }
+    {
+        self.tables.len() + if self.version == 1 { 0 } else { 1 }
     }
 
     /// A `TableId` is a table's place here.
@@ -74,13 +90,13 @@ impl Script {
         self.statements.len()
     }
 
-    /// The statement at i, made anew. It takes no memory but for a row of more than two values.
+    /// The statement at i, made anew. It takes no memory but for a row with a text or of more than two numbers.
     pub fn record(&self, i: usize) -> Result<Record, NoMemory>
         requires { i < length self.now.records }
         ensures { IfOk result (λ r. r ≡ get_or self.now.records i r) }
     {
         let (session, statement) = self.statements.get(i)?;
-        let place = (self.tables.len() + 1 + i) as u64;
+        let place = (self.records_before() + 1 + i) as u64;
         Ok(Record {
             place,
             session,
@@ -126,6 +142,14 @@ impl Script {
         self.statements.after(i)
     }
 
+    /// The version record counts as one, so it comes first.
+    pub(crate) fn set_version(&mut self, version: u8)
+        requires { self.old.records ≡ [] }
+        ensures { self.new ≡ record self.old { version = version } }
+    {
+        self.version = version;
+    }
+
     /// Places go on from the tables, so tables come first.
     pub(crate) fn declare(&mut self, table: Table) -> Result<(), NoMemory>
         requires room { length self.old.tables < MOST_TABLES }
@@ -140,7 +164,7 @@ impl Script {
     pub(crate) fn add(&mut self, session: u32, statement: Statement) -> Result<(), NoMemory>
         requires session { session ≤ MOST_SESSIONS }
         requires room { length self.old.records < MOST_RECORDS }
-        ensures { OnOk result (self.new ≡ record self.old { records = self.old.records ++ (record { place = length self.old.tables + length self.old.records + 1; session = session; statement = statement }) ∷ [] }) }
+        ensures { OnOk result (self.new ≡ record self.old { records = self.old.records ++ (record { place = records_before self.old + length self.old.records + 1; session = session; statement = statement }) ∷ [] }) }
     {
         self.statements.push(session, statement)?;
         Ok(())

@@ -1,14 +1,17 @@
 //! Statements with their sessions, in little memory.
 //!
-//! The values of all rows stand in one list, and a put keeps where its own begin and how many they are. So a statement takes
-//! 40 bytes, and 8 more for each value. In them it keeps where the next statement of its session stands.
+//! The numbers of all rows stand in one list, and a put keeps where its own begin and how many they are. So a statement takes
+//! 40 bytes, and 8 more for each number. In them it keeps where the next statement of its session stands. A row with a text
+//! stands as it is in a list of such rows.
 
 ghost use Rattle.std.specs.Prelude.{◌≡◌, ℕ, ℤ, List, ◌≤◌, ◌<◌, ◌+◌, ◌^◌, ◌∷◌, ◌++◌, [], IfOk, OnErr, OnOk, fold, get_or, length, map, max};
 ghost use Rattle.hg_base.specs.Lists.{greatest};
 ghost use Rattle.hg_base.specs.declared.statement.Statement.{Statement};
+ghost use Rattle.hg_base.specs.declared.statement.Statement.TheVariants as say;
 ghost use Rattle.hg_script.specs.Asked.{asked_by};
 ghost use Rattle.hg_script.specs.Links.{led, next_from};
-ghost use Rattle.hg_script.specs.Packed.{HasRow, added, packed_as, statement_in};
+ghost use Rattle.hg_base.specs.declared.value.Value as value;
+ghost use Rattle.hg_script.specs.Packed.{HasRow, added, added_rows, packed_as, statement_in};
 
 use crate::asked::Asked;
 use crate::ends::{Ends, NOWHERE};
@@ -32,6 +35,8 @@ pub(crate) enum Packed {
     Begin(Scope),
     Get(Rid),
     Put(Rid, Span),
+    /// A row with a text, by its place among such rows.
+    PutRow(Rid, u32),
     Del(Rid),
     Scan { table: TableId, low: u64, high: u64 },
     Commit,
@@ -41,12 +46,13 @@ pub(crate) enum Packed {
 
 impl Packed {
     fn asked(self) -> Asked
-        ensures { (values : List ℤ) → result ≡ asked_by (statement_in values self) }
+        ensures { (numbers : List ℤ) (rows : List (List value.Value)) → result ≡ asked_by (statement_in numbers rows self) }
     {
         match self {
             Packed::Begin(_) => Asked::Begin,
             Packed::Get(rid) => Asked::Get(rid.table),
             Packed::Put(rid, _) => Asked::Put(rid.table),
+            Packed::PutRow(rid, _) => Asked::Put(rid.table),
             Packed::Del(rid) => Asked::Del(rid.table),
             Packed::Scan { table, .. } => Asked::Scan(table),
             Packed::Commit => Asked::Commit,
@@ -70,7 +76,8 @@ const _: () = prove!(size_of::<Entry>() == 40);
 #[derive(Debug, Drop)]
 pub(crate) struct StatementList {
     entries: Vec<Entry>,
-    values: Vec<i64>,
+    numbers: Vec<i64>,
+    rows: Vec<Row>,
     ends: Ends,
 }
 
@@ -84,29 +91,61 @@ impl Model for StatementList {
 
     ghost Value = { List (ℕ × Statement) };
 
-    ghost view = { λ s. map (unpacked s.values.items) s.entries.items };
+    ghost view = { λ s. map (unpacked s.numbers.items s.rows.items) s.entries.items };
 
-    ghost invariant = { λ s. (length s.entries.items ≤ MOST_RECORDS) × (length s.values.items ≤ MOST_COLUMNS * length s.entries.items) × Each (IsWithin (length s.values.items)) s.entries.items × Each HasSession s.entries.items × IsChained s.ends s.entries.items };
+    ghost invariant = { λ s. (length s.entries.items ≤ MOST_RECORDS) × (length s.numbers.items ≤ MOST_COLUMNS * length s.entries.items) × (length s.rows.items ≤ length s.entries.items) × Each (IsWithin (length s.numbers.items) (length s.rows.items)) s.entries.items × Each HasSession s.entries.items × IsChained s.ends s.entries.items };
 }
 
-// Takes the statement apart: its values go behind those that are there.
-fn pack(values: &mut Vec<i64>, statement: Statement) -> Result<Packed, NoMemory>
-    requires room { length values.old.items < 2 ^ 32 }
-    ensures packed { IfOk result (λ packed. packed ≡ packed_as (length values.old.items) statement) }
-    ensures values { OnOk result (values.new.items ≡ values.old.items ++ added statement) }
-    ensures within { IfOk result (HasRow (length values.new.items)) }
+// Takes a put apart: its numbers go behind those that are there, or its row with a text behind those rows.
+fn pack_put(
+    numbers: &mut Vec<i64>,
+    rows: &mut Vec<Row>,
+    rid: Rid,
+    row: Row,
+) -> Result<Packed, NoMemory>
+    requires room { length numbers.old.items < 2 ^ 32 }
+    requires few { length rows.old.items < 2 ^ 32 }
+    ensures packed { IfOk result (λ packed. packed ≡ packed_as (length numbers.old.items) (length rows.old.items) (say.Put rid row)) }
+    ensures numbers { OnOk result (numbers.new.items ≡ numbers.old.items ++ added (say.Put rid row)) }
+    ensures rows { OnOk result (rows.new.items ≡ rows.old.items ++ added_rows (say.Put rid row)) }
+    ensures within { IfOk result (HasRow (length numbers.new.items) (length rows.new.items)) }
+    ensures few { OnOk result (length (added (say.Put rid row)) ≤ MOST_COLUMNS) }
+    ensures one { OnOk result (length (added_rows (say.Put rid row)) ≤ 1) }
+    ensures err { OnErr result (numbers.new.items ≡ numbers.old.items) }
+    ensures rows_err { OnErr result (rows.new.items ≡ rows.old.items) }
+{
+    let count = row.len() as u8;
+    if let Some(own) = row.numbers() {
+        let first = numbers.len() as u32;
+        numbers.extend_from_slice(own)?;
+        return Ok(Packed::Put(rid, Span { first, count }));
+    }
+    let place = rows.len() as u32;
+    rows.push(row)?;
+    Ok(Packed::PutRow(rid, place))
+}
+
+// Takes the statement apart.
+fn pack(
+    numbers: &mut Vec<i64>,
+    rows: &mut Vec<Row>,
+    statement: Statement,
+) -> Result<Packed, NoMemory>
+    requires room { length numbers.old.items < 2 ^ 32 }
+    requires few { length rows.old.items < 2 ^ 32 }
+    ensures packed { IfOk result (λ packed. packed ≡ packed_as (length numbers.old.items) (length rows.old.items) statement) }
+    ensures numbers { OnOk result (numbers.new.items ≡ numbers.old.items ++ added statement) }
+    ensures rows { OnOk result (rows.new.items ≡ rows.old.items ++ added_rows statement) }
+    ensures within { IfOk result (HasRow (length numbers.new.items) (length rows.new.items)) }
     ensures few { OnOk result (length (added statement) ≤ MOST_COLUMNS) }
-    ensures err { OnErr result (values.new.items ≡ values.old.items) }
+    ensures one { OnOk result (length (added_rows statement) ≤ 1) }
+    ensures err { OnErr result (numbers.new.items ≡ numbers.old.items) }
+    ensures rows_err { OnErr result (rows.new.items ≡ rows.old.items) }
 {
     Ok(match statement {
         Statement::Begin(scope) => Packed::Begin(scope),
         Statement::Get(rid) => Packed::Get(rid),
-        Statement::Put(rid, row) => {
-            let first = values.len() as u32;
-            let count = row.values().len() as u8;
-            values.extend_from_slice(row.values())?;
-            Packed::Put(rid, Span { first, count })
-        }
+        Statement::Put(rid, row) => pack_put(numbers, rows, rid, row)?,
         Statement::Del(rid) => Packed::Del(rid),
         Statement::Scan { table, low, high } => Packed::Scan { table, low, high },
         Statement::Commit => Packed::Commit,
@@ -138,7 +177,8 @@ impl StatementList {
     {
         StatementList {
             entries: Vec::new(alloc),
-            values: Vec::new(alloc),
+            numbers: Vec::new(alloc),
+            rows: Vec::new(alloc),
             ends: Ends::new(),
         }
     }
@@ -156,7 +196,7 @@ impl StatementList {
         ensures err { OnErr result (self.new ≡ self.old) }
     {
         self.entries.reserve(1)?;
-        let packed = pack(&mut self.values, statement)?;
+        let packed = pack(&mut self.numbers, &mut self.rows, statement)?;
         let here = self.entries.len() as u32;
         self.entries.push(Entry {
             session,
@@ -168,7 +208,7 @@ impl StatementList {
         Ok(())
     }
 
-    /// The statement at i and its session. A row of one or two values takes no memory.
+    /// The statement at i and its session. A row of one or two numbers takes no memory.
     pub(crate) fn get(&self, i: usize) -> Result<(u32, Statement), NoMemory>
         requires { i < length self.now }
         ensures { IfOk result (λ said. said ≡ get_or self.now i said) }
@@ -179,9 +219,10 @@ impl StatementList {
             Packed::Get(rid) => Statement::Get(rid),
             Packed::Put(rid, span) => {
                 let first = span.first as usize;
-                let values = &self.values[first..first + span.count as usize];
-                Statement::Put(rid, Row::from_slice(*self.values.allocator(), values)?)
+                let numbers = &self.numbers[first..first + span.count as usize];
+                Statement::Put(rid, Row::from_slice(*self.numbers.allocator(), numbers)?)
             }
+            Packed::PutRow(rid, i) => Statement::Put(rid, self.rows[i as usize].copy()?),
             Packed::Del(rid) => Statement::Del(rid),
             Packed::Scan { table, low, high } => Statement::Scan { table, low, high },
             Packed::Commit => Statement::Commit,

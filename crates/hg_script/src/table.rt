@@ -1,18 +1,20 @@
 //! A declared table.
 
-ghost use Rattle.std.specs.Prelude.{◌≡◌, IfOk};
+ghost use Rattle.std.specs.Prelude.{◌≡◌, ◌≤◌, IfOk, length};
 ghost use Rattle.std.specs.List.{list_all};
+ghost use Rattle.hg_base.specs.declared.limits.TheConstants.{MOST_COLUMNS};
 ghost use Rattle.hg_script.specs.Draft.{is_name, is_name_byte};
 
-use hg_base::{MOST_NAME_BYTES, NoMemory};
+use crate::columns::Kinds;
+use hg_base::{Column, MOST_NAME_BYTES, NoMemory};
 use std::alloc::Global;
 use std::marker::Model;
 
-/// A table's name and its number of columns.
+/// A table's name and what its columns hold.
 #[derive(Debug, Drop)]
 pub struct Table {
     name: Vec<u8>,
-    columns: u8,
+    kinds: Kinds,
 }
 
 impl Model for Table {
@@ -20,15 +22,15 @@ impl Model for Table {
 
     ghost Value = { Declaration };
 
-    ghost view = { λ t. record { name = t.name.items; columns = t.columns } };
+    ghost view = { λ t. record { name = t.name.items; kinds = t.kinds } };
 }
 
 impl Table {
-    pub(crate) fn new(alloc: Global, name: &[u8], columns: u8) -> Result<Table, NoMemory>
-        ensures { IfOk result (λ table. table ≡ record { name = name.now; columns = columns }) }
+    pub(crate) fn new(alloc: Global, name: &[u8], kinds: Kinds) -> Result<Table, NoMemory>
+        ensures { IfOk result (λ table. table ≡ record { name = name.now; kinds = kinds }) }
     {
         let name = name.to_vec(alloc)?;
-        Ok(Table { name, columns })
+        Ok(Table { name, kinds })
     }
 
     /// The name, of ASCII letters, digits and `_`.
@@ -38,10 +40,18 @@ impl Table {
         &self.name
     }
 
-    pub fn columns(&self) -> u8
-        ensures { result ≡ self.now.columns }
+    /// What each column holds.
+    pub fn kinds(&self) -> &[Column]
+        ensures same { result.now ≡ self.now.kinds }
+        ensures most { length self.now.kinds ≤ MOST_COLUMNS }
     {
-        self.columns
+        self.kinds.as_slice()
+    }
+
+    pub fn columns(&self) -> u8
+        ensures { result ≡ length self.now.kinds }
+    {
+        self.kinds().len() as u8
     }
 }
 

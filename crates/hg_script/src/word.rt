@@ -2,13 +2,14 @@
 
 ghost use Rattle.std.specs.Prelude.{◌≡◌};
 ghost use Rattle.csv.specs.Records.{fields_of};
-ghost use Rattle.hg_script.specs.Fields.{nth, statement_word, word_of};
+ghost use Rattle.hg_script.specs.Fields.{is_version, nth, statement_word, word_of};
 
 use csv::ByteRecord;
 
-/// The declaration of a table, or a statement of a session.
+/// The version, the declaration of a table, or a statement of a session.
 #[derive(Clone, Copy, Debug, PartialEq, Eq)]
 pub enum Word {
+    Version,
     Table,
     Begin,
     Get,
@@ -54,11 +55,21 @@ fn read_statement_word(word: &[u8]) -> Option<Word>
     }
 }
 
+// Only the first record may say the version.
+fn says_version(place: u64, row: &ByteRecord) -> bool
+    ensures { result ≡ is_version place (fields_of row.now) }
+{
+    place == 1 && field(row, 0) == b"version".as_slice()
+}
+
 impl Word {
-    /// The record's word, if it has one.
-    pub(crate) fn read(row: &ByteRecord) -> Option<Word>
-        ensures { result ≡ word_of (fields_of row.now) }
+    /// The word of the record at this place, if it has one.
+    pub(crate) fn read(place: u64, row: &ByteRecord) -> Option<Word>
+        ensures { result ≡ word_of place (fields_of row.now) }
     {
+        if says_version(place, row) {
+            return Some(Word::Version);
+        }
         if field(row, 0) == b"table".as_slice() {
             return Some(Word::Table);
         }

@@ -3,6 +3,7 @@ use Rattle.std.proofs.lemmas.Nat.{mod_below}
 use Rattle.hg_base.specs.declared.limits.TheConstants.{MOST_SESSIONS}
 use Rattle.hg_base.specs.declared.statement.Record.{Record}
 use Rattle.hg_script.specs.Generator.{statement_at}
+use Rattle.hg_script.specs.Numbered.{records_before}
 use Rattle.hg_script.specs.Rules.{is_open}
 use Rattle.hg_script.proofs.Made.{making-more, making-none}
 use Rattle.hg_script.proofs.Open.{notes}
@@ -23,7 +24,7 @@ loop-i-preserved c =
     let within : c.is_open-within.result ≡ is_open session script.records = c.is_open-within.ensures ∙ inv.known session most in
     let asked : c.in_ok-statement.statement ≡ statement_at c.loop-i.draws (is_open session script.records) = c.in_ok-statement.ensures.statement ∙ ap (statement_at c.loop-i.draws) within in
     let more = making-more c.args.seed c.loop-i.i c.loop-i.draws script inv.making (omega (arith, c.loop-i-test.true)) in
-    let added : Record = record { place = length script.tables + length script.records + 1; session = session; statement = c.in_ok-statement.statement } in record {
+    let added : Record = record { place = records_before script + length script.records + 1; session = session; statement = c.in_ok-statement.statement } in record {
       making = rw (c.in_ok-add.ensures, c.in_ok-statement.ensures.state, asked) more;
       known = rw c.in_ok-add.ensures (notes c.loop-i.sessions.flags c.note.new.self.flags script.records added inv.known c.note.ensures);
     }

@@ -1,16 +1,17 @@
 use Rattle.std.proofs.Common.{ℕ, ◌<◌, ◌+◌, ap, length, arith}
 use Rattle.hg_base.specs.declared.statement.Statement.{Statement}
+use Rattle.hg_script.specs.Numbered.{many_before}
 use Rattle.hg_script.proofs.Numbered.{numbered_many, numbered_asks, numbered_sessions}
 use Rattle.hg_script.proofs.script.Script.after.Goals as goal
 
 pub after-requires : goal.after-requires
 after-requires c =
     let less = rw (← c.self.view_is) at c.requires in
-    omega (arith, less, numbered_many (length c.self.inside.tables + 1) c.self.inside.statements)
+    omega (arith, less, numbered_many (many_before c.self.inside.version (length c.self.inside.tables) + 1) c.self.inside.statements)
 
 pub returns : goal.returns
 returns c = λ d.
-    let place = length c.self.inside.tables + 1 in
+    let place = many_before c.self.inside.version (length c.self.inside.tables) + 1 in
     let statements = c.self.inside.statements in
     let e : ℕ × Statement = (d.session, d.statement) in
     let less = rw (← c.self.view_is) at c.requires in

@@ -9,9 +9,10 @@ use Rattle.hg_script.proofs.statements.StatementList.after.Goals as goal
 pub returns : goal.returns
 returns c = λ d.
     let es = c.self.inside.entries.items in
-    let values = c.self.inside.values.items in
-    let (most, few, within, sessions, chained) = c.self.invariant in
+    let ns = c.self.inside.numbers.items in
+    let rows = c.self.inside.rows.items in
+    let (most, few, less_rows, within, sessions, chained) = c.self.invariant in
     let inside = rw (← c.self.view_is) at c.requires in
-    let less : c.args.i < length es = omega (arith, inside, length-map es (unpacked values)) in
+    let less : c.args.i < length es = omega (arith, inside, length-map es (unpacked ns rows)) in
     let on = leads_on c.args.i es c.index.result.now less chained.links in
-    rw (← c.self.view_is, unpacked_sessions values es, unpacked_session values es c.args.i d c.index.result.now less) (ap (λ (e : Entry). e.next) c.index.ensures ∙ on)
+    rw (← c.self.view_is, unpacked_sessions ns rows es, unpacked_session ns rows es c.args.i d c.index.result.now less) (ap (λ (e : Entry). e.next) c.index.ensures ∙ on)

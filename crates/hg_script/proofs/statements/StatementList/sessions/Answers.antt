@@ -3,4 +3,4 @@ use Rattle.hg_script.proofs.Packed.{fold_greatest}
 use Rattle.hg_script.proofs.statements.StatementList.sessions.Goals as goal
 
 pub returns : goal.returns
-returns c = rw (← c.self.view_is, ← c.deref.ensures.value) (c.greatest_session.ensures ∙ fold_greatest 1 c.self.inside.values.items c.deref.result.now)
+returns c = rw (← c.self.view_is, ← c.deref.ensures.value) (c.greatest_session.ensures ∙ fold_greatest 1 c.self.inside.numbers.items c.self.inside.rows.items c.deref.result.now)

@@ -4,8 +4,8 @@ use Rattle.hg_script.specs.Number.{integer_of}
 use Rattle.hg_script.specs.Fields.{nth}
 use Rattle.hg_script.specs.declared.number.Integer.TheVariants.{Over, Is}
 use Rattle.hg_script.proofs.Taken.{more-over, more-is}
-use Rattle.hg_script.proofs.values.Values.read.Goals as goal
-use Rattle.hg_script.proofs.values.Values.read.Goals.{in-Over, in-Is}
+use Rattle.hg_script.proofs.values.Values.read_numbers.Goals as goal
+use Rattle.hg_script.proofs.values.Values.read_numbers.Goals.{in-Over, in-Is}
 use mir.Val.{SFits, of_z, to_z}
 use mir.Syntax.{w64}
 use Rattle.std.proofs.lemmas.Int.{to_z-of_z}
