@@ -15,21 +15,30 @@
 //!     1,gc,group       a pass of the group collector; `table` and `interval` name the two others
 //!     3,get,t,5        outside of a transaction: a transaction of its own
 //!
-//! Records are counted from 1, table records included, and a statement's count is its place. So places follow one another, and a
-//! script keeps none of them (`AreNumbered`). Each statement leads to the next of its session, so a script lends the records
+//! That is version 1 of the format, whose columns hold numbers. A script whose first record is `version,2` has columns of texts
+//! too, of at most 64 bytes each, and its table records have a letter for each column:
+//!
+//!     version,2
+//!     table,t,nt       a table `t` of a column of numbers and a column of texts
+//!     1,put,t,5,7,red  the row of key 5 is 7 and `red`
+//!
+//! Records are counted from 1, the version record and table records included, and a statement's count is its place. So places
+//! follow one another, and a script keeps none of them (`AreNumbered`). Each statement leads to the next of its session, so a script lends the records
 //! of one session (`RecordList`) without going over the others.
 //!
-//! A script that breaks a rule is refused as a whole, with the first record that breaks one and its first code:
+//! A script that breaks a rule is refused as a whole, with the first record that breaks one and its first code. The codes are
+//! tested in this order:
 //!
 //! | Code      | Breaks it |
 //! |-----------|-----------|
 //! | `Count`   | the record after the 1,048,576th, and the 65th table record |
-//! | `Word`    | a session record without a word, or with another than those above |
+//! | `Word`    | a session record without a word, or with another than those above; so does a `version` that is not the first record |
 //! | `Fields`  | a number of fields that the record's word does not have |
-//! | `Number`  | a session, key, end of a scan, value or number of columns that is not written as a decimal number |
-//! | `Range`   | columns not from 1 to 8, a session not from 1 to 64, a key or end of 2^64 or more, a value out of a signed 64-bit number |
+//! | `Number`  | a version, session, key or end of a scan that is not written as a decimal number; in version 1 also a value or a number of columns |
+//! | `Range`   | a version other than 2, a session not from 1 to 64, a key or end of 2^64 or more; in version 1 also columns not from 1 to 8, or a value out of a signed 64-bit number; in version 2 also columns that are not 1 to 8 letters `n` or `t` |
 //! | `Name`    | a table declared twice, or by no name of 1 to 32 letters, digits and `_`; a table named that is not declared; a collector other than `group`, `table` and `interval` |
 //! | `Columns` | a put of another number of values than its table has columns |
+//! | `Value`   | in version 2 a value of a number column that is not written as a signed 64-bit number, or one of a text column of more than 64 bytes |
 //! | `Order`   | a table record behind a session record, `begin` in a transaction, and `commit` or `rollback` outside of one |
 //!
 //! A number is `0`, or a digit from 1 to 9 and then digits; a value may be `-` and then such a number other than `0`.
