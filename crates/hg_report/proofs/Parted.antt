@@ -1,10 +1,11 @@
 -- The bytes of a record are parted into its fields, as they stand.
-use Rattle.std.proofs.Common.{◌≡◌, ◌<◌, ◌≤◌, ◌+◌, ◌-◌, ◌∙◌, ℕ, List, [], ◌∷◌, ◌++◌, ◌==◌, ◌&&◌, ◌⊎◌, Bool, not, length, take, drop, get_or, true, false, inl, inr, refl, sym, ap, append_assoc, append-nil, length-drop, get_or-drop, arith}
+use Rattle.std.proofs.Common.{◌≡◌, ◌<◌, ◌≤◌, ◌+◌, ◌-◌, ◌∙◌, ℕ, List, [], ◌∷◌, ◌++◌, ◌==◌, ◌&&◌, ◌⊎◌, Bool, not, length, take, drop, get_or, true, false, inl, inr, refl, sym, ap, subst, append_assoc, append-nil, length-drop, get_or-drop, arith}
 use Rattle.std.specs.Prelude.{if◌then◌else◌}
 use Rattle.std.specs.Borrow.{Bor}
 use Rattle.std.specs.List.{flat_map, list_any}
 use Rattle.std.proofs.lemmas.List.{map-append, drop_more, drop_all, take_more}
 use Rattle.std.proofs.lemmas.Bool.{cases_Bool, eqb-true, false≢true}
+use Rattle.std.proofs.lemmas.Bool.Decides.{nat_tests}
 use Rattle.csv.specs.Writing.{escaped, needs_byte}
 use Rattle.hg_base.specs.Text.{Field}
 use Rattle.hg_report.specs.Bytes.{flexible_writer, record_bytes, field_bytes, further_bytes}
@@ -174,3 +175,10 @@ pub goes_on : (quoted : Bool) (fields : List Field) (bytes : List ℕ) (a i : �
 goes_on quoted fields bytes a i h within feed comma so =
     let inside = parted_inside quoted (between bytes a i) bytes i within (apart quoted (get_or bytes i 0) 10 feed) (apart quoted (get_or bytes i 0) 44 comma) in
     ap (λ w. fields ++ parted (quoted_behind quoted (get_or bytes i 0)) w (drop (i + 1) bytes)) (between_more bytes a i h within) ∙ ap (λ fs. fields ++ fs) (sym inside) ∙ so
+
+-- a byte above them all
+pub goes_over : (quoted : Bool) (fields : List Field) (bytes : List ℕ) (a i : ℕ) → a ≤ i → i < length bytes → 44 < get_or bytes i 0 → So quoted fields bytes a i → So quoted fields bytes a (i + 1)
+goes_over quoted fields bytes a i h within above so =
+    let other : (get_or bytes i 0 == 34) ≡ false = grind (arith, nat_tests, above) in
+    subst (λ q. So q fields bytes a (i + 1)) (ap (λ t. if t then not quoted else quoted) other)
+    (goes_on quoted fields bytes a i h within (λ e out. omega (arith, above, e)) (λ e out. omega (arith, above, e)) so)

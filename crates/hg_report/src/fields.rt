@@ -21,15 +21,18 @@ pub(crate) fn part<'a>(bytes: &'a [u8], fields: &mut Vec<&'a [u8]>) -> Result<()
     let mut start = 0;
     let mut quoted = false;
     for i in 0..bytes.len() {
-        if bytes[i] == b'\n' && !quoted {
-            fields.push(&bytes[start..i])?;
-            return Ok(());
+        // Line feeds, commas and quotes are below the bytes of words and numbers.
+        if bytes[i] <= b',' {
+            if bytes[i] == b'\n' && !quoted {
+                fields.push(&bytes[start..i])?;
+                return Ok(());
+            }
+            if bytes[i] == b',' && !quoted {
+                fields.push(&bytes[start..i])?;
+                start = i + 1;
+            }
+            quoted = is_quoted_behind(quoted, bytes[i]);
         }
-        if bytes[i] == b',' && !quoted {
-            fields.push(&bytes[start..i])?;
-            start = i + 1;
-        }
-        quoted = is_quoted_behind(quoted, bytes[i]);
     }
     fields.push(&bytes[start..])?;
     Ok(())

@@ -1,8 +1,8 @@
 use Rattle.std.proofs.Common.{◌≡◌, ◌∙◌, [], ◌++◌, ℕ, false, length, ap, refl, subst, arith}
 use Rattle.hg_report.specs.Fields.{fields_of, parted}
-use Rattle.hg_report.proofs.Parted.{So, fields_none, not_outside, closed_at_feed, closed_at_comma, closed_at_end, goes_on}
+use Rattle.hg_report.proofs.Parted.{So, fields_none, not_outside, closed_at_feed, closed_at_comma, closed_at_end, goes_on, goes_over}
 use Rattle.hg_report.proofs.fields.part.Goals as goal
-use Rattle.hg_report.proofs.fields.part.Goals.{then-bytes-i-eq44+then-not-quoted-2+in_ok-push-2, else-bytes-i-eq44}
+use Rattle.hg_report.proofs.fields.part.Goals.{then-bytes-i-le44+else-bytes-i-eq10, then-bytes-i-eq44+then-not-quoted-2+in_ok-push-2, else-bytes-i-eq44, else-bytes-i-le44}
 
 pub loop-i-init : goal.loop-i-init
 loop-i-init c = record {
@@ -20,16 +20,23 @@ loop-i-preserved c =
     let i = c.loop-i.i in
     let quoted = c.loop-i.quoted in
     let inv = c.loop-i.invariant in
-    elim c.if-bytes-i-eq44.branch [
-      | then-bytes-i-eq44+then-not-quoted-2+in_ok-push-2 w ↦ record {
-        start = omega (arith, w.start-is);
-        parts = rw (w.fields-is, w.start-is, c.is_quoted_behind-quoted.ensures)
-            (closed_at_comma _ _ _ bytes c.loop-i.start i quoted w.in_ok-push-2.ensures.items refl inv.parts c.loop-i-test.true w.if-bytes-i-eq44.true w.if-not-quoted-2.true);
-      }
-      | else-bytes-i-eq44 w ↦ record {
+    elim c.if-bytes-i-le44.branch [
+      | then-bytes-i-le44+else-bytes-i-eq10 w ↦
+          elim w.if-bytes-i-eq44.branch [
+            | then-bytes-i-eq44+then-not-quoted-2+in_ok-push-2 v ↦ record {
+              start = omega (arith, w.start-is, v.start-is);
+              parts = rw (w.fields-is, v.fields-is, w.start-is, v.start-is, w.quoted-is, w.is_quoted_behind-quoted.ensures)
+                  (closed_at_comma _ _ _ bytes c.loop-i.start i quoted v.in_ok-push-2.ensures.items refl inv.parts c.loop-i-test.true v.if-bytes-i-eq44.true v.if-not-quoted-2.true);
+            }
+            | else-bytes-i-eq44 v ↦ record {
+              start = omega (arith, w.start-is, v.start-is, inv.start);
+              parts = rw (w.fields-is, v.fields-is, w.start-is, v.start-is, w.quoted-is, w.is_quoted_behind-quoted.ensures)
+                  (goes_on quoted _ bytes c.loop-i.start i inv.start c.loop-i-test.true (not_outside _ quoted w.else-bytes-i-eq10.either) (not_outside _ quoted v.else-bytes-i-eq44.either) inv.parts);
+            }
+          ]
+      | else-bytes-i-le44 w ↦ record {
         start = omega (arith, w.start-is, inv.start);
-        parts = rw (w.fields-is, w.start-is, c.is_quoted_behind-quoted.ensures)
-            (goes_on quoted _ bytes c.loop-i.start i inv.start c.loop-i-test.true (not_outside _ quoted c.else-bytes-i-eq10.either) (not_outside _ quoted w.else-bytes-i-eq44.either) inv.parts);
+        parts = rw (w.fields-is, w.start-is, w.quoted-is) (goes_over quoted _ bytes c.loop-i.start i inv.start c.loop-i-test.true (omega (arith, w.if-bytes-i-le44.false)) inv.parts);
       }
     ]
 
