@@ -7,7 +7,7 @@ use Rattle.std.proofs.lemmas.List.{drop_all, drop_more}
 use Rattle.csv.specs.Writing.{escaped, needs_byte}
 use Rattle.hg_base.specs.Text.{Field}
 use Rattle.hg_report.specs.Bytes.{flexible_writer, field_bytes}
-use Rattle.hg_report.specs.Fields.{goes, nth, says, text_in, unquoted}
+use Rattle.hg_report.specs.Fields.{is_left_out, nth, says, text_in, unquoted}
 use Rattle.hg_report.specs.Progress.{standing}
 use Rattle.hg_report.proofs.Plain.{IsPlain, inner, no_word}
 use Rattle.hg_report.proofs.RecordBytes.{escaped_other}
@@ -29,23 +29,23 @@ unquoted_none : (before : Bool) → unquoted before [] ≡ []
 unfolding unquoted
 unquoted_none before = refl
 
-unquoted_kept : (before : Bool) (b : ℕ) (bytes : List ℕ) → goes before b ≡ false → unquoted before (b ∷ bytes) ≡ b ∷ unquoted false bytes
+unquoted_kept : (before : Bool) (b : ℕ) (bytes : List ℕ) → is_left_out before b ≡ false → unquoted before (b ∷ bytes) ≡ b ∷ unquoted false bytes
 unfolding unquoted
 unquoted_kept before b bytes h = rw h refl
 
-unquoted_gone : (before : Bool) (b : ℕ) (bytes : List ℕ) → goes before b ≡ true → unquoted before (b ∷ bytes) ≡ unquoted true bytes
+unquoted_left_out : (before : Bool) (b : ℕ) (bytes : List ℕ) → is_left_out before b ≡ true → unquoted before (b ∷ bytes) ≡ unquoted true bytes
 unfolding unquoted
-unquoted_gone before b bytes h = rw h refl
+unquoted_left_out before b bytes h = rw h refl
 
 module _ (text all bytes : List ℕ) (before : Bool) (i : ℕ) (less : i < length bytes) (so : text ++ unquoted before (drop i bytes) ≡ all) where
   at_byte : text ++ unquoted before (get_or bytes i 0 ∷ drop (i + 1) bytes) ≡ all
   at_byte = ap (λ bytes. text ++ unquoted before bytes) (sym (drop_more bytes i 0 less)) ∙ so
 
-  pub kept_more : goes before (get_or bytes i 0) ≡ false → (text ++ get_or bytes i 0 ∷ []) ++ unquoted false (drop (i + 1) bytes) ≡ all
+  pub kept_more : is_left_out before (get_or bytes i 0) ≡ false → (text ++ get_or bytes i 0 ∷ []) ++ unquoted false (drop (i + 1) bytes) ≡ all
   kept_more h = append_assoc text (get_or bytes i 0 ∷ []) (unquoted false (drop (i + 1) bytes)) ∙ ap (λ t. text ++ t) (sym (unquoted_kept before (get_or bytes i 0) (drop (i + 1) bytes) h)) ∙ at_byte
 
-  pub gone_more : goes before (get_or bytes i 0) ≡ true → text ++ unquoted true (drop (i + 1) bytes) ≡ all
-  gone_more h = ap (λ t. text ++ t) (sym (unquoted_gone before (get_or bytes i 0) (drop (i + 1) bytes) h)) ∙ at_byte
+  pub left_out_more : is_left_out before (get_or bytes i 0) ≡ true → text ++ unquoted true (drop (i + 1) bytes) ≡ all
+  left_out_more h = ap (λ t. text ++ t) (sym (unquoted_left_out before (get_or bytes i 0) (drop (i + 1) bytes) h)) ∙ at_byte
 
 pub at_end : (text all bytes : List ℕ) (before : Bool) (i : ℕ) → length bytes ≤ i → text ++ unquoted before (drop i bytes) ≡ all → text ≡ all
 at_end text all bytes before i over so = sym (ap (λ bytes. text ++ unquoted before bytes) (drop_all i bytes over) ∙ ap (λ t. text ++ t) (unquoted_none before) ∙ append-nil text) ∙ so

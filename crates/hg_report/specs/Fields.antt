@@ -47,16 +47,16 @@ abbrev pub integer_value : Integer → ℤ
 integer_value (signed.Is value) = value
 integer_value _ = pos 0
 
--- whether a quote is left out: the second of two stands for one, and the byte before it was left out
-abbrev pub goes : Bool → ℕ → Bool
-goes before b = b == 34 && not before
+-- A quote is left out unless the byte before it was: of two quotes the second stays.
+abbrev pub is_left_out : Bool → ℕ → Bool
+is_left_out before b = b == 34 && not before
 
--- The bytes behind a field's first quote, without the quotes that are left out. `before` says whether the byte before was.
+-- The bytes behind a field's first quote, without those that are left out. `before` says whether the byte before was.
 unfoldable pub unquoted : Bool → List ℕ → List ℕ
 unquoted before [] = []
-unquoted before (b ∷ bytes) = if goes before b then unquoted true bytes else b ∷ unquoted false bytes
+unquoted before (b ∷ bytes) = if is_left_out before b then unquoted true bytes else b ∷ unquoted false bytes
 
--- the text that the field is, without its quotes
+-- the text that the field is, without its quotes where it begins with one
 abbrev pub text_in : Field → List ℕ
 text_in field = if slice_index field 0 == 34 then unquoted false (drop 1 field) else field
 

@@ -92,7 +92,7 @@ pub record IsNext (script : Script) (progress : Progress) (fields : List Field) 
   pub guess : guess_after script progress.last (standing fields) ≡ Some next
   pub is : piece_fields script.tables next ≡ fields
 
--- The record at the start of the bytes, whose fields stand there as these, is taken, and the bytes after it are left. Or none
+-- The record at the start of the bytes, whose fields stand there as `stood`, is taken, and the bytes after it are left. Or none
 -- stands there that may come next.
 abbrev pub Takes : Script → Progress → List Field → List ℕ → Progress → Option (List ℕ) → Type 0
 Takes script old stood bytes new None =

@@ -3,7 +3,7 @@
 ghost use Rattle.std.specs.Prelude.{◌≡◌, ◌≤◌, IfOk, false, length, take};
 ghost use Rattle.std.specs.List.{list_any};
 ghost use Rattle.hg_base.specs.declared.limits.TheConstants.{MOST_COLUMNS, MOST_TEXT_BYTES};
-ghost use Rattle.hg_report.specs.Fields.{fields_of, goes, holds_text, integer_value, nth, row_in, text_in, unquoted, value_in, values_in};
+ghost use Rattle.hg_report.specs.Fields.{fields_of, is_left_out, holds_text, integer_value, nth, row_in, text_in, unquoted, value_in, values_in};
 
 use crate::fields::field;
 use hg_base::{Column, MOST_COLUMNS, MOST_TEXT_BYTES, NoMemory, Row, Text, Value};
@@ -20,21 +20,22 @@ fn integer_value(integer: Integer) -> i64
     }
 }
 
-// Whether a byte within quotes is left out. `before` says whether the one before it was.
-fn goes(before: bool, b: u8) -> bool
-    ensures { result ≡ goes before b }
+// Whether the byte is left out. `before` says whether the one before it was.
+fn is_left_out(before: bool, b: u8) -> bool
+    ensures { result ≡ is_left_out before b }
 {
     b == b'"' && !before
 }
 
+// What a field behind its first quote says.
 fn unquoted(alloc: Global, bytes: &[u8]) -> Result<Vec<u8>, NoMemory>
     ensures { IfOk result (λ text. text.items ≡ unquoted false bytes.now) }
 {
     let mut text = Vec::with_capacity(alloc, bytes.len())?;
-    let mut gone = false;
+    let mut left_out = false;
     for b in bytes {
-        gone = goes(gone, *b);
-        if !gone {
+        left_out = is_left_out(left_out, *b);
+        if !left_out {
             text.push(*b)?;
         }
     }
@@ -97,6 +98,7 @@ fn numbers_in(alloc: Global, row: &[&[u8]], i: usize, kinds: &[Column]) -> Resul
     Ok(Row::from_slice(alloc, &values[..kinds.len()])?)
 }
 
+// The row of any columns.
 fn values_in(alloc: Global, row: &[&[u8]], i: usize, kinds: &[Column]) -> Result<Row, NoMemory>
     requires { (i ≤ 8) × (1 ≤ length kinds.now) × (length kinds.now ≤ 8) }
     ensures { IfOk result (λ values. values ≡ values_in (fields_of row.now) i kinds.now) }
