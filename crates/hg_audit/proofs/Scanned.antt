@@ -1,11 +1,12 @@
 -- The rows of a scan, one after the other.
-use Rattle.std.proofs.Common.{◌≡◌, ℕ, ◌+◌, ◌-◌, ◌<◌, ◌≤◌, ◌⊎◌, inl, inr, ℤ, List, [], ◌∷◌, ◌++◌, map, Bool, true, false, Option, Some, None, refl, sym, ap, ◌∙◌, subst, arith}
+use Rattle.std.proofs.Common.{◌≡◌, ℕ, ◌+◌, ◌-◌, ◌<◌, ◌≤◌, ◌⊎◌, inl, inr, List, [], ◌∷◌, ◌++◌, map, Bool, true, false, Option, Some, None, refl, sym, ap, ◌∙◌, subst, arith}
 use Rattle.std.specs.Prelude.{◌==◌, ◌||◌, IsTrue, nat_lt}
 use Rattle.std.specs.List.{list_any}
 use Rattle.std.specs.Option.{MatchOption, SomeIff}
 use Rattle.std.proofs.lemmas.Bool.{ltb-true, ltb-false}
 use Rattle.std.proofs.lemmas.Bool.Decides.{Decides-eqb}
 use Rattle.hg_base.specs.declared.image.Image.{Image}
+use Rattle.hg_base.specs.declared.value.Value.{Value}
 use Rattle.hg_base.specs.Lists.{Each, Ascends}
 use Rattle.hg_base.specs.Replies.{AreRows}
 use Rattle.hg_base.proofs.ListFacts.{cases, false_true, each_snoc}
@@ -13,10 +14,10 @@ use Rattle.hg_audit.specs.Seen.{NoneSeen}
 use Rattle.hg_known.proofs.Pairs.{any_append}
 
 abbrev pub Rows : Type 0
-Rows = List (ℕ × List ℤ)
+Rows = List (ℕ × List Value)
 
 abbrev pub keys : Rows → List ℕ
-keys rows = map (λ (p : ℕ × List ℤ). p.0) rows
+keys rows = map (λ (p : ℕ × List Value). p.0) rows
 
 -- all keys are below a number
 abbrev pub Below : ℕ → Rows → Type 0
@@ -34,7 +35,7 @@ ascends_cons a (p ∷ ps) h =
     over a b k [] h = tt
     over a b k (p ∷ ps) h = let l : b < p.0 = h.0 in (omega (arith, k, l), over a b k ps h.1)
 
-pub ascends_split : (rows rest : Rows) (q : ℕ × List ℤ) → Ascends (keys (rows ++ q ∷ rest)) → Below q.0 rows × Each (λ p. q.0 < p.0) rest
+pub ascends_split : (rows rest : Rows) (q : ℕ × List Value) → Ascends (keys (rows ++ q ∷ rest)) → Below q.0 rows × Each (λ p. q.0 < p.0) rest
 ascends_split [] rest q h = (tt, (ascends_cons q.0 rest h).0)
 ascends_split (p ∷ ps) rest q h =
     let here = ascends_cons p.0 (ps ++ q ∷ rest) h in
@@ -45,7 +46,7 @@ ascends_split (p ∷ ps) rest q h =
     first [] k = k.0
     first (r ∷ rs) k = first rs k.1
 
-pub ascends_push : (rows : Rows) (q : ℕ × List ℤ) → Ascends (keys rows) → Below q.0 rows → Ascends (keys (rows ++ q ∷ []))
+pub ascends_push : (rows : Rows) (q : ℕ × List Value) → Ascends (keys rows) → Below q.0 rows → Ascends (keys (rows ++ q ∷ []))
 ascends_push [] q h k = tt
 ascends_push (p ∷ []) q h k = (k.0, tt)
 ascends_push (p ∷ r ∷ rs) q h k = (h.0, ascends_push (r ∷ rs) q h.1 k.1)
@@ -54,9 +55,9 @@ pub each_right : {X : Type 0} (P : X → Type 0) (xs ys : List X) → Each P (xs
 each_right P [] ys h = h
 each_right P (x ∷ xs) ys h = each_right P xs ys h.1
 
-pub none_here : (k : ℕ) (rows : Rows) → Each (λ p. p.0 ≡ k → ⊥) rows → list_any (λ (p : ℕ × List ℤ). p.0 == k) rows ≡ true → ⊥
+pub none_here : (k : ℕ) (rows : Rows) → Each (λ p. p.0 ≡ k → ⊥) rows → list_any (λ (p : ℕ × List Value). p.0 == k) rows ≡ true → ⊥
 none_here k [] h e = false_true e
-none_here k (p ∷ ps) h e = cases (p.0 == k) (λ same. h.0 ((Decides-eqb p.0 k).0 same)) (λ other. none_here k ps h.1 (sym (ap (λ b. b || list_any (λ (p : ℕ × List ℤ). p.0 == k) ps) other) ∙ e))
+none_here k (p ∷ ps) h e = cases (p.0 == k) (λ same. h.0 ((Decides-eqb p.0 k).0 same)) (λ other. none_here k ps h.1 (sym (ap (λ b. b || list_any (λ (p : ℕ × List Value). p.0 == k) ps) other) ∙ e))
 
 pub not_below : (k first : ℕ) (rows : Rows) → first ≤ k → Below first rows → Each (λ p. p.0 ≡ k → ⊥) rows
 not_below k first [] low h = tt
@@ -81,7 +82,7 @@ abbrev pub IsPassed : Option ℕ → ℕ → Type 0
 IsPassed from k = MatchOption from (Unit {0}) (λ first. k < first)
 
 module _ (look : ℕ → Image) (low high : ℕ) where
-  abbrev pub IsRow : ℕ × List ℤ → Type 0
+  abbrev pub IsRow : ℕ × List Value → Type 0
   IsRow p = (low ≤ p.0) × (p.0 ≤ high) × ((look p.0).row ≡ Some p.1)
 
   abbrev pub IsTold : Rows → ℕ → Type 0
@@ -96,12 +97,12 @@ module _ (look : ℕ → Image) (low high : ℕ) where
   pub scan_first : Scanning [] (Some low)
   scan_first = record { ascend = tt; each = tt; next = (omega arith, tt, λ k j _. j); told = λ k j l m. absurd (omega (arith, j, m)) }
 
-  pub told_more : (rows : Rows) (q : ℕ × List ℤ) (k : ℕ) → IsTold rows k → IsTold (rows ++ q ∷ []) k
-  told_more rows q k (inl e) = inl (any_append (λ (p : ℕ × List ℤ). p.0 == k) rows (q ∷ []) ∙ ap (λ b. b || list_any (λ (p : ℕ × List ℤ). p.0 == k) (q ∷ [])) e)
+  pub told_more : (rows : Rows) (q : ℕ × List Value) (k : ℕ) → IsTold rows k → IsTold (rows ++ q ∷ []) k
+  told_more rows q k (inl e) = inl (any_append (λ (p : ℕ × List Value). p.0 == k) rows (q ∷ []) ∙ ap (λ b. b || list_any (λ (p : ℕ × List Value). p.0 == k) (q ∷ [])) e)
   told_more rows q k (inr e) = inr e
 
-  pub told_here : (rows : Rows) (q : ℕ × List ℤ) → IsTold (rows ++ q ∷ []) q.0
-  told_here rows q = inl (any_append (λ (p : ℕ × List ℤ). p.0 == q.0) rows (q ∷ []) ∙ or_last (list_any (λ (p : ℕ × List ℤ). p.0 == q.0) rows) (q.0 == q.0) ((Decides-eqb q.0 q.0).1 refl))
+  pub told_here : (rows : Rows) (q : ℕ × List Value) → IsTold (rows ++ q ∷ []) q.0
+  told_here rows q = inl (any_append (λ (p : ℕ × List Value). p.0 == q.0) rows (q ∷ []) ∙ or_last (list_any (λ (p : ℕ × List Value). p.0 == q.0) rows) (q.0 == q.0) ((Decides-eqb q.0 q.0).1 refl))
     where
       or_last : (a b : Bool) → b ≡ true → (a || (b || false)) ≡ true
       or_last true b e = refl
@@ -112,7 +113,7 @@ module _ (look : ℕ → Image) (low high : ℕ) where
   below_all [] first key k h = tt
   below_all (p ∷ ps) first key k h = let l : p.0 < first = h.0 in (omega (arith, k, l), below_all ps first key k h.1)
 
-  pub scan_more : (rows : Rows) (first key : ℕ) (row : List ℤ) (from : Option ℕ) → Scanning rows (Some first) → first ≤ key → key ≤ high → (look key).row ≡ Some row → ((k : ℕ) → first ≤ k → k < key → (look k).row ≡ None) → SomeIff from (key + 1 < 18446744073709551616) (key + 1) → high < 18446744073709551616 → Scanning (rows ++ (key, row) ∷ []) from
+  pub scan_more : (rows : Rows) (first key : ℕ) (row : List Value) (from : Option ℕ) → Scanning rows (Some first) → first ≤ key → key ≤ high → (look key).row ≡ Some row → ((k : ℕ) → first ≤ k → k < key → (look k).row ≡ None) → SomeIff from (key + 1 < 18446744073709551616) (key + 1) → high < 18446744073709551616 → Scanning (rows ++ (key, row) ∷ []) from
   scan_more rows first key row from h over within seen gap next small = record {
     ascend = ascends_push rows (key, row) h.ascend below;
     each = each_snoc IsRow rows (key, row) h.each (low_key, within, seen);
@@ -127,7 +128,7 @@ module _ (look : ℕ → Image) (low high : ℕ) where
       low_key = let a : low ≤ first = h.next.0 in omega (arith, a, over)
 
       last_of : (k : ℕ) → Below k (rows ++ (key, row) ∷ []) → key < k
-      last_of k b = (each_right (λ (p : ℕ × List ℤ). p.0 < k) rows ((key, row) ∷ []) b).0
+      last_of k b = (each_right (λ (p : ℕ × List Value). p.0 < k) rows ((key, row) ∷ []) b).0
 
       is_next : (from : Option ℕ) → SomeIff from (key + 1 < 18446744073709551616) (key + 1) → IsNext low (rows ++ (key, row) ∷ []) from
       is_next None none = λ k b. let l = last_of k b in cases (nat_lt k 18446744073709551616) (λ e. absurd (let m : k < 18446744073709551616 = ltb-true k 18446744073709551616 e in none (omega (arith, l, m)))) (λ e. ltb-false k 18446744073709551616 e)
@@ -175,19 +176,19 @@ module _ (look : ℕ → Image) (low high : ℕ) where
 
   -- ---- a row that is not the next
 
-  pub its_row : (rows rest : Rows) (q : ℕ × List ℤ) → AreRows look low high (rows ++ q ∷ rest) → IsRow q
+  pub its_row : (rows rest : Rows) (q : ℕ × List Value) → AreRows look low high (rows ++ q ∷ rest) → IsRow q
   its_row rows rest q are = (each_right IsRow rows (q ∷ rest) are.each).0
 
-  pub not_low : (rows rest : Rows) (q : ℕ × List ℤ) (first : ℕ) → Scanning rows (Some first) → AreRows look low high (rows ++ q ∷ rest) → first ≤ q.0
+  pub not_low : (rows rest : Rows) (q : ℕ × List Value) (first : ℕ) → Scanning rows (Some first) → AreRows look low high (rows ++ q ∷ rest) → first ≤ q.0
   not_low rows rest q first h are = h.next.2 q.0 (its_row rows rest q are).0 (ascends_split rows rest q are.ascend).0
 
-  pub no_next : (rows rest : Rows) (q : ℕ × List ℤ) → high < 18446744073709551616 → Scanning rows None → AreRows look low high (rows ++ q ∷ rest) → ⊥
+  pub no_next : (rows rest : Rows) (q : ℕ × List Value) → high < 18446744073709551616 → Scanning rows None → AreRows look low high (rows ++ q ∷ rest) → ⊥
   no_next rows rest q small h are =
       let big : 18446744073709551616 ≤ q.0 = h.next q.0 (ascends_split rows rest q are.ascend).0 in
       let top : q.0 ≤ high = (its_row rows rest q are).1 in
       omega (arith, big, top, small)
 
-  pub gap_none : (rows rest : Rows) (q : ℕ × List ℤ) (first : ℕ) → Scanning rows (Some first) → AreRows look low high (rows ++ q ∷ rest) → first < q.0 → NoneSeen look first (q.0 - 1)
+  pub gap_none : (rows rest : Rows) (q : ℕ × List Value) (first : ℕ) → Scanning rows (Some first) → AreRows look low high (rows ++ q ∷ rest) → first < q.0 → NoneSeen look first (q.0 - 1)
   gap_none rows rest q first h are less k j l = go (are.every k low_k high_k)
     where
       below : k < q.0

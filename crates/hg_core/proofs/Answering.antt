@@ -1,5 +1,5 @@
 -- Each statement of a log is answered as a table would that never reclaims.
-use Rattle.std.proofs.Common.{◌≡◌, ℕ, ℤ, ◌<◌, ◌≤◌, List, [], ◌∷◌, ◌++◌, length, Bool, true, false, Option, Some, None, refl, sym, ap, ◌∙◌, subst, arith}
+use Rattle.std.proofs.Common.{◌≡◌, ℕ, ◌<◌, ◌≤◌, List, [], ◌∷◌, ◌++◌, length, Bool, true, false, Option, Some, None, refl, sym, ap, ◌∙◌, subst, arith}
 use Rattle.std.specs.Prelude.{◌==◌, ◌%◌, if◌then◌else◌, Contains, IsFalse, IfSome, unwrap_or}
 use Rattle.std.proofs.lemmas.Nat.{pow_pos}
 use Rattle.std.proofs.Math.Nat.{div_self}
@@ -12,6 +12,7 @@ use Rattle.hg_base.specs.declared.statement.Statement.TheVariants.{Begin, Get, P
 use Rattle.hg_base.specs.declared.line.Answer.{Answer}
 use Rattle.hg_base.specs.declared.line.Answer.TheVariants.{Rows, Committed, Newer, OpenBy}
 use Rattle.hg_base.specs.declared.line.Reply.{Reply}
+use Rattle.hg_base.specs.declared.value.Value.{Value}
 use Rattle.hg_base.specs.Script.{replay}
 use Rattle.hg_base.specs.History.{History, seen, group_at}
 use Rattle.hg_base.specs.Transcript.{Said, only, table_of, committed_by}
@@ -145,12 +146,12 @@ answer_due buckets h logs j u before now s some logged g fits declared at = acce
 
 -- ---- the cause of a refusal
 
-put_caused : (buckets : ℕ) (h : History) (logs : ℕ → List LogEntry) (j : ℕ) (r : Rid) (row : List ℤ) (answer : Answer) (l : List LogEntry) (c : Snapshot) → current l ≡ Some c → AreReplied buckets h logs j (put_entries r row answer ++ l) → IsCaused h logs j (own_writes l) c.at r answer
+put_caused : (buckets : ℕ) (h : History) (logs : ℕ → List LogEntry) (j : ℕ) (r : Rid) (row : List Value) (answer : Answer) (l : List LogEntry) (c : Snapshot) → current l ≡ Some c → AreReplied buckets h logs j (put_entries r row answer ++ l) → IsCaused h logs j (own_writes l) c.at r answer
 put_caused buckets h logs j r row (Newer n) l c e g = (of_some (current l) _ c e g.0).1
 put_caused buckets h logs j r row (OpenBy w) l c e g = (of_some (current l) _ c e g.0).1
 put_caused buckets h logs j r row _ l c e g = tt
 
-del_caused : (buckets : ℕ) (h : History) (logs : ℕ → List LogEntry) (j : ℕ) (found : List ℤ) (r : Rid) (answer : Answer) (l : List LogEntry) (c : Snapshot) → current l ≡ Some c → AreReplied buckets h logs j (del_entries buckets found r answer ++ l) → IsCaused h logs j (own_writes l) c.at r answer
+del_caused : (buckets : ℕ) (h : History) (logs : ℕ → List LogEntry) (j : ℕ) (found : List Value) (r : Rid) (answer : Answer) (l : List LogEntry) (c : Snapshot) → current l ≡ Some c → AreReplied buckets h logs j (del_entries buckets found r answer ++ l) → IsCaused h logs j (own_writes l) c.at r answer
 del_caused buckets h logs j found r (Newer n) l c e g = (of_some (current l) _ c e g.0).1
 del_caused buckets h logs j found r (OpenBy w) l c e g = (of_some (current l) _ c e g.0).1
 del_caused buckets h logs j found r _ l c e g = tt

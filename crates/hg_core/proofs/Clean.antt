@@ -1,5 +1,5 @@
 -- What collectors leave is clean, or cut at a bound, and stays so.
-use Rattle.std.proofs.Common.{◌≡◌, ℕ, ℤ, suc, ◌<◌, ◌≤◌, List, [], ◌∷◌, Option, None, Some, Bool, true, false, ◌&&◌, ◌||◌, ◌⊎◌, inl, inr, refl, sym, ap, subst, arith, ◌++◌, not, filter, ◌∙◌}
+use Rattle.std.proofs.Common.{◌≡◌, ℕ, suc, ◌<◌, ◌≤◌, List, [], ◌∷◌, Option, None, Some, Bool, true, false, ◌&&◌, ◌||◌, ◌⊎◌, inl, inr, refl, sym, ap, subst, arith, ◌++◌, not, filter, ◌∙◌}
 use Rattle.std.specs.Prelude.{if◌then◌else◌, cond, nat_le, nat_lt, IsSome, IsTrue, map}
 use Rattle.std.proofs.lemmas.Bool.Decides.{nat_tests}
 use Rattle.hg_base.specs.declared.writer.Writer.{Writer}
@@ -7,6 +7,7 @@ use Rattle.hg_base.specs.declared.image.Image.{Image}
 use Rattle.hg_base.specs.declared.rid.TableId.{TableId}
 use Rattle.hg_base.specs.declared.report.Kind.{Kind}
 use Rattle.hg_base.specs.declared.report.Kind.TheVariants.{Group, Table, Interval}
+use Rattle.hg_base.specs.declared.value.Value.{Value}
 use Rattle.hg_core.specs.declared.version.Stamp.{Stamp}
 use Rattle.hg_core.specs.declared.version.Stamp.TheVariants.{Written, Numbered, Oldest}
 use Rattle.hg_core.specs.declared.version.Version.{Version}
@@ -66,13 +67,13 @@ cut_swept bound horizon snapshots successor (v ∷ vs) k = go (is_up_to bound (s
         either false c = rw e c
 
 -- what a cut leaves of one version
-oldest_none : (bound : ℕ) (number : Option ℕ) (row : Option (List ℤ)) → is_up_to bound number ≡ false → up_to bound (oldest number row) ≡ []
+oldest_none : (bound : ℕ) (number : Option ℕ) (row : Option (List Value)) → is_up_to bound number ≡ false → up_to bound (oldest number row) ≡ []
 oldest_none bound None None e = refl
 oldest_none bound None (Some row) e = refl
 oldest_none bound (Some n) None e = refl
 oldest_none bound (Some n) (Some row) e = rw e refl
 
-oldest_cut : (bound : ℕ) (number : Option ℕ) (row : Option (List ℤ)) → IsCutAt bound (oldest number row)
+oldest_cut : (bound : ℕ) (number : Option ℕ) (row : Option (List Value)) → IsCutAt bound (oldest number row)
 oldest_cut bound None None = tt
 oldest_cut bound None (Some row) = tt
 oldest_cut bound (Some n) None = tt
@@ -189,7 +190,7 @@ clean_cut : (horizon c : ℕ) (snapshots : List ℕ) (successor : Option ℕ) (v
 clean_cut horizon c snapshots successor [] k = tt
 clean_cut horizon c snapshots successor (v ∷ vs) k = go (is_up_to c (stamp_number v.stamp)) (clean_cut horizon c snapshots (stamp_number v.stamp) vs k.1)
   where
-    left : (number : Option ℕ) (row : Option (List ℤ)) → MayStay horizon snapshots successor number → MayAllStay horizon snapshots successor (oldest number row)
+    left : (number : Option ℕ) (row : Option (List Value)) → MayStay horizon snapshots successor number → MayAllStay horizon snapshots successor (oldest number row)
     left None None m = tt
     left None (Some row) m = tt
     left (Some n) None m = tt

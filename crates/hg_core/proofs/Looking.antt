@@ -1,5 +1,5 @@
 -- A session reads a range, tries a write, or names a table outside.
-use Rattle.std.proofs.Common.{◌≡◌, ℕ, ℤ, ◌<◌, ◌≤◌, List, [], ◌∷◌, length, Option, None, Some, Bool, true, false, inr, refl, sym, ap, ◌∙◌, subst, arith}
+use Rattle.std.proofs.Common.{◌≡◌, ℕ, ◌<◌, ◌≤◌, List, [], ◌∷◌, length, Option, None, Some, Bool, true, false, inr, refl, sym, ap, ◌∙◌, subst, arith}
 use Rattle.std.specs.Prelude.{if◌then◌else◌, nat_le, ◌==◌, is_some, unwrap_or, IsSome, IfSome, IsTrue, IsFalse, ⊤}
 use Rattle.std.proofs.lemmas.Bool.Decides.{Decides-eqb, nat_tests}
 use Rattle.hg_base.specs.declared.rid.Rid.{Rid}
@@ -8,6 +8,7 @@ use Rattle.hg_base.specs.declared.writer.Writer.{Writer}
 use Rattle.hg_base.specs.declared.scope.Scope.{Scope}
 use Rattle.hg_base.specs.declared.line.Answer.{Answer}
 use Rattle.hg_base.specs.declared.line.Answer.TheVariants.{Newer, OpenBy}
+use Rattle.hg_base.specs.declared.value.Value.{Value}
 use Rattle.hg_base.specs.History.{image_in, visible, seen, group_at, group_image, same_writer}
 use Rattle.hg_base.specs.Replies.{AreRows}
 use Rattle.hg_base.specs.Lists.{Each}
@@ -125,7 +126,7 @@ look_more s j e h look some replied = record {
 
 -- ---- a look
 
-pub look_kept : (s : CoreState) (j : ℕ) (ask : Ask) (b : ℕ) (rows : List (ℕ × List ℤ)) → IsSteady s → May s (Look j ask b rows) → IsSteady (happens s (Look j ask b rows))
+pub look_kept : (s : CoreState) (j : ℕ) (ask : Ask) (b : ℕ) (rows : List (ℕ × List Value)) → IsSteady s → May s (Look j ask b rows) → IsSteady (happens s (Look j ask b rows))
 look_kept s j (asks.Read table low high) b rows h (at, scope, may) = look_more s j (Saw table low high b rows) h tt (subst IsSome (sym reads) refl)
     (subst (λ o. IfSome o (λ snapshot. IsTrue (has snapshot.scope table) × AreRows (in_bucket s.buckets b table (seen s.history (own_writes (s.log j)) snapshot.at)) low high rows)) (sym reads)
     (may.asks.0, subst (λ f. AreRows f low high rows) (λ i key. shown key i) may.asks.1))

@@ -2,6 +2,7 @@
 use Rattle.std.proofs.Common.{◌≡◌, ℕ, ◌<◌, List, [], ◌∷◌, None, Some, inl, inr, refl, sym, ap, arith, true, false}
 use Rattle.std.specs.Prelude.{pos}
 use Rattle.hg_base.specs.declared.rid.Rid.{Rid}
+use Rattle.hg_base.specs.declared.value.Value.TheVariants.{Number}
 use Rattle.hg_base.specs.declared.image.Image.{Image}
 use Rattle.hg_base.specs.declared.report.Kind.{Kind}
 use Rattle.hg_base.specs.declared.report.Kind.TheVariants.{Table, Interval}
@@ -30,7 +31,7 @@ steady : (steps : List Step) → Run (opened 2 1 1 1 2) steps → IsSteady (then
 steady steps runs = steady_after 2 1 1 1 2 steps runs
 
 no_row : nothing ≡ row → ⊥
-no_row e = let z : None ≡ Some (pos 7 ∷ []) = ap (λ (i : Image). i.row) e in cc
+no_row e = let z : None ≡ Some (Number (pos 7) ∷ []) = ap (λ (i : Image). i.row) e in cc
 
 -- session 1 reads the first version at its own number
 pub own_number_refused : ((s : CoreState) (p : ℕ) (r : Rid) → IsSteady s → MayReclaim s p r → IsSteady (lifetime_past s p r)) → ⊥

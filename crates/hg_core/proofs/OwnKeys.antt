@@ -1,9 +1,10 @@
 -- The buckets that can have a key of a range, and the looks of a scan.
-use Rattle.std.proofs.Common.{◌≡◌, ℕ, zero, suc, ◌+◌, ◌-◌, ◌<◌, ◌≤◌, ℤ, List, ◌∷◌, ◌++◌, Bool, true, false, refl, sym, ap, ◌∙◌, arith}
+use Rattle.std.proofs.Common.{◌≡◌, ℕ, zero, suc, ◌+◌, ◌-◌, ◌<◌, ◌≤◌, List, ◌∷◌, ◌++◌, Bool, true, false, refl, sym, ap, ◌∙◌, arith}
 use Rattle.std.specs.Prelude.{◌==◌, ◌||◌, if◌then◌else◌}
 use Rattle.std.specs.List.{list_any}
 use Rattle.std.proofs.lemmas.Bool.Decides.{Decides-eqb, nat_tests}
 use Rattle.hg_base.specs.declared.rid.TableId.{TableId}
+use Rattle.hg_base.specs.declared.value.Value.{Value}
 use Rattle.hg_base.specs.Lists.{numbers_from}
 use Rattle.hg_base.proofs.ListFacts.{cases}
 use Rattle.hg_core.specs.declared.log.LogEntry.{LogEntry}
@@ -61,7 +62,7 @@ reaching buckets table low high b e =
 -- ---- the looks
 
 -- what a look keeps, all of a scan keep
-pub saws_keep : (P : List LogEntry → Type 0) (buckets : ℕ) (t : TableId) (low high : ℕ) (part : ℕ → List (ℕ × List ℤ)) (n : ℕ) (l : List LogEntry) → ((b : ℕ) (rows : List (ℕ × List ℤ)) (m : List LogEntry) → P m → P (Saw t low high b rows ∷ m)) → P l → P (saws buckets t low high part n ++ l)
+pub saws_keep : (P : List LogEntry → Type 0) (buckets : ℕ) (t : TableId) (low high : ℕ) (part : ℕ → List (ℕ × List Value)) (n : ℕ) (l : List LogEntry) → ((b : ℕ) (rows : List (ℕ × List Value)) (m : List LogEntry) → P m → P (Saw t low high b rows ∷ m)) → P l → P (saws buckets t low high part n ++ l)
 saws_keep P buckets t low high part zero l keeps p = p
 saws_keep P buckets t low high part (suc n) l keeps p = go (has_own buckets t low high n) (saws_keep P buckets t low high part n l keeps p)
   where

@@ -1,5 +1,5 @@
 -- The entries of a statement say that its reply is right.
-use Rattle.std.proofs.Common.{◌≡◌, ℕ, zero, suc, ◌<◌, ◌≤◌, ◌⊎◌, inl, inr, ℤ, List, [], ◌∷◌, ◌++◌, length, Bool, true, false, Option, Some, None, refl, sym, ap, ◌∙◌, subst, arith, mod-lt}
+use Rattle.std.proofs.Common.{◌≡◌, ℕ, zero, suc, ◌<◌, ◌≤◌, ◌⊎◌, inl, inr, List, [], ◌∷◌, ◌++◌, length, Bool, true, false, Option, Some, None, refl, sym, ap, ◌∙◌, subst, arith, mod-lt}
 use Rattle.std.specs.Prelude.{◌==◌, ◌||◌, ◌+◌, ◌*◌, ◌%◌, if◌then◌else◌, IsTrue, IsFalse, IsSome, IfSome, Contains}
 use Rattle.std.specs.List.{list_any}
 use Rattle.std.specs.Bool.{MatchBool}
@@ -14,6 +14,7 @@ use Rattle.hg_base.specs.declared.statement.Statement.{Statement}
 use Rattle.hg_base.specs.declared.statement.Statement.TheVariants.{Get, Put, Del, Scan}
 use Rattle.hg_base.specs.declared.line.Answer.{Answer}
 use Rattle.hg_base.specs.declared.line.Answer.TheVariants.{Stored, Found, Nothing, Gone, Rows, Newer, OpenBy, Undeclared}
+use Rattle.hg_base.specs.declared.value.Value.{Value}
 use Rattle.hg_base.specs.Lists.{Each}
 use Rattle.hg_base.specs.Script.{Mode}
 use Rattle.hg_base.specs.History.{Write, History, seen, nothing}
@@ -70,14 +71,14 @@ pub shown_here : (buckets : ℕ) (r : Rid) (f : Rid → Image) → in_bucket buc
 shown_here buckets r f = ap (λ b. if b then f r else nothing) (same_number (bucket_of buckets r))
 
 -- a row that a bucket shows
-pub row_here : (buckets b : ℕ) (t : TableId) (f : Rid → Image) (key : ℕ) (row : List ℤ) → (in_bucket buckets b t f key).row ≡ Some row → (f (record { table = t; key = key })).row ≡ Some row
+pub row_here : (buckets b : ℕ) (t : TableId) (f : Rid → Image) (key : ℕ) (row : List Value) → (in_bucket buckets b t f key).row ≡ Some row → (f (record { table = t; key = key })).row ≡ Some row
 row_here buckets b t f key row e = go (bucket_of buckets (record { table = t; key = key }) == b) e
   where
     go : (x : Bool) → (if x then f (record { table = t; key = key }) else nothing).row ≡ Some row → (f (record { table = t; key = key })).row ≡ Some row
     go true e = e
     go false e = absurd (let k : None ≡ Some row = e in cc)
 
-pub seen_row : (buckets : ℕ) (r : Rid) (f : Rid → Image) (row : List ℤ) → AreRows (in_bucket buckets (bucket_of buckets r) r.table f) r.key r.key ((r.key, row) ∷ []) → (f r).row ≡ Some row
+pub seen_row : (buckets : ℕ) (r : Rid) (f : Rid → Image) (row : List Value) → AreRows (in_bucket buckets (bucket_of buckets r) r.table f) r.key r.key ((r.key, row) ∷ []) → (f r).row ≡ Some row
 seen_row buckets r f row a = row_here buckets (bucket_of buckets r) r.table f r.key row a.each.0.2
 
 pub seen_nothing : (buckets : ℕ) (r : Rid) (f : Rid → Image) → AreRows (in_bucket buckets (bucket_of buckets r) r.table f) r.key r.key [] → (f r).row ≡ None
@@ -96,7 +97,7 @@ get_right buckets h logs j r Nothing l c e f g = let k = of_some (current l) _ c
 get_right buckets h logs j r (Undeclared t) l c e f g = undeclared c.scope t r.table (IsGot (seen h (own_writes l) c.at r) (Undeclared t)) (of_some (current l) _ c e g.0) f
 get_right buckets h logs j r _ l c e f g = absurd f
 
-pub put_right : (buckets : ℕ) (h : History) (logs : ℕ → List LogEntry) (j : ℕ) (r : Rid) (row : List ℤ) (a : Answer) (l : List LogEntry) (c : Snapshot) → current l ≡ Some c → FitsTable r.table a (IsPut a) → AreReplied buckets h logs j (put_entries r row a ++ l) →
+pub put_right : (buckets : ℕ) (h : History) (logs : ℕ → List LogEntry) (j : ℕ) (r : Rid) (row : List Value) (a : Answer) (l : List LogEntry) (c : Snapshot) → current l ≡ Some c → FitsTable r.table a (IsPut a) → AreReplied buckets h logs j (put_entries r row a ++ l) →
     WithinScope c.scope r.table a (IsPut a)
 put_right buckets h logs j r row Stored l c e f g = within (has c.scope r.table) _ _ (of_some (current l) _ c e g.0.0) tt
 put_right buckets h logs j r row (Newer n) l c e f g = within (has c.scope r.table) _ _ (of_some (current l) _ c e g.0).0 tt
@@ -104,10 +105,10 @@ put_right buckets h logs j r row (OpenBy w) l c e f g = within (has c.scope r.ta
 put_right buckets h logs j r row (Undeclared t) l c e f g = undeclared c.scope t r.table (IsPut (Undeclared t)) (of_some (current l) _ c e g.0) f
 put_right buckets h logs j r row _ l c e f g = absurd f
 
-pub is_there : (o : Option (List ℤ)) (row : List ℤ) → o ≡ Some row → IsSome o
+pub is_there : (o : Option (List Value)) (row : List Value) → o ≡ Some row → IsSome o
 is_there o row e = subst (λ p. IsSome p) (sym e) refl
 
-pub del_right : (buckets : ℕ) (h : History) (logs : ℕ → List LogEntry) (j : ℕ) (found : List ℤ) (r : Rid) (a : Answer) (l : List LogEntry) (c : Snapshot) → current l ≡ Some c → FitsTable r.table a (IsDelAnswer a) → AreReplied buckets h logs j (del_entries buckets found r a ++ l) →
+pub del_right : (buckets : ℕ) (h : History) (logs : ℕ → List LogEntry) (j : ℕ) (found : List Value) (r : Rid) (a : Answer) (l : List LogEntry) (c : Snapshot) → current l ≡ Some c → FitsTable r.table a (IsDelAnswer a) → AreReplied buckets h logs j (del_entries buckets found r a ++ l) →
     WithinScope c.scope r.table a (IsDeleted (seen h (own_writes l) c.at r) a)
 del_right buckets h logs j found r Nothing l c e f g = let k = of_some (current l) _ c e g.0 in within (has c.scope r.table) _ _ k.0 (seen_nothing buckets r (seen h (own_writes l) c.at) k.1)
 del_right buckets h logs j found r Gone l c e f g = let k = of_some (current l) _ c e g.1.0 in within (has c.scope r.table) _ _ k.0 (is_there (seen h (own_writes l) c.at r).row found (seen_row buckets r (seen h (own_writes l) c.at) found k.1))
@@ -119,14 +120,14 @@ del_right buckets h logs j found r _ l c e f g = absurd f
 -- ---- scan
 
 -- reads leave the open transaction and its writes as they are
-saws_same : (buckets : ℕ) (t : TableId) (low high : ℕ) (part : ℕ → List (ℕ × List ℤ)) (n : ℕ) (l : List LogEntry) → (current (saws buckets t low high part n ++ l) ≡ current l) × (own_writes (saws buckets t low high part n ++ l) ≡ own_writes l)
+saws_same : (buckets : ℕ) (t : TableId) (low high : ℕ) (part : ℕ → List (ℕ × List Value)) (n : ℕ) (l : List LogEntry) → (current (saws buckets t low high part n ++ l) ≡ current l) × (own_writes (saws buckets t low high part n ++ l) ≡ own_writes l)
 saws_same buckets t low high part n l = saws_keep (λ m. (current m ≡ current l) × (own_writes m ≡ own_writes l)) buckets t low high part n l (λ b rows m same. same) (refl, refl)
 
 -- bucket b of a scan
-abbrev pub SawPart : ℕ → History → List Write → Snapshot → TableId → ℕ → ℕ → (ℕ → List (ℕ × List ℤ)) → ℕ → Type 0
+abbrev pub SawPart : ℕ → History → List Write → Snapshot → TableId → ℕ → ℕ → (ℕ → List (ℕ × List Value)) → ℕ → Type 0
 SawPart buckets h own c t low high part b = IsTrue (has c.scope t) × AreRows (in_bucket buckets b t (seen h own c.at)) low high (part b)
 
-pub saws_replied : (buckets : ℕ) (h : History) (logs : ℕ → List LogEntry) (j : ℕ) (t : TableId) (low high : ℕ) (part : ℕ → List (ℕ × List ℤ)) (n : ℕ) (l : List LogEntry) (c : Snapshot) → current l ≡ Some c → AreReplied buckets h logs j (saws buckets t low high part n ++ l) → (b : ℕ) → b < n → has_own buckets t low high b ≡ true → SawPart buckets h (own_writes l) c t low high part b
+pub saws_replied : (buckets : ℕ) (h : History) (logs : ℕ → List LogEntry) (j : ℕ) (t : TableId) (low high : ℕ) (part : ℕ → List (ℕ × List Value)) (n : ℕ) (l : List LogEntry) (c : Snapshot) → current l ≡ Some c → AreReplied buckets h logs j (saws buckets t low high part n ++ l) → (b : ℕ) → b < n → has_own buckets t low high b ≡ true → SawPart buckets h (own_writes l) c t low high part b
 saws_replied buckets h logs j t low high part zero l c e g b k has = absurd (omega (arith, k))
 saws_replied buckets h logs j t low high part (suc n) l c e g b k has =
     cases (b == n)
@@ -160,26 +161,26 @@ any_contained p [] ys h e = absurd (let k : false ≡ true = e in cc)
 any_contained p (x ∷ xs) ys h e = cases (p x) (λ q. contains_any p x ys h.0 q) (λ q. any_contained p xs ys h.1 (sym (ap (λ b. b || list_any p xs) q) ∙ e))
 
 -- the rows of all parts are those of the range
-pub joined_rows : (buckets : ℕ) (t : TableId) (f : Rid → Image) (low high : ℕ) (part : ℕ → List (ℕ × List ℤ)) (rows : List (ℕ × List ℤ)) → ((r : Rid) → bucket_of buckets r < buckets) → Joins (IsReached buckets t low high) part rows → ((b : ℕ) → IsReached buckets t low high b → AreRows (in_bucket buckets b t f) low high (part b)) →
+pub joined_rows : (buckets : ℕ) (t : TableId) (f : Rid → Image) (low high : ℕ) (part : ℕ → List (ℕ × List Value)) (rows : List (ℕ × List Value)) → ((r : Rid) → bucket_of buckets r < buckets) → Joins (IsReached buckets t low high) part rows → ((b : ℕ) → IsReached buckets t low high b → AreRows (in_bucket buckets b t f) low high (part b)) →
     AreRows (λ key. f (record { table = t; key = key })) low high rows
 joined_rows buckets t f low high part rows places joins parts = record {
   ascend = joins.ascend;
-  each = each_keeps (λ (p : ℕ × List ℤ). (b : ℕ) × IsReached buckets t low high b × Contains (part b) p) (λ (p : ℕ × List ℤ). (low ≤ p.0) × (p.0 ≤ high) × ((f (record { table = t; key = p.0 })).row ≡ Some p.1)) (λ p m. one p m.0 m.1 m.2) rows joins.each;
+  each = each_keeps (λ (p : ℕ × List Value). (b : ℕ) × IsReached buckets t low high b × Contains (part b) p) (λ (p : ℕ × List Value). (low ≤ p.0) × (p.0 ≤ high) × ((f (record { table = t; key = p.0 })).row ≡ Some p.1)) (λ p m. one p m.0 m.1 m.2) rows joins.each;
   every = λ key lo hi.
       let b = bucket_of buckets (record { table = t; key = key }) in
       let is : IsReached buckets t low high b = (places (record { table = t; key = key }), reached buckets t low high key lo hi) in
       here key (any_contained (λ p. p.0 == key) (part b) rows (joins.every b is)) ((parts b is).every key lo hi);
 }
   where
-    one : (p : ℕ × List ℤ) (b : ℕ) → IsReached buckets t low high b → Contains (part b) p → (low ≤ p.0) × (p.0 ≤ high) × ((f (record { table = t; key = p.0 })).row ≡ Some p.1)
-    one p b k c = let q = each_at (λ (p : ℕ × List ℤ). (low ≤ p.0) × (p.0 ≤ high) × ((in_bucket buckets b t f p.0).row ≡ Some p.1)) (part b) p (parts b k).each c in (q.0, q.1, row_here buckets b t f p.0 p.1 q.2)
+    one : (p : ℕ × List Value) (b : ℕ) → IsReached buckets t low high b → Contains (part b) p → (low ≤ p.0) × (p.0 ≤ high) × ((f (record { table = t; key = p.0 })).row ≡ Some p.1)
+    one p b k c = let q = each_at (λ (p : ℕ × List Value). (low ≤ p.0) × (p.0 ≤ high) × ((in_bucket buckets b t f p.0).row ≡ Some p.1)) (part b) p (parts b k).each c in (q.0, q.1, row_here buckets b t f p.0 p.1 q.2)
 
     here : (key : ℕ) → (list_any (λ p. p.0 == key) (part (bucket_of buckets (record { table = t; key = key }))) ≡ true → list_any (λ p. p.0 == key) rows ≡ true) →
         IsTrue (list_any (λ p. p.0 == key) (part (bucket_of buckets (record { table = t; key = key })))) ⊎ ((in_bucket buckets (bucket_of buckets (record { table = t; key = key })) t f key).row ≡ None) → IsTrue (list_any (λ p. p.0 == key) rows) ⊎ ((f (record { table = t; key = key })).row ≡ None)
     here key k (inl q) = inl (k q)
     here key k (inr q) = inr (ap (λ (i : Image). i.row) (sym (shown_here buckets (record { table = t; key = key }) f)) ∙ q)
 
-pub scan_right : (buckets : ℕ) (h : History) (logs : ℕ → List LogEntry) (j : ℕ) (part : ℕ → List (ℕ × List ℤ)) (t : TableId) (low high : ℕ) (a : Answer) (l : List LogEntry) (c : Snapshot) → ((r : Rid) → bucket_of buckets r < buckets) → current l ≡ Some c → FitsTable t a (IsScanAnswer (IsReached buckets t low high) part a) → FitsScope c.scope (Scan t low high) a → AreReplied buckets h logs j (scan_entries buckets part t low high a ++ l) →
+pub scan_right : (buckets : ℕ) (h : History) (logs : ℕ → List LogEntry) (j : ℕ) (part : ℕ → List (ℕ × List Value)) (t : TableId) (low high : ℕ) (a : Answer) (l : List LogEntry) (c : Snapshot) → ((r : Rid) → bucket_of buckets r < buckets) → current l ≡ Some c → FitsTable t a (IsScanAnswer (IsReached buckets t low high) part a) → FitsScope c.scope (Scan t low high) a → AreReplied buckets h logs j (scan_entries buckets part t low high a ++ l) →
     WithinScope c.scope t a (IsScanned (λ key. seen h (own_writes l) c.at (record { table = t; key = key })) low high a)
 scan_right buckets h logs j part t low high (Rows rows) l c places e f s g =
     let saw : (b : ℕ) → b < buckets → has_own buckets t low high b ≡ true → SawPart buckets h (own_writes l) c t low high part b = saws_replied buckets h logs j t low high part buckets l c e g in

@@ -1,10 +1,11 @@
 -- What a collector takes away is not what a protected snapshot sees, and what it leaves is in order.
-use Rattle.std.proofs.Common.{◌≡◌, ℕ, ℤ, zero, suc, ◌<◌, ◌≤◌, List, [], ◌∷◌, length, slice_index_or, Option, None, Some, Bool, true, false, ◌&&◌, ◌||◌, ◌⊎◌, inl, inr, refl, ◌∙◌, arith}
+use Rattle.std.proofs.Common.{◌≡◌, ℕ, zero, suc, ◌<◌, ◌≤◌, List, [], ◌∷◌, length, slice_index_or, Option, None, Some, Bool, true, false, ◌&&◌, ◌||◌, ◌⊎◌, inl, inr, refl, ◌∙◌, arith}
 use Rattle.std.specs.Prelude.{if◌then◌else◌, nat_le, nat_lt, Contains, ⊤}
 use Rattle.std.proofs.lemmas.Bool.Decides.{nat_tests}
 use Rattle.hg_base.specs.declared.rid.Rid.{Rid}
 use Rattle.hg_base.specs.declared.writer.Writer.{Writer}
 use Rattle.hg_base.specs.declared.image.Image.{Image}
+use Rattle.hg_base.specs.declared.value.Value.{Value}
 use Rattle.hg_base.specs.History.{History, nothing, group_at, group_image}
 use Rattle.hg_core.specs.declared.version.Stamp.{Stamp}
 use Rattle.hg_core.specs.declared.version.Stamp.TheVariants.{Written, Numbered, Oldest}
@@ -64,7 +65,7 @@ swept_first horizon s snapshots successor (v ∷ vs) g b = go (is_up_to s (stamp
 abbrev pub IsKept : ℕ → Option (ℕ × Image) → Option (ℕ × Image) → Type 0
 IsKept bound after before = (after ≡ before) ⊎ ((after ≡ None) × ((d : ℕ) × (before ≡ Some (d, nothing)) × (d ≤ bound)))
 
-cut_step : (bound s : ℕ) (number : Option ℕ) (row : Option (List ℤ)) (rest : Option (ℕ × Image)) → is_up_to bound number ≡ true → bound ≤ s → IsKept bound (newest_at s (oldest number row)) (if is_up_to s number then paired number (record { row = row }) else rest)
+cut_step : (bound s : ℕ) (number : Option ℕ) (row : Option (List Value)) (rest : Option (ℕ × Image)) → is_up_to bound number ≡ true → bound ≤ s → IsKept bound (newest_at s (oldest number row)) (if is_up_to s number then paired number (record { row = row }) else rest)
 cut_step bound s None None rest e h = cc
 cut_step bound s None (Some row) rest e h = cc
 cut_step bound s (Some n) None rest e h = let k : nat_le n s ≡ true = grind (arith, nat_tests) in let m : n ≤ bound = grind (arith, nat_tests) in rw k (inr (refl, (n, refl, m)))
@@ -96,7 +97,7 @@ falls_swept b horizon snapshots successor (v ∷ vs) f = go (goes horizon snapsh
     go true later = falls_more f.0 b _ (omega (arith, f.2)) later
     go false later = (f.0, f.1, f.2, later)
 
-falls_oldest : (b n : ℕ) (row : Option (List ℤ)) → n < b → Falls b (oldest (Some n) row)
+falls_oldest : (b n : ℕ) (row : Option (List Value)) → n < b → Falls b (oldest (Some n) row)
 falls_oldest b n None h = tt
 falls_oldest b n (Some row) h = (n, refl, h, tt)
 
@@ -117,11 +118,11 @@ ordered_swept mark horizon snapshots (v ∷ vs) f = go v.stamp f
     go (Numbered n by) f = (f.0, falls_swept _ horizon snapshots _ vs f.1)
     go (Oldest n) f = (f.0, falls_swept _ horizon snapshots _ vs f.1)
 
-ordered_oldest : (mark n : ℕ) (row : Option (List ℤ)) → n ≤ mark → IsOrdered mark (oldest (Some n) row)
+ordered_oldest : (mark n : ℕ) (row : Option (List Value)) → n ≤ mark → IsOrdered mark (oldest (Some n) row)
 ordered_oldest mark n None h = tt
 ordered_oldest mark n (Some row) h = (h, tt)
 
-oldest_published : (mark n : ℕ) (row : Option (List ℤ)) → unpublished mark (oldest (Some n) row) ≡ None
+oldest_published : (mark n : ℕ) (row : Option (List Value)) → unpublished mark (oldest (Some n) row) ≡ None
 oldest_published mark n None = refl
 oldest_published mark n (Some row) = refl
 
@@ -157,7 +158,7 @@ pub numbered_cut : (bound mark : ℕ) (vs : List Version) (w : Writer) (i : Imag
 numbered_cut bound mark [] w i o = refl
 numbered_cut bound mark (v ∷ vs) w i o = go (is_up_to bound (stamp_number v.stamp)) o
   where
-    left : (x : Option ℕ) (row : Option (List ℤ)) → unpublished mark (oldest x row) ≡ Some (w, i) → ⊥
+    left : (x : Option ℕ) (row : Option (List Value)) → unpublished mark (oldest x row) ≡ Some (w, i) → ⊥
     left None None o = cc
     left None (Some row) o = cc
     left (Some n) None o = cc
@@ -177,7 +178,7 @@ backed_swept mark h r horizon snapshots successor (v ∷ vs) b = go (goes horizo
     go true later = later
     go false later = (b.0, later)
 
-backed_oldest : (mark : ℕ) (h : History) (r : Rid) (x : Option ℕ) (row : Option (List ℤ)) → ((n : ℕ) → x ≡ Some n → n ≤ mark → group_image r (group_at h n) ≡ Some (record { row = row })) → IsBacked mark h r (oldest x row)
+backed_oldest : (mark : ℕ) (h : History) (r : Rid) (x : Option ℕ) (row : Option (List Value)) → ((n : ℕ) → x ≡ Some n → n ≤ mark → group_image r (group_at h n) ≡ Some (record { row = row })) → IsBacked mark h r (oldest x row)
 backed_oldest mark h r None None f = tt
 backed_oldest mark h r None (Some row) f = tt
 backed_oldest mark h r (Some n) None f = tt

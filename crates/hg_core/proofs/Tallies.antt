@@ -1,5 +1,5 @@
 -- Counters count what the logs and the visits say, and balance.
-use Rattle.std.proofs.Common.{◌≡◌, ℕ, ℤ, suc, ◌+◌, ◌-◌, ◌<◌, ◌≤◌, List, [], ◌∷◌, length, Option, None, Some, Bool, true, false, not, ◌&&◌, ◌==◌, refl, sym, ap, ◌∙◌, subst, arith}
+use Rattle.std.proofs.Common.{◌≡◌, ℕ, suc, ◌+◌, ◌-◌, ◌<◌, ◌≤◌, List, [], ◌∷◌, length, Option, None, Some, Bool, true, false, not, ◌&&◌, ◌==◌, refl, sym, ap, ◌∙◌, subst, arith}
 use Rattle.std.specs.Prelude.{if◌then◌else◌, nat_le, is_some}
 use Rattle.std.proofs.lemmas.Bool.Decides.{nat_tests}
 use Rattle.hg_base.specs.declared.rid.Rid.{Rid}
@@ -8,6 +8,7 @@ use Rattle.hg_base.specs.declared.writer.Writer.{Writer}
 use Rattle.hg_base.specs.declared.image.Image.{Image}
 use Rattle.hg_base.specs.declared.report.Kind.{Kind}
 use Rattle.hg_base.specs.declared.report.Kind.TheVariants.{Group, Table, Interval}
+use Rattle.hg_base.specs.declared.value.Value.{Value}
 use Rattle.hg_base.specs.History.{same_rid, image_in}
 use Rattle.hg_core.specs.declared.log.LogEntry.{LogEntry}
 use Rattle.hg_core.specs.declared.log.LogEntry.TheVariants.{Wrote, Undid}
@@ -78,7 +79,7 @@ length_cut : (bound : ℕ) (vs : List Version) → length (cut bound vs) ≤ len
 length_cut bound [] = omega arith
 length_cut bound (v ∷ vs) = go (is_up_to bound (stamp_number v.stamp)) (length_cut bound vs)
   where
-    left : (x : Option ℕ) (row : Option (List ℤ)) → length (oldest x row) ≤ 1
+    left : (x : Option ℕ) (row : Option (List Value)) → length (oldest x row) ≤ 1
     left None None = omega arith
     left None (Some row) = omega arith
     left (Some n) None = omega arith

@@ -1,5 +1,5 @@
 -- The events: each is one atomic action of one actor.
-use Rattle.std.specs.Prelude.{◌≡◌, ℕ, ℤ, suc, ◌<◌, ◌≤◌, List, [], ◌∷◌, ◌++◌, length, ◌+◌, ◌-◌, true, false, ◌==◌, if◌then◌else◌, Bool, Option, Some, None, IsSome, IsNone, IfSome, IsTrue, IsFalse}
+use Rattle.std.specs.Prelude.{◌≡◌, ℕ, suc, ◌<◌, ◌≤◌, List, [], ◌∷◌, ◌++◌, length, ◌+◌, ◌-◌, true, false, ◌==◌, if◌then◌else◌, Bool, Option, Some, None, IsSome, IsNone, IfSome, IsTrue, IsFalse}
 use Rattle.hg_base.specs.declared.scope.Scope.{Scope}
 use Rattle.hg_base.specs.declared.rid.Rid.{Rid}
 use Rattle.hg_base.specs.declared.image.Image.{Image}
@@ -21,6 +21,7 @@ use Rattle.hg_core.specs.Passes.{PassRecord, found, IsWhole}
 use Rattle.hg_core.specs.Versions.{newest_at, installed, undone, stamped, IsFreeFor, IsOpenBy}
 use Rattle.hg_core.specs.Contents.{bucket_of, versions, stored, is_stamped, has_stamped}
 use Rattle.hg_base.specs.declared.line.Answer.{Answer}
+use Rattle.hg_base.specs.declared.value.Value.{Value}
 use Rattle.hg_base.specs.Replies.{AreRows}
 use Rattle.hg_core.specs.declared.ask.Ask.{Ask}
 use Rattle.hg_core.specs.declared.ask.Ask.TheVariants.{Read}
@@ -58,7 +59,7 @@ pub data Event : Type 0 where
   Publish : (sessions : List ℕ) → Event
   Reclaim : (p : ℕ) → (kind : Kind) → (r : Rid) → Event
   Take : Event
-  Look : (j : ℕ) → (ask : Ask) → (b : ℕ) → (rows : List (ℕ × List ℤ)) → Event
+  Look : (j : ℕ) → (ask : Ask) → (b : ℕ) → (rows : List (ℕ × List Value)) → Event
 
 -- f with another value at j
 abbrev pub put : {A : Type 0} → (ℕ → A) → ℕ → A → ℕ → A
@@ -97,7 +98,7 @@ with_refusal r None log = log
 with_refusal r (Some answer) log = Refused r answer ∷ log
 
 -- the log of session j after a look, in bucket b and with the rows that it finds there where it is a read
-abbrev pub looked : CoreState → ℕ → Ask → ℕ → List (ℕ × List ℤ) → List LogEntry
+abbrev pub looked : CoreState → ℕ → Ask → ℕ → List (ℕ × List Value) → List LogEntry
 looked s j (Read table low high) b rows = Saw table low high b rows ∷ s.log j
 looked s j (asks.Write r) b rows = with_refusal r (refusal s.mark (writer_of (begun_in s.log) j) (number_in (current (s.log j))) (versions s.buckets s.bucket r)) (s.log j)
 looked s j (asks.Outside table) b rows = Outside table ∷ s.log j
@@ -205,13 +206,13 @@ pub record MayPublish (log : ℕ → List LogEntry) (list : List (ℕ × Rid)) (
   pub whole : (j : ℕ) (r : Rid) → IsTrue (is_in sessions j) → IsSome (open_in r (log j)) → IsTrue (is_stamped j r list)
 
 -- what a session asks: of its tables, and the rows are those of the bucket; or of no table of its scope
-abbrev pub Asks : CoreState → ℕ → ℕ → Scope → Ask → ℕ → List (ℕ × List ℤ) → Type 0
+abbrev pub Asks : CoreState → ℕ → ℕ → Scope → Ask → ℕ → List (ℕ × List Value) → Type 0
 Asks s j at scope (Read table low high) b rows = IsTrue (has scope table) × AreRows (in_bucket s.buckets b table (λ r. read_by (writer_of (begun_in s.log) j) at (versions s.buckets s.bucket r))) low high rows
 Asks s j at scope (asks.Write r) b rows = IsTrue (has scope r.table)
 Asks s j at scope (asks.Outside table) b rows = IsFalse (has scope table)
 
 -- a live session may look where nothing of its transaction was undone, stamped or published
-pub record MayLook (s : CoreState) (j : ℕ) (ask : Ask) (b : ℕ) (rows : List (ℕ × List ℤ)) (at : ℕ) (scope : Scope) : Type 0 where
+pub record MayLook (s : CoreState) (j : ℕ) (ask : Ask) (b : ℕ) (rows : List (ℕ × List Value)) (at : ℕ) (scope : Scope) : Type 0 where
   pub live : s.phase j ≡ Live at scope
   pub plain : IsTrue (is_plain (s.log j))
   pub unstamped : IsFalse (has_stamped j s.stamped_list)

@@ -1,5 +1,5 @@
 -- A log read as replies: which entries a session's statement leaves there, and which replies they fit.
-use Rattle.std.specs.Prelude.{◌≡◌, ℕ, zero, suc, ◌<◌, ℤ, List, [], ◌∷◌, ◌++◌, map, Bool, true, false, ◌&&◌, if◌then◌else◌, Option, Some, None, is_some, unwrap_or, Contains, IsTrue, IfSome, ⊤}
+use Rattle.std.specs.Prelude.{◌≡◌, ℕ, zero, suc, ◌<◌, List, [], ◌∷◌, ◌++◌, map, Bool, true, false, ◌&&◌, if◌then◌else◌, Option, Some, None, is_some, unwrap_or, Contains, IsTrue, IfSome, ⊤}
 use Rattle.hg_base.specs.declared.rid.Rid.{Rid}
 use Rattle.hg_base.specs.declared.rid.TableId.{TableId}
 use Rattle.hg_base.specs.declared.scope.Scope.{Scope}
@@ -11,6 +11,7 @@ use Rattle.hg_base.specs.declared.line.Answer.{Answer}
 use Rattle.hg_base.specs.declared.line.Answer.TheVariants.{Begun, Stored, Found, Nothing, Gone, Rows, Committed, Newer, OpenBy, Undeclared, Swept, Beside}
 use Rattle.hg_base.specs.declared.line.Reply.{Reply}
 use Rattle.hg_base.specs.declared.line.Line.{Line}
+use Rattle.hg_base.specs.declared.value.Value.{Value}
 use Rattle.hg_base.specs.Lists.{Each, Ascends}
 use Rattle.hg_base.specs.History.{Write, nothing, image_in, is_among, NoneTwice}
 use Rattle.hg_base.specs.Transcript.{only, has, table_of, stored_by}
@@ -24,18 +25,18 @@ use Rattle.hg_core.specs.Events.{put}
 -- What the entries of a statement hold and its reply doesn't print: the row that a `del` found, the rows that a `scan`
 -- found in each bucket, and the records whose writes a `rollback` removed, the last one first.
 pub record Unprinted : Type 0 where
-  pub found : List ℤ
-  pub part : ℕ → List (ℕ × List ℤ)
+  pub found : List Value
+  pub part : ℕ → List (ℕ × List Value)
   pub undone : List Rid
 
 -- ---- the entries of a statement, newest first
 
 -- a read of one key
-abbrev pub saw : ℕ → Rid → List (ℕ × List ℤ) → LogEntry
+abbrev pub saw : ℕ → Rid → List (ℕ × List Value) → LogEntry
 saw buckets r rows = Saw r.table r.key r.key (bucket_of buckets r) rows
 
 -- a read of a range in those of the first buckets that can have a key of it, in ascending order
-abbrev pub saws : ℕ → TableId → ℕ → ℕ → (ℕ → List (ℕ × List ℤ)) → ℕ → List LogEntry
+abbrev pub saws : ℕ → TableId → ℕ → ℕ → (ℕ → List (ℕ × List Value)) → ℕ → List LogEntry
 saws buckets table low high part zero = []
 saws buckets table low high part (suc b) = if has_own buckets table low high b then Saw table low high b (part b) ∷ saws buckets table low high part b else saws buckets table low high part b
 
@@ -54,14 +55,14 @@ get_entries buckets r Nothing = saw buckets r [] ∷ []
 get_entries buckets r (Undeclared table) = Outside table ∷ []
 get_entries buckets r _ = []
 
-abbrev pub put_entries : Rid → List ℤ → Answer → List LogEntry
+abbrev pub put_entries : Rid → List Value → Answer → List LogEntry
 put_entries r row Stored = Wrote r (record { row = Some row }) ∷ []
 put_entries r row (Newer number) = Refused r (Newer number) ∷ []
 put_entries r row (OpenBy writer) = Refused r (OpenBy writer) ∷ []
 put_entries r row (Undeclared table) = Outside table ∷ []
 put_entries r row _ = []
 
-abbrev pub del_entries : ℕ → List ℤ → Rid → Answer → List LogEntry
+abbrev pub del_entries : ℕ → List Value → Rid → Answer → List LogEntry
 del_entries buckets found r Nothing = saw buckets r [] ∷ []
 del_entries buckets found r Gone = Wrote r nothing ∷ saw buckets r ((r.key, found) ∷ []) ∷ []
 del_entries buckets found r (Newer number) = Refused r (Newer number) ∷ saw buckets r ((r.key, found) ∷ []) ∷ []
@@ -69,7 +70,7 @@ del_entries buckets found r (OpenBy writer) = Refused r (OpenBy writer) ∷ saw 
 del_entries buckets found r (Undeclared table) = Outside table ∷ []
 del_entries buckets found r _ = []
 
-abbrev pub scan_entries : ℕ → (ℕ → List (ℕ × List ℤ)) → TableId → ℕ → ℕ → Answer → List LogEntry
+abbrev pub scan_entries : ℕ → (ℕ → List (ℕ × List Value)) → TableId → ℕ → ℕ → Answer → List LogEntry
 scan_entries buckets part table low high (Rows rows) = saws buckets table low high part buckets
 scan_entries buckets part table low high (Undeclared other) = Outside other ∷ []
 scan_entries buckets part table low high _ = []
@@ -118,7 +119,7 @@ abbrev pub IsReached : ℕ → TableId → ℕ → ℕ → ℕ → Type 0
 IsReached buckets table low high b = (b < buckets) × IsTrue (has_own buckets table low high b)
 
 -- the rows of the parts of these buckets, by ascending key
-pub record Joins (Reached : ℕ → Type 0) (part : ℕ → List (ℕ × List ℤ)) (rows : List (ℕ × List ℤ)) : Type 0 where
+pub record Joins (Reached : ℕ → Type 0) (part : ℕ → List (ℕ × List Value)) (rows : List (ℕ × List Value)) : Type 0 where
   pub ascend : Ascends (map (λ p. p.0) rows)
   pub each : Each (λ p. (b : ℕ) × Reached b × Contains (part b) p) rows
   pub every : (b : ℕ) → Reached b → Each (λ p. Contains rows p) (part b)
@@ -135,7 +136,7 @@ IsDelAnswer (Newer number) = ⊤
 IsDelAnswer (OpenBy writer) = ⊤
 IsDelAnswer _ = ⊥
 
-abbrev pub IsScanAnswer : (ℕ → Type 0) → (ℕ → List (ℕ × List ℤ)) → Answer → Type 0
+abbrev pub IsScanAnswer : (ℕ → Type 0) → (ℕ → List (ℕ × List Value)) → Answer → Type 0
 IsScanAnswer Reached part (Rows rows) = Joins Reached part rows
 IsScanAnswer Reached part _ = ⊥
 

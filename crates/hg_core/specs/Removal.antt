@@ -1,10 +1,11 @@
 -- What a collector's pass takes of a record's versions.
 -- The interval rule, and a bound for each table, are those of Lee et al., "Hybrid Garbage Collection for Multi-Version
 -- Concurrency Control in SAP HANA", SIGMOD 2016, in outline.
-use Rattle.std.specs.Prelude.{ℕ, ℤ, List, [], ◌∷◌, Option, Some, None, if◌then◌else◌}
+use Rattle.std.specs.Prelude.{ℕ, List, [], ◌∷◌, Option, Some, None, if◌then◌else◌}
 use Rattle.hg_base.specs.declared.rid.TableId.{TableId}
 use Rattle.hg_base.specs.declared.report.Kind.{Kind}
 use Rattle.hg_base.specs.declared.report.Kind.TheVariants.{Group, Interval, Table}
+use Rattle.hg_base.specs.declared.value.Value.{Value}
 use Rattle.hg_base.specs.Lifetimes.{goes}
 use Rattle.hg_core.specs.Passes.{PassRecord, horizon, recorded, group_bound, table_bound}
 use Rattle.hg_core.specs.declared.version.Stamp.TheVariants.{Oldest}
@@ -20,7 +21,7 @@ swept horizon snapshots successor (v ∷ vs) =
     else v ∷ swept horizon snapshots (stamp_number v.stamp) vs
 
 -- a row with its number is the oldest image; a deletion leaves nothing
-abbrev pub oldest : Option ℕ → Option (List ℤ) → List Version
+abbrev pub oldest : Option ℕ → Option (List Value) → List Version
 oldest None row = []
 oldest (Some number) None = []
 oldest (Some number) (Some row) = record { stamp = Oldest number; image = record { row = Some row } } ∷ []

@@ -1,6 +1,7 @@
 -- Runs of two sessions and a pass. In each, session 2 commits a write, so that the mark grows from 0 to 1.
 use Rattle.std.specs.Prelude.{List, [], ◌∷◌, ◌++◌, Some, None, pos}
 use Rattle.hg_base.specs.declared.rid.Rid.{Rid}
+use Rattle.hg_base.specs.declared.value.Value.TheVariants.{Number}
 use Rattle.hg_base.specs.declared.image.Image.{Image}
 use Rattle.hg_base.specs.declared.scope.Scope.TheVariants.{All, Declared}
 use Rattle.hg_base.specs.declared.report.Kind.TheVariants.{Interval}
@@ -23,7 +24,7 @@ abbrev pub two_rid : Rid
 two_rid = record { table = record { 0 = 0 }; key = 6 }
 
 abbrev pub row : Image
-row = record { row = Some (pos 7 ∷ []) }
+row = record { row = Some (Number (pos 7) ∷ []) }
 
 -- session 2 begins, writes a row, commits it, and is over
 abbrev pub commits : List Event
@@ -106,7 +107,7 @@ abbrev pub begun_there : List LogEntry
 begun_there = log_after 1 all_printed (Begin All) (only_answer (Begun 0)) []
 
 abbrev pub written_there : List LogEntry
-written_there = log_after 1 all_printed (Put one_rid (pos 7 ∷ [])) (only_answer Stored) begun_there
+written_there = log_after 1 all_printed (Put one_rid (Number (pos 7) ∷ [])) (only_answer Stored) begun_there
 
 abbrev pub committed_there : List LogEntry
 committed_there = log_after 1 all_printed CommitIt (only_answer (Committed 1)) written_there
@@ -114,5 +115,5 @@ committed_there = log_after 1 all_printed CommitIt (only_answer (Committed 1)) w
 -- these replies fit
 pub record IsReadThere : Type 0 where
   pub begin : Fits 1 all_printed [] (Begin All) (only_answer (Begun 0))
-  pub put : Fits 1 all_printed begun_there (Put one_rid (pos 7 ∷ [])) (only_answer Stored)
+  pub put : Fits 1 all_printed begun_there (Put one_rid (Number (pos 7) ∷ [])) (only_answer Stored)
   pub commit : Fits 1 all_printed written_there CommitIt (only_answer (Committed 1))

@@ -1,10 +1,11 @@
 //! What each event keeps, and what always holds. Each law is the contract of a function with no body.
 
-ghost use Rattle.std.specs.Prelude.{ℕ, ℤ, List};
+ghost use Rattle.std.specs.Prelude.{ℕ, List};
 ghost use Rattle.hg_base.specs.declared.rid.Rid.{Rid};
 ghost use Rattle.hg_base.specs.declared.image.Image.{Image};
 ghost use Rattle.hg_base.specs.declared.report.Kind.{Kind};
 ghost use Rattle.hg_base.specs.declared.scope.Scope.{Scope};
+ghost use Rattle.hg_base.specs.declared.value.Value.{Value};
 ghost use Rattle.hg_core.specs.declared.ask.Ask.{Ask};
 ghost use Rattle.hg_core.specs.State.{CoreState};
 ghost use Rattle.hg_core.specs.Events.{Declare, Probe, Enter, Fix, GoLive, End, Mark, Sample, SampleMask, Move, Install, Undo, Stamp, Publish, Reclaim, Take, Look, happens, May};
@@ -89,7 +90,7 @@ pub fn reclaim_keeps()
 
 /// A session reads a range in a bucket, tries a write, or names a table outside. What it finds goes into its log.
 pub fn look_keeps()
-    ensures { (s : CoreState) (j : ℕ) (ask : Ask) (b : ℕ) (rows : List (ℕ × List ℤ)) → IsSteady s → May s (Look j ask b rows) → IsSteady (happens s (Look j ask b rows)) }
+    ensures { (s : CoreState) (j : ℕ) (ask : Ask) (b : ℕ) (rows : List (ℕ × List Value)) → IsSteady s → May s (Look j ask b rows) → IsSteady (happens s (Look j ask b rows)) }
 {}
 
 /// The oldest group is taken out of the committer's list, for the group collector.

@@ -1,10 +1,13 @@
 -- A fact with its answer: that it holds, or that it does not. The answer is computed.
-use Rattle.std.proofs.Common.{◌≡◌, ℕ, suc, ◌<◌, ◌≤◌, ◌⊎◌, inl, inr, ℤ, List, [], ◌∷◌, Bool, true, false, Option, Some, None, refl, ap, arith}
+use Rattle.std.proofs.Common.{◌≡◌, ℕ, suc, ◌<◌, ◌≤◌, ◌⊎◌, inl, inr, ℤ, List, [], ◌∷◌, Bool, true, false, Option, Some, None, refl, sym, ap, arith}
 use Rattle.std.specs.Prelude.{ltb, ◌==◌, IsTrue, IsFalse, ⊤, IsSome, IfSome}
 use Rattle.std.specs.Bool.{MatchBool, Decides}
 use Rattle.std.specs.Ordering.{int_eq}
 use Rattle.std.proofs.lemmas.Bool.Decides.{Decides-eqb, Decides-ltb, Decides-int_eq}
 use Rattle.hg_base.specs.Lists.{Each, EachAfter, Ascends}
+use Rattle.hg_base.specs.declared.value.Value.{Value}
+use Rattle.hg_base.specs.declared.value.Value.TheVariants.{Number, Text}
+use Rattle.hg_base.specs.Values.{is_text, number_of}
 
 -- Each decision is an `abbrev` and is made of decisions, so that it computes; the lemmas inside it stay closed.
 pub data Decided (P : Type 0) : Type 0 where
@@ -185,9 +188,29 @@ abbrev pub decide_some : {X : Type 0} (o : Option X) → Decided (IsSome o)
 decide_some None = decide_true false
 decide_some (Some x) = decide_true true
 
+bytes_of : Value → List ℕ
+bytes_of (Number x) = []
+bytes_of (Text t) = t
+
+-- values are the same where they are the same number, or the same text
+pub no_text_number : (x : ℤ) (t : List ℕ) → Number x ≡ Text t → ⊥
+no_text_number x t e = false_is_not_true (ap is_text e)
+
+pub numbers_same : (x y : ℤ) → Number x ≡ Number y → x ≡ y
+numbers_same x y e = ap number_of e
+
+pub texts_same : (s t : List ℕ) → Text s ≡ Text t → s ≡ t
+texts_same s t e = ap bytes_of e
+
+abbrev pub decide_values : (v w : Value) → Decided (v ≡ w)
+decide_values (Number x) (Number y) = decide_as (λ e. ap Number e) (numbers_same x y) (decide_signed x y)
+decide_values (Number x) (Text t) = fails (no_text_number x t)
+decide_values (Text s) (Number y) = fails (λ e. no_text_number y s (sym e))
+decide_values (Text s) (Text t) = decide_as (λ e. ap Text e) (texts_same s t) (decide_lists decide_equal s t)
+
 -- the rows of two images
-abbrev pub decide_rows : (o p : Option (List ℤ)) → Decided (o ≡ p)
-decide_rows = decide_options (decide_lists decide_signed)
+abbrev pub decide_rows : (o p : Option (List Value)) → Decided (o ≡ p)
+decide_rows = decide_options (decide_lists decide_values)
 
 pub pairs : (p q : ℕ × ℕ) → (p.0 ≡ q.0) × (p.1 ≡ q.1) → p ≡ q
 pairs p q h = λ i. (h.0 i, h.1 i)

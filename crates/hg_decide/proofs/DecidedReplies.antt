@@ -1,5 +1,5 @@
 -- The replies are decided by computation. Kept in step with `Replies`.
-use Rattle.std.proofs.Common.{◌≡◌, ℕ, suc, ◌≤◌, ◌⊎◌, inr, ℤ, List, [], ◌∷◌, ◌++◌, length, map, Bool, true, false, Some, None, refl, sym, ap, ◌∙◌, subst}
+use Rattle.std.proofs.Common.{◌≡◌, ℕ, suc, ◌≤◌, ◌⊎◌, inr, List, [], ◌∷◌, ◌++◌, length, map, Bool, true, false, Some, None, refl, sym, ap, ◌∙◌, subst}
 use Rattle.std.specs.Prelude.{◌==◌, filter, cond, IsTrue, IsFalse, is_some, ◌&&◌, ◌||◌, unwrap_or, option_map, nat_le}
 use Rattle.std.specs.List.{list_any, flat_map, cons_option}
 use Rattle.std.specs.Option.{option_or}
@@ -13,6 +13,7 @@ use Rattle.hg_base.specs.declared.statement.Statement.{Statement}
 use Rattle.hg_base.specs.declared.statement.Statement.TheVariants.{Begin, Get, Put, Del, Scan, Commit as CommitIt, Rollback, Gc}
 use Rattle.hg_base.specs.declared.line.Answer.{Answer}
 use Rattle.hg_base.specs.declared.line.Answer.TheVariants.{Begun, Stored, Found, Nothing, Gone, Rows, Committed, Ended, Undone, Newer, OpenBy, Undeclared, Swept, Beside}
+use Rattle.hg_base.specs.declared.value.Value.{Value}
 use Rattle.hg_base.specs.Lists.{Each}
 use Rattle.hg_base.specs.Script.{Mode, replay, run}
 use Rattle.hg_base.specs.History.{Write, Group, History, image_in, group_image, rids_of, group_rids, writes_from, last_image, visible, seen, nothing}
@@ -123,7 +124,7 @@ pub each_has : (P : ℕ → Type 0) (rids : List Rid) (key : ℕ) → Each (λ r
 each_has P [] key h e = absurd (elim (false_is_not_true e) [ ])
 each_has P (r ∷ rids) key h e = cases (r.key == key) (λ same. subst P ((Decides-eqb r.key key).0 same) h.0) (λ other. each_has P rids key h.1 (ap (λ b. b || list_any (λ q. q.key == key) rids) (sym other) ∙ e))
 
-module _ (look : ℕ → Image) (low : ℕ) (high : ℕ) (rows : List (ℕ × List ℤ)) where
+module _ (look : ℕ → Image) (low : ℕ) (high : ℕ) (rows : List (ℕ × List Value)) where
   -- a key of the range is among the rows, or not seen as one
   abbrev pub IsTold : ℕ → Type 0
   IsTold key = low ≤ key → key ≤ high → IsTrue (list_any (λ p. p.0 == key) rows) ⊎ ((look key).row ≡ None)

@@ -1,6 +1,8 @@
 -- How an example is written down: each record of the script beside the line that answers it.
 use Rattle.std.specs.Prelude.{ℕ, ℤ, List, [], ◌∷◌, ◌++◌, map, true, false, Some, None, codes}
 use Rattle.hg_base.specs.declared.rid.TableId.{TableId}
+use Rattle.hg_base.specs.declared.value.Value.TheVariants.{Number}
+use Rattle.hg_base.specs.declared.value.Column.TheVariants as columns
 use Rattle.hg_base.specs.declared.statement.Statement.{Statement}
 use Rattle.hg_base.specs.declared.statement.Statement.TheVariants.{Get, Put, Del}
 use Rattle.hg_base.specs.declared.statement.Record.{Record}
@@ -24,7 +26,7 @@ abbrev pub Exchange : Type 0
 Exchange = Record × Line
 
 abbrev pub example : List Declaration → List Exchange → Totals → Example
-example tables exchanges sums = record { script = record { tables = tables; records = map (λ e. e.0) exchanges }; printed = record { lines = map (λ e. e.1) exchanges; totals = sums } }
+example tables exchanges sums = record { script = record { version = 1; tables = tables; records = map (λ e. e.0) exchanges }; printed = record { lines = map (λ e. e.1) exchanges; totals = sums } }
 
 -- made, undone, removed by the group, the table and the interval collector, and left
 abbrev pub totals : ℕ → ℕ → ℕ → ℕ → ℕ → ℕ → Totals
@@ -40,16 +42,16 @@ abbrev pub u : TableId
 u = record { 0 = 1 }
 
 abbrev pub only_t : List Declaration
-only_t = record { name = codes "t"; columns = 1 } ∷ []
+only_t = record { name = codes "t"; kinds = columns.Number ∷ [] } ∷ []
 
 abbrev pub t_and_u : List Declaration
-t_and_u = record { name = codes "t"; columns = 1 } ∷ record { name = codes "u"; columns = 1 } ∷ []
+t_and_u = record { name = codes "t"; kinds = columns.Number ∷ [] } ∷ record { name = codes "u"; kinds = columns.Number ∷ [] } ∷ []
 
 abbrev pub get : TableId → ℕ → Statement
 get table key = Get (record { table = table; key = key })
 
 abbrev pub put : TableId → ℕ → ℤ → Statement
-put table key value = Put (record { table = table; key = key }) (value ∷ [])
+put table key value = Put (record { table = table; key = key }) (Number value ∷ [])
 
 abbrev pub del : TableId → ℕ → Statement
 del table key = Del (record { table = table; key = key })
@@ -57,7 +59,7 @@ del table key = Del (record { table = table; key = key })
 -- ---- answers
 
 abbrev pub row : ℤ → Answer
-row value = Found (value ∷ [])
+row value = Found (Number value ∷ [])
 
 -- the report of a pass: its mark, its horizon, how many versions it removed, and the snapshots that it met
 abbrev pub swept : Kind → ℕ → ℕ → ℕ → List Told → Answer

@@ -1,5 +1,5 @@
 -- What the entries of a get, put, del or scan add to a log, and what its reply shows.
-use Rattle.std.proofs.Common.{◌≡◌, ℕ, ◌≤◌, ℤ, List, [], ◌∷◌, ◌++◌, Bool, true, false, Option, Some, None, refl, sym}
+use Rattle.std.proofs.Common.{◌≡◌, ℕ, ◌≤◌, List, [], ◌∷◌, ◌++◌, Bool, true, false, Option, Some, None, refl, sym}
 use Rattle.std.specs.Prelude.{◌==◌, cond, ⊤, IsTrue}
 use Rattle.std.specs.List.{cons_option}
 use Rattle.hg_base.specs.declared.rid.Rid.{Rid}
@@ -9,6 +9,7 @@ use Rattle.hg_base.specs.declared.statement.Statement.{Statement}
 use Rattle.hg_base.specs.declared.statement.Statement.TheVariants.{Get, Put, Del, Scan}
 use Rattle.hg_base.specs.declared.line.Answer.{Answer}
 use Rattle.hg_base.specs.declared.line.Answer.TheVariants.{Begun, Stored, Found, Nothing, Gone, Rows, Committed, Ended, Undone, Newer, OpenBy, Undeclared, Swept, Beside}
+use Rattle.hg_base.specs.declared.value.Value.{Value}
 use Rattle.hg_base.specs.Lists.{Each}
 use Rattle.hg_base.specs.History.{Write, nothing}
 use Rattle.hg_base.specs.Transcript.{stored_by, committed_by, is_end}
@@ -44,7 +45,7 @@ up_to_any n _ h = tt
 pub adds_nothing : (l : List LogEntry) (a : Answer) → NotNewer a → Adds l l None a
 adds_nothing l a h = record { count = refl; same = refl; own = refl; writes = λ x. sym (cond_same (begans l == x) (writes_in x l)); numbers = λ x. refl; known = λ n k. (k, up_to_any n a h); begun = λ d n. refl; made = λ n j. refl }
 
-pub adds_saw : (t : TableId) (low high b : ℕ) (rows : List (ℕ × List ℤ)) (before l : List LogEntry) (w : Option Write) (a : Answer) → Adds before l w a → Adds before (Saw t low high b rows ∷ l) w a
+pub adds_saw : (t : TableId) (low high b : ℕ) (rows : List (ℕ × List Value)) (before l : List LogEntry) (w : Option Write) (a : Answer) → Adds before l w a → Adds before (Saw t low high b rows ∷ l) w a
 adds_saw t low high b rows before l w a h = record { count = h.count; same = h.same; own = h.own; writes = h.writes; numbers = h.numbers; known = h.known; begun = h.begun; made = h.made }
 
 pub adds_outside : (t : TableId) (l : List LogEntry) (a : Answer) → NotNewer a → Adds l (Outside t ∷ l) None a
@@ -57,10 +58,10 @@ pub adds_wrote : (r : Rid) (image : Image) (a : Answer) (l : List LogEntry) → 
 adds_wrote r image a l h = record { count = refl; same = refl; own = refl; writes = λ x. refl; numbers = λ x. refl; known = λ n k. (k, up_to_any n a h); begun = λ d n. refl; made = λ n j. refl }
 
 -- below a seen entry all is as before it
-pub adds_past_saw : (t : TableId) (low high b : ℕ) (rows : List (ℕ × List ℤ)) (l after : List LogEntry) (w : Option Write) (a : Answer) → Adds (Saw t low high b rows ∷ l) after w a → Adds l after w a
+pub adds_past_saw : (t : TableId) (low high b : ℕ) (rows : List (ℕ × List Value)) (l after : List LogEntry) (w : Option Write) (a : Answer) → Adds (Saw t low high b rows ∷ l) after w a → Adds l after w a
 adds_past_saw t low high b rows l after w a h = record { count = h.count; same = h.same; own = h.own; writes = h.writes; numbers = h.numbers; known = h.known; begun = h.begun; made = h.made }
 
-pub adds_saws : (buckets : ℕ) (t : TableId) (low high : ℕ) (part : ℕ → List (ℕ × List ℤ)) (n : ℕ) (l : List LogEntry) (a : Answer) → NotNewer a → Adds l (saws buckets t low high part n ++ l) None a
+pub adds_saws : (buckets : ℕ) (t : TableId) (low high : ℕ) (part : ℕ → List (ℕ × List Value)) (n : ℕ) (l : List LogEntry) (a : Answer) → NotNewer a → Adds l (saws buckets t low high part n ++ l) None a
 adds_saws buckets t low high part n l a h = saws_keep (λ m. Adds l m None a) buckets t low high part n l (λ b rows m k. adds_saw t low high b rows l m None a k) (adds_nothing l a h)
 
 pub adds_get : (buckets : ℕ) (r : Rid) (a : Answer) (l : List LogEntry) → FitsTable r.table a (IsGetAnswer a) → Adds l (get_entries buckets r a ++ l) None a
@@ -69,14 +70,14 @@ adds_get buckets r Nothing l f = adds_saw _ _ _ _ _ l l None Nothing (adds_nothi
 adds_get buckets r (Undeclared t) l f = adds_outside t l (Undeclared t) tt
 adds_get buckets r _ l f = absurd f
 
-pub adds_put : (r : Rid) (row : List ℤ) (a : Answer) (l : List LogEntry) → FitsTable r.table a (IsPut a) → Adds l (put_entries r row a ++ l) (stored_by (Put r row) a) a
+pub adds_put : (r : Rid) (row : List Value) (a : Answer) (l : List LogEntry) → FitsTable r.table a (IsPut a) → Adds l (put_entries r row a ++ l) (stored_by (Put r row) a) a
 adds_put r row Stored l f = adds_wrote r (record { row = Some row }) Stored l tt
 adds_put r row (Newer c) l f = adds_refused r (Newer c) l l Stored (adds_nothing l Stored tt)
 adds_put r row (OpenBy w) l f = adds_refused r (OpenBy w) l l Stored (adds_nothing l Stored tt)
 adds_put r row (Undeclared t) l f = adds_outside t l (Undeclared t) tt
 adds_put r row _ l f = absurd f
 
-pub adds_del : (buckets : ℕ) (found : List ℤ) (r : Rid) (a : Answer) (l : List LogEntry) → FitsTable r.table a (IsDelAnswer a) → Adds l (del_entries buckets found r a ++ l) (stored_by (Del r) a) a
+pub adds_del : (buckets : ℕ) (found : List Value) (r : Rid) (a : Answer) (l : List LogEntry) → FitsTable r.table a (IsDelAnswer a) → Adds l (del_entries buckets found r a ++ l) (stored_by (Del r) a) a
 adds_del buckets found r Nothing l f = adds_saw _ _ _ _ _ l l None Nothing (adds_nothing l Nothing tt)
 adds_del buckets found r Gone l f = adds_past_saw _ _ _ _ _ l _ _ Gone (adds_wrote r nothing Gone (saw buckets r ((r.key, found) ∷ []) ∷ l) tt)
 adds_del buckets found r (Newer c) l f = adds_refused r (Newer c) l (saw buckets r ((r.key, found) ∷ []) ∷ l) Stored (adds_saw _ _ _ _ _ l l None Stored (adds_nothing l Stored tt))
@@ -84,7 +85,7 @@ adds_del buckets found r (OpenBy w) l f = adds_refused r (OpenBy w) l (saw bucke
 adds_del buckets found r (Undeclared t) l f = adds_outside t l (Undeclared t) tt
 adds_del buckets found r _ l f = absurd f
 
-pub adds_scan : (buckets : ℕ) (part : ℕ → List (ℕ × List ℤ)) (t : TableId) (low high : ℕ) (a : Answer) (l : List LogEntry) → FitsTable t a (IsScanAnswer (IsReached buckets t low high) part a) → Adds l (scan_entries buckets part t low high a ++ l) None a
+pub adds_scan : (buckets : ℕ) (part : ℕ → List (ℕ × List Value)) (t : TableId) (low high : ℕ) (a : Answer) (l : List LogEntry) → FitsTable t a (IsScanAnswer (IsReached buckets t low high) part a) → Adds l (scan_entries buckets part t low high a ++ l) None a
 adds_scan buckets part t low high (Rows rows) l f = adds_saws buckets t low high part buckets l (Rows rows) tt
 adds_scan buckets part t low high (Undeclared other) l f = adds_outside other l (Undeclared other) tt
 adds_scan buckets part t low high _ l f = absurd f
@@ -128,7 +129,7 @@ del_answer r (OpenBy w) f = tt
 del_answer r (Undeclared t) f = tt
 del_answer r _ f = absurd f
 
-pub scan_answer : (Reached : ℕ → Type 0) (part : ℕ → List (ℕ × List ℤ)) (t : TableId) (a : Answer) → FitsTable t a (IsScanAnswer Reached part a) → IsAccessAnswer a
+pub scan_answer : (Reached : ℕ → Type 0) (part : ℕ → List (ℕ × List Value)) (t : TableId) (a : Answer) → FitsTable t a (IsScanAnswer Reached part a) → IsAccessAnswer a
 scan_answer Reached part t (Rows rows) f = tt
 scan_answer Reached part t (Undeclared other) f = tt
 scan_answer Reached part t _ f = absurd f

@@ -1,5 +1,5 @@
 -- A right answer leaves right entries.
-use Rattle.std.proofs.Common.{◌≡◌, ℕ, zero, suc, ◌<◌, ◌≤◌, inl, inr, ℤ, List, [], ◌∷◌, ◌++◌, length, Bool, true, false, Option, Some, None, refl, sym, ap, ◌∙◌, subst, arith}
+use Rattle.std.proofs.Common.{◌≡◌, ℕ, zero, suc, ◌<◌, ◌≤◌, inl, inr, List, [], ◌∷◌, ◌++◌, length, Bool, true, false, Option, Some, None, refl, sym, ap, ◌∙◌, subst, arith}
 use Rattle.std.specs.Prelude.{◌==◌, ◌||◌, if◌then◌else◌, IsTrue, IsFalse, IsSome, IfSome, is_some}
 use Rattle.std.specs.Bool.{MatchBool}
 use Rattle.std.proofs.lemmas.Bool.Decides.{Decides-eqb}
@@ -11,6 +11,7 @@ use Rattle.hg_base.specs.declared.statement.Statement.{Statement}
 use Rattle.hg_base.specs.declared.statement.Statement.TheVariants.{Get, Put, Del, Scan}
 use Rattle.hg_base.specs.declared.line.Answer.{Answer}
 use Rattle.hg_base.specs.declared.line.Answer.TheVariants.{Stored, Found, Nothing, Gone, Rows, Newer, OpenBy, Undeclared}
+use Rattle.hg_base.specs.declared.value.Value.{Value}
 use Rattle.hg_base.specs.Lists.{Each}
 use Rattle.hg_base.specs.History.{Write, History, seen, image_in, nothing}
 use Rattle.hg_base.specs.Transcript.{has}
@@ -47,7 +48,7 @@ is_open o c e = ap is_some e
 pub within_key : (k key : ℕ) → k ≤ key → key ≤ k → k ≡ key
 within_key k key a b = omega (arith, a, b)
 
-pub key_row : (buckets : ℕ) (f : Rid → Image) (r : Rid) (row : List ℤ) → (f r).row ≡ Some row → AreRows (in_bucket buckets (bucket_of buckets r) r.table f) r.key r.key ((r.key, row) ∷ [])
+pub key_row : (buckets : ℕ) (f : Rid → Image) (r : Rid) (row : List Value) → (f r).row ≡ Some row → AreRows (in_bucket buckets (bucket_of buckets r) r.table f) r.key r.key ((r.key, row) ∷ [])
 key_row buckets f r row e = record {
   ascend = tt;
   each = ((omega arith, omega arith, ap (λ (i : Image). i.row) (shown_here buckets r f) ∙ e), tt);
@@ -68,7 +69,7 @@ pub record GoesOn (buckets : ℕ) (h : History) (logs : ℕ → List LogEntry) (
   pub logged : Logged buckets h (put logs j l)
   pub opened : current l ≡ Some c
 
-pub on_saw : (buckets : ℕ) (h : History) (logs : ℕ → List LogEntry) (j : ℕ) (c : Snapshot) (l : List LogEntry) (t : TableId) (low high b : ℕ) (rows : List (ℕ × List ℤ)) → GoesOn buckets h logs j c l → has c.scope t ≡ true → AreRows (in_bucket buckets b t (seen h (own_writes l) c.at)) low high rows → GoesOn buckets h logs j c (Saw t low high b rows ∷ l)
+pub on_saw : (buckets : ℕ) (h : History) (logs : ℕ → List LogEntry) (j : ℕ) (c : Snapshot) (l : List LogEntry) (t : TableId) (low high b : ℕ) (rows : List (ℕ × List Value)) → GoesOn buckets h logs j c l → has c.scope t ≡ true → AreRows (in_bucket buckets b t (seen h (own_writes l) c.at)) low high rows → GoesOn buckets h logs j c (Saw t low high b rows ∷ l)
 on_saw buckets h logs j c l t low high b rows g s a = record {
   logged = logged_on buckets h logs j (Saw t low high b rows) l g.logged tt (is_open (current l) c g.opened) (for_open (current l) c (λ snapshot. IsTrue (has snapshot.scope t) × AreRows (in_bucket buckets b t (seen h (own_writes l) snapshot.at)) low high rows) g.opened (s, a));
   opened = g.opened;
@@ -133,7 +134,7 @@ on_refused buckets h logs j c l r a g s p q cause = record {
     small _ q cause = absurd (let k : false ≡ true = q in cc)
 
 -- a read of a range in those of the first buckets that can have a key of it
-pub on_saws : (buckets : ℕ) (h : History) (logs : ℕ → List LogEntry) (j : ℕ) (c : Snapshot) (l : List LogEntry) (t : TableId) (low high : ℕ) (rows : List (ℕ × List ℤ)) (n : ℕ) → GoesOn buckets h logs j c l → has c.scope t ≡ true → AreRows (λ key. seen h (own_writes l) c.at (record { table = t; key = key })) low high rows →
+pub on_saws : (buckets : ℕ) (h : History) (logs : ℕ → List LogEntry) (j : ℕ) (c : Snapshot) (l : List LogEntry) (t : TableId) (low high : ℕ) (rows : List (ℕ × List Value)) (n : ℕ) → GoesOn buckets h logs j c l → has c.scope t ≡ true → AreRows (λ key. seen h (own_writes l) c.at (record { table = t; key = key })) low high rows →
     GoesOn buckets h logs j c (saws buckets t low high (part_of buckets t rows) n ++ l)
 on_saws buckets h logs j c l t low high rows zero g s a = g
 on_saws buckets h logs j c l t low high rows (suc n) g s a =
@@ -161,7 +162,7 @@ pub record Leaves (buckets : ℕ) (h : History) (logs : ℕ → List LogEntry) (
 abbrev pub nothing_more : Unprinted
 nothing_more = record { found = []; part = λ b. []; undone = [] }
 
-pub plain_saws : (buckets : ℕ) (t : TableId) (low high : ℕ) (part : ℕ → List (ℕ × List ℤ)) (n : ℕ) (l : List LogEntry) → is_plain (saws buckets t low high part n ++ l) ≡ is_plain l
+pub plain_saws : (buckets : ℕ) (t : TableId) (low high : ℕ) (part : ℕ → List (ℕ × List Value)) (n : ℕ) (l : List LogEntry) → is_plain (saws buckets t low high part n ++ l) ≡ is_plain l
 plain_saws buckets t low high part n l = saws_keep (λ m. is_plain m ≡ is_plain l) buckets t low high part n l (λ b rows m e. e) refl
 
 -- a table that isn't in the scope
@@ -175,7 +176,7 @@ leaves_get buckets h logs j c l own r _ true g p s m = absurd m
 leaves_get buckets h logs j c l own r (Undeclared t) false g p s m = record { unprinted = nothing_more; fits = m; scope = tt; goes = outside_table buckets h logs j c l t r.table g s m; plain = p }
 leaves_get buckets h logs j c l own r _ false g p s m = absurd m
 
-pub leaves_put : (buckets : ℕ) (h : History) (logs : ℕ → List LogEntry) (j : ℕ) (c : Snapshot) (l : List LogEntry) (own : List Write) (r : Rid) (row : List ℤ) (a : Answer) (b : Bool) → GoesOn buckets h logs j c l → is_plain l ≡ true → has c.scope r.table ≡ b → MatchBool b (IsPut a) (IsUndeclared r.table a) → MayRefuse h logs j (own_writes l) c.at r a → Leaves buckets h logs j c l own (Put r row) a
+pub leaves_put : (buckets : ℕ) (h : History) (logs : ℕ → List LogEntry) (j : ℕ) (c : Snapshot) (l : List LogEntry) (own : List Write) (r : Rid) (row : List Value) (a : Answer) (b : Bool) → GoesOn buckets h logs j c l → is_plain l ≡ true → has c.scope r.table ≡ b → MatchBool b (IsPut a) (IsUndeclared r.table a) → MayRefuse h logs j (own_writes l) c.at r a → Leaves buckets h logs j c l own (Put r row) a
 leaves_put buckets h logs j c l own r row Stored true g p s m cause = record { unprinted = nothing_more; fits = tt; scope = tt; goes = on_wrote buckets h logs j c l r (record { row = Some row }) g s p; plain = p }
 leaves_put buckets h logs j c l own r row (Newer n) true g p s m cause = record { unprinted = nothing_more; fits = tt; scope = tt; goes = on_refused buckets h logs j c l r (Newer n) g s tt refl cause; plain = p }
 leaves_put buckets h logs j c l own r row (OpenBy w) true g p s m cause = record { unprinted = nothing_more; fits = tt; scope = tt; goes = on_refused buckets h logs j c l r (OpenBy w) g s tt refl cause; plain = p }
@@ -184,12 +185,12 @@ leaves_put buckets h logs j c l own r row (Undeclared t) false g p s m cause = r
 leaves_put buckets h logs j c l own r row _ false g p s m cause = absurd m
 
 -- the row that a `del` finds
-pub on_found : (buckets : ℕ) (h : History) (logs : ℕ → List LogEntry) (j : ℕ) (c : Snapshot) (l : List LogEntry) (r : Rid) → GoesOn buckets h logs j c l → has c.scope r.table ≡ true → IsSome (seen h (own_writes l) c.at r).row → (row : List ℤ) × GoesOn buckets h logs j c (saw buckets r ((r.key, row) ∷ []) ∷ l)
+pub on_found : (buckets : ℕ) (h : History) (logs : ℕ → List LogEntry) (j : ℕ) (c : Snapshot) (l : List LogEntry) (r : Rid) → GoesOn buckets h logs j c l → has c.scope r.table ≡ true → IsSome (seen h (own_writes l) c.at r).row → (row : List Value) × GoesOn buckets h logs j c (saw buckets r ((r.key, row) ∷ []) ∷ l)
 on_found buckets h logs j c l r g s found =
     let row = some_of_yes (seen h (own_writes l) c.at r).row found in
     (row.0, on_saw buckets h logs j c l r.table r.key r.key (bucket_of buckets r) ((r.key, row.0) ∷ []) g s (key_row buckets (seen h (own_writes l) c.at) r row.0 row.1))
 
-abbrev pub finding : List ℤ → Unprinted
+abbrev pub finding : List Value → Unprinted
 finding row = record { found = row; part = λ b. []; undone = [] }
 
 pub leaves_del : (buckets : ℕ) (h : History) (logs : ℕ → List LogEntry) (j : ℕ) (c : Snapshot) (l : List LogEntry) (own : List Write) (r : Rid) (a : Answer) (b : Bool) → GoesOn buckets h logs j c l → is_plain l ≡ true → has c.scope r.table ≡ b → MatchBool b (IsDeleted (seen h (own_writes l) c.at r) a) (IsUndeclared r.table a) → MayRefuse h logs j (own_writes l) c.at r a → Leaves buckets h logs j c l own (Del r) a

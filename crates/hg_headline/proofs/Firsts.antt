@@ -1,5 +1,5 @@
 -- The first writes of records in transactions: those that lines print are those that logs have.
-use Rattle.std.proofs.Common.{◌⊎◌, inl, inr, ◌≡◌, not, ℕ, ◌+◌, ◌<◌, ◌≤◌, ℤ, List, [], ◌∷◌, ◌++◌, length, map, Bool, true, false, Option, Some, None, refl, sym, ap, ◌∙◌, subst, arith}
+use Rattle.std.proofs.Common.{◌⊎◌, inl, inr, ◌≡◌, not, ℕ, ◌+◌, ◌<◌, ◌≤◌, List, [], ◌∷◌, ◌++◌, length, map, Bool, true, false, Option, Some, None, refl, sym, ap, ◌∙◌, subst, arith}
 use Rattle.std.specs.Prelude.{is_some, ◌&&◌, cond, filter, if◌then◌else◌, IsTrue, is_none, unwrap_or}
 use Rattle.std.specs.List.{cons_option}
 use Rattle.std.specs.Option.{option_map_or}
@@ -14,6 +14,7 @@ use Rattle.hg_base.specs.declared.line.Answer.{Answer}
 use Rattle.hg_base.specs.declared.line.Answer.TheVariants.{Begun, Stored, Found, Nothing, Gone, Rows, Committed, Newer, OpenBy, Undeclared}
 use Rattle.hg_base.specs.declared.line.Reply.{Reply}
 use Rattle.hg_base.specs.declared.line.Line.{Line}
+use Rattle.hg_base.specs.declared.value.Value.{Value}
 use Rattle.hg_base.specs.Lists.{Each}
 use Rattle.hg_base.specs.Script.{Mode}
 use Rattle.hg_base.specs.History.{Write, History, image_in}
@@ -74,7 +75,7 @@ first_writes_is (Over ∷ l) = first_writes_is l
 
 -- ---- the entries of a statement
 
-pub first_saws : (test : ℕ → Bool) (buckets : ℕ) (t : TableId) (low high : ℕ) (part : ℕ → List (ℕ × List ℤ)) (n : ℕ) (l : List LogEntry) → first_by test (saws buckets t low high part n ++ l) ≡ first_by test l
+pub first_saws : (test : ℕ → Bool) (buckets : ℕ) (t : TableId) (low high : ℕ) (part : ℕ → List (ℕ × List Value)) (n : ℕ) (l : List LogEntry) → first_by test (saws buckets t low high part n ++ l) ≡ first_by test l
 first_saws test buckets t low high part n l = saws_keep (λ m. first_by test m ≡ first_by test l) buckets t low high part n l (λ b rows m e. e) refl
 
 pub first_access : (test : ℕ → Bool) (buckets : ℕ) (u : Unprinted) (own : List Write) (s : Statement) (a : Answer) (l : List LogEntry) → IsTrue (is_access s) → FitsAnswer buckets u own s a → first_by test (own_entries buckets u s a ++ l) ≡ first_with test (begans l) (own_writes l) (stored_by s a) (first_by test l)

@@ -1,5 +1,5 @@
 -- A write that is refused for another's names a write that is open, where the other's transaction has no end in its log.
-use Rattle.std.proofs.Common.{◌≡◌, ℕ, ℤ, List, [], ◌∷◌, Bool, true, false, Option, Some, None, refl, sym, ap, ◌∙◌, subst}
+use Rattle.std.proofs.Common.{◌≡◌, ℕ, List, [], ◌∷◌, Bool, true, false, Option, Some, None, refl, sym, ap, ◌∙◌, subst}
 use Rattle.std.specs.Prelude.{◌==◌, if◌then◌else◌, is_some, IsTrue, IsFalse, IsSome, IfSome}
 use Rattle.std.proofs.lemmas.Bool.Decides.{Decides-eqb}
 use Rattle.hg_base.specs.declared.rid.Rid.{Rid}
@@ -10,6 +10,7 @@ use Rattle.hg_base.specs.declared.statement.Statement.TheVariants.{Put, Del, Gc}
 use Rattle.hg_base.specs.declared.line.Answer.{Answer}
 use Rattle.hg_base.specs.declared.line.Answer.TheVariants.{OpenBy}
 use Rattle.hg_base.specs.declared.line.Reply.{Reply}
+use Rattle.hg_base.specs.declared.value.Value.{Value}
 use Rattle.hg_base.specs.History.{History, image_in}
 use Rattle.hg_base.specs.Transcript.{has}
 use Rattle.hg_core.specs.declared.log.LogEntry.{LogEntry}
@@ -65,7 +66,7 @@ DoesWrite more r w = IsSome (image_in r (writes_in w.transaction (more w.session
 pub entry_does : (h : History) (more : ℕ → List LogEntry) (j : ℕ) (r : Rid) (w : Writer) (l : List LogEntry) (o : Option Snapshot) (c : Snapshot) → o ≡ Some c → IfSome o (λ snapshot. IsTrue (has snapshot.scope r.table) × (IsFalse (is_some (image_in r (own_writes l))) × Refuses h more j snapshot.at r (OpenBy w))) → DoesWrite more r w
 entry_does h more j r w l o c e g = (of_some o (λ snapshot. IsTrue (has snapshot.scope r.table) × (IsFalse (is_some (image_in r (own_writes l))) × Refuses h more j snapshot.at r (OpenBy w))) c e g).1.1.does
 
-pub put_does : (buckets : ℕ) (h : History) (more : ℕ → List LogEntry) (j : ℕ) (u : Unprinted) (r : Rid) (row : List ℤ) (at number : Option ℕ) (w : Writer) (l : List LogEntry) (o : Option Snapshot) → current l ≡ o → AreReplied buckets h more j (log_with (is_alone o (Put r row)) buckets u (Put r row) (reply_with at (OpenBy w) number) l) → DoesWrite more r w
+pub put_does : (buckets : ℕ) (h : History) (more : ℕ → List LogEntry) (j : ℕ) (u : Unprinted) (r : Rid) (row : List Value) (at number : Option ℕ) (w : Writer) (l : List LogEntry) (o : Option Snapshot) → current l ≡ o → AreReplied buckets h more j (log_with (is_alone o (Put r row)) buckets u (Put r row) (reply_with at (OpenBy w) number) l) → DoesWrite more r w
 put_does buckets h more j u r row at number w l (Some c) e g = entry_does h more j r w l (current l) c e g.0
 put_does buckets h more j u r row at None w l None e g = g.1.0.1.1.does
 put_does buckets h more j u r row at (Some n) w l None e g = g.1.1.0.1.1.does

@@ -1,5 +1,5 @@
 -- The rows of a range, bucket by bucket.
-use Rattle.std.proofs.Common.{◌≡◌, ℕ, suc, ◌<◌, ◌≤◌, ◌⊎◌, inl, inr, ℤ, List, [], ◌∷◌, map, Bool, true, false, Some, None, refl, sym, ap, ◌∙◌, arith}
+use Rattle.std.proofs.Common.{◌≡◌, ℕ, suc, ◌<◌, ◌≤◌, ◌⊎◌, inl, inr, List, [], ◌∷◌, map, Bool, true, false, Some, None, refl, sym, ap, ◌∙◌, arith}
 use Rattle.std.specs.Prelude.{◌==◌, ◌||◌, cond, filter, if◌then◌else◌, IsTrue, Contains}
 use Rattle.std.specs.List.{list_any}
 use Rattle.std.proofs.lemmas.Bool.Decides.{Decides-eqb}
@@ -7,6 +7,7 @@ use Rattle.std.proofs.lemmas.Bool.{or_left, or_right}
 use Rattle.hg_base.specs.declared.rid.Rid.{Rid}
 use Rattle.hg_base.specs.declared.rid.TableId.{TableId}
 use Rattle.hg_base.specs.declared.image.Image.{Image}
+use Rattle.hg_base.specs.declared.value.Value.{Value}
 use Rattle.hg_base.specs.Lists.{Each, Ascends}
 use Rattle.hg_base.specs.History.{nothing}
 use Rattle.hg_base.specs.Replies.{AreRows}
@@ -73,20 +74,20 @@ ascends_filtered f p (x ∷ xs) h = go (p x) (ascends_filtered f p xs (ascends_r
 -- ---- parts
 
 -- the bucket of a row, and the rows of one bucket
-abbrev pub bucket_in : ℕ → TableId → ℕ × List ℤ → ℕ
+abbrev pub bucket_in : ℕ → TableId → ℕ × List Value → ℕ
 bucket_in buckets table p = bucket_of buckets (record { table = table; key = p.0 })
 
-abbrev pub part_of : ℕ → TableId → List (ℕ × List ℤ) → ℕ → List (ℕ × List ℤ)
+abbrev pub part_of : ℕ → TableId → List (ℕ × List Value) → ℕ → List (ℕ × List Value)
 part_of buckets table rows b = filter (λ p. bucket_in buckets table p == b) rows
 
-pub parts_join : (buckets : ℕ) (table : TableId) (look : ℕ → Image) (low high : ℕ) (rows : List (ℕ × List ℤ)) → ((r : Rid) → bucket_of buckets r < buckets) → AreRows look low high rows → Joins (IsReached buckets table low high) (part_of buckets table rows) rows
+pub parts_join : (buckets : ℕ) (table : TableId) (look : ℕ → Image) (low high : ℕ) (rows : List (ℕ × List Value)) → ((r : Rid) → bucket_of buckets r < buckets) → AreRows look low high rows → Joins (IsReached buckets table low high) (part_of buckets table rows) rows
 parts_join buckets table look low high rows places are = record {
   ascend = are.ascend;
   each = own rows rows (λ b. passing_contained (bucket_in buckets table) b rows) are.each;
-  every = λ b k. filter_contained (λ (p : ℕ × List ℤ). bucket_in buckets table p == b) rows;
+  every = λ b k. filter_contained (λ (p : ℕ × List Value). bucket_in buckets table p == b) rows;
 }
   where
-    own : (all xs : List (ℕ × List ℤ)) → ((b : ℕ) → Each (λ p. (bucket_in buckets table p == b) ≡ true → Contains (part_of buckets table all b) p) xs) → Each (λ p. (low ≤ p.0) × (p.0 ≤ high) × ((look p.0).row ≡ Some p.1)) xs → Each (λ (p : ℕ × List ℤ). (b : ℕ) × IsReached buckets table low high b × Contains (part_of buckets table all b) p) xs
+    own : (all xs : List (ℕ × List Value)) → ((b : ℕ) → Each (λ p. (bucket_in buckets table p == b) ≡ true → Contains (part_of buckets table all b) p) xs) → Each (λ p. (low ≤ p.0) × (p.0 ≤ high) × ((look p.0).row ≡ Some p.1)) xs → Each (λ (p : ℕ × List Value). (b : ℕ) × IsReached buckets table low high b × Contains (part_of buckets table all b) p) xs
     own all [] f h = tt
     own all (x ∷ xs) f h = (
       (bucket_in buckets table x, (places (record { table = table; key = x.0 }), reached buckets table low high x.0 h.0.0 h.0.1), (f (bucket_in buckets table x)).0 (same_number (bucket_in buckets table x))),
@@ -94,20 +95,20 @@ parts_join buckets table look low high rows places are = record {
     )
 
 -- the rows of one bucket are those that it shows
-pub part_rows : (buckets b : ℕ) (table : TableId) (f : Rid → Image) (low high : ℕ) (rows : List (ℕ × List ℤ)) → AreRows (λ key. f (record { table = table; key = key })) low high rows → AreRows (in_bucket buckets b table f) low high (part_of buckets table rows b)
+pub part_rows : (buckets b : ℕ) (table : TableId) (f : Rid → Image) (low high : ℕ) (rows : List (ℕ × List Value)) → AreRows (λ key. f (record { table = table; key = key })) low high rows → AreRows (in_bucket buckets b table f) low high (part_of buckets table rows b)
 part_rows buckets b table f low high rows a = record {
-  ascend = ascends_filtered (λ (p : ℕ × List ℤ). p.0) (λ p. bucket_in buckets table p == b) rows a.ascend;
+  ascend = ascends_filtered (λ (p : ℕ × List Value). p.0) (λ p. bucket_in buckets table p == b) rows a.ascend;
   each = own rows a.each;
   every = λ key lo hi. here key (bucket_of buckets (record { table = table; key = key }) == b) refl (a.every key lo hi);
 }
   where
-    Whole : ℕ × List ℤ → Type 0
+    Whole : ℕ × List Value → Type 0
     Whole p = (low ≤ p.0) × (p.0 ≤ high) × ((f (record { table = table; key = p.0 })).row ≡ Some p.1)
 
-    Part : ℕ × List ℤ → Type 0
+    Part : ℕ × List Value → Type 0
     Part p = (low ≤ p.0) × (p.0 ≤ high) × ((in_bucket buckets b table f p.0).row ≡ Some p.1)
 
-    own : (xs : List (ℕ × List ℤ)) → Each Whole xs → Each Part (part_of buckets table xs b)
+    own : (xs : List (ℕ × List Value)) → Each Whole xs → Each Part (part_of buckets table xs b)
     own [] h = tt
     own (x ∷ xs) h = go (bucket_in buckets table x == b) refl (own xs h.1)
       where
@@ -115,22 +116,22 @@ part_rows buckets b table f low high rows a = record {
         go true e k = ((h.0.0, h.0.1, ap (λ t. (if t then f (record { table = table; key = x.0 }) else nothing).row) e ∙ h.0.2), k)
         go false e k = k
 
-    any_kept : (key : ℕ) (xs : List (ℕ × List ℤ)) → (bucket_of buckets (record { table = table; key = key }) == b) ≡ true → list_any (λ (p : ℕ × List ℤ). p.0 == key) xs ≡ true → list_any (λ (p : ℕ × List ℤ). p.0 == key) (part_of buckets table xs b) ≡ true
+    any_kept : (key : ℕ) (xs : List (ℕ × List Value)) → (bucket_of buckets (record { table = table; key = key }) == b) ≡ true → list_any (λ (p : ℕ × List Value). p.0 == key) xs ≡ true → list_any (λ (p : ℕ × List Value). p.0 == key) (part_of buckets table xs b) ≡ true
     any_kept key [] e h = h
     any_kept key (x ∷ xs) e h = go (x.0 == key) refl h (any_kept key xs e)
       where
-        more : (t : Bool) → list_any (λ (p : ℕ × List ℤ). p.0 == key) (part_of buckets table xs b) ≡ true → list_any (λ (p : ℕ × List ℤ). p.0 == key) (cond t (x ∷ part_of buckets table xs b) (part_of buckets table xs b)) ≡ true
-        more true k = or_right (x.0 == key) (list_any (λ (p : ℕ × List ℤ). p.0 == key) (part_of buckets table xs b)) k
+        more : (t : Bool) → list_any (λ (p : ℕ × List Value). p.0 == key) (part_of buckets table xs b) ≡ true → list_any (λ (p : ℕ × List Value). p.0 == key) (cond t (x ∷ part_of buckets table xs b) (part_of buckets table xs b)) ≡ true
+        more true k = or_right (x.0 == key) (list_any (λ (p : ℕ × List Value). p.0 == key) (part_of buckets table xs b)) k
         more false k = k
 
-        go : (t : Bool) → (x.0 == key) ≡ t → (t || list_any (λ (p : ℕ × List ℤ). p.0 == key) xs) ≡ true → (list_any (λ (p : ℕ × List ℤ). p.0 == key) xs ≡ true → list_any (λ (p : ℕ × List ℤ). p.0 == key) (part_of buckets table xs b) ≡ true) → list_any (λ (p : ℕ × List ℤ). p.0 == key) (part_of buckets table (x ∷ xs) b) ≡ true
+        go : (t : Bool) → (x.0 == key) ≡ t → (t || list_any (λ (p : ℕ × List Value). p.0 == key) xs) ≡ true → (list_any (λ (p : ℕ × List Value). p.0 == key) xs ≡ true → list_any (λ (p : ℕ × List Value). p.0 == key) (part_of buckets table xs b) ≡ true) → list_any (λ (p : ℕ × List Value). p.0 == key) (part_of buckets table (x ∷ xs) b) ≡ true
         go true q k f =
             let same : x.0 ≡ key = (Decides-eqb x.0 key).0 q in
             let mine : (bucket_in buckets table x == b) ≡ true = ap (λ n. bucket_of buckets (record { table = table; key = n }) == b) same ∙ e in
-            ap (λ t. list_any (λ (p : ℕ × List ℤ). p.0 == key) (cond t (x ∷ part_of buckets table xs b) (part_of buckets table xs b))) mine ∙ or_left (x.0 == key) (list_any (λ (p : ℕ × List ℤ). p.0 == key) (part_of buckets table xs b)) q
+            ap (λ t. list_any (λ (p : ℕ × List Value). p.0 == key) (cond t (x ∷ part_of buckets table xs b) (part_of buckets table xs b))) mine ∙ or_left (x.0 == key) (list_any (λ (p : ℕ × List Value). p.0 == key) (part_of buckets table xs b)) q
         go false q k f = more (bucket_in buckets table x == b) (f k)
 
-    here : (key : ℕ) (t : Bool) → (bucket_of buckets (record { table = table; key = key }) == b) ≡ t → IsTrue (list_any (λ (p : ℕ × List ℤ). p.0 == key) rows) ⊎ ((f (record { table = table; key = key })).row ≡ None) → IsTrue (list_any (λ (p : ℕ × List ℤ). p.0 == key) (part_of buckets table rows b)) ⊎ ((if t then f (record { table = table; key = key }) else nothing).row ≡ None)
+    here : (key : ℕ) (t : Bool) → (bucket_of buckets (record { table = table; key = key }) == b) ≡ t → IsTrue (list_any (λ (p : ℕ × List Value). p.0 == key) rows) ⊎ ((f (record { table = table; key = key })).row ≡ None) → IsTrue (list_any (λ (p : ℕ × List Value). p.0 == key) (part_of buckets table rows b)) ⊎ ((if t then f (record { table = table; key = key }) else nothing).row ≡ None)
     here key true e (inl k) = inl (any_kept key rows e k)
     here key true e (inr k) = inr k
     here key false e k = inr refl

@@ -1,5 +1,5 @@
 -- A line is right in the printed history where its entries are right over the history of the logs.
-use Rattle.std.proofs.Common.{◌≡◌, ℕ, ◌<◌, ◌≤◌, ℤ, List, ◌++◌, length, Some, sym, ap, ◌∙◌, subst}
+use Rattle.std.proofs.Common.{◌≡◌, ℕ, ◌<◌, ◌≤◌, List, ◌++◌, length, Some, sym, ap, ◌∙◌, subst}
 use Rattle.std.specs.Prelude.{◌==◌, IsFalse, IsSome, IfSome, is_some, unwrap_or, ⊤}
 use Rattle.hg_base.specs.declared.rid.Rid.{Rid}
 use Rattle.hg_base.specs.declared.scope.Snapshot.{Snapshot}
@@ -8,6 +8,7 @@ use Rattle.hg_base.specs.declared.statement.Statement.{Statement}
 use Rattle.hg_base.specs.declared.statement.Statement.TheVariants.{Put, Del}
 use Rattle.hg_base.specs.declared.line.Answer.{Answer}
 use Rattle.hg_base.specs.declared.line.Answer.TheVariants.{Newer, OpenBy}
+use Rattle.hg_base.specs.declared.value.Value.{Value}
 use Rattle.hg_base.specs.Lists.{Each}
 use Rattle.hg_base.specs.Script.{Mode}
 use Rattle.hg_base.specs.History.{Write, History, visible, does_write, image_in, seen}
@@ -63,12 +64,12 @@ cause_right mode h k logs all earlier now j s own r (OpenBy w) t mine at same st
 )
 cause_right mode h k logs all earlier now j s own r _ t mine at same still (none, f) = absurd f
 
-pub put_shown : (mode : Mode) (buckets : ℕ) (h k : History) (logs : ℕ → List LogEntry) (all earlier : List Said) (now : Said) (j : ℕ) (r : Rid) (row : List ℤ) (a : Answer) (l : List LogEntry) (c : Snapshot) → Reads h k logs all → now.session ≡ j → now.at ≡ c.at → own_before earlier now ≡ own_writes l → OnReplay mode (StillIn earlier r a) → current l ≡ Some c → AreReplied buckets h logs j (put_entries r row a ++ l) → ShowsCause mode k all earlier now r a
+pub put_shown : (mode : Mode) (buckets : ℕ) (h k : History) (logs : ℕ → List LogEntry) (all earlier : List Said) (now : Said) (j : ℕ) (r : Rid) (row : List Value) (a : Answer) (l : List LogEntry) (c : Snapshot) → Reads h k logs all → now.session ≡ j → now.at ≡ c.at → own_before earlier now ≡ own_writes l → OnReplay mode (StillIn earlier r a) → current l ≡ Some c → AreReplied buckets h logs j (put_entries r row a ++ l) → ShowsCause mode k all earlier now r a
 put_shown mode buckets h k logs all earlier now j r row (Newer n) l c t mine at same still e g = cause_right mode h k logs all earlier now j c.at (own_writes l) r (Newer n) t mine at same still (of_some (current l) _ c e g.0).1
 put_shown mode buckets h k logs all earlier now j r row (OpenBy w) l c t mine at same still e g = cause_right mode h k logs all earlier now j c.at (own_writes l) r (OpenBy w) t mine at same still (of_some (current l) _ c e g.0).1
 put_shown mode buckets h k logs all earlier now j r row _ l c t mine at same still e g = tt
 
-pub del_shown : (mode : Mode) (buckets : ℕ) (h k : History) (logs : ℕ → List LogEntry) (all earlier : List Said) (now : Said) (j : ℕ) (found : List ℤ) (r : Rid) (a : Answer) (l : List LogEntry) (c : Snapshot) → Reads h k logs all → now.session ≡ j → now.at ≡ c.at → own_before earlier now ≡ own_writes l → OnReplay mode (StillIn earlier r a) → current l ≡ Some c → AreReplied buckets h logs j (del_entries buckets found r a ++ l) → ShowsCause mode k all earlier now r a
+pub del_shown : (mode : Mode) (buckets : ℕ) (h k : History) (logs : ℕ → List LogEntry) (all earlier : List Said) (now : Said) (j : ℕ) (found : List Value) (r : Rid) (a : Answer) (l : List LogEntry) (c : Snapshot) → Reads h k logs all → now.session ≡ j → now.at ≡ c.at → own_before earlier now ≡ own_writes l → OnReplay mode (StillIn earlier r a) → current l ≡ Some c → AreReplied buckets h logs j (del_entries buckets found r a ++ l) → ShowsCause mode k all earlier now r a
 del_shown mode buckets h k logs all earlier now j found r (Newer n) l c t mine at same still e g = cause_right mode h k logs all earlier now j c.at (own_writes l) r (Newer n) t mine at same still (of_some (current l) _ c e g.0).1
 del_shown mode buckets h k logs all earlier now j found r (OpenBy w) l c t mine at same still e g = cause_right mode h k logs all earlier now j c.at (own_writes l) r (OpenBy w) t mine at same still (of_some (current l) _ c e g.0).1
 del_shown mode buckets h k logs all earlier now j found r _ l c t mine at same still e g = tt

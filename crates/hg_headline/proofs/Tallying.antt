@@ -1,5 +1,5 @@
 -- What each statement of a replay adds to what the logs made and took back.
-use Rattle.std.proofs.Common.{◌≡◌, ℕ, ◌+◌, ◌≤◌, ℤ, List, [], ◌∷◌, ◌++◌, length, map, Bool, true, Option, Some, None, refl, sym, ap, ◌∙◌, arith}
+use Rattle.std.proofs.Common.{◌≡◌, ℕ, ◌+◌, ◌≤◌, List, [], ◌∷◌, ◌++◌, length, map, Bool, true, Option, Some, None, refl, sym, ap, ◌∙◌, arith}
 use Rattle.std.specs.Prelude.{◌&&◌, if◌then◌else◌, IsTrue, is_some, is_none}
 use Rattle.hg_base.specs.declared.rid.Rid.{Rid}
 use Rattle.hg_base.specs.declared.rid.TableId.{TableId}
@@ -8,6 +8,7 @@ use Rattle.hg_base.specs.declared.statement.Statement.{Statement}
 use Rattle.hg_base.specs.declared.statement.Statement.TheVariants.{Get, Put, Del, Scan}
 use Rattle.hg_base.specs.declared.line.Answer.{Answer}
 use Rattle.hg_base.specs.declared.line.Answer.TheVariants.{Stored, Found, Nothing, Gone, Rows, Newer, OpenBy, Undeclared}
+use Rattle.hg_base.specs.declared.value.Value.{Value}
 use Rattle.hg_base.specs.History.{Write, image_in}
 use Rattle.hg_base.specs.Transcript.{stored_by}
 use Rattle.hg_core.specs.declared.log.LogEntry.{LogEntry}
@@ -53,7 +54,7 @@ pub made_undone : (rids : List Rid) (l : List LogEntry) → first_writes every (
 made_undone [] l = refl
 made_undone (r ∷ rids) l = made_undone rids l
 
-undos_saws : (buckets : ℕ) (t : TableId) (low high : ℕ) (part : ℕ → List (ℕ × List ℤ)) (n : ℕ) (l : List LogEntry) → undos every (saws buckets t low high part n ++ l) ≡ undos every l
+undos_saws : (buckets : ℕ) (t : TableId) (low high : ℕ) (part : ℕ → List (ℕ × List Value)) (n : ℕ) (l : List LogEntry) → undos every (saws buckets t low high part n ++ l) ≡ undos every l
 undos_saws buckets t low high part n l = saws_keep (λ m. undos every m ≡ undos every l) buckets t low high part n l (λ b rows m e. e) refl
 
 pub undos_access : (buckets : ℕ) (u : Unprinted) (own : List Write) (s : Statement) (a : Answer) (l : List LogEntry) → IsTrue (is_access s) → FitsAnswer buckets u own s a → undos every (own_entries buckets u s a ++ l) ≡ undos every l

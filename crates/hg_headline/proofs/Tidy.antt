@@ -1,5 +1,5 @@
 -- The logs of a replay are tidy, also as they are closed.
-use Rattle.std.proofs.Common.{◌≡◌, inl, inr, ℕ, zero, suc, ℤ, List, [], ◌∷◌, ◌++◌, map, Bool, true, false, Option, Some, None, refl, sym, ap, ◌∙◌, subst}
+use Rattle.std.proofs.Common.{◌≡◌, inl, inr, ℕ, zero, suc, List, [], ◌∷◌, ◌++◌, map, Bool, true, false, Option, Some, None, refl, sym, ap, ◌∙◌, subst}
 use Rattle.std.specs.Prelude.{◌||◌, if◌then◌else◌, is_some, unwrap_or, ⊤}
 use Rattle.std.proofs.lemmas.Bool.{or_right}
 use Rattle.hg_base.specs.declared.rid.Rid.{Rid}
@@ -12,6 +12,7 @@ use Rattle.hg_base.specs.declared.line.Answer.{Answer}
 use Rattle.hg_base.specs.declared.line.Answer.TheVariants.{Begun, Stored, Found, Nothing, Gone, Rows, Committed, Newer, OpenBy, Undeclared}
 use Rattle.hg_base.specs.declared.line.Reply.{Reply}
 use Rattle.hg_base.specs.declared.line.Line.{Line}
+use Rattle.hg_base.specs.declared.value.Value.{Value}
 use Rattle.hg_base.specs.Lists.{Each}
 use Rattle.hg_base.specs.History.{Write, History, same_rid, image_in, is_among, NoneTwice}
 use Rattle.hg_base.specs.Transcript.{only, table_of}
@@ -73,7 +74,7 @@ IsQuiet (Outside t ∷ es) = IsQuiet es
 IsQuiet (Wrote r image ∷ es) = IsQuiet es
 IsQuiet (_ ∷ es) = ⊥
 
-quiet_saws : (buckets : ℕ) (t : TableId) (low high : ℕ) (part : ℕ → List (ℕ × List ℤ)) (n : ℕ) → IsQuiet (saws buckets t low high part n)
+quiet_saws : (buckets : ℕ) (t : TableId) (low high : ℕ) (part : ℕ → List (ℕ × List Value)) (n : ℕ) → IsQuiet (saws buckets t low high part n)
 quiet_saws buckets t low high part zero = tt
 quiet_saws buckets t low high part (suc n) = go (has_own buckets t low high n) (quiet_saws buckets t low high part n)
   where

@@ -1,5 +1,5 @@
 -- The order of slots, by record and then by number.
-use Rattle.std.proofs.Common.{◌≡◌, ℕ, ◌≤◌, ◌<◌, List, [], ◌∷◌, ◌++◌, Bool, true, false, Option, Some, None, ℤ, refl, sym, ap, ◌∙◌, cond, subst, arith}
+use Rattle.std.proofs.Common.{◌≡◌, ℕ, ◌≤◌, ◌<◌, List, [], ◌∷◌, ◌++◌, Bool, true, false, Option, Some, None, refl, sym, ap, ◌∙◌, cond, subst, arith}
 use Rattle.std.specs.Prelude.{◌&&◌, ◌==◌, IsSome, is_some, is_none, not}
 use Rattle.std.specs.declared.cmp.Ordering.{Ordering}
 use Rattle.std.specs.declared.cmp.Ordering.TheVariants.{Less, Equal, Greater}
@@ -12,6 +12,7 @@ use Rattle.std.proofs.lemmas.Bool.Decides.{nat_tests}
 use Rattle.hg_base.specs.declared.rid.Rid.{Rid}
 use Rattle.hg_base.specs.declared.rid.TableId.{TableId}
 use Rattle.hg_base.specs.declared.image.Image.{Image}
+use Rattle.hg_base.specs.declared.value.Value.{Value}
 use Rattle.hg_base.specs.History.{History, same_rid, visible}
 use Rattle.hg_base.specs.RidOrder.{rid_cmp}
 use Rattle.hg_base.proofs.ListFacts.{false_true}
@@ -148,7 +149,7 @@ other_table m t key s at e image small last apart h shows k below =
     le_not_same : {a b : ℕ} → a ≤ b → (a ≡ b → ⊥) → a < b
     le_not_same l f = omega (arith, l, f)
 
-pub this_key : (m : BTreeMap Slot Image) (t : TableId) (key s at : ℕ) (e : Slot) (image : Image) (row : Option (List ℤ)) → at ≤ s → LastKey m t key s e image → e.rid.table.0 ≡ t.0 →
+pub this_key : (m : BTreeMap Slot Image) (t : TableId) (key s at : ℕ) (e : Slot) (image : Image) (row : Option (List Value)) → at ≤ s → LastKey m t key s e image → e.rid.table.0 ≡ t.0 →
     (h : History) → IsOfHistory h m.entries → row ≡ (visible h e.rid at).row → IsLastShown h t key at (Some (e.rid.key, row))
 this_key m t key s at e image row small last same h shows is = (
   key_at_most t e key s last.within same,

@@ -1,11 +1,12 @@
 -- What groups write, as a finite map from a record and a number to an image.
-use Rattle.std.specs.Prelude.{◌≡◌, ℕ, ◌≤◌, ◌<◌, List, Bool, ◌&&◌, ◌==◌, false, Option, Some, None, IsSome, option_map, option_copied, ℤ}
+use Rattle.std.specs.Prelude.{◌≡◌, ℕ, ◌≤◌, ◌<◌, List, Bool, ◌&&◌, ◌==◌, false, Option, Some, None, IsSome, option_map, option_copied}
 use Rattle.std.specs.Map.{lookup}
 use Rattle.std.specs.Option.{MatchOption}
 use denote.Ref.{Bor}
 use Rattle.hg_base.specs.declared.rid.Rid.{Rid}
 use Rattle.hg_base.specs.declared.rid.TableId.{TableId}
 use Rattle.hg_base.specs.declared.image.Image.{Image}
+use Rattle.hg_base.specs.declared.value.Value.{Value}
 use Rattle.hg_base.specs.History.{History, same_rid, group_at, group_image, visible}
 use Rattle.hg_base.specs.RidOrder.{rid_cmp}
 use Rattle.std.specs.declared.cmp.Ordering.{Ordering}
@@ -42,14 +43,14 @@ abbrev pub record_at : TableId → ℕ → Rid
 record_at table key = record { table = table; key = key }
 
 -- of no key of the table up to `key` is a row visible at s; or only of the one that is found, or of a lesser one
-abbrev pub IsLastShown : History → TableId → ℕ → ℕ → Option (ℕ × Option (List ℤ)) → Type 0
+abbrev pub IsLastShown : History → TableId → ℕ → ℕ → Option (ℕ × Option (List Value)) → Type 0
 IsLastShown h table key s found =
     MatchOption found
     ((k : ℕ) → k ≤ key → (visible h (record_at table k) s).row ≡ None)
     (λ last. (last.0 ≤ key) × (last.1 ≡ (visible h (record_at table last.0) s).row) × ((k : ℕ) → last.0 < k → k ≤ key → (visible h (record_at table k) s).row ≡ None))
 
 -- a key with the row that is visible of it, or none
-abbrev pub shown : Option (ℕ × Option (Bor (List ℤ))) → Option (ℕ × Option (List ℤ))
+abbrev pub shown : Option (ℕ × Option (Bor (List Value))) → Option (ℕ × Option (List Value))
 shown found = option_map (λ p. (p.0, option_copied p.1)) found
 
 -- by record, and then by number

@@ -1,5 +1,5 @@
 -- A look finds what the bucket held shows, and is allowed.
-use Rattle.std.proofs.Common.{le_refl, ◌≡◌, ℕ, ℤ, zero, suc, ◌+◌, ◌-◌, ◌<◌, ◌≤◌, inl, inr, ◌⊎◌, ⊎_elim, Bool, true, false, List, [], ◌∷◌, length, map, get_or, set, ◌==◌, Option, Some, None, refl, sym, ap, ◌∙◌, subst, arith, get_or-set_same}
+use Rattle.std.proofs.Common.{le_refl, ◌≡◌, ℕ, zero, suc, ◌+◌, ◌-◌, ◌<◌, ◌≤◌, inl, inr, ◌⊎◌, ⊎_elim, Bool, true, false, List, [], ◌∷◌, length, map, get_or, set, ◌==◌, Option, Some, None, refl, sym, ap, ◌∙◌, subst, arith, get_or-set_same}
 use Rattle.std.specs.Prelude.{if◌then◌else◌, IsSome, IsTrue, ◌||◌}
 use Rattle.std.specs.List.{list_any}
 use Rattle.std.proofs.lemmas.Bool.Decides.{nat_tests}
@@ -13,6 +13,7 @@ use Rattle.hg_base.specs.declared.rid.TableId.{TableId}
 use Rattle.hg_base.specs.declared.image.Image.{Image}
 use Rattle.hg_base.specs.declared.line.Answer.{Answer}
 use Rattle.hg_base.specs.declared.writer.Writer.{Writer}
+use Rattle.hg_base.specs.declared.value.Value.{Value}
 use Rattle.hg_base.specs.History.{same_rid, nothing}
 use Rattle.hg_base.specs.Lists.{Each, Ascends}
 use Rattle.hg_base.specs.Replies.{AreRows}
@@ -53,25 +54,25 @@ use Rattle.hg_rule.proofs.Turning.{in_range}
 
 -- ---- each range has its rows
 
-abbrev consed : ℕ → Option (List ℤ) → List (ℕ × List ℤ) → List (ℕ × List ℤ)
+abbrev consed : ℕ → Option (List Value) → List (ℕ × List Value) → List (ℕ × List Value)
 consed key None rows = rows
 consed key (Some row) rows = (key, row) ∷ rows
 
 -- the rows of so many keys, from one on
-abbrev scanned : (ℕ → Image) → ℕ → ℕ → List (ℕ × List ℤ)
+abbrev scanned : (ℕ → Image) → ℕ → ℕ → List (ℕ × List Value)
 scanned f low zero = []
 scanned f low (suc n) = consed low (f low).row (scanned f (suc low) n)
 
-record Spans (f : ℕ → Image) (low n : ℕ) (rows : List (ℕ × List ℤ)) : Type 0 where
+record Spans (f : ℕ → Image) (low n : ℕ) (rows : List (ℕ × List Value)) : Type 0 where
   pub ascend : Ascends (map (λ p. p.0) rows)
   pub each : Each (λ p. (low ≤ p.0) × (p.0 < low + n) × ((f p.0).row ≡ Some p.1)) rows
   pub every : (key : ℕ) → low ≤ key → key < low + n → IsTrue (list_any (λ p. p.0 == key) rows) ⊎ ((f key).row ≡ None)
 
-lifted : (f : ℕ → Image) (low n : ℕ) (rows : List (ℕ × List ℤ)) → Each (λ p. (suc low ≤ p.0) × (p.0 < suc low + n) × ((f p.0).row ≡ Some p.1)) rows → Each (λ p. (low ≤ p.0) × (p.0 < low + suc n) × ((f p.0).row ≡ Some p.1)) rows
+lifted : (f : ℕ → Image) (low n : ℕ) (rows : List (ℕ × List Value)) → Each (λ p. (suc low ≤ p.0) × (p.0 < suc low + n) × ((f p.0).row ≡ Some p.1)) rows → Each (λ p. (low ≤ p.0) × (p.0 < low + suc n) × ((f p.0).row ≡ Some p.1)) rows
 lifted f low n [] h = tt
 lifted f low n (p ∷ rows) h = let a = h.0.0 in let b = h.0.1 in ((omega arith, omega arith, h.0.2), lifted f low n rows h.1)
 
-ascending : (f : ℕ → Image) (low n : ℕ) (rows : List (ℕ × List ℤ)) → Each (λ p. (suc low ≤ p.0) × (p.0 < suc low + n) × ((f p.0).row ≡ Some p.1)) rows → Ascends (map (λ p. p.0) rows) → Ascends (low ∷ map (λ p. p.0) rows)
+ascending : (f : ℕ → Image) (low n : ℕ) (rows : List (ℕ × List Value)) → Each (λ p. (suc low ≤ p.0) × (p.0 < suc low + n) × ((f p.0).row ≡ Some p.1)) rows → Ascends (map (λ p. p.0) rows) → Ascends (low ∷ map (λ p. p.0) rows)
 ascending f low n [] h a = tt
 ascending f low n (p ∷ rows) h a = let l = h.0.0 in (omega arith, a)
 
@@ -79,7 +80,7 @@ scan_spans : (f : ℕ → Image) (low n : ℕ) → Spans f low n (scanned f low 
 scan_spans f low zero = record { ascend = tt; each = tt; every = λ key a b. absurd (omega arith) }
 scan_spans f low (suc n) = go (f low).row refl (scanned f (suc low) n) (scan_spans f (suc low) n)
   where
-    go : (row : Option (List ℤ)) → (f low).row ≡ row → (rows : List (ℕ × List ℤ)) → Spans f (suc low) n rows → Spans f low (suc n) (consed low row rows)
+    go : (row : Option (List Value)) → (f low).row ≡ row → (rows : List (ℕ × List Value)) → Spans f (suc low) n rows → Spans f low (suc n) (consed low row rows)
     go None is rows h = record {
       ascend = h.ascend;
       each = lifted f low n rows h.each;
@@ -106,14 +107,14 @@ scan_spans f low (suc n) = go (f low).row refl (scanned f (suc low) n) (scan_spa
             go' (yes l) n = l
             go' (no l) n = absurd (n (omega arith))
 
-some_rows : (f : ℕ → Image) (low high : ℕ) → (rows : List (ℕ × List ℤ)) × AreRows f low high rows
+some_rows : (f : ℕ → Image) (low high : ℕ) → (rows : List (ℕ × List Value)) × AreRows f low high rows
 some_rows f low high = go (dec_le low high)
   where
-    within : (n : ℕ) → low + n ≡ suc high → (rows : List (ℕ × List ℤ)) → Each (λ p. (low ≤ p.0) × (p.0 < low + n) × ((f p.0).row ≡ Some p.1)) rows → Each (λ p. (low ≤ p.0) × (p.0 ≤ high) × ((f p.0).row ≡ Some p.1)) rows
+    within : (n : ℕ) → low + n ≡ suc high → (rows : List (ℕ × List Value)) → Each (λ p. (low ≤ p.0) × (p.0 < low + n) × ((f p.0).row ≡ Some p.1)) rows → Each (λ p. (low ≤ p.0) × (p.0 ≤ high) × ((f p.0).row ≡ Some p.1)) rows
     within n e [] h = tt
     within n e (p ∷ rows) h = let b = h.0.1 in ((h.0.0, omega arith, h.0.2), within n e rows h.1)
 
-    go : Dec (low ≤ high) → (rows : List (ℕ × List ℤ)) × AreRows f low high rows
+    go : Dec (low ≤ high) → (rows : List (ℕ × List Value)) × AreRows f low high rows
     go (no l) = ([], record { ascend = tt; each = tt; every = λ key a b. absurd (l (omega arith)) })
     go (yes l) =
         let n : ℕ = suc high - low in
@@ -148,12 +149,12 @@ refusal_ends : (rid : Rid) (answer : Option Answer) (log : List LogEntry) → En
 refusal_ends rid None log = ends_same log
 refusal_ends rid (Some answer) log = (entries.Refused rid answer ∷ [], refl)
 
-looked_ends : (c : CoreState) (j : ℕ) (ask : Ask) (b : ℕ) (rows : List (ℕ × List ℤ)) → EndsWith (looked c j ask b rows) (c.log j)
+looked_ends : (c : CoreState) (j : ℕ) (ask : Ask) (b : ℕ) (rows : List (ℕ × List Value)) → EndsWith (looked c j ask b rows) (c.log j)
 looked_ends c j (Read table low high) b rows = (entries.Saw table low high b rows ∷ [], refl)
 looked_ends c j (Write rid) b rows = refusal_ends rid _ (c.log j)
 looked_ends c j (Outside table) b rows = (entries.Outside table ∷ [], refl)
 
-look_leaves : (c : CoreState) (j : ℕ) (ask : Ask) (b : ℕ) (rows : List (ℕ × List ℤ)) (old : SessionPart) → Leaves c (happens c (Look j ask b rows)) (OfSession j old ∷ [])
+look_leaves : (c : CoreState) (j : ℕ) (ask : Ask) (b : ℕ) (rows : List (ℕ × List Value)) (old : SessionPart) → Leaves c (happens c (Look j ask b rows)) (OfSession j old ∷ [])
 look_leaves c j ask b rows old = record {
   phase = λ k away. refl;
   log = λ k away. put_else c.log j k _ (not_first j k 0 away);
@@ -170,7 +171,7 @@ look_leaves c j ask b rows old = record {
 
 -- what is asked, as the state has it
 record Found (c : CoreState) (v : View) (ask : Ask) (n : ℕ) : Type 0 where
-  pub rows : List (ℕ × List ℤ)
+  pub rows : List (ℕ × List Value)
   pub shown : AreShown v ask rows
   pub asks : Asks c (number v) (snapshot v) (tables v) ask (bucket_number v) rows
   pub log : looked c (number v) ask (bucket_number v) rows ≡ log_asked v ask n rows

@@ -1,8 +1,9 @@
 -- What each step of a session on contents and on groups makes of its view.
-use Rattle.std.specs.Prelude.{◌≡◌, ℕ, ℤ, suc, ◌+◌, ◌≤◌, true, false, List, [], ◌∷◌, IsSome, IsTrue, IsFalse, ⊤}
+use Rattle.std.specs.Prelude.{◌≡◌, ℕ, suc, ◌+◌, ◌≤◌, true, false, List, [], ◌∷◌, IsSome, IsTrue, IsFalse, ⊤}
 use Rattle.hg_base.specs.declared.rid.Rid.{Rid}
 use Rattle.hg_base.specs.declared.image.Image.{Image}
 use Rattle.hg_base.specs.declared.writer.Writer.{Writer}
+use Rattle.hg_base.specs.declared.value.Value.{Value}
 use Rattle.hg_base.specs.History.{History}
 use Rattle.hg_base.specs.Replies.{AreRows}
 use Rattle.hg_base.specs.Transcript.{has}
@@ -49,13 +50,13 @@ MayAsk buckets v (Write rid) = HasBucket v × ((bucket_of buckets rid ≡ bucket
 MayAsk buckets v (Outside table) = IsFalse (has (tables v) table)
 
 -- the rows of the range that the transaction sees in the bucket held
-abbrev pub AreShown : View → Ask → List (ℕ × List ℤ) → Type 0
+abbrev pub AreShown : View → Ask → List (ℕ × List Value) → Type 0
 AreShown v (Read table low high) rows = AreRows (λ key. read_by (writer v) (snapshot v) (held v record { table = table; key = key })) low high rows
 AreShown v (Write rid) rows = rows ≡ []
 AreShown v (Outside table) rows = rows ≡ []
 
 -- the log after it, where the mark is n: a write logs how the content held and that mark refuse it, or nothing
-abbrev pub log_asked : View → Ask → ℕ → List (ℕ × List ℤ) → List LogEntry
+abbrev pub log_asked : View → Ask → ℕ → List (ℕ × List Value) → List LogEntry
 log_asked v (Read table low high) n rows = entries.Saw table low high (bucket_number v) rows ∷ (session v).log
 log_asked v (Write rid) n rows = with_refusal rid (refusal n (writer v) (snapshot v) (held v rid)) (session v).log
 log_asked v (Outside table) n rows = entries.Outside table ∷ (session v).log
@@ -63,7 +64,7 @@ log_asked v (Outside table) n rows = entries.Outside table ∷ (session v).log
 pub record Looks (v : View) (ask : Ask) (n : ℕ) (w : View) : Type 0 where
   pub history : History
   pub whole : IsHistoryAt v n history
-  pub rows : List (ℕ × List ℤ)
+  pub rows : List (ℕ × List Value)
   pub shown : AreShown v ask rows
   pub after : w ≡ then_has v (OfSession (number v) (with_log (log_asked v ask n rows) (session v)) ∷ others v) (Saw (groups history) ∷ Heard (number v) (log_asked v ask n rows) ∷ []) (Look (number v) ask n)
 

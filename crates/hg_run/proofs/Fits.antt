@@ -1,5 +1,5 @@
 -- What is sound for a lawful script fits it.
-use Rattle.std.proofs.Common.{◌≡◌, ℕ, ℤ, ◌+◌, ◌<◌, ◌≤◌, ◌^◌, List, [], ◌∷◌, ◌++◌, length, Bool, true, false, Option, Some, None, refl, sym, ap, ◌∙◌, subst, arith, append_assoc}
+use Rattle.std.proofs.Common.{◌≡◌, ℕ, ◌+◌, ◌<◌, ◌≤◌, ◌^◌, List, [], ◌∷◌, ◌++◌, length, Bool, true, false, Option, Some, None, refl, sym, ap, ◌∙◌, subst, arith, append_assoc}
 use Rattle.std.specs.Prelude.{cond, filter, find, map, sum_by, if◌then◌else◌, is_none, is_some, unwrap_or, IfSome, IsSome, IsTrue, MatchOption, ⊤, ◌==◌, ◌&&◌, ◌||◌}
 use Rattle.std.specs.List.{filter_map, list_any}
 use Rattle.std.specs.Bool.{MatchBool}
@@ -24,6 +24,7 @@ use Rattle.hg_base.specs.declared.report.Kind.{Kind}
 use Rattle.hg_base.specs.declared.report.Kind.TheVariants as kinds
 use Rattle.hg_base.specs.declared.report.Sweep.{Sweep}
 use Rattle.hg_base.specs.declared.report.Told.{Told}
+use Rattle.hg_base.specs.declared.value.Value.{Value}
 use Rattle.hg_base.specs.Counts.{AreTotals, removed_by}
 use Rattle.hg_base.specs.Freshness.{IsHeld, IsReported, prints, snapshot_of}
 use Rattle.hg_base.specs.Lists.{Each, EachAfter, Ascends, greatest}
@@ -77,7 +78,7 @@ abbrev key_put : Record → ℕ
 key_put r = elim r.statement [ Put rid row ↦ rid.key | _ ↦ 0 ]
 
 -- a row fits its table, and some record puts one of its key
-abbrev IsPutRow : Script → Rid → List ℤ → Type 0
+abbrev IsPutRow : Script → Rid → List Value → Type 0
 IsPutRow script r row = FitsRow script.tables r.table row × IsIn (map key_put script.records) r.key
 
 asks_row : (script : Script) (place j : ℕ) (s : Statement) → FitsTables script.tables s → HasWidths s → IsIn (map key_put script.records) (key_put (record { place = place; session = j; statement = s })) → AsksRow (IsPutRow script) s
@@ -127,11 +128,11 @@ get_fits script r image _ g found = absurd g
 
 scan_fits : (script : Script) (table : TableId) (look : ℕ → Image) (low high : ℕ) (a : Answer) → length script.records < 2 ^ 64 → Fits64 high → IsScanned look low high a → FoundRows (IsPutRow script) table a → FitsScan script.tables table a
 scan_fits script table look low high (Rows rows) few wide s found =
-    let key = λ (p : ℕ × List ℤ). p.0 in
+    let key = λ (p : ℕ × List Value). p.0 in
     let many : length (map key rows) ≤ length (map key_put script.records) = no_more (map key rows) (map key_put script.records) s.ascend
-    (each_map (IsIn (map key_put script.records)) key rows (each_keeps _ (λ (p : ℕ × List ℤ). IsIn (map key_put script.records) p.0) (λ p k. k.1) rows found)) in (
+    (each_map (IsIn (map key_put script.records)) key rows (each_keeps _ (λ (p : ℕ × List Value). IsIn (map key_put script.records) p.0) (λ p k. k.1) rows found)) in (
       omega (arith, many, few, length-map rows key, length-map script.records key_put),
-      both_each _ _ (λ (p : ℕ × List ℤ). Fits64 p.0 × FitsRow script.tables table p.1) (λ p k q. (omega (arith, k.1, wide), q.0)) rows s.each found,
+      both_each _ _ (λ (p : ℕ × List Value). Fits64 p.0 × FitsRow script.tables table p.1) (λ p k q. (omega (arith, k.1, wide), q.0)) rows s.each found,
     )
 scan_fits script table look low high _ few wide s found = absurd s
 

@@ -1,5 +1,5 @@
 -- Whether a session's transaction is open after a statement.
-use Rattle.std.proofs.Common.{◌≡◌, ℕ, ℤ, List, [], ◌∷◌, ◌++◌, Bool, true, false, Option, Some, None, refl, sym, ap, ◌∙◌, arith}
+use Rattle.std.proofs.Common.{◌≡◌, ℕ, List, [], ◌∷◌, ◌++◌, Bool, true, false, Option, Some, None, refl, sym, ap, ◌∙◌, arith}
 use Rattle.std.specs.Prelude.{cond, fold, is_some, unwrap_or, ◌==◌}
 use Rattle.std.proofs.lemmas.Bool.Decides.{Decides-eqb, nat_tests}
 use Rattle.hg_base.specs.declared.rid.Rid.{Rid}
@@ -11,6 +11,7 @@ use Rattle.hg_base.specs.declared.statement.Record.{Record}
 use Rattle.hg_base.specs.declared.line.Answer.{Answer}
 use Rattle.hg_base.specs.declared.line.Answer.TheVariants.{Begun, Found, Nothing, Stored, Gone, Rows, Committed, Newer, OpenBy, Undeclared}
 use Rattle.hg_base.specs.declared.line.Reply.{Reply}
+use Rattle.hg_base.specs.declared.value.Value.{Value}
 use Rattle.hg_base.specs.Replies.{IsBegun}
 use Rattle.hg_base.specs.Transcript.{only, table_of}
 use Rattle.hg_base.proofs.ListFacts.{false_true}
@@ -31,14 +32,14 @@ open_get n r Nothing log = refl
 open_get n r (Undeclared table) log = refl
 open_get n r _ log = refl
 
-pub open_put : (r : Rid) (row : List ℤ) (a : Answer) (log : List LogEntry) → current (put_entries r row a ++ log) ≡ current log
+pub open_put : (r : Rid) (row : List Value) (a : Answer) (log : List LogEntry) → current (put_entries r row a ++ log) ≡ current log
 open_put r row Stored log = refl
 open_put r row (Newer number) log = refl
 open_put r row (OpenBy writer) log = refl
 open_put r row (Undeclared table) log = refl
 open_put r row _ log = refl
 
-pub open_del : (n : ℕ) (found : List ℤ) (r : Rid) (a : Answer) (log : List LogEntry) → current (del_entries n found r a ++ log) ≡ current log
+pub open_del : (n : ℕ) (found : List Value) (r : Rid) (a : Answer) (log : List LogEntry) → current (del_entries n found r a ++ log) ≡ current log
 open_del n found r Nothing log = refl
 open_del n found r Gone log = refl
 open_del n found r (Newer number) log = refl
@@ -46,10 +47,10 @@ open_del n found r (OpenBy writer) log = refl
 open_del n found r (Undeclared table) log = refl
 open_del n found r _ log = refl
 
-pub open_saws : (buckets : ℕ) (t : TableId) (low high : ℕ) (part : ℕ → List (ℕ × List ℤ)) (n : ℕ) (log : List LogEntry) → current (saws buckets t low high part n ++ log) ≡ current log
+pub open_saws : (buckets : ℕ) (t : TableId) (low high : ℕ) (part : ℕ → List (ℕ × List Value)) (n : ℕ) (log : List LogEntry) → current (saws buckets t low high part n ++ log) ≡ current log
 open_saws buckets t low high part n log = saws_keep (λ m. current m ≡ current log) buckets t low high part n log (λ b rows m e. e) refl
 
-pub open_scan : (n : ℕ) (part : ℕ → List (ℕ × List ℤ)) (t : TableId) (low high : ℕ) (a : Answer) (log : List LogEntry) → current (scan_entries n part t low high a ++ log) ≡ current log
+pub open_scan : (n : ℕ) (part : ℕ → List (ℕ × List Value)) (t : TableId) (low high : ℕ) (a : Answer) (log : List LogEntry) → current (scan_entries n part t low high a ++ log) ≡ current log
 open_scan n part t low high (Rows rows) log = open_saws n t low high part n log
 open_scan n part t low high (Undeclared table) log = refl
 open_scan n part t low high _ log = refl

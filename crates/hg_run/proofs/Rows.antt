@@ -1,6 +1,6 @@
 -- Every row that is printed was put.
 use Rattle.std.proofs.Common.{◌≡◌, ℕ, suc, List, [], ◌∷◌, Bool, true, false, Option, Some, None, refl, sym, subst}
-use Rattle.std.specs.Prelude.{ℤ, cond, filter, map, nat_le, nat_lt, IfSome, option_map, unwrap_or, ◌==◌}
+use Rattle.std.specs.Prelude.{cond, filter, map, nat_le, nat_lt, IfSome, option_map, unwrap_or, ◌==◌}
 use Rattle.std.specs.List.{filter_map}
 use Rattle.std.specs.Bool.{MatchBool}
 use Rattle.std.specs.Option.{option_or}
@@ -14,6 +14,7 @@ use Rattle.hg_base.specs.declared.line.Answer.{Answer}
 use Rattle.hg_base.specs.declared.line.Answer.TheVariants.{Begun, Stored, Found, Nothing, Gone, Rows, Committed, Ended, Undone, Newer, OpenBy, Undeclared, Swept, Beside}
 use Rattle.hg_base.specs.declared.line.Line.{Line}
 use Rattle.hg_base.specs.declared.line.Printed.{Printed}
+use Rattle.hg_base.specs.declared.value.Value.{Value}
 use Rattle.hg_base.specs.Lists.{Each, EachAfter}
 use Rattle.hg_base.specs.Script.{Mode, Declaration, Script}
 use Rattle.hg_base.specs.History.{Write, Commit, Group, History, same_rid, image_in, group_image, writes_from, writes, last_image, visible, seen}
@@ -49,13 +50,13 @@ some_kept P Q f (Some x) h s = h x s
 
 -- ---- images and writes
 
-abbrev Holds : (Rid → List ℤ → Type 0) → Rid → Image → Type 0
+abbrev Holds : (Rid → List Value → Type 0) → Rid → Image → Type 0
 Holds P r image = IfSome image.row (P r)
 
-abbrev IsOne : (Rid → List ℤ → Type 0) → Write → Type 0
+abbrev IsOne : (Rid → List Value → Type 0) → Write → Type 0
 IsOne P w = IfSome w.image.row (P w.rid)
 
-one_in : (P : Rid → List ℤ → Type 0) (r : Rid) (ws : List Write) → Each (IsOne P) ws → IfSome (image_in r ws) (Holds P r)
+one_in : (P : Rid → List Value → Type 0) (r : Rid) (ws : List Write) → Each (IsOne P) ws → IfSome (image_in r ws) (Holds P r)
 one_in P r [] e = tt
 one_in P r (w ∷ ws) e = go (same_rid w.rid r) refl (one_in P r ws e.1)
   where
@@ -63,7 +64,7 @@ one_in P r (w ∷ ws) e = go (same_rid w.rid r) refl (one_in P r ws e.1)
     go true is later = subst (λ q. IfSome w.image.row (P q)) (same_rid_equal w.rid r is) e.0
     go false is later = later
 
-one_of_group : (P : Rid → List ℤ → Type 0) (r : Rid) (group : Group) → Each (λ c. Each (IsOne P) c.images) group → IfSome (group_image r group) (Holds P r)
+one_of_group : (P : Rid → List Value → Type 0) (r : Rid) (group : Group) → Each (λ c. Each (IsOne P) c.images) group → IfSome (group_image r group) (Holds P r)
 one_of_group P r [] e = tt
 one_of_group P r (c ∷ cs) e = go (image_in r c.images) (one_in P r c.images e.0) (one_of_group P r cs e.1)
   where
@@ -71,19 +72,19 @@ one_of_group P r (c ∷ cs) e = go (image_in r c.images) (one_in P r c.images e.
     go None h later = later
     go (Some image) h later = h
 
-one_written : (P : Rid → List ℤ → Type 0) (r : Rid) (n : ℕ) (h : History) → Each (Each (λ c. Each (IsOne P) c.images)) h → Each (λ w. Holds P r w.1) (writes_from n h r)
+one_written : (P : Rid → List Value → Type 0) (r : Rid) (n : ℕ) (h : History) → Each (Each (λ c. Each (IsOne P) c.images)) h → Each (λ w. Holds P r w.1) (writes_from n h r)
 one_written P r n [] e = tt
 one_written P r n (g ∷ gs) e =
     each_cons (λ (w : ℕ × Image). Holds P r w.1) (option_map (λ image. (n, image)) (group_image r g)) (writes_from (suc n) gs r)
     (some_kept (Holds P r) (λ (w : ℕ × Image). Holds P r w.1) (λ image. (n, image)) (group_image r g) (λ image h. h) (one_of_group P r g e.0))
     (one_written P r (suc n) gs e.1)
 
-one_last : (P : Rid → List ℤ → Type 0) (r : Rid) (ws : List (ℕ × Image)) → Each (λ w. Holds P r w.1) ws → Holds P r (last_image ws)
+one_last : (P : Rid → List Value → Type 0) (r : Rid) (ws : List (ℕ × Image)) → Each (λ w. Holds P r w.1) ws → Holds P r (last_image ws)
 one_last P r [] e = tt
 one_last P r (w ∷ []) e = e.0
 one_last P r (w ∷ v ∷ more) e = one_last P r (v ∷ more) e.1
 
-one_seen : (P : Rid → List ℤ → Type 0) (h : History) (own : List Write) (at : ℕ) (r : Rid) → Each (Each (λ c. Each (IsOne P) c.images)) h → Each (IsOne P) own → Holds P r (seen h own at r)
+one_seen : (P : Rid → List Value → Type 0) (h : History) (own : List Write) (at : ℕ) (r : Rid) → Each (Each (λ c. Each (IsOne P) c.images)) h → Each (IsOne P) own → Holds P r (seen h own at r)
 one_seen P h own at r history mine = go (image_in r own) (one_in P r own mine)
   where
     go : (o : Option Image) → IfSome o (Holds P r) → Holds P r (unwrap_or o (visible h r at))
@@ -92,7 +93,7 @@ one_seen P h own at r history mine = go (image_in r own) (one_in P r own mine)
 
 -- ---- what is stored
 
-one_stored : (P : Rid → List ℤ → Type 0) (s : Statement) (a : Answer) → AsksRow P s → IfSome (stored_by s a) (IsOne P)
+one_stored : (P : Rid → List Value → Type 0) (s : Statement) (a : Answer) → AsksRow P s → IfSome (stored_by s a) (IsOne P)
 one_stored P (Put r row) Stored p = p
 one_stored P (Put r row) (Begun s) p = tt
 one_stored P (Put r row) (Found x) p = tt
@@ -123,7 +124,7 @@ one_stored P (Del r) (Swept s) p = tt
 one_stored P (Del r) Beside p = tt
 one_stored P _ a p = tt
 
-one_own : (P : Rid → List ℤ → Type 0) (j x : ℕ) (list : List Said) → Each (λ now. AsksRow P now.statement) list → Each (IsOne P) (stored_in j x list)
+one_own : (P : Rid → List Value → Type 0) (j x : ℕ) (list : List Said) → Each (λ now. AsksRow P now.statement) list → Each (IsOne P) (stored_in j x list)
 one_own P j x list e =
     each_picked (IsOne P) stored (filter (is_of j x) list) (each_keeps (λ now. AsksRow P now.statement) (λ now. IfSome (stored now) (IsOne P)) (λ now p. one_stored P now.statement now.reply.answer p) (filter (is_of j x) list) (each_filter (λ now. AsksRow P now.statement) (is_of j x) list e))
 
@@ -131,7 +132,7 @@ one_last_images : (Q : Write → Type 0) (ws : List Write) → Each Q ws → Eac
 one_last_images Q [] e = tt
 one_last_images Q (w ∷ ws) e = (e.0, each_filter Q _ (last_images ws) (one_last_images Q ws e.1))
 
-one_commits : (P : Rid → List ℤ → Type 0) (earlier all : List Said) → Each (λ now. AsksRow P now.statement) earlier → Each (λ now. AsksRow P now.statement) all → Each (λ p. Each (IsOne P) p.1.images) (commits_from earlier all)
+one_commits : (P : Rid → List Value → Type 0) (earlier all : List Said) → Each (λ now. AsksRow P now.statement) earlier → Each (λ now. AsksRow P now.statement) all → Each (λ p. Each (IsOne P) p.1.images) (commits_from earlier all)
 one_commits P earlier [] before e = tt
 one_commits P earlier (now ∷ later) before e =
     each_cons (λ (p : ℕ × Commit). Each (IsOne P) p.1.images) (option_map (λ c. (c, commit_by earlier now)) (committed now)) (commits_from (now ∷ earlier) later)
@@ -154,12 +155,12 @@ one_group Q (p ∷ ps) n e = go (p.0 == n) (one_group Q ps n e.1)
     go true later = one_put Q p.1 (group_of ps n) e.0 later
     go false later = later
 
-one_history : (P : Rid → List ℤ → Type 0) (all : List Said) → Each (λ now. AsksRow P now.statement) all → Each (Each (λ c. Each (IsOne P) c.images)) (history_of all)
+one_history : (P : Rid → List Value → Type 0) (all : List Said) → Each (λ now. AsksRow P now.statement) all → Each (Each (λ c. Each (IsOne P) c.images)) (history_of all)
 one_history P all e = each_mapped (Each (λ (c : Commit). Each (IsOne P) c.images)) (group_of (commits all)) _ (λ n. one_group (λ (c : Commit). Each (IsOne P) c.images) (commits all) n (one_commits P [] all tt e))
 
 -- ---- the lines beside their records
 
-pub all_ask : (P : Rid → List ℤ → Type 0) (earlier : List Said) (rs : List Record) (lines : List Line) → Each (λ r. AsksRow P r.statement) rs → Each (λ now. AsksRow P now.statement) (said_from earlier rs lines)
+pub all_ask : (P : Rid → List Value → Type 0) (earlier : List Said) (rs : List Record) (lines : List Line) → Each (λ r. AsksRow P r.statement) rs → Each (λ now. AsksRow P now.statement) (said_from earlier rs lines)
 all_ask P earlier [] lines e = tt
 all_ask P earlier (r ∷ rs) [] e = tt
 all_ask P earlier (r ∷ rs) (line ∷ lines) e = (
@@ -169,7 +170,7 @@ all_ask P earlier (r ∷ rs) (line ∷ lines) e = (
 
 -- ---- the answers
 
-got : (P : Rid → List ℤ → Type 0) (r : Rid) (image : Image) (a : Answer) → Holds P r image → IsGot image a → FoundRow P r a
+got : (P : Rid → List Value → Type 0) (r : Rid) (image : Image) (a : Answer) → Holds P r image → IsGot image a → FoundRow P r a
 got P r image (Found row) h g = subst (λ o. IfSome o (P r)) g h
 got P r image Nothing h g = tt
 got P r image (Begun s) h g = absurd g
@@ -185,8 +186,8 @@ got P r image (Undeclared t) h g = absurd g
 got P r image (Swept s) h g = absurd g
 got P r image Beside h g = absurd g
 
-scanned : (P : Rid → List ℤ → Type 0) (table : TableId) (look : ℕ → Image) (low high : ℕ) (a : Answer) → ((key : ℕ) → Holds P (record { table = table; key = key }) (look key)) → IsScanned look low high a → FoundRows P table a
-scanned P table look low high (Rows rows) h s = each_keeps _ (λ (p : ℕ × List ℤ). P (record { table = table; key = p.0 }) p.1) (λ p k. subst (λ o. IfSome o (P (record { table = table; key = p.0 }))) k.2 (h p.0)) rows s.each
+scanned : (P : Rid → List Value → Type 0) (table : TableId) (look : ℕ → Image) (low high : ℕ) (a : Answer) → ((key : ℕ) → Holds P (record { table = table; key = key }) (look key)) → IsScanned look low high a → FoundRows P table a
+scanned P table look low high (Rows rows) h s = each_keeps _ (λ (p : ℕ × List Value). P (record { table = table; key = p.0 }) p.1) (λ p k. subst (λ o. IfSome o (P (record { table = table; key = p.0 }))) k.2 (h p.0)) rows s.each
 scanned P table look low high Nothing h g = absurd g
 scanned P table look low high (Found row) h g = absurd g
 scanned P table look low high (Begun s) h g = absurd g
@@ -201,7 +202,7 @@ scanned P table look low high (Undeclared t) h g = absurd g
 scanned P table look low high (Swept s) h g = absurd g
 scanned P table look low high Beside h g = absurd g
 
-found_out : (P : Rid → List ℤ → Type 0) (r : Rid) (table : TableId) (a : Answer) → IsUndeclared table a → FoundRow P r a
+found_out : (P : Rid → List Value → Type 0) (r : Rid) (table : TableId) (a : Answer) → IsUndeclared table a → FoundRow P r a
 found_out P r table (Begun s) u = tt
 found_out P r table Stored u = tt
 found_out P r table (Found x) u = absurd u
@@ -217,7 +218,7 @@ found_out P r table (Undeclared t) u = tt
 found_out P r table (Swept s) u = tt
 found_out P r table Beside u = tt
 
-rows_out : (P : Rid → List ℤ → Type 0) (t : TableId) (table : TableId) (a : Answer) → IsUndeclared table a → FoundRows P t a
+rows_out : (P : Rid → List Value → Type 0) (t : TableId) (table : TableId) (a : Answer) → IsUndeclared table a → FoundRows P t a
 rows_out P t table (Begun s) u = tt
 rows_out P t table Stored u = tt
 rows_out P t table (Found x) u = tt
@@ -233,7 +234,7 @@ rows_out P t table (Undeclared other) u = tt
 rows_out P t table (Swept s) u = tt
 rows_out P t table Beside u = tt
 
-answered : (P : Rid → List ℤ → Type 0) (mode : Mode) (look : Rid → Image) (wrote : Bool) (now : Said) (s : Statement) → ((r : Rid) → Holds P r (look r)) → IsAnswer mode look wrote now s → PrintsRow P s now.reply.answer
+answered : (P : Rid → List Value → Type 0) (mode : Mode) (look : Rid → Image) (wrote : Bool) (now : Said) (s : Statement) → ((r : Rid) → Holds P r (look r)) → IsAnswer mode look wrote now s → PrintsRow P s now.reply.answer
 answered P mode look wrote now (Get r) h a = go (has now.scope r.table) a
   where
     go : (b : Bool) → MatchBool b (IsGot (look r) now.reply.answer) (IsUndeclared r.table now.reply.answer) → FoundRow P r now.reply.answer
@@ -246,14 +247,14 @@ answered P mode look wrote now (Scan table low high) h a = go (has now.scope tab
     go false a = rows_out P table table now.reply.answer a
 answered P mode look wrote now _ h a = tt
 
-all_print : (P : Rid → List ℤ → Type 0) (mode : Mode) (h : History) (all earlier xs : List Said) → Each (Each (λ c. Each (IsOne P) c.images)) h → Each (λ now. AsksRow P now.statement) earlier → Each (λ now. AsksRow P now.statement) xs → EachAfter (IsRight mode h all) earlier xs → Each (λ now. PrintsRow P now.statement now.reply.answer) xs
+all_print : (P : Rid → List Value → Type 0) (mode : Mode) (h : History) (all earlier xs : List Said) → Each (Each (λ c. Each (IsOne P) c.images)) h → Each (λ now. AsksRow P now.statement) earlier → Each (λ now. AsksRow P now.statement) xs → EachAfter (IsRight mode h all) earlier xs → Each (λ now. PrintsRow P now.statement now.reply.answer) xs
 all_print P mode h all earlier [] history before asks right = tt
 all_print P mode h all earlier (now ∷ later) history before asks right = (
   answered P mode (seen h (own_writes earlier now) now.at) _ now now.statement (λ r. one_seen P h (own_writes earlier now) now.at r history (one_own P now.session now.transaction earlier before)) right.0.reply.answer,
   all_print P mode h all (now ∷ earlier) later history (asks.0, before) asks.1 right.1,
 )
 
-pub rows_put : (P : Rid → List ℤ → Type 0) (mode : Mode) (all : List Said) → Each (λ now. AsksRow P now.statement) all → AreRight mode all → Each (λ now. PrintsRow P now.statement now.reply.answer) all
+pub rows_put : (P : Rid → List Value → Type 0) (mode : Mode) (all : List Said) → Each (λ now. AsksRow P now.statement) all → AreRight mode all → Each (λ now. PrintsRow P now.statement now.reply.answer) all
 rows_put P mode all asks right = all_print P mode (history_of all) all [] all (one_history P all asks) tt asks right.lines
 
 -- ---- the columns

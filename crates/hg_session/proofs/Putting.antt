@@ -1,5 +1,5 @@
 -- What a write replies, in a transaction and as one of its own.
-use Rattle.std.proofs.Common.{◌≡◌, inl, ℕ, ◌≤◌, ℤ, List, [], ◌∷◌, ◌++◌, map, true, false, Option, Some, None, refl, sym, ap, ◌∙◌, subst, append_assoc, arith}
+use Rattle.std.proofs.Common.{◌≡◌, inl, ℕ, ◌≤◌, List, [], ◌∷◌, ◌++◌, map, true, false, Option, Some, None, refl, sym, ap, ◌∙◌, subst, append_assoc, arith}
 use Rattle.std.specs.Prelude.{is_some, IsTrue, IsFalse, IfSome, Err, ◌==◌, ◌||◌, ⊤}
 use Rattle.hg_base.specs.declared.rid.Rid.{Rid}
 use Rattle.hg_base.specs.declared.image.Image.{Image}
@@ -19,6 +19,7 @@ use Rattle.hg_core.specs.declared.log.LogEntry.TheVariants.{Began, Refused, Wrot
 use Rattle.hg_core.specs.Logs.{current, own_writes}
 use Rattle.hg_core.specs.Phases.{IsSession}
 use Rattle.hg_base.specs.declared.scope.Scope.{Scope}
+use Rattle.hg_base.specs.declared.value.Value.{Value}
 use Rattle.hg_core.specs.Reading.{FitsScope, Unprinted, own_entries, close, is_access, FitsAnswer, UndoesAll}
 use Rattle.hg_core.specs.Reading as reading
 use Rattle.hg_core.proofs.Right.{if_none}
@@ -134,7 +135,7 @@ module _ (z : Sizes) (s : Statement) (u : Unprinted) (v w : View) (rid : Rid) (i
 
 -- ---- put
 
-pub puts : (z : Sizes) (u : Unprinted) (own : List Write) (rid : Rid) (row : List ℤ) → Writing z (say.Put rid row) u own rid (record { row = Some row }) [] answers.Stored
+pub puts : (z : Sizes) (u : Unprinted) (own : List Write) (rid : Rid) (row : List Value) → Writing z (say.Put rid row) u own rid (record { row = Some row }) [] answers.Stored
 puts z u own rid row = record {
   access = refl;
   stores = refl;

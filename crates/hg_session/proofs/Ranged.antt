@@ -1,11 +1,12 @@
 -- What a scan and a deletion reply.
-use Rattle.std.proofs.Common.{◌≡◌, ℕ, ℤ, List, [], ◌∷◌, ◌++◌, true, false, Option, Some, None, refl, sym, ap, ◌∙◌, subst, append_assoc, append-nil}
+use Rattle.std.proofs.Common.{◌≡◌, ℕ, List, [], ◌∷◌, ◌++◌, true, false, Option, Some, None, refl, sym, ap, ◌∙◌, subst, append_assoc, append-nil}
 use Rattle.std.specs.Prelude.{is_some, IsTrue, IfSome}
 use Rattle.hg_base.specs.declared.rid.Rid.{Rid}
 use Rattle.hg_base.specs.declared.rid.TableId.{TableId}
 use Rattle.hg_base.specs.declared.scope.Snapshot.{Snapshot}
 use Rattle.hg_base.specs.declared.statement.Statement.TheVariants as say
 use Rattle.hg_base.specs.declared.line.Answer.TheVariants as answers
+use Rattle.hg_base.specs.declared.value.Value.{Value}
 use Rattle.hg_base.specs.Lists.{Each}
 use Rattle.hg_base.specs.History.{Write, nothing}
 use Rattle.hg_base.specs.Transcript.{only, has}
@@ -43,13 +44,13 @@ scan_alone z v m n w at table low high rows e most b k o =
 
 -- ---- a deletion
 
-abbrev pub with_found : List ℤ → Unprinted
+abbrev pub with_found : List Value → Unprinted
 with_found found = record { found = found; part = λ b. []; undone = [] }
 
-abbrev pub saw_found : Sizes → Rid → List ℤ → List LogEntry
+abbrev pub saw_found : Sizes → Rid → List Value → List LogEntry
 saw_found z rid found = saw z.buckets rid ((rid.key, found) ∷ []) ∷ []
 
-pub dels : (z : Sizes) (own : List Write) (rid : Rid) (found : List ℤ) → Writing z (say.Del rid) (with_found found) own rid nothing (saw_found z rid found) answers.Gone
+pub dels : (z : Sizes) (own : List Write) (rid : Rid) (found : List Value) → Writing z (say.Del rid) (with_found found) own rid nothing (saw_found z rid found) answers.Gone
 dels z own rid found = record {
   access = refl;
   stores = refl;
@@ -73,11 +74,11 @@ dels z own rid found = record {
 }
 
 -- a row that is there
-pub found_row : (row : Option (List ℤ)) → true ≡ is_some row → (found : List ℤ) × (row ≡ Some found)
+pub found_row : (row : Option (List Value)) → true ≡ is_some row → (found : List Value) × (row ≡ Some found)
 found_row None e = absurd (let k = e in cc)
 found_row (Some found) e = (found, refl)
 
-pub no_row : (row : Option (List ℤ)) → false ≡ is_some row → row ≡ None
+pub no_row : (row : Option (List Value)) → false ≡ is_some row → row ≡ None
 no_row None e = refl
 no_row (Some found) e = absurd (let k = e in cc)
 

@@ -1,5 +1,5 @@
 -- What a call replies, once its entries are known.
-use Rattle.std.proofs.Common.{◌≡◌, ℕ, zero, suc, ◌^◌, arith, ◌<◌, ℤ, List, [], ◌∷◌, ◌++◌, true, false, Option, Some, None, refl, sym, ap, ◌∙◌, subst, append_assoc}
+use Rattle.std.proofs.Common.{◌≡◌, ℕ, zero, suc, ◌^◌, arith, ◌<◌, List, [], ◌∷◌, ◌++◌, true, false, Option, Some, None, refl, sym, ap, ◌∙◌, subst, append_assoc}
 use Rattle.std.specs.Prelude.{◌&&◌, is_some, IsTrue, IfSome}
 use Rattle.hg_base.specs.declared.rid.Rid.{Rid}
 use Rattle.hg_base.specs.declared.scope.Scope.{Scope}
@@ -23,6 +23,7 @@ use Rattle.hg_tracker.specs.Begun.{AtMost}
 use Rattle.hg_headline.specs.Timely.{snapshot_in, newer_in, commit_in}
 use Rattle.std.proofs.lemmas.Nat.{pow_pos}
 use Rattle.hg_base.specs.declared.rid.TableId.{TableId}
+use Rattle.hg_base.specs.declared.value.Value.{Value}
 use Rattle.hg_base.specs.History.{Write}
 use Rattle.hg_base.specs.Replies.{is_written}
 use Rattle.hg_base.specs.Transcript.{committed_by}
@@ -76,11 +77,11 @@ answers_alone z v w s a at n u none access g stored fits snapshot commit most ne
 
 -- ---- a get
 
-pub get_inside : (z : Sizes) (v w : View) (c : Snapshot) (rid : Rid) (row : Option (List ℤ)) → current (session v).log ≡ Some c → Gains v (saw z.buckets rid (rows_at rid.key row) ∷ []) w → Answers z v (say.Get rid) (inside (row_answer row)) w
+pub get_inside : (z : Sizes) (v w : View) (c : Snapshot) (rid : Rid) (row : Option (List Value)) → current (session v).log ≡ Some c → Gains v (saw z.buckets rid (rows_at rid.key row) ∷ []) w → Answers z v (say.Get rid) (inside (row_answer row)) w
 get_inside z v w c rid None e g = answers_inside z v w (say.Get rid) answers.Nothing nothing_more (ap (λ o. reading.is_alone o (say.Get rid)) e) g tt (λ c e. tt) tt tt tt tt
 get_inside z v w c rid (Some row) e g = answers_inside z v w (say.Get rid) (answers.Found row) nothing_more (ap (λ o. reading.is_alone o (say.Get rid)) e) g tt (λ c e. tt) tt tt tt tt
 
-pub get_alone : (z : Sizes) (v w : View) (at : ℕ) (rid : Rid) (row : Option (List ℤ)) → current (session v).log ≡ None → Each (AtMost at) v.sights → Gains v (close None ++ (saw z.buckets rid (rows_at rid.key row) ∷ Began at (only (Some rid.table)) ∷ [])) w → Answers z v (say.Get rid) (record { at = Some at; answer = row_answer row; number = None }) w
+pub get_alone : (z : Sizes) (v w : View) (at : ℕ) (rid : Rid) (row : Option (List Value)) → current (session v).log ≡ None → Each (AtMost at) v.sights → Gains v (close None ++ (saw z.buckets rid (rows_at rid.key row) ∷ Began at (only (Some rid.table)) ∷ [])) w → Answers z v (say.Get rid) (record { at = Some at; answer = row_answer row; number = None }) w
 get_alone z v w at rid None e most g = answers_alone z v w (say.Get rid) answers.Nothing at None nothing_more e refl g refl tt refl refl most tt tt tt
 get_alone z v w at rid (Some row) e most g = answers_alone z v w (say.Get rid) (answers.Found row) at None nothing_more e refl g refl tt refl refl most tt tt tt
 

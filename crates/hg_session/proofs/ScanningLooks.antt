@@ -1,10 +1,11 @@
 -- What a look at a range of one bucket logs, and that the rows that were copied are those.
-use Rattle.std.proofs.Common.{◌≡◌, ℕ, ℤ, ◌≤◌, List, [], ◌∷◌, ◌++◌, length, Some, Result, Ok, Err, ap, ◌∙◌, subst, arith}
+use Rattle.std.proofs.Common.{◌≡◌, ℕ, ◌≤◌, List, [], ◌∷◌, ◌++◌, length, Some, Result, Ok, Err, ap, ◌∙◌, subst, arith}
 use Rattle.std.specs.Prelude.{nat_lt, OnOk}
 use Rattle.std.proofs.lemmas.Bool.Decides.{nat_tests}
 use Rattle.hg_base.specs.declared.rid.TableId.{TableId}
 use Rattle.hg_base.specs.declared.writer.Writer.{Writer}
 use Rattle.hg_base.specs.declared.fault.NoMemory.{NoMemory}
+use Rattle.hg_base.specs.declared.value.Value.{Value}
 use Rattle.hg_base.proofs.ListFacts.{cases, none_some, each_keeps}
 use Rattle.hg_core.specs.declared.ask.Ask.TheVariants.{Read}
 use Rattle.hg_core.specs.declared.log.LogEntry.TheVariants.{Saw}
@@ -26,7 +27,7 @@ use Rattle.hg_session.proofs.ScanningKeys.{own_key, unread}
 use Rattle.hg_session.proofs.ScanningRows.{same_rows}
 
 -- a row is of a record that has a version
-shown_there : (by : Writer) (at : ℕ) (table : TableId) (content : Content) (key : ℕ) (row : List ℤ) → (read_of by at table content key).row ≡ Some row → HasVersion content table key
+shown_there : (by : Writer) (at : ℕ) (table : TableId) (content : Content) (key : ℕ) (row : List Value) → (read_of by at table content key).row ≡ Some row → HasVersion content table key
 shown_there by at table content key row e = cases (nat_lt 0 (length (look (record_at table key) content)))
     (λ t. grind (arith, nat_tests, t))
     (λ f. absurd (none_some (read_of by at table content key).row row (unread by at table content key (λ l. grind (arith, nat_tests, f, l))) e))

@@ -1,5 +1,5 @@
 -- The rows of all buckets, the looks at them, and the order of the rows.
-use Rattle.std.proofs.Common.{◌≡◌, ℕ, ℤ, zero, suc, ◌<◌, ◌≤◌, List, [], ◌∷◌, ◌++◌, map, length, get_or, true, false, cond, Result, refl, sym, ap, ◌∙◌, subst, arith}
+use Rattle.std.proofs.Common.{◌≡◌, ℕ, zero, suc, ◌<◌, ◌≤◌, List, [], ◌∷◌, ◌++◌, map, length, get_or, true, false, cond, Result, refl, sym, ap, ◌∙◌, subst, arith}
 use Rattle.std.specs.Prelude.{◌==◌, nat_eq, nat_lt, if◌then◌else◌, IsTrue, Contains}
 use Rattle.std.specs.List.{IsDistinct, All, AllByRecursion}
 use Rattle.std.specs.List.Sorted.{IsPermutation, IsNonDecreasingBy}
@@ -9,6 +9,7 @@ use Rattle.std.proofs.lemmas.List.Sorted.{IsPermutation-map, All-permutation, Co
 use Rattle.std.proofs.lemmas.List.Elements.{Contains-append_left, Contains-append_right}
 use Rattle.hg_base.specs.declared.rid.TableId.{TableId}
 use Rattle.hg_base.specs.declared.fault.NoMemory.{NoMemory}
+use Rattle.hg_base.specs.declared.value.Value.{Value}
 use Rattle.hg_base.specs.Lists.{Each, Ascends}
 use Rattle.hg_base.proofs.ListFacts.{cases, each_append, each_keeps, append_nil}
 use Rattle.hg_core.specs.declared.log.LogEntry.TheVariants.{Saw}
@@ -27,7 +28,7 @@ abbrev pub IsOneOf : ℕ → TableId → ℕ → ℕ → ℕ → ℕ → Type 0
 IsOneOf count table low high n b = (b < n) × IsTrue (has_own count table low high b)
 
 -- the row is of one of them, which are its key's own
-abbrev pub IsOfSome : ℕ → TableId → ℕ → ℕ → (ℕ → Rows) → ℕ → ℕ × List ℤ → Type 0
+abbrev pub IsOfSome : ℕ → TableId → ℕ → ℕ → (ℕ → Rows) → ℕ → ℕ × List Value → Type 0
 IsOfSome count table low high part n p = ((b : ℕ) × IsOneOf count table low high n b × Contains (part b) p) × (bucket_of count (record_at table p.0) < n)
 
 -- the rows of those are there, and one look at each was logged
@@ -115,11 +116,11 @@ module _ {T : Type 0} (count : ℕ) (v u w : View) (table : TableId) (low high n
   pub stops : n < count → ScansSome count v table low high w
   stops l = record { seen = suc n; within = omega (arith, l); part = parts; gains = more_gained }
 
-  earlier_row : (p : ℕ × List ℤ) → IsOfSome count table low high s.part n p → IsOfSome count table low high parts (suc n) p
+  earlier_row : (p : ℕ × List Value) → IsOfSome count table low high s.part n p → IsOfSome count table low high parts (suc n) p
   unfolding parts
   earlier_row p q = ((q.0.0, (let l = q.0.1.0 in omega (arith, l), q.0.1.1), subst (λ r. Contains r p) (sym (part_else s.part n k.part q.0.0 q.0.1.0)) q.0.2), let l = q.1 in omega (arith, l))
 
-  later_row : (p : ℕ × List ℤ) → Contains k.part p → IsOwnKey count n table p.0 → IsOfSome count table low high parts (suc n) p
+  later_row : (p : ℕ × List Value) → Contains k.part p → IsOwnKey count n table p.0 → IsOfSome count table low high parts (suc n) p
   unfolding parts
   later_row p c o = ((n, (omega arith, has), subst (λ r. Contains r p) (sym (part_here s.part n k.part)) c), omega (arith, o))
 
@@ -145,17 +146,17 @@ module _ {T : Type 0} (count : ℕ) (v u w : View) (table : TableId) (low high n
     distinct = subst (IsDistinct nat_eq) (sym (ap (map key_of) e ∙ map_append rows k.part)) (distinct_append (map key_of rows) (map key_of k.part) s.distinct (ascends_distinct (map key_of k.part) k.ascend) apart_keys);
   }
     where
-      first_there : (x : ℕ × List ℤ) (xs : Rows) → Contains (x ∷ xs) x
+      first_there : (x : ℕ × List Value) (xs : Rows) → Contains (x ∷ xs) x
       first_there x xs = (0, omega arith, refl)
 
-      behind_there : (x y : ℕ × List ℤ) (xs : Rows) → Contains xs y → Contains (x ∷ xs) y
+      behind_there : (x y : ℕ × List Value) (xs : Rows) → Contains xs y → Contains (x ∷ xs) y
       behind_there x y xs c = Contains-append_right (x ∷ []) xs y c
 
-      all_there : {P : ℕ × List ℤ → Type 0} (xs : Rows) → ((p : ℕ × List ℤ) → Contains xs p → P p) → Each P xs
+      all_there : {P : ℕ × List Value → Type 0} (xs : Rows) → ((p : ℕ × List Value) → Contains xs p → P p) → Each P xs
       all_there [] f = tt
       all_there (x ∷ xs) f = (f x (first_there x xs), all_there xs (λ p c. f p (behind_there x p xs c)))
 
-      all_later : (xs : Rows) → ((p : ℕ × List ℤ) → Contains xs p → Contains k.part p) → Each (λ p. IsOwnKey count n table p.0) xs → Each (IsOfSome count table low high parts (suc n)) xs
+      all_later : (xs : Rows) → ((p : ℕ × List Value) → Contains xs p → Contains k.part p) → Each (λ p. IsOwnKey count n table p.0) xs → Each (IsOfSome count table low high parts (suc n)) xs
       all_later [] f o = tt
       all_later (x ∷ xs) f o = (later_row x (f x (first_there x xs)) o.0, all_later xs (λ p c. f p (behind_there x p xs c)) o.1)
 
@@ -191,12 +192,12 @@ ascends_sorted (p ∷ q ∷ rows) s d =
 nat_eq_flips : (x y : ℕ) → nat_eq x y ≡ nat_eq y x
 nat_eq_flips x y = cases (nat_eq x y) (λ t. t ∙ sym ((Decides-eqb y x).1 (sym ((Decides-eqb x y).0 t)))) (λ f. f ∙ sym (is_apart y x (λ e. differ x y f (sym e))))
 
-each_get : (P : ℕ × List ℤ → Type 0) (xs : Rows) (i : ℕ) (d : ℕ × List ℤ) → i < length xs → Each P xs → P (get_or xs i d)
+each_get : (P : ℕ × List Value → Type 0) (xs : Rows) (i : ℕ) (d : ℕ × List Value) → i < length xs → Each P xs → P (get_or xs i d)
 each_get P [] i d less e = absurd (omega (arith, less))
 each_get P (x ∷ xs) zero d less e = e.0
 each_get P (x ∷ xs) (suc i) d less e = let l : i < length xs = omega (arith, less) in each_get P xs i d l e.1
 
-each_permuted : (P : ℕ × List ℤ → Type 0) (xs ys : Rows) → IsPermutation xs ys → Each P xs → Each P ys
+each_permuted : (P : ℕ × List Value → Type 0) (xs ys : Rows) → IsPermutation xs ys → Each P xs → Each P ys
 each_permuted P xs ys q e = all_each ys (All-permutation P xs ys q (λ k d less. each_get P xs k d less e))
   where
     all_each : (zs : Rows) → All P zs → Each P zs

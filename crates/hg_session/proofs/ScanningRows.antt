@@ -1,16 +1,17 @@
 -- The rows of one bucket: key by key, and that no others are those of its range.
-use Rattle.std.proofs.Common.{◌≡◌, ℕ, ℤ, suc, ◌+◌, ◌-◌, ◌<◌, ◌≤◌, ◌⊎◌, inl, inr, List, [], ◌∷◌, ◌++◌, map, Bool, true, false, Option, Some, None, refl, sym, ap, ◌∙◌, subst, arith, append_assoc}
+use Rattle.std.proofs.Common.{◌≡◌, ℕ, suc, ◌+◌, ◌-◌, ◌<◌, ◌≤◌, ◌⊎◌, inl, inr, List, [], ◌∷◌, ◌++◌, map, Bool, true, false, Option, Some, None, refl, sym, ap, ◌∙◌, subst, arith, append_assoc}
 use Rattle.std.specs.Prelude.{◌==◌, ◌||◌, nat_lt, IsTrue, ⊤}
 use Rattle.std.specs.List.{list_any}
 use Rattle.std.proofs.lemmas.Bool.Decides.{Decides-eqb, nat_tests}
 use Rattle.hg_base.specs.declared.image.Image.{Image}
+use Rattle.hg_base.specs.declared.value.Value.{Value}
 use Rattle.hg_base.specs.Lists.{Each, Ascends}
 use Rattle.hg_base.specs.Replies.{AreRows}
 use Rattle.hg_base.proofs.ListFacts.{cases, none_some, append_nil, each_snoc, each_keeps, any_more}
 use Rattle.hg_session.specs.Gains.{rows_at}
 use Rattle.hg_session.specs.Scans.{Rows, IsWithin, LeadsOn}
 
-abbrev pub key_of : ℕ × List ℤ → ℕ
+abbrev pub key_of : ℕ × List Value → ℕ
 key_of p = p.0
 
 -- the key is before the next one
@@ -82,7 +83,7 @@ module _ (shown : ℕ → Image) (Sought : ℕ → Type 0) (low high : ℕ) (old
       weak : Each (λ p. p.0 ≤ k) s.more
       weak = each_keeps (λ p. p.0 < k) (λ p. p.0 ≤ k) (λ p l. omega (arith, l)) s.more s.below
 
-      go : (o : Option (List ℤ)) → (shown k).row ≡ o → IsUpTo shown low high old new k
+      go : (o : Option (List Value)) → (shown k).row ≡ o → IsUpTo shown low high old new k
       go None n = record {
         more = s.more;
         is = e ∙ ap (λ o. rows ++ rows_at k o) n ∙ append_nil rows ∙ s.is;
@@ -163,7 +164,7 @@ none_below key (p ∷ rows) e h = go (p.0 == key) refl h (none_below key rows e.
     go false s h rest = rest h
 
 -- what is left of a range behind its first row
-rest_rows : (shown : ℕ → Image) (low high : ℕ) (p : ℕ × List ℤ) (rows : Rows) → AreRows shown low high (p ∷ rows) → AreRows shown (suc p.0) high rows
+rest_rows : (shown : ℕ → Image) (low high : ℕ) (p : ℕ × List Value) (rows : Rows) → AreRows shown low high (p ∷ rows) → AreRows shown (suc p.0) high rows
 rest_rows shown low high p rows a = record {
   ascend = ascends_tail p.0 (map (λ p. p.0) rows) a.ascend;
   each = over rows (all_over p.0 rows a.ascend) a.each.1;
@@ -183,21 +184,21 @@ rest_rows shown low high p rows a = record {
         behind false s t = t
 
 -- the first row of a range is not before the first of the same range
-not_earlier : (shown : ℕ → Image) (low high : ℕ) (p q : ℕ × List ℤ) (xs ys : Rows) → AreRows shown low high (p ∷ xs) → AreRows shown low high (q ∷ ys) → p.0 < q.0 → ⊥
+not_earlier : (shown : ℕ → Image) (low high : ℕ) (p q : ℕ × List Value) (xs ys : Rows) → AreRows shown low high (p ∷ xs) → AreRows shown low high (q ∷ ys) → p.0 < q.0 → ⊥
 not_earlier shown low high p q xs ys a b less = go (b.every p.0 a.each.0.0 a.each.0.1)
   where
     go : IsTrue (list_any (λ r. r.0 == p.0) (q ∷ ys)) ⊎ ((shown p.0).row ≡ None) → ⊥
     go (inr n) = none_some (shown p.0).row p.1 n a.each.0.2
     go (inl t) = none_below p.0 (q ∷ ys) (omega (arith, less), each_keeps (λ r. suc q.0 ≤ r.0) (λ r. suc p.0 ≤ r.0) (λ r l. omega (arith, l, less)) ys (all_over q.0 ys b.ascend)) t
 
-no_first : (shown : ℕ → Image) (low high : ℕ) (p : ℕ × List ℤ) (xs : Rows) → AreRows shown low high (p ∷ xs) → AreRows shown low high [] → ⊥
+no_first : (shown : ℕ → Image) (low high : ℕ) (p : ℕ × List Value) (xs : Rows) → AreRows shown low high (p ∷ xs) → AreRows shown low high [] → ⊥
 no_first shown low high p xs a b = go (b.every p.0 a.each.0.0 a.each.0.1)
   where
-    go : IsTrue (list_any (λ (r : ℕ × List ℤ). r.0 == p.0) []) ⊎ ((shown p.0).row ≡ None) → ⊥
+    go : IsTrue (list_any (λ (r : ℕ × List Value). r.0 == p.0) []) ⊎ ((shown p.0).row ≡ None) → ⊥
     go (inr n) = none_some (shown p.0).row p.1 n a.each.0.2
     go (inl t) = let k = t in cc
 
-same_row : (shown : ℕ → Image) (p q : ℕ × List ℤ) → p.0 ≡ q.0 → (shown p.0).row ≡ Some p.1 → (shown q.0).row ≡ Some q.1 → p ≡ q
+same_row : (shown : ℕ → Image) (p q : ℕ × List Value) → p.0 ≡ q.0 → (shown p.0).row ≡ Some p.1 → (shown q.0).row ≡ Some q.1 → p ≡ q
 same_row shown p q e a b =
     let rows : Some p.1 ≡ Some q.1 = sym a ∙ (ap (λ k. (shown k).row) e ∙ b) in
     let same : p.1 ≡ q.1 = cc in

@@ -1,11 +1,12 @@
 -- What a look at one record logs.
-use Rattle.std.proofs.Common.{◌≡◌, ◌⊎◌, ℕ, ℤ, List, [], ◌∷◌, Option, Some, None, refl, sym, ap, ◌∙◌, arith, inl, inr}
+use Rattle.std.proofs.Common.{◌≡◌, ◌⊎◌, ℕ, List, [], ◌∷◌, Option, Some, None, refl, sym, ap, ◌∙◌, arith, inl, inr}
 use Rattle.std.specs.Prelude.{IsTrue, ◌==◌}
 use Rattle.std.specs.List.{list_any}
 use Rattle.std.proofs.lemmas.Option.{none-some}
 use Rattle.hg_base.specs.declared.rid.Rid.{Rid}
 use Rattle.hg_base.specs.declared.image.Image.{Image}
 use Rattle.hg_base.specs.declared.writer.Writer.{Writer}
+use Rattle.hg_base.specs.declared.value.Value.{Value}
 use Rattle.hg_base.specs.Replies.{AreRows}
 use Rattle.hg_core.specs.declared.ask.Ask.TheVariants.{Read}
 use Rattle.hg_core.specs.declared.log.LogEntry.TheVariants.{Saw}
@@ -25,10 +26,10 @@ use Rattle.hg_session.specs.Gains.{rows_at}
 use Rattle.hg_session.proofs.Trips.{Beside, first_number, first_session}
 
 -- the rows of a range of one key
-pub only_rows : (f : ℕ → Image) (key : ℕ) (row : Option (List ℤ)) (rows : List (ℕ × List ℤ)) → AreRows f key key rows → (f key).row ≡ row → rows ≡ rows_at key row
+pub only_rows : (f : ℕ → Image) (key : ℕ) (row : Option (List Value)) (rows : List (ℕ × List Value)) → AreRows f key key rows → (f key).row ≡ row → rows ≡ rows_at key row
 only_rows f key row [] a e = empty row e (a.every key (omega arith) (omega arith))
   where
-    empty : (row : Option (List ℤ)) → (f key).row ≡ row → IsTrue (list_any (λ (p : ℕ × List ℤ). p.0 == key) []) ⊎ ((f key).row ≡ None) → [] ≡ rows_at key row
+    empty : (row : Option (List Value)) → (f key).row ≡ row → IsTrue (list_any (λ (p : ℕ × List Value). p.0 == key) []) ⊎ ((f key).row ≡ None) → [] ≡ rows_at key row
     empty None e h = refl
     empty (Some values) e (inl h) = absurd (let k = h in cc)
     empty (Some values) e (inr h) = absurd (none-some values (sym h ∙ e))
@@ -45,7 +46,7 @@ writer_beside j b part old u by h s t = (λ i. record { session = s i; transacti
 pub snapshot_beside : (j b : ℕ) (part : SessionPart) (old : List Sight) (u : View) → Beside j part b old u → snapshot u ≡ loaded_in part.phase
 snapshot_beside j b part old u h = ap (λ (p : SessionPart). loaded_in p.phase) (first_session u j part _ h.parts)
 
-pub saw_log : (buckets j b n : ℕ) (part : SessionPart) (old : List Sight) (rid : Rid) (u w : View) (row : Option (List ℤ)) → Beside j part b old u → b ≡ bucket_of buckets rid → (k : Looks u (Read rid.table rid.key rid.key) n w)
+pub saw_log : (buckets j b n : ℕ) (part : SessionPart) (old : List Sight) (rid : Rid) (u w : View) (row : Option (List Value)) → Beside j part b old u → b ≡ bucket_of buckets rid → (k : Looks u (Read rid.table rid.key rid.key) n w)
     → (read_by (writer u) (snapshot u) (held u rid)).row ≡ row → log_asked u (Read rid.table rid.key rid.key) n k.rows ≡ saw buckets rid (rows_at rid.key row) ∷ part.log
 saw_log buckets j b n part old rid u w row h here k read =
     let m : bucket_number u ≡ bucket_of buckets rid = ap (λ (ps : List Part). number_in (after_first ps)) h.parts ∙ here in

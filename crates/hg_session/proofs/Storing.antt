@@ -1,5 +1,5 @@
 -- What a write leaves, by its answer.
-use Rattle.std.proofs.Common.{◌≡◌, ℕ, ℤ, ◌<◌, List, ◌++◌, Bool, true, false, cond, Option, Some, None, refl, sym, ap, ◌∙◌, subst, arith}
+use Rattle.std.proofs.Common.{◌≡◌, ℕ, ◌<◌, List, ◌++◌, Bool, true, false, cond, Option, Some, None, refl, sym, ap, ◌∙◌, subst, arith}
 use Rattle.std.specs.Prelude.{IsFalse, ◌==◌, IfErr, OnOk, OnErr, IfSome, Result, Ok, Err, nat_le, option_and_then}
 use Rattle.std.proofs.lemmas.Option.{none-some}
 use Rattle.std.proofs.lemmas.Bool.Decides.{nat_tests}
@@ -8,6 +8,7 @@ use Rattle.hg_base.specs.declared.image.Image.{Image}
 use Rattle.hg_base.specs.declared.writer.Writer.{Writer}
 use Rattle.hg_base.specs.declared.line.Answer.{Answer}
 use Rattle.hg_base.specs.declared.line.Answer.TheVariants as answers
+use Rattle.hg_base.specs.declared.value.Value.{Value}
 use Rattle.hg_base.specs.Lists.{Each}
 use Rattle.hg_core.specs.declared.ask.Ask.TheVariants.{Write}
 use Rattle.hg_core.specs.declared.log.LogEntry.TheVariants.{Wrote}
@@ -65,7 +66,7 @@ over_snapshot n at m w (Some p) q e = go (same_writer p.0 w) e
     go false e = absurd cc
 
 -- what the look of a write that is refused logs
-refused_log : (n : ℕ) (u : View) (rid : Rid) (image : Image) (e : WriteRefusal) (rows : List (ℕ × List ℤ)) → IsCause n u rid e → log_asked u (Write rid) n rows ≡ entries_of {T = Bool} rid image (Err e) ++ (session u).log
+refused_log : (n : ℕ) (u : View) (rid : Rid) (image : Image) (e : WriteRefusal) (rows : List (ℕ × List Value)) → IsCause n u rid e → log_asked u (Write rid) n rows ≡ entries_of {T = Bool} rid image (Err e) ++ (session u).log
 refused_log n u rid image (Open j x) rows c = ap (λ o. with_refusal rid o (session u).log) (told_open (refusal n (writer u) (snapshot u) (held u rid)) (record { session = j; transaction = x }) c)
 refused_log n u rid image (Newer m) rows c = ap (λ o. with_refusal rid o (session u).log) (told_newer (refusal n (writer u) (snapshot u) (held u rid)) m c)
 refused_log n u rid image NoMemory rows c =

@@ -1,9 +1,10 @@
 -- What a call leaves of a session's view.
-use Rattle.std.specs.Prelude.{◌≡◌, ◌⊎◌, map, ℕ, ℤ, suc, ◌<◌, ◌≤◌, ◌==◌, Bool, true, false, List, [], ◌∷◌, ◌++◌, Option, Some, None, Result, Ok, Err, IsFalse, ⊤}
+use Rattle.std.specs.Prelude.{◌≡◌, ◌⊎◌, map, ℕ, suc, ◌<◌, ◌≤◌, ◌==◌, Bool, true, false, List, [], ◌∷◌, ◌++◌, Option, Some, None, Result, Ok, Err, IsFalse, ⊤}
 use Rattle.hg_base.specs.declared.rid.Rid.{Rid}
 use Rattle.hg_base.specs.declared.rid.TableId.{TableId}
 use Rattle.hg_base.specs.declared.image.Image.{Image}
 use Rattle.hg_base.specs.declared.line.Answer.TheVariants as answers
+use Rattle.hg_base.specs.declared.value.Value.{Value}
 use Rattle.hg_base.specs.History.{History}
 use Rattle.hg_base.specs.Lists.{Each}
 use Rattle.hg_core.specs.declared.log.LogEntry.{LogEntry}
@@ -38,7 +39,7 @@ pub record Gains (old : View) (entries : List LogEntry) (new : View) : Type 0 wh
   pub kept : StartsWith new.sights old.sights
 
 -- a row under its key, if there is one
-abbrev pub rows_at : ℕ → Option (List ℤ) → List (ℕ × List ℤ)
+abbrev pub rows_at : ℕ → Option (List Value) → List (ℕ × List Value)
 rows_at key None = []
 rows_at key (Some row) = (key, row) ∷ []
 

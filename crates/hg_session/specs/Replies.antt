@@ -1,11 +1,12 @@
 -- How the calls of a session reply.
-use Rattle.std.specs.Prelude.{◌≡◌, ℕ, suc, ◌≤◌, ◌<◌, List, ℤ, Bool, true, false, ◌==◌, Option, Some, None, Result, Ok, Err, IsFalse, IfSome, ⊤}
+use Rattle.std.specs.Prelude.{◌≡◌, ℕ, suc, ◌≤◌, ◌<◌, List, Bool, true, false, ◌==◌, Option, Some, None, Result, Ok, Err, IsFalse, IfSome, ⊤}
 use Rattle.hg_base.specs.declared.statement.Statement.{Statement}
 use Rattle.hg_base.specs.declared.line.Answer.{Answer}
 use Rattle.hg_base.specs.declared.line.Answer.TheVariants.{Stored, Found, Nothing, Gone, Rows, Committed, Ended as NothingWritten, Newer, OpenBy, Undeclared}
 use Rattle.hg_base.specs.declared.line.Reply.{Reply}
 use Rattle.hg_base.specs.declared.rid.TableId.{TableId}
 use Rattle.hg_base.specs.declared.scope.Snapshot.{Snapshot}
+use Rattle.hg_base.specs.declared.value.Value.{Value}
 use Rattle.hg_base.specs.Lists.{Each}
 use Rattle.hg_base.specs.Transcript.{has}
 use Rattle.hg_core.specs.Phases.{IsSession}
@@ -46,7 +47,7 @@ reading alone at answer = record { at = shown alone at; answer = answer; number 
 abbrev pub writing : Bool → ℕ → Answer → Option ℕ → Reply
 writing alone at answer number = record { at = shown alone at; answer = answer; number = number }
 
-abbrev pub row_answer : Option (List ℤ) → Answer
+abbrev pub row_answer : Option (List Value) → Answer
 row_answer None = Nothing
 row_answer (Some row) = Found row
 

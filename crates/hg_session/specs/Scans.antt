@@ -1,9 +1,10 @@
 -- What a scan reads of each bucket, and what it leaves of a session's view.
-use Rattle.std.specs.Prelude.{◌≡◌, ℕ, ℤ, ◌<◌, ◌≤◌, List, [], ◌∷◌, ◌++◌, map, length, Option, Some, None, Result, Ok, Err, OnOk, ⊤}
+use Rattle.std.specs.Prelude.{◌≡◌, ℕ, ◌<◌, ◌≤◌, List, [], ◌∷◌, ◌++◌, map, length, Option, Some, None, Result, Ok, Err, OnOk, ⊤}
 use Rattle.hg_base.specs.declared.rid.TableId.{TableId}
 use Rattle.hg_base.specs.declared.image.Image.{Image}
 use Rattle.hg_base.specs.declared.writer.Writer.{Writer}
 use Rattle.hg_base.specs.declared.fault.NoMemory.{NoMemory}
+use Rattle.hg_base.specs.declared.value.Value.{Value}
 use Rattle.hg_base.specs.Lists.{Each, Ascends}
 use Rattle.hg_base.specs.Replies.{AreRows}
 use Rattle.hg_core.specs.declared.log.LogEntry.TheVariants.{Saw}
@@ -16,7 +17,7 @@ use Rattle.hg_session.specs.Gains.{Gains}
 
 -- rows under their keys
 abbrev pub Rows : Type 0
-Rows = List (ℕ × List ℤ)
+Rows = List (ℕ × List Value)
 
 -- ---- the keys of a bucket
 

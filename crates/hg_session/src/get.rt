@@ -1,10 +1,11 @@
 //! What a session reads.
 
-ghost use Rattle.std.specs.Prelude.{◌≡◌, ◌<◌, ℕ, ℤ, List, Option, Some, None, [], ◌∷◌, not, true, false, is_some, unwrap_or, Err, IsTrue, IfOk, IfSome, OnOk, OnErr, ◌+◌};
+ghost use Rattle.std.specs.Prelude.{◌≡◌, ◌<◌, ℕ, List, Option, Some, None, [], ◌∷◌, not, true, false, is_some, unwrap_or, Err, IsTrue, IfOk, IfSome, OnOk, OnErr, ◌+◌};
 ghost use Rattle.std.specs.Option.{option_copied};
 ghost use Rattle.hg_base.specs.History.{nothing};
 ghost use Rattle.hg_base.specs.declared.limits.TheConstants.{MOST_TABLES};
 ghost use Rattle.hg_base.specs.declared.statement.Statement.TheVariants as say;
+ghost use Rattle.hg_base.specs.declared.value.Value.{Value};
 ghost use Rattle.hg_base.specs.Transcript.{has};
 ghost use Rattle.hg_base.specs.Transcript as base;
 ghost use Rattle.hg_session.specs.declared.answers.GetRefusal.TheVariants as refusal;
@@ -65,7 +66,7 @@ impl Session {
         requires own { IsIn engine.now 0 1 self.old }
         requires opened { opened_of self.old ≡ Some snapshot }
         requires table { IsTrue (has snapshot.scope rid.table) }
-        ensures gains { (row : Option (List ℤ)) × (Gains (view_of self.old) (saw (engine_sizes engine.now).buckets rid (rows_at rid.key row) ∷ []) (view_of self.new) × IfOk result (λ r. r ≡ row)) }
+        ensures gains { (row : Option (List Value)) × (Gains (view_of self.old) (saw (engine_sizes engine.now).buckets rid (rows_at rid.key row) ∷ []) (view_of self.new) × IfOk result (λ r. r ≡ row)) }
         ensures kept { (opened_of self.new ≡ opened_of self.old) × (written_of self.new ≡ written_of self.old) × (left_of self.new ≡ left_of self.old) }
         ensures retries { retries_of self.new ≡ retries_of self.old }
         ensures own { IsIn engine.now 0 1 self.new }

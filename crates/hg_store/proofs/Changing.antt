@@ -1,8 +1,9 @@
 -- What changes of the versions of a record changes alike in what a bucket keeps.
-use Rattle.std.proofs.Common.{◌≡◌, ℕ, ℤ, suc, ◌<◌, ◌≤◌, List, [], ◌∷◌, ◌++◌, Bool, true, false, Option, Some, None, refl, sym, ap, ◌∙◌, cond, map, subst, arith}
+use Rattle.std.proofs.Common.{◌≡◌, ℕ, suc, ◌<◌, ◌≤◌, List, [], ◌∷◌, ◌++◌, Bool, true, false, Option, Some, None, refl, sym, ap, ◌∙◌, cond, map, subst, arith}
 use Rattle.std.specs.Prelude.{IsTrue, not, drop, filter, option_map, is_some}
 use Rattle.hg_base.specs.declared.image.Image.{Image}
 use Rattle.hg_base.specs.declared.writer.Writer.{Writer}
+use Rattle.hg_base.specs.declared.value.Value.{Value}
 use Rattle.hg_base.specs.Lists.{Each}
 use Rattle.hg_core.specs.declared.version.Stamp.{Stamp}
 use Rattle.hg_core.specs.declared.version.Stamp.TheVariants.{Written, Numbered, Oldest}
@@ -104,7 +105,7 @@ map_append : (vs ws : List Version) → map kept (vs ++ ws) ≡ map kept vs ++ m
 map_append [] ws = refl
 map_append (v ∷ vs) ws = ap (λ us. kept v ∷ us) (map_append vs ws)
 
-row_kept : (n : ℕ) (row : Option (List ℤ)) → cond (is_some row) (kept_as (Oldest n) (record { row = row }) ∷ []) [] ≡ map kept (oldest (Some n) row)
+row_kept : (n : ℕ) (row : Option (List Value)) → cond (is_some row) (kept_as (Oldest n) (record { row = row }) ∷ []) [] ≡ map kept (oldest (Some n) row)
 row_kept n None = refl
 row_kept n (Some row) = refl
 

@@ -1,4 +1,4 @@
-use Rattle.std.proofs.Common.{◌≡◌, ℤ, List, Option, [], ◌∷◌, refl, sym, ap, ◌∙◌, subst, rules}
+use Rattle.std.proofs.Common.{◌≡◌, List, Option, [], ◌∷◌, refl, sym, ap, ◌∙◌, subst, rules}
 use Rattle.std.specs.Prelude.{unwrap_or}
 use Rattle.std.specs.Option.{option_copied}
 use Rattle.hg_base.specs.History.{nothing}
@@ -17,9 +17,10 @@ use Rattle.hg_session.proofs.Trips.{arrived, looked}
 use Rattle.hg_session.proofs.Seeing.{writer_beside, snapshot_beside, saw_log}
 use Rattle.hg_session.proofs.Settling.{Trip, trip, trip_settled, gained}
 use Rattle.hg_session.proofs.session.Session.see_there.Goals as goal
+use Rattle.hg_base.specs.declared.value.Value.{Value}
 
 -- the row that is seen, and what the session has after it
-made : (g : _) (c : goal.After-give g) → (row : Option (List ℤ)) × Trip (number (session_view c.args.self.now.pass)) (with_entry (saw (engine_sizes c.args.engine.now).buckets c.args.rid (rows_at c.args.rid.key row)) (session (session_view c.args.self.now.pass))) c.bucket_of-bucket.result (session_view c.args.self.now.pass).sights (session_view c.see.new.pass) (session_view c.give.new.pass)
+made : (g : _) (c : goal.After-give g) → (row : Option (List Value)) × Trip (number (session_view c.args.self.now.pass)) (with_entry (saw (engine_sizes c.args.engine.now).buckets c.args.rid (rows_at c.args.rid.key row)) (session (session_view c.args.self.now.pass))) c.bucket_of-bucket.result (session_view c.args.self.now.pass).sights (session_view c.see.new.pass) (session_view c.give.new.pass)
 made g c =
     let v = session_view c.args.self.now.pass in
     let u = session_view c.take-held.new.pass in
