@@ -1,6 +1,6 @@
 //! Whether a reply is that of a table that never reclaims.
 
-ghost use Rattle.std.specs.Prelude.{◌≡◌, ◌/◌, ◌%◌, ◌^◌, ◌==◌, ℕ, ℤ, List, Some, None, map, length, option_map, option_copied, IsSome, Decides};
+ghost use Rattle.std.specs.Prelude.{◌≡◌, ◌/◌, ◌%◌, ◌^◌, ◌==◌, ℕ, List, Some, None, map, length, option_map, option_copied, IsSome, Decides};
 ghost use Rattle.std.specs.Bool.{MatchBool};
 ghost use Rattle.hg_base.specs.declared.image.Image.{Image};
 ghost use Rattle.hg_base.specs.declared.rid.Rid.{Rid};
@@ -42,7 +42,7 @@ pub fn is_row(seen: Option<&Row>, row: &Row) -> bool
     ensures { Decides result (option_copied seen.entry ≡ Some row.now) }
 {
     match seen {
-        Some(seen) => seen.values() == row.values(),
+        Some(seen) => seen.same(row),
         None => false,
     }
 }

@@ -1,5 +1,5 @@
 -- The rows that are put and printed.
-use Rattle.std.specs.Prelude.{◌≡◌, List, length, ⊤}
+use Rattle.std.specs.Prelude.{◌≡◌, List, map, ⊤}
 use Rattle.hg_base.specs.declared.rid.Rid.{Rid}
 use Rattle.hg_base.specs.declared.rid.TableId.{TableId}
 use Rattle.hg_base.specs.declared.statement.Statement.{Statement}
@@ -9,7 +9,8 @@ use Rattle.hg_base.specs.declared.line.Answer.TheVariants.{Found, Rows}
 use Rattle.hg_base.specs.declared.value.Value.{Value}
 use Rattle.hg_base.specs.Lists.{Each}
 use Rattle.hg_base.specs.Script.{Declaration}
-use Rattle.hg_base.specs.Text.{columns_of}
+use Rattle.hg_base.specs.Text.{kinds_of}
+use Rattle.hg_base.specs.Values.{kind_of}
 use Rattle.hg_base.specs.Transcript.{Said}
 
 -- P holds of the row that is put, beside its record
@@ -31,9 +32,9 @@ PrintsRow P (Get r) answer = FoundRow P r answer
 PrintsRow P (Scan table low high) answer = FoundRows P table answer
 PrintsRow P _ answer = ⊤
 
--- a row of its table's columns
+-- a row of its table's columns: as many values, each of its column's kind
 abbrev pub HasColumns : List Declaration → Rid → List Value → Type 0
-HasColumns tables r row = length row ≡ columns_of tables r.table
+HasColumns tables r row = map kind_of row ≡ kinds_of tables r.table
 
 -- each row that the line prints has its table's columns
 abbrev pub PrintsColumns : List Declaration → Said → Type 0

@@ -12,8 +12,8 @@ ghost use Rattle.hg_run.specs.Printing.{IsPrintedFor, rounds_beside};
 ghost use Rattle.hg_run.specs.Rows.{PrintsColumns};
 ghost use Rattle.hg_run.specs.Serving.{IsTextFor};
 
-/// What is sound for a script prints rows that were put. So where each put has a value for each column, each row that is
-/// printed has one too.
+/// What is sound for a script prints rows that were put. So where each put has a value for each column, of the column's
+/// kind, each row that is printed has such values too.
 pub fn rows_have_their_columns()
     ensures { (mode : Mode) (script : Script) (printed : Printed) → IsLawful script → IsSound mode script printed → Each (PrintsColumns script.tables) (all_said mode script printed.lines) }
 {}
