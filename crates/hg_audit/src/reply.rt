@@ -116,24 +116,9 @@ pub fn is_undeclared(table: TableId, answer: &Answer) -> bool
     }
 }
 
-fn has(mask: u64, table: u8) -> bool
-    ensures { result ≡ ((mask / 2 ^ table) % 2 == 1) }
-{
-    if table >= 64 {
-        return false;
-    }
-    (mask >> table) % 2 == 1
-}
-
 // Whether a line's transaction may name the table, which its statement names.
 pub fn is_within(now: &Said, table: TableId) -> bool
     ensures { script.table_of now.now.statement ≡ Some table → result ≡ script.has (said_of now.now).scope table }
 {
-    if now.alone {
-        return true;
-    }
-    match now.scope {
-        Scope::All => true,
-        Scope::Declared(mask) => has(mask, table.0),
-    }
+    now.alone || now.scope.has(table)
 }

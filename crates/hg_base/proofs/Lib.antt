@@ -1,6 +1,7 @@
 -- Words on lists, options and tests.
 pub mod ListFacts
 pub mod Numbers
+pub mod Masks
 -- Histories, and the order of records.
 pub mod HistoryFacts
 pub mod RidOrder

@@ -1,5 +1,5 @@
 -- What a reply that fits a script has of its values: the widths, and the table of its statement.
-use Rattle.std.proofs.Common.{◌≡◌, ℕ, ◌<◌, ◌^◌, List, [], ◌∷◌, length, Bool, true, false, Option, Some, None}
+use Rattle.std.proofs.Common.{◌≡◌, ℕ, List, length, Bool, true, false, Option, Some, None}
 use Rattle.std.specs.Prelude.{IsTrue, IfSome, MatchOption, is_none, unwrap_or, ⊤}
 use Rattle.std.specs.Bool.{MatchBool}
 use Rattle.std.proofs.lemmas.Bool.{false≢true}

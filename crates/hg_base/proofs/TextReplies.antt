@@ -20,7 +20,7 @@ use Rattle.hg_base.specs.declared.value.Value.TheVariants.{Number, Text}
 use Rattle.hg_base.specs.Lists.{Each}
 use Rattle.hg_base.specs.Values.{FitsColumns, FitsValue, kind_of}
 use Rattle.hg_base.specs.Script.{Declaration}
-use Rattle.hg_base.specs.Text.{Field, Fits64, Fits32, FitsRow, FitsSweep, kinds_of, value_field, kind_word, answer_fields, held_fields, row_fields, more_fields, told_as, of_line, is_write}
+use Rattle.hg_base.specs.Text.{Field, Fits64, Fits32, FitsSweep, kinds_of, value_field, kind_word, answer_fields, held_fields, row_fields, more_fields, told_as, of_line, is_write}
 use Rattle.hg_base.proofs.TextNumbers.{number_of, number_read, value_read}
 use Rattle.hg_base.proofs.TextFits.{IsPlain}
 use Rattle.hg_base.proofs.TextReading.{says, begins_held, is_held, told_in, held_in, after_held, values_in, row_in, kind_in, sweep_in, answer_in, after_reply, commit_in, at_in, after_at}

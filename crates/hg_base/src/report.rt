@@ -16,7 +16,8 @@ pub enum Kind {
     Interval,
 }
 
-/// A live snapshot that a pass met in a session's register.
+/// A live snapshot that a pass met in a session's register. Where the session began anew before its mask was read, the scope may be
+/// that of its later transaction.
 #[derive(Clone, Copy, Debug, PartialEq, Eq)]
 pub struct Entry {
     pub session: u32,

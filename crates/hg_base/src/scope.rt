@@ -4,6 +4,7 @@ ghost use Rattle.std.specs.Prelude.{◌≡◌, ◌<◌, Some};
 ghost use Rattle.hg_base.specs.declared.limits.TheConstants.{MOST_TABLES};
 ghost use Rattle.hg_base.specs.Transcript.{has, only};
 
+use crate::limits::MOST_TABLES;
 use crate::rid::TableId;
 
 /// Every table, or those whose bits are set: bit t stands for table t.
@@ -24,12 +25,11 @@ impl Scope {
 
     /// Whether a transaction of this scope may name the table.
     pub fn has(self, table: TableId) -> bool
-        requires { table.0 < MOST_TABLES }
         ensures { result ≡ has self table }
     {
         match self {
             Scope::All => true,
-            Scope::Declared(mask) => (mask >> table.0) & 1 == 1,
+            Scope::Declared(mask) => table.0 < MOST_TABLES && (mask >> table.0) & 1 == 1,
         }
     }
 }

@@ -188,7 +188,7 @@ abbrev pub decide_some : {X : Type 0} (o : Option X) → Decided (IsSome o)
 decide_some None = decide_true false
 decide_some (Some x) = decide_true true
 
-bytes_of : Value → List ℕ
+abbrev bytes_of : Value → List ℕ
 bytes_of (Number x) = []
 bytes_of (Text t) = t
 

@@ -1,5 +1,6 @@
 -- Scripts of a few records, each with the text that a replay prints for it.
 use Rattle.std.specs.Prelude.{ℕ, List, [], ◌∷◌, ◌++◌, pos, negsuc}
+use Rattle.hg_base.specs.declared.value.Value.TheVariants.{Number}
 use Rattle.hg_base.specs.declared.scope.Scope.TheVariants.{All, Declared}
 use Rattle.hg_base.specs.declared.statement.Statement.TheVariants.{Begin, Scan, Commit, Rollback, Gc}
 use Rattle.hg_base.specs.declared.report.Kind.{Kind}
@@ -56,7 +57,7 @@ abbrev pub scan_ends : Example
 scan_ends = example only_t
     (outside_commit 1 2 (put t 18446744073709551615 (negsuc 2)) 0 Stored 1
     ∷ outside 1 3 (Scan t 9 3) 1 (Rows [])
-    ∷ outside 1 4 (Scan t 0 18446744073709551615) 1 (Rows ((18446744073709551615, (negsuc 2 ∷ [])) ∷ []))
+    ∷ outside 1 4 (Scan t 0 18446744073709551615) 1 (Rows ((18446744073709551615, (Number (negsuc 2) ∷ [])) ∷ []))
     ∷ [])
     (totals 1 0 0 0 0 1)
 

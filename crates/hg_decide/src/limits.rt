@@ -5,7 +5,7 @@ ghost use Rattle.std.specs.Prelude.{◌≡◌, ◌^◌};
 use hg_base::{
     DEFAULT_BUCKETS, DEFAULT_LONG, DEFAULT_ROUNDS, MOST_BUCKETS, MOST_COLUMNS, MOST_LONG,
     MOST_NAME_BYTES, MOST_NUMBER, MOST_RECORDS, MOST_ROUNDS, MOST_SCRIPT_BYTES, MOST_SESSIONS,
-    MOST_TABLES,
+    MOST_TABLES, MOST_TEXT_BYTES,
 };
 
 /// Clauses elsewhere name a limit, and would follow a change of it. This one says which number it is.
@@ -14,6 +14,7 @@ pub fn limits_are_these_numbers()
     ensures tables { MOST_TABLES ≡ 64 }
     ensures columns { MOST_COLUMNS ≡ 8 }
     ensures name_bytes { MOST_NAME_BYTES ≡ 32 }
+    ensures text_bytes { MOST_TEXT_BYTES ≡ 64 }
     ensures script_bytes { MOST_SCRIPT_BYTES ≡ 16777216 }
     ensures records { MOST_RECORDS ≡ 1048576 }
     ensures buckets { MOST_BUCKETS ≡ 1024 }

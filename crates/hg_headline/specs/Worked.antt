@@ -1,5 +1,6 @@
 -- A replay with a conflict, a rollback and a collector's pass; and a run.
 use Rattle.std.specs.Prelude.{ℕ, List, [], ◌∷◌, ◌==◌, if◌then◌else◌, Option, Some, None, pos}
+use Rattle.hg_base.specs.declared.value.Value.TheVariants.{Number}
 use Rattle.hg_base.specs.declared.rid.Rid.{Rid}
 use Rattle.hg_base.specs.declared.image.Image.{Image}
 use Rattle.hg_base.specs.declared.scope.Scope.TheVariants.{All}
@@ -20,14 +21,14 @@ abbrev pub five : Rid
 five = record { table = record { 0 = 0 }; key = 5 }
 
 abbrev pub image : ℕ → Image
-image n = record { row = Some (pos n ∷ []) }
+image n = record { row = Some (Number (pos n) ∷ []) }
 
 abbrev pub asked : ℕ → ℕ → Statement → Record
 asked place session statement = record { place = place; session = session; statement = statement }
 
 -- session 1 writes it; session 2 writes it in a transaction, so session 1 may not; session 2 rolls back
 abbrev pub records : List Record
-records = asked 1 1 (Put five (pos 7 ∷ [])) ∷ asked 2 2 (Begin All) ∷ asked 3 2 (Put five (pos 8 ∷ [])) ∷ asked 4 1 (Put five (pos 9 ∷ [])) ∷ asked 5 2 Rollback ∷ asked 6 1 (Gc kinds.Interval) ∷ []
+records = asked 1 1 (Put five (Number (pos 7) ∷ [])) ∷ asked 2 2 (Begin All) ∷ asked 3 2 (Put five (Number (pos 8) ∷ [])) ∷ asked 4 1 (Put five (Number (pos 9) ∷ [])) ∷ asked 5 2 Rollback ∷ asked 6 1 (Gc kinds.Interval) ∷ []
 
 abbrev pub line : ℕ → ℕ → Option ℕ → Answer → Option ℕ → Line
 line place session at answer number = record { session = session; place = place; reply = record { at = at; answer = answer; number = number } }
@@ -46,7 +47,7 @@ totals = record { made = 2; undone = 1; group = 0; table = 0; interval = 0; left
 -- ---- a run of one record, with one round of each collector
 
 abbrev pub run_records : List Record
-run_records = asked 1 1 (Put five (pos 7 ∷ [])) ∷ []
+run_records = asked 1 1 (Put five (Number (pos 7) ∷ [])) ∷ []
 
 abbrev pub session_lines : ℕ → List Line
 session_lines j = if 1 == j then line 1 1 (Some 0) Stored (Some 1) ∷ [] else []

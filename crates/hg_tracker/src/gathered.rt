@@ -8,7 +8,7 @@ ghost use Rattle.hg_rule.specs.Facts.{record_of};
 ghost use Rattle.hg_base.specs.declared.report.Entry.{Entry};
 ghost use Rattle.hg_tracker.specs.Gathers.{AreEmpty, AreListsOf};
 ghost use Rattle.hg_rule.specs.Rounds.{masked_scope, live_entry, entries_of};
-ghost use Rattle.hg_tracker.specs.Entries.{has_number, counts_for, numbers_for, common_numbers, moved_of, served, lowest, times};
+ghost use Rattle.hg_tracker.specs.Entries.{counts_for, numbers_for, common_numbers, moved_of, served, lowest, times};
 
 use hg_base::{Entry, NoMemory, Scope, TableId};
 use hg_core::{Loaded, Register};
@@ -35,16 +35,6 @@ pub struct Gathered {
     pub(crate) claimed: bool,
 }
 
-fn has(scope: Scope, table: u8) -> bool
-    requires { table < 64 }
-    ensures { result ≡ has_number scope table }
-{
-    match scope {
-        Scope::All => true,
-        Scope::Declared(mask) => (mask >> table) % 2 == 1,
-    }
-}
-
 // The tables of a mask, and all where none was loaded.
 fn masked_scope(mask: Option<u64>) -> Scope
     ensures { result ≡ masked_scope mask }
@@ -60,7 +50,7 @@ fn counts(entry: &Entry, table: u8) -> bool
     requires { table < 64 }
     ensures { result ≡ counts_for table entry.now }
 {
-    !entry.moved || has(entry.scope, table)
+    !entry.moved || entry.scope.has(TableId(table))
 }
 
 fn fill(list: &mut Vec<u64>, table: u8, ranked: &[Entry])
