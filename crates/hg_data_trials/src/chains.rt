@@ -30,7 +30,7 @@ fn add(alloc: Global, chain: &mut Chain, number: u64) -> Result<(), NoMemory>
 }
 
 fn value(image: Option<&Image>) -> Option<i64> {
-    image?.row.as_ref()?.values().first().copied()
+    image?.row.as_ref()?.numbers()?.first().copied()
 }
 
 // Versions 7, 5, 3 and 1, cut at a bound: the number handed out, how many others went, and what a late reader sees.

@@ -2,7 +2,7 @@ ghost use Rattle.std.specs.Prelude.{◌≡◌, ◌<◌};
 
 use hg_base::{
     Answer, Entry, EntryList, Kind, Line, LineList, MemorySink, MemorySource, NoMemory, Reply,
-    Report, Row, RowList, Scope, Sink, Source, SteadySink, SteadySource, Steps,
+    Report, Row, RowList, Scope, Sink, Source, SteadySink, SteadySource, Steps, Text, Value,
 };
 use std::alloc::Global;
 use std::marker::Brand;
@@ -16,11 +16,28 @@ fn rows_are_made_and_copied(rt: HostRuntime) -> Result<(), Fail> {
     for columns in [1, 2, 3, 8] {
         let row = Row::from_slice(rt.alloc(), &values[..columns])?;
         let copy = row.copy()?;
-        assert_eq!(rt; copy.values(), &values[..columns]);
+        assert_eq!(rt; copy.numbers().expect(&rt, "numbers"), &values[..columns]);
     }
     let mut rows = RowList::from(Vec::new(rt.alloc()));
     rows.push(5, Row::from_slice(rt.alloc(), &values[..1])?)?;
     assert_eq!(rt; rows.as_slice().len(), 1);
+    Ok(())
+}
+
+// Texts of all lengths that there are, and no longer ones.
+#[test]
+fn texts_are_made_and_copied(rt: HostRuntime) -> Result<(), Fail> {
+    let bytes = [7; 66];
+    for len in 0..67 {
+        let found = Text::from_slice(&bytes[..len]).map(|text| text.copy().as_bytes().len());
+        assert_eq!(rt; found, if len <= 64 { Some(len) } else { None });
+    }
+    let mut values = Vec::with_capacity(rt.alloc(), 2)?;
+    values.push(Value::Number(-3))?;
+    values.push(Value::Text(Text::from_slice(b"a\0\xff").expect(&rt, "a text")))?;
+    let row = Row::from_values(values)?;
+    assert!(rt; row.copy()?.same(&row));
+    assert!(rt; row.numbers().is_none());
     Ok(())
 }
 

@@ -13,7 +13,7 @@ use std::sync::Wait;
 use std::test::Fail;
 
 // What a replay of a script prints.
-fn replayed<R: Wait>(rt: &R, alloc: Global, script: &Script) -> Result<Vec<u8>, Fail>
+pub(crate) fn replayed<R: Wait>(rt: &R, alloc: Global, script: &Script) -> Result<Vec<u8>, Fail>
     requires { IsLawful script.now }
 {
     let options = Options {
@@ -123,7 +123,7 @@ fn edit(alloc: Global, text: &str, place: usize, index: usize) -> Result<Option<
 }
 
 // The next of these numbers, below that one.
-fn next_below(seed: &mut u64, bound: u64) -> u64
+pub(crate) fn next_below(seed: &mut u64, bound: u64) -> u64
     requires { 0 < bound }
 {
     *seed = seed

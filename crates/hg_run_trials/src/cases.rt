@@ -58,6 +58,10 @@ table,t,1/1,put,t,18446744073709551615,-3/1,scan,t,9,3/1,scan,t,0,18446744073709
 own writes among the rows, which stand in many buckets
 table,t,1/1,put,t,70,1/1,put,t,6,2/1,begin/1,put,t,7,3/1,del,t,6/1,scan,t,1,70/1,scan,t,7,69/2,scan,t,0,99/1,commit/
 1,2,at,0,stored,committed,1/1,3,at,1,stored,committed,2/1,4,begun,2/1,5,stored/1,6,gone/1,7,rows,2/1,7,row,7,3/1,7,row,70,1/1,8,rows,1/1,8,row,7,3/2,9,at,2,rows,2/2,9,row,6,2/2,9,row,70,1/1,10,committed,3/total,made,4/total,undone,0/total,group,0/total,table,2/total,interval,0/total,left,2/
+
+texts, one with a comma and one that is empty
+version,2/table,t,nt/1,put,t,5,7,\"a,b\"/1,get,t,5/1,put,t,6,8,/1,get,t,6/
+1,3,at,0,stored,committed,1/1,4,at,1,row,7,\"a,b\"/1,5,at,1,stored,committed,2/1,6,at,2,row,8,/total,made,2/total,undone,0/total,group,0/total,table,0/total,interval,0/total,left,2/
 ";
 
 /// Cases with rounds of the collectors.

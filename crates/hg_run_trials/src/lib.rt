@@ -4,6 +4,7 @@
 //!     run_tests      scripts that run in threads
 //!     audit_tests    what was printed, audited, and with one number changed
 //!     cases          scripts and what is printed for them
+//!     text_tests     texts of any bytes, and what scripts leave, written out as scripts again
 //!     order          a gate that holds workers, so that they meet
 //!     watched        a source and a sink that watch how they are called
 //!
@@ -20,5 +21,7 @@ mod order;
 mod run_tests;
 #[cfg(test)]
 mod serve_tests;
+#[cfg(test)]
+mod text_tests;
 #[cfg(test)]
 mod watched;

@@ -93,7 +93,7 @@ fn image(alloc: Global, value: i64) -> Result<Image, NoMemory> {
 }
 
 fn value(image: Option<&Image>) -> Option<i64> {
-    image?.row.as_ref()?.values().first().copied()
+    image?.row.as_ref()?.numbers()?.first().copied()
 }
 
 type Written = (Result<bool, WriteRefusal>, Option<i64>, Option<i64>, Totals);
