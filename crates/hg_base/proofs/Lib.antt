@@ -2,6 +2,8 @@
 pub mod ListFacts
 pub mod Numbers
 pub mod Masks
+pub mod Packing
+pub mod Holding
 -- Histories, and the order of records.
 pub mod HistoryFacts
 pub mod RidOrder

@@ -5,9 +5,7 @@ use Rattle.std.specs.List.{list_any}
 use Rattle.std.proofs.lemmas.Bool.{true≢false, false≢true}
 use Rattle.hg_base.specs.declared.value.Value.{Value}
 use Rattle.hg_base.specs.declared.value.Value.TheVariants.{Number, Text}
-use Rattle.hg_base.specs.declared.row.Held.{Held}
-use Rattle.hg_base.specs.declared.row.Held.TheVariants.{One, Two, Many, Values}
-use Rattle.hg_base.specs.Values.{is_text, number_of, held_values, held_numbers}
+use Rattle.hg_base.specs.Values.{is_text, number_of}
 
 -- values of which none is a text are their numbers
 pub numbers_alone : (vs : List Value) → list_any is_text vs ≡ false → map Number (map number_of vs) ≡ vs
@@ -30,16 +28,3 @@ numbers_are_no_texts (n ∷ ns) (Number v ∷ vs) h e = numbers_are_no_texts ns 
 numbers_are_no_texts (n ∷ ns) (Text t ∷ vs) h e = absurd (false≢true (ap (list_any is_text) (ap (take 1) e)))
 numbers_are_no_texts [] (v ∷ vs) h e = omega (arith, ap length e)
 numbers_are_no_texts (n ∷ ns) [] h e = omega (arith, ap length e)
-
--- what is held as numbers
-pub held_alone : (h : Held) → ((vs : _) → h ≡ Values vs → ⊥) → held_values h ≡ map Number (held_numbers h)
-held_alone (One ns) other = refl
-held_alone (Two ns) other = refl
-held_alone (Many ns) other = refl
-held_alone (Values vs) other = absurd (other vs refl)
-
-pub same_held : (g h : Held) → ((vs : _) → g ≡ Values vs → ⊥) → ((vs : _) → h ≡ Values vs → ⊥) → held_values g ≡ held_values h → held_numbers g ≡ held_numbers h
-same_held g h m n e = same_numbers (held_numbers g) (held_numbers h) (sym (held_alone g m) ∙ e ∙ held_alone h n)
-
-pub held_same : (g h : Held) → ((vs : _) → g ≡ Values vs → ⊥) → ((vs : _) → h ≡ Values vs → ⊥) → held_numbers g ≡ held_numbers h → held_values g ≡ held_values h
-held_same g h m n e = held_alone g m ∙ ap (map Number) e ∙ sym (held_alone h n)

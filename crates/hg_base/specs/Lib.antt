@@ -1,6 +1,8 @@
 -- What a run may print. A reader meets the definitions in this order.
 pub mod Lists
 pub mod Values
+pub mod Packed
+pub mod Held
 pub mod Script
 pub mod History
 pub mod RidOrder

@@ -22,6 +22,7 @@ mod limits;
 mod line;
 mod memory;
 mod outside;
+mod packed;
 mod report;
 mod rid;
 mod row;

@@ -1,27 +1,34 @@
 //! Rows of numbers and texts.
 
-ghost use Rattle.std.specs.Prelude.{◌≡◌, ◌≤◌, ◌<◌, ◌++◌, ◌∷◌, [], List, length, map, get_or, IfOk, IfNone, IfSome, IsOk, IsTrue, OnOk, OnErr, Decides, false};
+ghost use Rattle.std.specs.Prelude.{◌≡◌, ◌≤◌, ◌<◌, ◌++◌, ◌∷◌, [], List, length, map, get_or, IfOk, IfNone, IfSome, IsOk, IsTrue, OnOk, OnErr, Decides, false, true};
 ghost use Rattle.std.specs.List.{list_any};
 ghost use Rattle.hg_base.specs.declared.value.Value.TheVariants.{Number};
-ghost use Rattle.hg_base.specs.Values.{held_numbers, is_text, number_of};
+ghost use Rattle.hg_base.specs.Held.{IsHeld, held_bytes, held_numbers, is_packed};
+ghost use Rattle.hg_base.specs.Packed.{IsPacked};
+ghost use Rattle.hg_base.specs.Values.{is_text, number_of};
 
 use crate::fault::NoMemory;
+use crate::packed::{pack, packed_len, packed_value};
 use crate::value::Value;
 use std::alloc::Global;
 use std::marker::Model;
 use std::mem::size_of;
 
-/// The values of a row: numbers alone as such, and up to two of them in no block of the heap.
+// How many bytes of packed values lie in the row itself.
+pub(crate) const ROOM: usize = 23;
+
+/// The values of a row: numbers alone as such, and else packed. Up to two numbers and 23 bytes are in no block of the heap.
 #[derive(Debug, Drop)]
 pub(crate) enum Held {
     One([i64; 1]),
     Two([i64; 2]),
     Many(Vec<i64>),
-    Values(Vec<Value>),
+    Short { bytes: [u8; ROOM], len: u8 },
+    Long(Vec<u8>),
 }
 
 impl Held {
-    // The numbers, and none of values.
+    // The numbers, and none of packed values.
     fn numbers(&self) -> &[i64]
         ensures { result.now ≡ held_numbers self.now }
     {
@@ -29,13 +36,58 @@ impl Held {
             Held::One(numbers) => numbers,
             Held::Two(numbers) => numbers,
             Held::Many(numbers) => numbers,
-            Held::Values(_) => &[],
+            Held::Short { .. } => &[],
+            Held::Long(_) => &[],
+        }
+    }
+
+    fn is_packed(&self) -> bool
+        ensures { result ≡ is_packed self.now }
+    {
+        match self {
+            Held::One(_) => false,
+            Held::Two(_) => false,
+            Held::Many(_) => false,
+            Held::Short { .. } => true,
+            Held::Long(_) => true,
+        }
+    }
+
+    // The bytes of packed values, and none of numbers.
+    fn bytes(&self) -> &[u8]
+        requires { IsHeld self.now }
+        ensures { result.now ≡ held_bytes self.now }
+    {
+        match self {
+            Held::One(_) => &[],
+            Held::Two(_) => &[],
+            Held::Many(_) => &[],
+            Held::Short { bytes, len } => &bytes[..*len as usize],
+            Held::Long(bytes) => bytes,
+        }
+    }
+
+    // Packed values, in the row itself where there is room for them.
+    fn from_bytes(packed: Vec<u8>) -> Held
+        requires { IsPacked packed.items }
+        ensures held { IsHeld result }
+        ensures bytes { held_bytes result ≡ packed.items }
+        ensures packed { is_packed result ≡ true }
+    {
+        if packed.len() > ROOM {
+            return Held::Long(packed);
+        }
+        let mut bytes = [0; ROOM];
+        bytes[..packed.len()].copy_from_slice(&packed);
+        Held::Short {
+            bytes,
+            len: packed.len() as u8,
         }
     }
 }
 
-/// The values of a record, one for each column, from 1 to 8. One or two numbers lie in the row itself, and take no block of
-/// the heap. Any others take one.
+/// The values of a record, one for each column, from 1 to 8. One or two numbers, and others whose packed bytes are not more than
+/// 23, lie in the row itself. All else takes one block of the heap.
 #[derive(Debug, Drop)]
 pub struct Row {
     held: Held,
@@ -46,19 +98,13 @@ const _: () = prove!(size_of::<Row>() == 32);
 impl Model for Row {
     ghost use Rattle.std.specs.Prelude.{List, ◌≤◌, length};
     ghost use Rattle.hg_base.specs.declared.value.Value as value;
-    ghost use Rattle.hg_base.specs.Values.{IsHeld, held_values};
+    ghost use Rattle.hg_base.specs.Held.{IsHeld, held_values};
 
     ghost Value = { List value.Value };
 
     ghost view = { λ a. held_values a.held };
 
     ghost invariant = { λ a. (1 ≤ length (held_values a.held)) × (length (held_values a.held) ≤ 8) × IsHeld a.held };
-}
-
-fn copied(values: &[Value], alloc: Global) -> Result<Vec<Value>, NoMemory>
-    ensures { IfOk result (λ copied. copied.items ≡ values.now) }
-{
-    Ok(values.iter().map(|value| value.copy()).collect(alloc)?)
 }
 
 fn have_text(values: &[Value]) -> bool
@@ -80,18 +126,10 @@ fn are_same_numbers(a: &[i64], b: &[i64]) -> bool
     a == b
 }
 
-fn are_same(a: &[Value], b: &[Value]) -> bool
+fn are_same_bytes(a: &[u8], b: &[u8]) -> bool
     ensures { Decides result (a.now ≡ b.now) }
 {
-    if a.len() != b.len() {
-        return false;
-    }
-    for i in 0..a.len() {
-        if !a[i].same(&b[i]) {
-            return false;
-        }
-    }
-    true
+    a == b
 }
 
 impl Row {
@@ -110,21 +148,18 @@ impl Row {
         Ok(Row { held })
     }
 
-    /// The row of these values. None is copied where one of them is a text: no memory is taken then.
-    #[tactic(auto, using(crate::proofs::Numbers::numbers_alone))]
-    pub fn from_values(values: Vec<Value>) -> Result<Row, NoMemory>
-        requires some { 1 ≤ length values.items }
-        requires most { length values.items ≤ 8 }
-        ensures same { IfOk result (λ row. row ≡ values.items) }
-        ensures taken { IsTrue (list_any is_text values.items) → IsOk result }
+    /// The row of these values.
+    #[tactic(auto, using(crate::proofs::Numbers::numbers_alone, crate::proofs::Packing::packed_is, crate::proofs::Packing::unpacked_back))]
+    pub fn from_values(alloc: Global, values: &[Value]) -> Result<Row, NoMemory>
+        requires some { 1 ≤ length values.now }
+        requires most { length values.now ≤ 8 }
+        ensures same { IfOk result (λ row. row ≡ values.now) }
     {
-        if have_text(&values) {
-            return Ok(Row {
-                held: Held::Values(values),
-            });
+        if have_text(values) {
+            let held = Held::from_bytes(pack(alloc, values)?);
+            return Ok(Row { held });
         }
-        let alloc = *values.allocator();
-        Row::from_slice(alloc, &numbers_of(alloc, &values)?)
+        Row::from_slice(alloc, &numbers_of(alloc, values)?)
     }
 
     pub fn len(&self) -> usize
@@ -132,12 +167,10 @@ impl Row {
         ensures some { 1 ≤ length self.now }
         ensures most { length self.now ≤ 8 }
     {
-        match &self.held {
-            Held::One(_) => 1,
-            Held::Two(_) => 2,
-            Held::Many(numbers) => numbers.len(),
-            Held::Values(values) => values.len(),
+        if self.held.is_packed() {
+            return packed_len(self.held.bytes());
         }
+        self.held.numbers().len()
     }
 
     /// The values, where all are numbers.
@@ -145,10 +178,10 @@ impl Row {
         ensures some { IfSome result (λ numbers. self.now ≡ map Number numbers.now) }
         ensures none { IfNone result (IsTrue (list_any is_text self.now)) }
     {
-        match &self.held {
-            Held::Values(_) => None,
-            held => Some(held.numbers()),
+        if self.held.is_packed() {
+            return None;
         }
+        Some(self.held.numbers())
     }
 
     /// The value of a column, counted from 0.
@@ -156,24 +189,22 @@ impl Row {
         requires { i < length self.now }
         ensures { result ≡ get_or self.now i result }
     {
-        match &self.held {
-            Held::One(numbers) => Value::Number(numbers[i]),
-            Held::Two(numbers) => Value::Number(numbers[i]),
-            Held::Many(numbers) => Value::Number(numbers[i]),
-            Held::Values(values) => values[i].copy(),
+        if self.held.is_packed() {
+            return packed_value(self.held.bytes(), i);
         }
+        Value::Number(self.held.numbers()[i])
     }
 
     /// Whether these are the same values.
-    #[tactic(auto, using(crate::proofs::Numbers::numbers_are_no_texts))]
+    #[tactic(auto, using(crate::proofs::Holding::alone, crate::proofs::Holding::differ, crate::proofs::Holding::differ_back, crate::proofs::Numbers::same_numbers))]
     pub fn same(&self, other: &Row) -> bool
         ensures { Decides result (self.now ≡ other.now) }
     {
-        match (&self.held, &other.held) {
-            (Held::Values(a), Held::Values(b)) => are_same(a, b),
-            (Held::Values(_), _) => false,
-            (_, Held::Values(_)) => false,
-            (a, b) => are_same_numbers(a.numbers(), b.numbers()),
+        match (self.held.is_packed(), other.held.is_packed()) {
+            (true, true) => are_same_bytes(self.held.bytes(), other.held.bytes()),
+            (false, false) => are_same_numbers(self.held.numbers(), other.held.numbers()),
+            (true, false) => false,
+            (false, true) => false,
         }
     }
 
@@ -186,7 +217,11 @@ impl Row {
             Held::One(numbers) => Held::One(*numbers),
             Held::Two(numbers) => Held::Two(*numbers),
             Held::Many(numbers) => Held::Many(numbers.to_vec(*numbers.allocator())?),
-            Held::Values(values) => Held::Values(copied(values, *values.allocator())?),
+            Held::Short { bytes, len } => Held::Short {
+                bytes: *bytes,
+                len: *len,
+            },
+            Held::Long(bytes) => Held::Long(bytes.to_vec(*bytes.allocator())?),
         };
         Ok(Row { held })
     }

@@ -1,9 +1,19 @@
-use Rattle.std.proofs.Common.{rules}
-use Rattle.hg_base.proofs.Numbers.{same_held, held_same}
+use Rattle.std.proofs.Common.{◌≡◌, sym, ◌∙◌, true, false}
+use Rattle.std.proofs.lemmas.Bool.{true≢false}
+use Rattle.hg_base.specs.Held.{is_packed}
+use Rattle.hg_base.proofs.Holding.{differ, differ_back}
 use Rattle.hg_base.proofs.row.Row.same.Goals as goal
 
-pub returns-in_default : goal.returns-in_default
-returns-in_default c =
-    let same = same_held c.self.inside.held c.other.inside.held c.in_default.not-Values-0 c.in_default.not-Values-1 in
-    let back = held_same c.self.inside.held c.other.inside.held c.in_default.not-Values-0 c.in_default.not-Values-1 in
-    grind (rules, same, back)
+pub returns-in-true-false : goal.returns-in-true-false
+returns-in-true-false c =
+    let one : is_packed c.self.inside.held ≡ true = sym c.in-true-false.ensures in
+    let other : is_packed c.other.inside.held ≡ false = sym c.in-true-false.ensures' in
+    let no = differ c.self.inside.held c.other.inside.held one c.self.invariant.2 other in
+    (λ e. absurd (true≢false (sym e)), λ e. absurd (no (c.self.view_is ∙ e ∙ sym c.other.view_is)))
+
+pub returns-in-false-true : goal.returns-in-false-true
+returns-in-false-true c =
+    let one : is_packed c.self.inside.held ≡ false = sym c.in-false-true.ensures in
+    let other : is_packed c.other.inside.held ≡ true = sym c.in-false-true.ensures' in
+    let no = differ_back c.self.inside.held c.other.inside.held one other c.other.invariant.2 in
+    (λ e. absurd (true≢false (sym e)), λ e. absurd (no (c.self.view_is ∙ e ∙ sym c.other.view_is)))
