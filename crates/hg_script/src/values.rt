@@ -98,7 +98,7 @@ impl Values {
                 None => return Ok(Values::Bad(kinds.len())),
             }
         }
-        Ok(Values::Are(Row::from_values(values)?))
+        Ok(Values::Are(Row::from_values(alloc, &values)?))
     }
 
     // Reads the fields from the fifth on as the values of these columns. Numbers alone are read as such.
