@@ -107,7 +107,7 @@ fn values_in(alloc: Global, row: &[&[u8]], i: usize, kinds: &[Column]) -> Result
     for k in 0..kinds.len() {
         values.push(value_in(alloc, kinds[k], field(row, i + k))?)?;
     }
-    Ok(Row::from_values(values)?)
+    Row::from_values(alloc, &values)
 }
 
 /// The row of these columns, from field `i` on.
