@@ -45,8 +45,7 @@ fn index_of(script: &Script, asked: &Record) -> u32
     requires few { length script.now.records < 2 ^ 32 }
     ensures { IsIndexOf script.now asked.now result }
 {
-    let first = script.tables().len() as u64 + 1;
-    (asked.place - first) as u32
+    (asked.place - script.records_before() as u64 - 1) as u32
 }
 
 // Adds where the records of one session stand.
