@@ -108,7 +108,7 @@ fn push_text(script: &mut Vec<u8>, chance: &mut u64) -> Result<(), Fail> {
 
 fn push_any_put(script: &mut Vec<u8>, version: u64, chance: &mut u64) -> Result<(), Fail> {
     let (key, number) = (next_below(chance, 8), next_below(chance, 1000));
-    let start = format!(in *script.allocator(); "1,put,t,{key},-{number}9,")?;
+    let start = format!(in *script.allocator(); "1,put,t,{key},-1{number},")?;
     script.extend_from_slice(start.as_bytes())?;
     if version == 2 {
         push_text(script, chance)?;
@@ -119,6 +119,15 @@ fn push_any_put(script: &mut Vec<u8>, version: u64, chance: &mut u64) -> Result<
     Ok(())
 }
 
+// A begin, or one of two ends.
+fn next_word(within: bool, end: u64) -> &'static [u8] {
+    match (within, end) {
+        (false, _) => b"1,begin\n",
+        (true, 0) => b"1,commit\n",
+        (true, _) => b"1,rollback\n",
+    }
+}
+
 // Puts and deletions of eight keys, in and outside of transactions.
 fn any_script(alloc: Global, version: u64, chance: &mut u64) -> Result<Vec<u8>, Fail> {
     let mut script = Vec::from_slice(alloc, head(version))?;
@@ -126,13 +135,7 @@ fn any_script(alloc: Global, version: u64, chance: &mut u64) -> Result<Vec<u8>, 
     for _ in 0..16 {
         match next_below(chance, 8) {
             0 => {
-                let word = if !within {
-                    b"1,begin\n".as_slice()
-                } else if next_below(chance, 2) == 0 {
-                    b"1,commit\n"
-                } else {
-                    b"1,rollback\n"
-                };
+                let word = next_word(within, next_below(chance, 2));
                 script.extend_from_slice(word)?;
                 within = !within;
             }
@@ -147,7 +150,12 @@ fn any_script(alloc: Global, version: u64, chance: &mut u64) -> Result<Vec<u8>, 
 }
 
 // Whether what a script by chance leaves is left again by the script that is written of it.
-fn is_left_again<R: Wait>(rt: &R, alloc: Global, version: u64, chance: &mut u64) -> Result<bool, Fail> {
+fn is_left_again<R: Wait>(
+    rt: &R,
+    alloc: Global,
+    version: u64,
+    chance: &mut u64,
+) -> Result<bool, Fail> {
     let rows = rows_left(rt, alloc, &any_script(alloc, version, chance)?)?;
     let again = rows_left(rt, alloc, &script_of(alloc, version, &rows)?)?;
     Ok(are_same(&rows, &again))
