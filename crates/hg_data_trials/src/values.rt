@@ -35,7 +35,7 @@ fn texts_are_made_and_copied(rt: HostRuntime) -> Result<(), Fail> {
     let mut values = Vec::with_capacity(rt.alloc(), 2)?;
     values.push(Value::Number(-3))?;
     values.push(Value::Text(Text::from_slice(b"a\0\xff").expect(&rt, "a text")))?;
-    let row = Row::from_values(values)?;
+    let row = Row::from_values(rt.alloc(), &values)?;
     assert!(rt; row.copy()?.same(&row));
     assert!(rt; row.numbers().is_none());
     Ok(())
