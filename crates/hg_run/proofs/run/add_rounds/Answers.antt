@@ -5,8 +5,8 @@ use Rattle.hg_run.specs.Rounding.{sweep_lines}
 use Rattle.hg_run.proofs.Hiring.{length_more, sweep_line, sweeps_more}
 use Rattle.hg_run.proofs.run.add_rounds.Goals as goal
 
-pub loop-sweep-preserved-in_ok-push-4 : goal.loop-sweep-preserved-in_ok-push-4
-loop-sweep-preserved-in_ok-push-4 c =
+pub loop-sweep-preserved-in_ok-push-5 : goal.loop-sweep-preserved-in_ok-push-5
+loop-sweep-preserved-in_ok-push-5 c =
     let done : List Sweep = c.loop-sweep.yielded in
     let s : Sweep = c.in-Some.sweep in
     let first : List Line = c.args.transcript.now.lines in
