@@ -190,6 +190,7 @@ fn text(i: u64) -> &'static [u8] {
 
 const TEXTS: u64 = 11;
 
+// Puts all of them, and then gets each.
 fn texts_script(alloc: Global) -> Result<Vec<u8>, Fail> {
     let mut script = Vec::from_slice(alloc, b"version,2\ntable,t,t\n")?;
     for key in 0..TEXTS {
@@ -197,6 +198,10 @@ fn texts_script(alloc: Global) -> Result<Vec<u8>, Fail> {
         script.extend_from_slice(start.as_bytes())?;
         push_quoted(&mut script, text(key))?;
         script.push(b'\n')?;
+    }
+    for key in 0..TEXTS {
+        let get = format!(in alloc; "1,get,t,{key}\n")?;
+        script.extend_from_slice(get.as_bytes())?;
     }
     Ok(script)
 }
@@ -219,12 +224,7 @@ fn are_texts(rows: &RowList) -> bool {
 
 #[test]
 fn texts_are_read_back(rt: HostRuntime) -> Result<(), Fail> {
-    let mut script = texts_script(rt.alloc())?;
-    for key in 0..TEXTS {
-        let get = format!(in rt.alloc(); "1,get,t,{key}\n")?;
-        script.extend_from_slice(get.as_bytes())?;
-    }
-    let rows = rows_left(&rt, rt.alloc(), &script)?;
+    let rows = rows_left(&rt, rt.alloc(), &texts_script(rt.alloc())?)?;
     assert!(rt; are_texts(&rows));
     Ok(())
 }
