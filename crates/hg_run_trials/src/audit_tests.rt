@@ -125,6 +125,7 @@ fn edit(alloc: Global, text: &str, place: usize, index: usize) -> Result<Option<
 // The next of these numbers, below that one.
 pub(crate) fn next_below(seed: &mut u64, bound: u64) -> u64
     requires { 0 < bound }
+    ensures { result < bound }
 {
     *seed = seed
         .wrapping_mul(6364136223846793005)

@@ -207,6 +207,9 @@ fn texts_script(alloc: Global) -> Result<Vec<u8>, Fail> {
 }
 
 fn is_text(row: &Row, want: &[u8]) -> bool {
+    if row.len() != 1 {
+        return false;
+    }
     match row.value(0) {
         Value::Number(_) => false,
         Value::Text(text) => text.as_bytes() == want,
