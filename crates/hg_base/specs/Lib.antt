@@ -1,8 +1,6 @@
 -- What a run may print. A reader meets the definitions in this order.
 pub mod Lists
 pub mod Values
-pub mod Packed
-pub mod Held
 pub mod Script
 pub mod History
 pub mod RidOrder
@@ -21,4 +19,6 @@ pub mod Entries
 pub mod Reports
 pub mod Faults
 pub mod Memory
+pub mod Packed
+pub mod Held
 pub mod Standard

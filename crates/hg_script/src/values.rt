@@ -183,7 +183,7 @@ impl Values {
         }
     }
 
-    /// How many, and 0 where they are no row of numbers.
+    /// How many fields there are, and 0 where some field is no number that fits.
     pub(crate) fn count(&self) -> usize
         ensures { result ≡ count_of self.now }
     {
