@@ -11,7 +11,7 @@ pub alone : (h : Held) → is_packed h ≡ false → held_values h ≡ map Numbe
 alone (One ns) e = refl
 alone (Two ns) e = refl
 alone (Many ns) e = refl
-alone (Short bytes len) e = absurd (true≢false e)
+alone (Short bytes) e = absurd (true≢false e)
 alone (Long bytes) e = absurd (true≢false e)
 
 -- packed values are no numbers alone
@@ -19,7 +19,7 @@ pub differ : (g h : Held) → is_packed g ≡ true → IsHeld g → is_packed h 
 differ (One ns) h e i f s = absurd (false≢true e)
 differ (Two ns) h e i f s = absurd (false≢true e)
 differ (Many ns) h e i f s = absurd (false≢true e)
-differ (Short bytes len) h e i f s = numbers_are_no_texts (held_numbers h) _ i.1.some (sym (alone h f) ∙ sym s)
+differ (Short bytes) h e i f s = numbers_are_no_texts (held_numbers h) _ i.some (sym (alone h f) ∙ sym s)
 differ (Long bytes) h e i f s = numbers_are_no_texts (held_numbers h) _ i.some (sym (alone h f) ∙ sym s)
 
 pub differ_back : (g h : Held) → is_packed g ≡ false → is_packed h ≡ true → IsHeld h → held_values g ≡ held_values h → ⊥

@@ -17,6 +17,7 @@
 
 mod fault;
 mod image;
+mod inline;
 mod laws;
 mod limits;
 mod line;

@@ -8,14 +8,12 @@ ghost use Rattle.hg_base.specs.Packed.{IsPacked};
 ghost use Rattle.hg_base.specs.Values.{is_text, number_of};
 
 use crate::fault::NoMemory;
+use crate::inline::{Inline, ROOM};
 use crate::packed::{pack, packed_len, packed_value};
 use crate::value::Value;
 use std::alloc::Global;
 use std::marker::Model;
 use std::mem::size_of;
-
-// How many bytes of packed values lie in the row itself.
-pub(crate) const ROOM: usize = 23;
 
 /// The values of a row: numbers alone as such, and else packed. Up to two numbers and 23 bytes are in no block of the heap.
 #[derive(Debug, Drop)]
@@ -23,7 +21,7 @@ pub(crate) enum Held {
     One([i64; 1]),
     Two([i64; 2]),
     Many(Vec<i64>),
-    Short { bytes: [u8; ROOM], len: u8 },
+    Short(Inline),
     Long(Vec<u8>),
 }
 
@@ -36,7 +34,7 @@ impl Held {
             Held::One(numbers) => numbers,
             Held::Two(numbers) => numbers,
             Held::Many(numbers) => numbers,
-            Held::Short { .. } => &[],
+            Held::Short(_) => &[],
             Held::Long(_) => &[],
         }
     }
@@ -48,7 +46,7 @@ impl Held {
             Held::One(_) => false,
             Held::Two(_) => false,
             Held::Many(_) => false,
-            Held::Short { .. } => true,
+            Held::Short(_) => true,
             Held::Long(_) => true,
         }
     }
@@ -62,7 +60,7 @@ impl Held {
             Held::One(_) => &[],
             Held::Two(_) => &[],
             Held::Many(_) => &[],
-            Held::Short { bytes, len } => &bytes[..*len as usize],
+            Held::Short(bytes) => bytes.as_bytes(),
             Held::Long(bytes) => bytes,
         }
     }
@@ -77,12 +75,7 @@ impl Held {
         if packed.len() > ROOM {
             return Held::Long(packed);
         }
-        let mut bytes = [0; ROOM];
-        bytes[..packed.len()].copy_from_slice(&packed);
-        Held::Short {
-            bytes,
-            len: packed.len() as u8,
-        }
+        Held::Short(Inline::from_slice(&packed))
     }
 }
 
@@ -217,10 +210,7 @@ impl Row {
             Held::One(numbers) => Held::One(*numbers),
             Held::Two(numbers) => Held::Two(*numbers),
             Held::Many(numbers) => Held::Many(numbers.to_vec(*numbers.allocator())?),
-            Held::Short { bytes, len } => Held::Short {
-                bytes: *bytes,
-                len: *len,
-            },
+            Held::Short(bytes) => Held::Short(bytes.copy()),
             Held::Long(bytes) => Held::Long(bytes.to_vec(*bytes.allocator())?),
         };
         Ok(Row { held })
