@@ -1,6 +1,7 @@
 //! Scripts that run in threads. Where the text would depend on the schedule, a gate holds workers, or less is asked of it.
 
 ghost use Rattle.std.specs.Prelude.{◌<◌, ◌≤◌};
+ghost use Rattle.hg_script.specs.Lawful.{IsLawful};
 
 use crate::cases::{RUN, answers, written};
 use crate::order::Order;
@@ -8,7 +9,7 @@ use hg_audit::{Verdict, audit};
 use hg_base::{Answer, DEFAULT_BUCKETS, DEFAULT_LONG, NoGate, Printed, Totals};
 use hg_report::read_text;
 use hg_run::{close, open_for, run_on};
-use hg_script::read_script;
+use hg_script::{Script, read_script};
 use hg_words::{Command, Options};
 use std::alloc::Global;
 use std::process::Abort;
@@ -59,6 +60,21 @@ fn balances<R: Abort>(rt: &R, totals: &Totals) {
     );
 }
 
+// The totals of what is printed for a script, which has to be sound.
+fn sound_totals<R: Threads + Wait + Sync + Abort>(
+    rt: &R,
+    alloc: Global,
+    words: &str,
+    source: &str,
+) -> Result<Totals, Fail> {
+    let text = written(rt, alloc, words, source, &NoGate)?;
+    let script = read_script(alloc, source.as_bytes())?;
+    assert_eq!(rt; audit(alloc, &script, &text)?, Verdict::Sound, "of {words}");
+    let totals = read_text(alloc, &script, &text)?.totals;
+    balances(rt, &totals);
+    Ok(totals)
+}
+
 const ROUNDS: &str = "\
 run = 24
 run --rounds 0 = 0
@@ -105,50 +121,64 @@ const MEETING_LINES: &str =
 const MEETING_TOTALS: &str =
     "total,made,3\ntotal,undone,0\ntotal,group,0\ntotal,table,0\ntotal,interval,0\ntotal,left,3\n";
 
+// Whether a text is what is printed then.
+fn is_meeting(text: &str) -> bool {
+    match text.split_once("\n") {
+        Some((first, rest)) => {
+            first.starts_with("1,2,begun,")
+                && rest.strip_prefix(MEETING_LINES) == Some(MEETING_TOTALS)
+        }
+        None => false,
+    }
+}
+
 #[test]
 fn two_workers_are_held(rt: HostRuntime) -> Result<(), Fail> {
     let order = Order::new(rt.alloc(), &MEETING_HOLDS)?;
     let text = written_in_order(&rt, rt.alloc(), "run --rounds 0", MEETING, &order)?;
     let text = String::from_utf8(text)?;
-    let (first, rest) = text.split_once("\n").expect(&rt, "there are lines");
-    assert!(rt; first.starts_with("1,2,begun,"), "at {first}");
-    let want = format!(in rt.alloc(); "{MEETING_LINES}{MEETING_TOTALS}")?;
-    assert_eq!(rt; rest.as_bytes(), want.as_bytes());
+    assert!(rt; is_meeting(text.as_str()), "{text}");
     Ok(())
 }
 
-// The same by the driver itself, at an engine that is opened here.
-#[test]
-fn two_workers_of_the_driver_are_held(rt: HostRuntime) -> Result<(), Fail> {
-    let alloc = rt.alloc();
-    let order = Order::new(alloc, &MEETING_HOLDS)?;
+// What the driver itself prints for a script, at an engine that is opened here.
+fn driven<R: Threads + Wait + Sync + Abort>(
+    rt: &R,
+    alloc: Global,
+    script: &Script,
+    order: &Order,
+) -> Result<Vec<u8>, Fail>
+    requires { IsLawful script.now }
+{
     let options = Options {
         command: Command::Run,
         buckets: DEFAULT_BUCKETS,
         long: DEFAULT_LONG,
         rounds: 0,
     };
-    let script = read_script(alloc, MEETING.as_bytes())?;
-    let (engine, list, collectors) = open_for(alloc, &script, &options)?;
+    let (engine, list, collectors) = open_for(alloc, script, &options)?;
     let (mut list, mut collectors) = (list, collectors);
     let transcript = run_on(
-        &rt,
+        rt,
         alloc,
-        &script,
+        script,
         &options,
-        &order,
+        order,
         &engine,
         &mut list,
         &mut collectors,
     )?;
+    let totals = close(rt, &engine, list.into_vec(), collectors);
+    Ok(transcript.with_totals(&totals)?)
+}
+
+#[test]
+fn two_workers_of_the_driver_are_held(rt: HostRuntime) -> Result<(), Fail> {
+    let order = Order::new(rt.alloc(), &MEETING_HOLDS)?;
+    let script = read_script(rt.alloc(), MEETING.as_bytes())?;
+    let text = String::from_utf8(driven(&rt, rt.alloc(), &script, &order)?)?;
     assert!(rt; order.was_kept());
-    let text = String::from_utf8(Vec::from_slice(alloc, transcript.text())?)?;
-    let (first, rest) = text.split_once("\n").expect(&rt, "there are lines");
-    assert!(rt; first.starts_with("1,2,begun,"), "at {first}");
-    assert_eq!(rt; rest.as_bytes(), MEETING_LINES.as_bytes());
-    let totals = close(&rt, &engine, list.into_vec(), collectors);
-    assert_eq!(rt; (totals.made, totals.left), (3, 3));
-    balances(&rt, &totals);
+    assert!(rt; is_meeting(text.as_str()), "{text}");
     Ok(())
 }
 
@@ -236,17 +266,8 @@ fn accounts(alloc: Global) -> Result<String, Fail> {
 #[test]
 fn twenty_accounts_are_left(rt: HostRuntime) -> Result<(), Fail> {
     let script = accounts(rt.alloc())?;
-    let text = written(&rt, rt.alloc(), "run", script.as_str(), &NoGate)?;
-    let script = read_script(rt.alloc(), script.as_bytes())?;
-    assert_eq!(rt; audit(rt.alloc(), &script, &text)?, Verdict::Sound);
-    let printed = read_text(rt.alloc(), &script, &text)?;
-    assert_eq!(rt;
-        printed.lines.as_slice().len(),
-        22 + 4 * 10 * 6 + 13 + 3 * 8
-    );
-    assert_eq!(rt; printed.totals.left, 20);
-    assert_eq!(rt; printed.totals.undone, 0);
-    balances(&rt, &printed.totals);
+    let totals = sound_totals(&rt, rt.alloc(), "run", script.as_str())?;
+    assert_eq!(rt; (totals.left, totals.undone), (20, 0));
     Ok(())
 }
 
@@ -273,14 +294,9 @@ fn long_readers(alloc: Global) -> Result<String, Fail> {
 // What a reader reads stays the same, whatever the collectors take: else the text were unsound. Each record keeps one row.
 #[test]
 fn long_readers_stay_beside_the_collectors(rt: HostRuntime) -> Result<(), Fail> {
-    let source = long_readers(rt.alloc())?;
-    let words = "run --rounds 50";
-    let text = written(&rt, rt.alloc(), words, source.as_str(), &NoGate)?;
-    let script = read_script(rt.alloc(), source.as_bytes())?;
-    assert_eq!(rt; audit(rt.alloc(), &script, &text)?, Verdict::Sound);
-    let printed = read_text(rt.alloc(), &script, &text)?;
-    assert_eq!(rt; printed.totals.left, 52);
-    balances(&rt, &printed.totals);
+    let script = long_readers(rt.alloc())?;
+    let totals = sound_totals(&rt, rt.alloc(), "run --rounds 50", script.as_str())?;
+    assert_eq!(rt; totals.left, 52);
     Ok(())
 }
 
@@ -345,16 +361,10 @@ fn own_tables(alloc: Global) -> Result<String, Fail> {
 // so takes what the other tables have under their newest rows.
 #[test]
 fn each_session_declares_its_own_table(rt: HostRuntime) -> Result<(), Fail> {
-    let source = own_tables(rt.alloc())?;
-    let script = read_script(rt.alloc(), source.as_bytes())?;
+    let script = own_tables(rt.alloc())?;
     for words in ["replay --long 1", "run --long 1"] {
-        let text = written(&rt, rt.alloc(), words, source.as_str(), &NoGate)?;
-        let verdict = audit(rt.alloc(), &script, &text)?;
-        assert_eq!(rt; verdict, Verdict::Sound, "at {words}");
-        let printed = read_text(rt.alloc(), &script, &text)?;
-        assert_eq!(rt; printed.totals.made, 190);
-        assert_eq!(rt; printed.totals.left, 64);
-        balances(&rt, &printed.totals);
+        let totals = sound_totals(&rt, rt.alloc(), words, script.as_str())?;
+        assert_eq!(rt; (totals.made, totals.left), (190, 64), "at {words}");
     }
     Ok(())
 }
