@@ -60,19 +60,19 @@ fn balances<R: Abort>(rt: &R, totals: &Totals) {
     );
 }
 
-// The totals of what is printed for a script, which has to be sound.
+// How many lines are printed for a script, and their totals. What is printed has to be sound.
 fn sound_totals<R: Threads + Wait + Sync + Abort>(
     rt: &R,
     alloc: Global,
     words: &str,
     source: &str,
-) -> Result<Totals, Fail> {
+) -> Result<(usize, Totals), Fail> {
     let text = written(rt, alloc, words, source, &NoGate)?;
     let script = read_script(alloc, source.as_bytes())?;
     assert_eq!(rt; audit(alloc, &script, &text)?, Verdict::Sound, "of {words}");
-    let totals = read_text(alloc, &script, &text)?.totals;
-    balances(rt, &totals);
-    Ok(totals)
+    let printed = read_text(alloc, &script, &text)?;
+    balances(rt, &printed.totals);
+    Ok((printed.lines.as_slice().len(), printed.totals))
 }
 
 const ROUNDS: &str = "\
@@ -266,7 +266,8 @@ fn accounts(alloc: Global) -> Result<String, Fail> {
 #[test]
 fn twenty_accounts_are_left(rt: HostRuntime) -> Result<(), Fail> {
     let script = accounts(rt.alloc())?;
-    let totals = sound_totals(&rt, rt.alloc(), "run", script.as_str())?;
+    let (lines, totals) = sound_totals(&rt, rt.alloc(), "run", script.as_str())?;
+    assert_eq!(rt; lines, 22 + 4 * 10 * 6 + 13 + 3 * 8);
     assert_eq!(rt; (totals.left, totals.undone), (20, 0));
     Ok(())
 }
@@ -295,7 +296,7 @@ fn long_readers(alloc: Global) -> Result<String, Fail> {
 #[test]
 fn long_readers_stay_beside_the_collectors(rt: HostRuntime) -> Result<(), Fail> {
     let script = long_readers(rt.alloc())?;
-    let totals = sound_totals(&rt, rt.alloc(), "run --rounds 50", script.as_str())?;
+    let (_, totals) = sound_totals(&rt, rt.alloc(), "run --rounds 50", script.as_str())?;
     assert_eq!(rt; totals.left, 52);
     Ok(())
 }
@@ -363,7 +364,7 @@ fn own_tables(alloc: Global) -> Result<String, Fail> {
 fn each_session_declares_its_own_table(rt: HostRuntime) -> Result<(), Fail> {
     let script = own_tables(rt.alloc())?;
     for words in ["replay --long 1", "run --long 1"] {
-        let totals = sound_totals(&rt, rt.alloc(), words, script.as_str())?;
+        let (_, totals) = sound_totals(&rt, rt.alloc(), words, script.as_str())?;
         assert_eq!(rt; (totals.made, totals.left), (190, 64), "at {words}");
     }
     Ok(())
