@@ -23,11 +23,11 @@ use std::thread;
 use std::thread::Threads;
 
 // The numbers by which a gate knows the collectors' workers. A session's worker has its session's.
-const GROUP: u32 = 101;
+pub(crate) const GROUP: u32 = 101;
 
 const TABLE: u32 = 102;
 
-const INTERVAL: u32 = 103;
+pub(crate) const INTERVAL: u32 = 103;
 
 /// What the rounds of each collector were told as.
 #[derive(Drop)]

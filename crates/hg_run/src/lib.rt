@@ -30,6 +30,7 @@ mod gc;
 mod laws;
 mod load;
 mod opening;
+mod pace;
 mod parting;
 mod play;
 mod replay;

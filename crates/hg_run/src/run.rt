@@ -25,6 +25,7 @@ use crate::beside::{RoundLists, run_beside};
 use crate::collecting::Collectors;
 use crate::ending::close;
 use crate::opening::open_for;
+use crate::pace::Pace;
 use crate::reply::inside;
 use crate::round_list::{Plan, RoundList};
 use crate::work::Worker;
@@ -200,12 +201,13 @@ pub(crate) fn run_all<R: Threads + Wait + Sync, G: Gate + Sync>(
     let (engine, list, collectors) = open_for(alloc, script, options)?;
     let mut list = list;
     let mut collectors = collectors;
+    let pace = Pace::new(alloc, script, options.rounds, gate)?;
     let transcript = run_on(
         rt,
         alloc,
         script,
         options,
-        gate,
+        &pace,
         &engine,
         &mut list,
         &mut collectors,
