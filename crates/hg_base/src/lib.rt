@@ -1,18 +1,18 @@
-//! The vocabulary of the table server, and what a printed run has to be.
+//! The vocabulary of the table server, and the definition of what a printed run must be.
 //!
-//! A script is a list of session statements. A run prints a line for each of them, and at the end six totals:
+//! A script is a list of session statements. A run prints a reply to each of them, and six totals at the end:
 //!
 //!     1,begin        1,2,begun,0        a transaction, with the snapshot at which it reads
 //!     1,put,t,5,7    1,3,stored
 //!     1,get,t,5      1,4,row,7          its own write, seen before it is committed
 //!     1,commit       1,5,committed,1    the number of the group in which it is committed
 //!
-//! `specs/` says what may be printed, of whole lists of lines: `IsSound`. Read `specs/Lib.antt` as a table of contents.
-//! Nothing there speaks of version chains, registers or collectors. The one rule is that the printed commit numbers
-//! give a history of groups (`history_of`), and every reply is that of a table that holds it and never reclaims.
+//! `specs/` defines which replies and totals may be printed for a script: `IsSound`. Read `specs/Lib.antt` as a table of contents.
+//! Nothing there mentions version chains, registers or collectors. Its one rule: the printed commit numbers give a history of groups
+//! (`history_of`), and each reply is the one that a table with that history, which never reclaims a version, would give.
 //!
-//! The types here are those of the surface, and the definitions take them as they are. A list type is seen by
-//! contracts as the list; it is made from a `Vec` and gives it back without memory.
+//! The types here are those of the surface, and the definitions use them as they are. Contracts see a list type as a plain list; it is
+//! made from a `Vec`, and turned back into one, without allocating.
 #![tactic(auto)]
 
 mod fault;

@@ -3,38 +3,38 @@
 //!     newest                                  oldest
 //!     [ written by 3/7 ] -> [ 9 ] -> [ 5 ] -> [ 3 ]
 //!
-//! At most the first version has no number: it is an open write of transaction 7 of session 3. Numbers fall along the
-//! chain. A reader at snapshot s sees the first version numbered at or below s (`visible`), or its own open write
-//! (`own`). A commit gives the open write its number (`stamp`), a rollback removes it (`undo`).
+//! At most the first version has no number: it is an open write of transaction 7 of session 3. Numbers fall along the chain. A reader
+//! at snapshot s sees the first version numbered at or below s (`visible`), or its own open write (`own`). A commit gives the open
+//! write its number (`stamp`), a rollback removes it (`undo`).
 //!
-//! A version's successor is the one in front of it. The version lives from its own number up to, and not including, its
-//! successor's: at the snapshots of that lifetime, and no others, a reader sees it.
+//! A version's successor is the next newer one, to its left here. The version lives from its own number up to, and not including, its
+//! successor's: readers see it at the snapshots of that lifetime, and at no others.
 //!
 //! # Cut
 //!
-//! Once every snapshot in use is at or over a bound, a version below the newest one at that bound is seen by nobody:
-//! `cut` removes them all, and hands out the newest one's image, which from then on is the record's oldest.
+//! Once every snapshot in use is at or above a bound, nobody sees the versions below the newest one at that bound: `cut` removes them
+//! all, and returns the image of that newest one, which is the record's oldest image from then on.
 //!
 //! # Sweep
 //!
-//! One old snapshot holds a cut back, although it sees one version alone. `sweep` goes between the snapshots: it takes
-//! each version in whose lifetime none of them lies. With snapshots 5 and 1 in use, 7 and 3 go:
+//! A single old snapshot holds a cut back, although it sees only one version. `sweep` goes between the snapshots: it removes each
+//! version in whose lifetime there is no snapshot. With snapshots 5 and 1 in use, 7 and 3 go:
 //!
 //!     lifetimes   [ .. 9 ][ 8 7 ][ 6 5 ][ 4 3 ][ 2 1 ]
 //!     versions         9      7      5      3      1
 //!     snapshots                      5             1
 //!
-//! New readers begin at or over the horizon, so a version goes only where its successor is numbered at or below it.
-//! Numbers and snapshots are both in order, so one merge from the greatest down tells all, and each turn settles one
-//! version or passes one snapshot. Each version leaves the list at the front, and comes back at the end if it stays:
-//! after as many turns as there were versions the others are gone, none was copied, and no memory was taken.
+//! New readers begin at or above the horizon, so a version goes only if its successor is numbered at or below the horizon. Numbers and
+//! snapshots are both in order, so one merge from the greatest down decides them all, and each turn settles one version or passes one
+//! snapshot. Each version leaves the list at the front, and comes back at the end if it stays: after as many turns as there were
+//! versions the others are gone, none was copied, and nothing was allocated.
 //!
 //! # Chains
 //!
-//! A bucket has the chains of all its records in one array of nodes (`Chains`), by their places. A head tells where the
-//! chain of its place begins, how long it is, and whether the first version is an open write; a node has a version and
-//! the number of the node behind it. The free nodes are one more chain, linked the same way. Here place 0 has the
-//! versions 9 and 5, place 1 has none, place 2 has an open write over a 3, and two nodes are free:
+//! A bucket has the chains of all its records in one array of nodes (`Chains`), by their places. A head says where the chain of its
+//! place begins, how long it is, and whether the first version is an open write; a node has a version and the number of the next node,
+//! which is older. The free nodes are one more chain, linked the same way. Here place 0 has the versions 9 and 5, place 1 has none,
+//! place 2 has an open write over a 3, and two nodes are free:
 //!
 //!     place   first node   length   open          node   0      1         2      3      4         5
 //!     0       2            2                           [ 5 ]  ( free )  [ 9 ]  [ 3 ]  ( free )  [ 3/7 ]
@@ -42,14 +42,14 @@
 //!     2       5            2        yes
 //!     free    1            2
 //!
-//! So only a write takes a node, and memory only where none is free: reads, cuts and sweeps take none. A node that they
-//! take out of a chain is put in front of the free ones, and nothing else moves. No node is in two chains, since each
-//! has one owner, a place or the free ones, and along a chain each ranks below the one in front of it. Each call does
-//! to the list of its place what `Chain`'s call of that name does to a single record's, and leaves the others alone.
+//! Only a write takes a node, and it allocates only if none is free: reads, cuts and sweeps allocate nothing. A node that they remove
+//! from a chain becomes the first free one, and no other node moves. No node is in two chains, since each has one owner, a place or the
+//! free list, and along a chain each ranks below the node before it. Each call does to the list of its place what `Chain`'s call of the
+//! same name does to a single record's, and leaves the others alone.
 //!
-//! A write leaves a place its first node: the version that stood there goes to the node taken, which is linked behind the
-//! first (`cover`), and an undo brings it back (`uncover`). Most reads want the newest version, so what they read lies close
-//! together, in the order in which the records began, however many versions were written since.
+//! A write leaves a place its first node: the version that was there moves to the new node, which is linked after the first (`cover`),
+//! and an undo moves it back (`uncover`). Most reads want the newest version, so the nodes that they read lie close together, in the
+//! order in which the records began, however many versions were written since.
 #![tactic(auto)]
 
 mod arena;

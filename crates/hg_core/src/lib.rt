@@ -1,51 +1,53 @@
-//! The state machine under every concurrent claim: snapshots, commits, and the removal of old versions.
+//! The state machine under every claim about threads: snapshots, commits, and the removal of old versions.
 //!
-//! There are no threads here. An event is one atomic action of one actor, and one invariant holds after every list of
-//! events and moves of seats (`always_steady`). So nothing above has to argue about an order of steps again.
+//! There are no threads here. An event is one atomic action of one actor, and one invariant holds after every list of events and moves
+//! of seats (`always_steady`). So no layer above has to argue about an order of steps again. Nearly all functions of this crate are
+//! laws: their bodies are empty, and their contracts are the theorems. The functions that do something are in `register.rt`.
 //!
-//! The mark is the number of the last group of commits. A session reads at a mark, its snapshot, and takes no lock for it.
-//! A collector has to know every snapshot in use, since it takes away what none of them sees. Each session has a register
-//! for that, one word, which a collector's pass loads:
+//! The mark is the number of the last group of commits. A session reads at a mark, its snapshot, and takes no lock to get it. A
+//! collector has to know every snapshot in use, since it removes what none of them sees. For that, each session has a register, one
+//! word, which a collector's pass loads:
 //!
 //!     session                       its register       pass of a collector
 //!     Declare store the mask word   idle               Mark    load the mark: M, which begins a record
 //!     Probe   load the mark: f      idle               Sample  load one register, for each session in turn, and
 //!     Enter   store the register    entering f         SampleMask   its mask word, where that is live and declared
 //!     Fix     load the mark: m      entering f         Move    exchange a live register for the same, moved
-//!     GoLive  store the register    live at m          Reclaim take versions of a record away
+//!     GoLive  store the register    live at m          Reclaim remove versions of a record
 //!     Look    read, or try a write  live at m
 //!     Install store a write         live at m          committer
 //!     Undo    take it back          live at m          Stamp   give a write the next number
 //!     End     store the register    idle               Publish store the mark: one more
 //!                                                      Take    hand the oldest group to its collector
 //!
-//! A session that a pass finds idle has its second load of the mark still before it, so it goes live at M or over it. One
-//! that the pass finds entering f goes live at f or over it. So the horizon of a record, the least of M and of all the
-//! numbers that enter, is at or below every snapshot that the pass did not find live (`no_gather_misses_a_snapshot`).
+//! A session that a pass finds idle has not yet loaded the mark for the second time, so it goes live at or above M. One that the pass
+//! finds entering f goes live at or above f. The horizon of a record is the least of M and of all numbers that were found entering. So
+//! it is at or below every snapshot that the pass did not find live (`no_gather_misses_a_snapshot`).
 //!
-//! A live register shows whether its transaction declared tables, and the mask word of the session shows which. A snapshot
-//! that is long in use is moved: it then holds back those tables alone. A pass loads the mask word after the register. Where
-//! the session has begun anew between the two, it has fixed its snapshot after the pass loaded M, at M or over it. So
-//! whatever the mask says, nothing is taken that the session reads.
+//! A live register shows whether its transaction declared tables; which ones, the session's mask word shows. A snapshot that is long in
+//! use is moved: from then on it holds back those tables only. A pass loads the mask word after the register. If the session began anew
+//! between the two loads, it fixed its new snapshot after the pass loaded M, so at or above M. So whatever the mask says, nothing is
+//! removed that the session reads.
 //!
 //! A bucket holds the versions of its records, newest first:
 //!
 //!     written by 3/7  ->  9, by 2/4  ->  5, by 1/2  ->  oldest 3
 //!
-//! At most the first isn't published: an open write, or one that is stamped with the next number. A version lives from its
-//! number up to, and not including, its successor's. A sweep takes it where the successor is at or below the horizon and no
-//! snapshot that counts for the table is in that lifetime. A cut takes all at or below a bound but the newest, and that too
-//! where it is a deletion (`removal_is_exact`). So a reader finds what a table shows that never reclaims
-//! (`no_removal_is_seen`), every reply is right (`every_answer_is_right`), and no update is lost (`history_is_sound`).
+//! At most the first one is unpublished: an open write, or one that is stamped with the next number. A version lives from its number up
+//! to, and not including, its successor's. A sweep removes it if the successor is at or below the horizon and no snapshot that counts
+//! for the table is in that lifetime. A cut removes all versions at or below a bound except the newest of them, and that one too if it
+//! is a deletion (`removal_is_exact`). So a reader finds what a table that never reclaims would show (`no_removal_is_seen`), every
+//! reply is right (`every_answer_is_right`), and no update is lost (`history_is_sound`).
 //!
-//! A pass takes a bucket to remove something there, and gives it back: that is a visit. A bucket counts what was made, undone
-//! and removed, which is what its logs and visits say, and what is left is the rest (`counters_balance`). A record that was cut
-//! at a bound, or clean, when the bucket was given back, is so still (`what_was_left_stays`).
+//! A pass takes a bucket to remove versions there, and gives it back: that is a visit. A bucket counts the versions that were made,
+//! undone and removed. These counts agree with the logs and the visits, and the versions that are left are the rest
+//! (`counters_balance`). A record that was cut at a bound, or clean, when its bucket was given back, still is (`what_was_left_stays`).
 //!
-//! Each law that ends in `is_refuted` has a state that a wrong step spoils.
+//! Each law named `.._is_refuted` takes a wrong version of a step and shows that it does not do what the right one does: it breaks the
+//! invariant, misses a snapshot, or leaves a version that nobody reads. Its proof gives a state in which that happens.
 //!
-//! `specs/` has the state, the events and the invariant, a part a file. `Register`, `Loaded` and `Ask` are the types of the layer
-//! above. Of `Phase`, `LogEntry`, `Version` and `Visit` contracts alone speak.
+//! `specs/` has the state, the events and the invariant, one part a file. `Register`, `Loaded` and `Ask` are types of the layer above.
+//! No value is ever made of `Phase`, `LogEntry`, `Version` and `Visit`: only contracts use them.
 #![tactic(auto)]
 
 mod ask;

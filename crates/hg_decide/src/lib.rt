@@ -1,18 +1,18 @@
-//! The definitions of `hg_base`, decided by computation.
+//! Decision procedures for the definitions of `hg_base`.
 //!
 //! A definition there is a statement about a script and the lines that were printed for it. Here each has a decision
-//! (`proofs/Decide.antt` says what that is): a term that walks the definition and computes to a proof that it holds, or
-//! to one that it does not. So a text that is written down, as an example is, is sound by `refl`:
+//! (`proofs/Decide.antt` defines the word): a term that follows the definition and evaluates either to a proof that it holds or to a
+//! proof that it does not. So the soundness of a text that is written out, such as an example, is proved by `refl`:
 //!
 //!     so (decide_sound replay own_write.script own_write.printed) refl : IsSound replay own_write.script own_write.printed
 //!
-//! The decisions repeat the definitions part by part, and are kept in step with them: a definition that changes without
-//! its decision leaves this crate unproved. An audit of a printed run is to stand on them, and on `specs/Audit.antt`,
-//! which says of a text that is not sound in which part it first fails.
+//! The decisions repeat the definitions part by part. A definition that is changed without its decision leaves this crate unproved. The
+//! audit of a printed run, `hg_audit`, is stated in the terms of `specs/Audit.antt`, which defines the first part in which an unsound
+//! text fails.
 //!
-//! The functions are laws. They do nothing, and their contracts say what the definitions make of the worked examples of
-//! `specs/Examples.antt`: which texts they take, byte for byte, and which they refuse. One more says which numbers the
-//! limits of `hg_base` are.
+//! The functions are laws: their bodies are empty, and their contracts state what the definitions make of the worked examples of
+//! `specs/Examples.antt`: which texts they accept, byte for byte, and which they refuse. One more law states the limits of `hg_base` as
+//! numbers.
 #![tactic(auto)]
 
 mod examples;

@@ -1,26 +1,26 @@
 //! What the lines of a printed run say together.
 //!
-//! A text is checked without the engine, so what it says is gathered from its lines. Each structure here is seen by contracts as a
-//! function of the lines, in the words of `hg_base`:
+//! A text is checked without the engine, so what it says is gathered from its lines. Contracts see each structure here as a function of
+//! the lines, in the words of `hg_base`:
 //!
 //!     Sequence   the records that lines answer, in their order          in_order
-//!     Lines      each line with the transaction in which it stands      said_from
+//!     Lines      each line with the transaction it belongs to           said_from
 //!     Own        (transaction, record) -> its last stored image         image_in r (stored_in j x lines)
 //!     Writes     (record, commit number) -> image                       group_image r (group_at h n)
 //!     Numbers    transaction -> its least commit number                 numbers_in j x lines
 //!     Before     numbers, marks and open transactions before a line     known, greatest_commit, mark_of, open_of
 //!     Points     the snapshots that were printed                        prints
 //!
-//! Each is an ordered map or set, so a look-up takes a time that is logarithmic in the lines. `visible` is the entry before
-//! (record, snapshot) in `Writes`. No line stands in a transaction that ended before it, so `Own` forgets one at its end (`close`)
-//! where what is open is enough. `read_own`, `read_numbers` and `read_points` go over the lines only where a line asks for what they
-//! give.
+//! Each is an ordered map or set, so a look-up takes logarithmic time in the number of lines. `visible` is the last entry of `Writes`
+//! at or before (record, snapshot). No line belongs to a transaction that ended before it, so where only open transactions matter,
+//! `Own` forgets a transaction when it ends (`close`). `read_own`, `read_numbers` and `read_points` go over the lines only if some line
+//! needs their result.
 //!
-//! Neither records nor lines with their transactions are kept: a `Reader` makes each `Said` when its line is read, from the script, the
-//! reply and what the session's last line left.
+//! Neither the records nor the lines with their transactions are kept: a `Reader` makes each `Said` when its line is read, from the
+//! script, the reply, and what the session's previous line left.
 //!
 //! Two facts are decided on the way: whether the printed commit numbers give a history (`read_history`, which counts the versions too),
-//! and of a line's commit, whether it overwrites what it did not see (`keeps_update`).
+//! and whether the commit of a line overwrites a version that it did not see (`keeps_update`).
 #![tactic(auto)]
 
 mod before;

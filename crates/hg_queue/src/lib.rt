@@ -1,20 +1,20 @@
-//! Open transactions that were handed over, and the queue in which they wait for whoever commits the next group.
+//! Open transactions that were handed over, and the queue in which they wait for the session that commits the next group.
 //!
 //!     session 2   push
 //!     session 5   push   ->   [ 2/7 ] [ 5/1 ] [ 3/4 ]   ->   pop   leader
 //!     session 3   push
 //!
-//! A transaction is named by its pair: session, and number among the session's own (3/4). It goes into the queue with its
-//! session's part of the state, so nobody else has that part while it waits. Each session has a pass that pushes (`twin`), and
-//! one pass pops: it lies with the committer's seat. What a pass knows is a list of pairs, oldest first.
+//! A transaction is named by a pair: its session, and its number among that session's transactions (3/4). It enters the queue together
+//! with its session's part of the state, so nobody else has that part while it waits. Each session has a pass that pushes (`twin`). One
+//! pass pops, and it is kept with the committer's seat. What a pass knows is a list of pairs, oldest first.
 //!
 //!     pushed so far         6/2   2/6   3/4   5/1   2/7
 //!     the pass that pops    6/2   2/6                         what was popped, all of it
-//!     one that pushes       6/2   2/6   3/4                   a beginning, which ends with its own last push
+//!     one that pushes       6/2   2/6   3/4                   a prefix, which ends with its own last push
 //!
-//! The rule (`Ordered`) says that what was pushed is what was popped and then what the queue holds: no transaction is lost, none
-//! comes twice, and none overtakes another. And each transaction in the queue is of one board, live, unchanged since it was
-//! handed over, and has exactly the records that its context names.
+//! The rule (`Ordered`) says that what was pushed is what was popped followed by what the queue holds: no transaction is lost, none
+//! comes twice, and none overtakes another. Each transaction in the queue is of one board, live, unchanged since it was handed over,
+//! and has exactly the records that its context names.
 #![tactic(auto)]
 
 mod handed;

@@ -1,4 +1,4 @@
-//! The text of what a run printed, both ways.
+//! The text that a run prints, both ways: written from its replies and totals, and read back.
 //!
 //! A text is a list of CSV records: those of each reply in turn, and then the six totals:
 //!
@@ -12,18 +12,17 @@
 //!     ..
 //!     total,left,2
 //!
-//! `reply_text` and `totals_text` append the records of a reply and of the totals. `read_text` reads a whole text. It answers
-//! what was printed exactly where the bytes are those that these two calls write for it, and else the first record with
-//! which the bytes do not begin a text (`IsRefusedAt`). `text_of` is the text of all that was printed.
+//! `reply_text` and `totals_text` append the records of a reply and of the totals. `text_of` is the text of all that was printed.
+//! `read_text` reads a whole text. It returns what was printed exactly if the bytes are those that the first two calls write for it;
+//! otherwise it returns the first record with which the bytes stop being a prefix of any text (`IsRefusedAt`).
 //!
-//! A text of a row stands as a CSV writer writes it: in quotes where it has a comma, a quote or the end of a line, and each quote
-//! within them twice. So one record may stand on several lines.
+//! A text value of a row is written as a CSV writer writes it: in quotes if it has a comma, a quote or the end of a line, with each
+//! quote inside doubled. So one record may take several lines.
 //!
-//! The reader guesses. It parts a record at the commas outside of quotes (`part`), takes what the record would say if it may come
-//! next (`guess`), writes that, and compares the bytes. So whatever differs from what is written, as a number with a zero before
-//! it, quotes that are not called for, a carriage return or a field too many, is refused at its record, and no rule says so
-//! besides. Fields stand with their quotes while a record is guessed: words and numbers have none, and only a text of a row is
-//! read without them (`text_in`).
+//! The reader guesses. It splits a record at the commas outside of quotes (`part`), takes what the record would say if it may come next
+//! (`guess`), writes that, and compares the bytes. So anything that differs from what would be written, such as a leading zero,
+//! needless quotes, a carriage return or a field too many, is refused at its record without a rule of its own. Fields keep their quotes
+//! while a record is guessed: words and numbers have none, and only a row's text value is taken out of them (`text_in`).
 #![tactic(auto)]
 
 mod bytes;

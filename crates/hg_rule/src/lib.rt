@@ -1,13 +1,17 @@
 //! The board: one word for the mark, and two for each session, its register and the mask of its tables, under one rule.
 //!
+//! # Words
+//!
 //!     word 0    word 8, 9             word 16, 17         ..   word 8 n, 8 n + 1
 //!     mark      register 1, mask 1    register 2, mask 2       register n, mask n
 //!
-//! Eight words are a cache line, and the others are nobody's: so what one session stores takes neither the mark nor another's
-//! words away from a processor that reads them.
+//! Eight words are a cache line, and nobody uses the others. So a session's store takes neither the mark nor another session's words
+//! away from a processor that reads them.
 //!
-//! Threads share the words and nothing else. What else there is of the state of `hg_core` stands in views: plain data that a
-//! seat carries in proofs alone, and that has no bytes.
+//! # Seats and views
+//!
+//! Threads share the words and nothing else. The rest of the state of `hg_core` is in views: plain data that a seat carries in proofs
+//! only, and that has no bytes at run time.
 //!
 //!     SessionPass      phase and log of its session
 //!     BucketSeat       records and counters of its bucket
@@ -15,29 +19,35 @@
 //!     CollectorPass    record and visits of its pass
 //!     TxSeat           phase and log of a session that handed them over
 //!
-//! A view is three lists: the parts that the seat has, what it has seen, and the steps that it made. Each part is in exactly
-//! one view. A seat can be joined to another, which then has its parts too, and be split off again. What was seen stays true,
-//! since histories and logs only grow, so two such lists are joined by appending them.
+//! A view is three lists: the parts that the seat has, what it has seen, and the steps that it made. Each part is in exactly one view.
+//! A seat can be joined to another one, which then has its parts too, and split off again. What was seen stays true, since histories
+//! and logs only grow, so two such lists are joined by appending them.
 //!
-//! The rule (`specs/Rules.antt`) says that words and views show a state, and that this state meets the invariant of
-//! `hg_core`. It holds between any two steps, whatever the threads do. The state is no secret: one function reads it from
-//! words and views (`state_is_read`).
+//! # The rule
 //!
-//! Each call on `Board` is one atomic step, and one event of `hg_core`. Its contract is one equation for the view after: it
-//! answers by the word that it found, appends its event to the seat's list, changes only its own part, and keeps what was
-//! seen. Nothing of snapshots or versions is proved here again: a step is allowed by its event's law, and by the one lemma
-//! that a step which changes its own word and its own parts alone keeps the rule (`proofs/Keeps.antt`).
+//! The rule (`specs/Rules.antt`) says that words and views show a state, and that this state meets the invariant of `hg_core`. It holds
+//! between any two steps, whatever the threads do. The state is not hidden: one function reads it from words and views
+//! (`state_is_read`).
 //!
-//! A pass takes a bucket by joining its seat (`join_bucket`), and then reads and changes what it holds by steps of its own:
-//! `look`, `install` and `undo` by a session, `reclaim` by a collector, whose visit lasts until it gives the bucket back
-//! (`split_bucket`).
+//! Each call on `Board` is one atomic step, and one event of `hg_core`. Its contract is one equation for the view after it: the call
+//! answers by the word that it found, appends its event to the seat's list, changes only its own part, and keeps what was seen. Nothing
+//! about snapshots or versions is proved here again: a step is allowed by its event's law, and by the one lemma that a step which
+//! changes only its own word and its own parts keeps the rule (`proofs/Keeps.antt`).
 //!
-//! A group is committed by one session, the leader, for all who handed their parts over. `hand_over` leaves the part's image
-//! at its place (away), with the mark of that moment. No other step of that session is possible then: whoever has the part can
-//! stamp and publish, and nothing else. With the committer's part joined (`join_commit`) nobody else stores the mark. `stamp`
-//! gives an open write the next number, in a bucket that was joined too. `publish` stores that number: the parts behind the
-//! committer's join the history as one group, in their order. So what comes back is what left, or has one commit number more,
-//! over that mark (`resume`).
+//! A pass takes a bucket by joining its seat (`join_bucket`), and then reads and changes what it holds by steps of its own: `look`,
+//! `install` and `undo` by a session, `reclaim` by a collector, whose visit lasts until it gives the bucket back (`split_bucket`).
+//!
+//! A load of the mark can say more: that a state which meets the rule backs the view (`look_at`). What two passes learn when they meet,
+//! and what a pass knows once all others are joined to it (`know_all`), are lemmas over that one fact.
+//!
+//! # Commits
+//!
+//! A group is committed by one session, the leader, for all sessions that handed their parts over. `hand_over` leaves a note at the
+//! part's place (away), with the part's image and the mark of that moment. Then no other step of that session is possible: the holder
+//! of the part can stamp and publish, and nothing else. While the committer's part is joined (`join_commit`) nobody else stores the
+//! mark. `stamp` gives an open write the next number, in a bucket that is joined as well. `publish` stores that number: the lent parts
+//! that follow the committer's join the history as one group, in their order. So a part comes back as it left, or with one commit
+//! number more, which is over that mark (`resume`).
 //!
 //!     pass of leader 2                               on the way   pass of 5       pass of 3
 //!     [ session 2 ]                                               [ session 5 ]   [ session 3 ]   hand_over by each
@@ -49,9 +59,6 @@
 //!     [ away 2 | lent 5 | lent 2 | lent 3 ]                                                       hand_back, three times
 //!     [ away 2 ]                                     5  2  3      [ away 5 ]      [ away 3 ]      resume by each
 //!     [ session 2 ]                                               [ session 5 ]   [ session 3 ]
-//!
-//! A load of the mark can tell more: that a state which meets the rule backs the view (`look_at`). What a meeting tells, and
-//! what a pass knows once all others are joined to it (`know_all`), are lemmas over that one fact.
 #![tactic(auto)]
 
 mod board;

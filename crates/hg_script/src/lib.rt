@@ -1,56 +1,56 @@
 //! Scripts: read from bytes, or made from a seed.
 //!
-//! A script is a list of CSV records. Table records come first and declare the tables, each with its number of columns.
-//! Every other record is a statement of a session, with the session's number and then a word:
+//! A script is a list of CSV records. Table records come first and declare the tables, each with its number of columns. Every other
+//! record is a statement of a session: the session's number, and then a word:
 //!
 //!     table,t,1        a table `t` of one column
 //!     1,begin          session 1 begins a transaction on every table
-//!     2,begin,t        session 2 begins one that reads and writes `t` alone
+//!     2,begin,t        session 2 begins one that reads and writes only `t`
 //!     1,put,t,5,7      the row of key 5 is 7
 //!     1,del,t,6
 //!     1,get,t,5
-//!     1,scan,t,0,9     every row of a key from 0 to 9
+//!     1,scan,t,0,9     every row whose key is from 0 to 9
 //!     1,commit
 //!     2,rollback
-//!     1,gc,group       a pass of the group collector; `table` and `interval` name the two others
+//!     1,gc,group       a round of the group collector; `table` and `interval` name the other two
 //!     3,get,t,5        outside of a transaction: a transaction of its own
 //!
-//! That is version 1 of the format, whose columns hold numbers. A script whose first record is `version,2` has columns of texts
-//! too, of at most 64 bytes each, and its table records have a letter for each column:
+//! That is version 1 of the format, whose columns hold numbers. In a script whose first record is `version,2` a column can also hold
+//! texts, of at most 64 bytes each, and a table record has a letter for each column:
 //!
 //!     version,2
 //!     table,t,nt       a table `t` of a column of numbers and a column of texts
 //!     1,put,t,5,7,red  the row of key 5 is 7 and `red`
 //!
-//! Records are counted from 1, the version record and table records included, and a statement's count is its place. So places
-//! follow one another, and a script keeps none of them (`AreNumbered`). Each statement leads to the next of its session, so a script lends the records
-//! of one session (`RecordList`) without going over the others.
+//! Records are counted from 1, the version record and the table records included, and that count is a statement's place. Places have no
+//! gaps, so a script does not store them (`AreNumbered`). Each statement is linked to the next of its session, so a script can lend the
+//! records of one session (`RecordList`) without going over the others.
 //!
-//! A script that breaks a rule is refused as a whole, with the first record that breaks one and its first code. The codes are
-//! tested in this order:
+//! A script that breaks a rule is refused as a whole, with the first record that breaks one and its first code. The codes are tested in
+//! this order:
 //!
 //! | Code      | Breaks it |
 //! |-----------|-----------|
 //! | `Count`   | the record after the 1,048,576th, and the 65th table record |
-//! | `Word`    | a session record without a word, or with another than those above; so does a `version` that is not the first record |
+//! | `Word`    | a session record without a word, or with a word other than those above; also a `version` that is not the first record |
 //! | `Fields`  | a number of fields that the record's word does not have |
 //! | `Number`  | a version, session, key or end of a scan that is not written as a decimal number; in version 1 also a value or a number of columns |
-//! | `Range`   | a version other than 2, a session not from 1 to 64, a key or end of 2^64 or more; in version 1 also columns not from 1 to 8, or a value out of a signed 64-bit number; in version 2 also columns that are not 1 to 8 letters `n` or `t` |
-//! | `Name`    | a table declared twice, or by no name of 1 to 32 letters, digits and `_`; a table named that is not declared; a collector other than `group`, `table` and `interval` |
-//! | `Columns` | a put of another number of values than its table has columns |
-//! | `Value`   | in version 2 a value of a number column that is not written as a signed 64-bit number, or one of a text column of more than 64 bytes |
-//! | `Order`   | a table record behind a session record, `begin` in a transaction, and `commit` or `rollback` outside of one |
+//! | `Range`   | a version other than 2, a session not from 1 to 64, a key or end of 2^64 or more; in version 1 also columns not from 1 to 8, or a value outside of 64 bits with a sign; in version 2 also columns that are not 1 to 8 letters `n` or `t` |
+//! | `Name`    | a table declared twice, or whose name is not 1 to 32 letters, digits and `_`; a table that is not declared; a collector other than `group`, `table` and `interval` |
+//! | `Columns` | a put whose number of values is not its table's number of columns |
+//! | `Value`   | in version 2 a value of a number column that is not written as a number of 64 bits with a sign, or one of a text column of more than 64 bytes |
+//! | `Order`   | a table record after a session record, `begin` in a transaction, and `commit` or `rollback` outside of one |
 //!
-//! A number is `0`, or a digit from 1 to 9 and then digits; a value may be `-` and then such a number other than `0`.
-//! The ends of a scan may stand in any order, and a `begin` may name a table twice.
+//! A number is `0`, or a digit from 1 to 9 and then digits; a value may be `-` and then such a number other than `0`. The ends of a
+//! scan may be in either order, and a `begin` may name a table twice.
 //!
-//! `specs/` says the same of whole lists of records: `rows_of` gives the records of the bytes, `refusal_of` the first
-//! that breaks a rule, and `script_of` the script. The reader goes over the bytes once. Of each record it reads the word
-//! (`Word`), then each field (`Draft`), and then tests the rules that ask for fields. `IsLawful` says in words of its own
-//! what a script is that is not refused.
+//! `specs/` defines the same for whole lists of records: `rows_of` is the list of records in the bytes, `refusal_of` the first one that
+//! breaks a rule, and `script_of` the script. The reader goes over the bytes once. Of each record it reads the word (`Word`) and then
+//! each field (`Draft`), and then it tests the rules that need the fields. `IsLawful` defines independently what a script is that is
+//! not refused.
 //!
-//! `make_script` makes a lawful script of 16,000 statements from a seed: sessions 1 to 8 follow one another, and what each asks is
-//! drawn, by a table of choices (`specs/Generator.antt`).
+//! `make_script` makes a lawful script of 16,000 statements from a seed: sessions 1 to 8 take turns, and each statement is drawn from a
+//! table of choices (`specs/Generator.antt`).
 #![tactic(auto)]
 
 mod asked;

@@ -1,25 +1,25 @@
-//! Where the oldest images stand, and which record has which.
+//! Where the oldest images are kept, and which record has which.
 //!
 //!     index                          space
 //!     t/5 -> 0                       0  [ 3, row 10 ]      taken, with an image of number 3
 //!     t/9 -> 2                       1  ( free ) -> 3      first of the free places
 //!     u/5 -> 4                       2  [ ]                taken, without an image
 //!                                    3  ( free )           the last one
-//!                                    4  [ 7, deletion ]
+//!                                    4  [ 7, row 20 ]
 //!
-//! Places are numbered from 0 without a gap. A free place holds the number of the next free one, so that giving a place
-//! back takes no memory, and it is given again before the space grows (`take_place`). Memory is taken beforehand
-//! (`reserve`): `spare` is how many places can still be taken without any. The index has a place for each record, and
-//! no two records have the same. Where each place that the index has is taken, none of them is given again.
+//! Places are numbered from 0 without gaps. A free place holds the number of the next free one, so freeing a place allocates nothing,
+//! and a freed place is used again before the space grows (`take_place`). Memory is reserved beforehand (`reserve`): `spare` is the
+//! number of places that can still be taken without allocating. The index has a place for each record, and no two records share one. As
+//! long as each place in the index is taken, none of them is handed out again.
 //!
 //!     lists                                               standings, by place
 //!     table 0   [ key 5, place 0 ] [ key 9, place 2 ]     0  table 0, index 0
 //!     table 1   [ key 5, place 4 ]                        2  table 0, index 1
 //!                                                         4  table 1, index 0
 //!
-//! A roster lists some records of each table, in no order. Where a record stands is kept beside its place: so one enters at
-//! the end of its list, and one leaves, in constant time. The last one of the list comes to the index of one that leaves,
-//! which takes no memory. Whoever goes down a list from its end, and lets only the one leave that it has come to, meets each
+//! A roster lists some records of each table, in no particular order. A record's index in its list is kept by its place, so a record
+//! enters at the end of its list, or leaves it, in constant time. When one leaves, the last record of the list moves to its index,
+//! which allocates nothing. A caller that goes down a list from its end, and removes only the record that it has come to, meets each
 //! record once.
 #![tactic(auto)]
 
