@@ -1,12 +1,12 @@
-//! Trials of the crates that share nothing: each allocating call once with ample memory, and the rows of their documents.
+//! Tests of the single-threaded crates: each allocating call once with ample memory, and the rows of their documents.
 //!
 //!     values     rows, reports, sources and sinks
 //!     chains     one record's versions, alone and among others
 //!     scripts    accepted and refused ones
 //!     texts      printed, read, and refused
-//!     words      taken and refused
+//!     words      accepted and refused
 //!
-//! Nothing here is called by other crates. Tests of many crates stand in one, since a crate with tests is proved twice.
+//! No crate uses this one. The tests of many crates are in one crate, since a crate with tests is proved twice.
 #![tactic(auto)]
 
 #[cfg(test)]

@@ -1,4 +1,4 @@
-//! The group collector: what the oldest groups wrote is cut, group by group.
+//! The group collector: cuts what the oldest groups wrote, group by group.
 //!
 //!     gather     the bound: no snapshot in use is below it, nor will be
 //!
@@ -7,15 +7,15 @@
 //!                     v          v        v
 //!                 take 4, cut a and c at 6; take 5, cut b at 6; take 6, cut a at 6; none is left at or below 6
 //!
-//! A group at or below the bound is seen whole by every snapshot in use. So of each record that it wrote only the newest version
-//! numbered at or below the bound is still read, and the older ones go. A pass costs what it takes: it looks at no record
-//! that these groups did not write, and at no group over the bound. Collecting by groups is that of Lee et al., "Hybrid Garbage
-//! Collection for Multi-Version Concurrency Control in SAP HANA", SIGMOD 2016, in outline.
+//! Every snapshot in use sees all of a group at or below the bound. So of each record that such a group wrote, only the newest version
+//! numbered at or below the bound can still be read, and the older ones go. A round costs as much as the groups that it takes: it looks
+//! at no record that they did not write, and at no group above the bound. Collecting by groups follows, in outline, Lee et al., "Hybrid
+//! Garbage Collection for Multi-Version Concurrency Control in SAP HANA", SIGMOD 2016.
 //!
-//! One rule (`Collects`): a pass is one round. It gathers once; takes groups until as many were taken as its bound, by whomever;
-//! and each record that a group of its own wrote is cut at that bound, and was so when its bucket was given back.
+//! One rule (`Collects`): a call of `collect` is one round. It gathers once; it takes groups until the total number taken, by any pass,
+//! reaches its bound; and each record that one of these groups wrote is cut at that bound, and was when its bucket was given back.
 //!
-//! All room is made with the collector. A pass takes no memory, and can't be refused.
+//! The constructor allocates all room. A round allocates nothing, and cannot be refused.
 #![tactic(auto)]
 
 mod collector;

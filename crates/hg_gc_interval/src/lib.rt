@@ -1,4 +1,4 @@
-//! The interval collector: a version that no snapshot in use sees goes, also from the middle of a chain.
+//! The interval collector: removes versions that no snapshot in use sees, also from the middle of a chain.
 //!
 //!     gather       the horizon, and the snapshots that count for each table
 //!
@@ -6,16 +6,16 @@
 //!     lifetimes      9 ..     7, 8     5, 6     3, 4     1, 2
 //!                    stays    goes     stays    goes     stays
 //!
-//! A version lives from its number up to, and not including, its successor's. Where that successor is at or below the horizon no
-//! snapshot comes into the lifetime later. So where none lies in it now the version is never read again. The newest version of a
-//! record has no successor, and stays. Merging a chain's numbers with the ordered snapshots is that of Lee et al., "Hybrid
-//! Garbage Collection for Multi-Version Concurrency Control in SAP HANA", SIGMOD 2016, in outline.
+//! A version lives from its number up to, and not including, its successor's. If that successor is at or below the horizon, no later
+//! snapshot falls into the lifetime. So if there is none in it now, the version is never read again. The newest version of a record has
+//! no successor, and stays. Merging a chain's numbers with the ordered snapshots follows, in outline, Lee et al., "Hybrid Garbage
+//! Collection for Multi-Version Concurrency Control in SAP HANA", SIGMOD 2016.
 //!
-//! One rule (`Sweeps`): a pass is one round. It gathers once, visits each bucket once, in order, and gives each back with every
-//! record of every table clean for what it gathered. A visit goes down the lists of records that can be shortened, and costs
+//! One rule (`Sweeps`): a call of `collect` is one round. It gathers once, visits each bucket once, in order, and gives each back with
+//! every record of every table clean for what it gathered. A visit goes down the lists of records that can be shortened, and costs
 //! nothing for others.
 //!
-//! All room is made with the collector. A pass takes no memory, and can't be refused.
+//! The constructor allocates all room. A round allocates nothing, and cannot be refused.
 #![tactic(auto)]
 
 mod collector;

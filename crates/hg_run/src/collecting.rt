@@ -1,4 +1,4 @@
-//! The collectors of a replay.
+//! The three collectors of an engine, as a replay and a run use them.
 
 ghost use Rattle.std.specs.Prelude.{◌≡◌, ◌≢◌, ◌+◌, ◌≤◌, IfOk};
 ghost use Rattle.hg_session.specs.Engines.{engine_sizes};

@@ -1,23 +1,24 @@
 //! From the bytes of a script to the bytes of its answers.
 //!
-//! `serve` goes down these steps once. Each takes what the one above it gave, or ends the call with a status:
+//! `serve` goes through these steps once. Each uses the result of the one above it, or ends the call with a status:
 //!
-//!     step            takes              gives              or ends with
+//!     step            needs              gives              or ends with
 //!     read_words      the words          options            Usage
 //!     read_all        the source         all its bytes      ReadFault, TooLong
 //!     read_script     the bytes          a script           BadScript
 //!     replay, run_all the script         one text
 //!     write_all       the text           Done               WriteFault
 //!
-//! With a seed in place of a source (`load`) the steps between the first and the last are `make_script`, a replay, and the text of
-//! its totals alone. For `audit` the bytes are parted at a line `====` (`part`) into a script, which is read as above, and a text, which is
-//! held against it; what is found is the text that is written. Want of memory may end every step but the last. The text is whole before its first byte is written. So
-//! a script that is refused has run nothing, and what a sink took is a front of the text of a whole run.
+//! `load` has a seed instead of a source: the steps between the first and the last are `make_script`, a replay, and the text of its
+//! totals only. For `audit` the bytes are split at a line `====` (`part`) into a script, which is read as above, and a text, which is
+//! checked against it; the text that is written is the verdict. Running out of memory may end every step but the last. The text is
+//! complete before its first byte is written. So a refused script has run nothing, and what a sink took is a prefix of the text of a
+//! whole run.
 //!
-//! `Comes` says when each status comes. Its line for `Done` is the headline: the sink took the text of a printed value
-//! that is sound, under the command that the words ask for, for the script which all the bytes of the source mean, and fits it.
-//! No other value that fits has this text (`text_determines_what_was_printed`). For `load` the text is that of the totals of such a
-//! value, for the script of the seed; for `audit` it tells whether the text behind the script is sound for it, and if not, what fails first.
+//! `Comes` says when each status comes. Its line for `Done` is the headline: the sink took the text of a printed value that is sound,
+//! under the command that the words ask for, for the script that all the bytes of the source mean, and that fits this script. No other
+//! value that fits has this text (`text_determines_what_was_printed`). For `load` the text is that of the totals of such a value, for
+//! the script of the seed. For `audit` it says whether the text after the script is sound for it, and if not, what fails first.
 #![tactic(auto)]
 
 mod ask;

@@ -1,7 +1,7 @@
-//! A collector's worker.
+//! The plan of a run, and the list of a collector's rounds.
 //!
-//! It makes its rounds one after the other, and asks the gate before each. What its reports tell is kept in places that were
-//! taken before. Where memory for what a report tells is wanting it goes no further, and says so.
+//! A collector's worker makes its rounds one after the other, and asks the gate before each. What its reports say is kept in places
+//! that were allocated before the first. If memory for a report runs out, the worker stops, and the list says so.
 
 ghost use Rattle.hg_session.specs.Engines.{engine_sizes};
 ghost use Rattle.hg_run.specs.Rounding.{HasPlaces, HasMadeAll};

@@ -1,4 +1,4 @@
-//! Trials of the whole: words, a script and a source go in, and a text and a status come out.
+//! Tests of the whole: words, a script and a source go in, and a text and a status come out.
 //!
 //!     serve_tests    statuses, failing sources and sinks, scripts that are replayed and what they print
 //!     run_tests      scripts that run in threads
@@ -8,7 +8,7 @@
 //!     order          a gate that holds workers, so that they meet
 //!     watched        a source and a sink that watch how they are called
 //!
-//! Nothing here is called by other crates.
+//! No crate uses this one.
 #![tactic(auto)]
 
 #[cfg(test)]

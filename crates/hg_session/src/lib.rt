@@ -1,8 +1,8 @@
 //! Sessions on one engine.
 //!
-//! An engine is the board with its words, the buckets under a lock each, and the queue of what is to be committed. A session is a
-//! thread's place at it: it takes its snapshot by five steps of the board, and takes a bucket's lock for as long as it reads or
-//! writes one record, or the keys of a range in that bucket. A commit hands the transaction over, and takes the commit lock.
+//! An engine is the board with its words, the buckets, each under a lock of its own, and the queue of transactions to be committed. A
+//! session is used by one thread at a time. It takes its snapshot by five steps of the board. It locks a bucket only while it reads or
+//! writes one record, or reads the keys of a range, in that bucket. A commit hands the transaction over, and takes the commit lock.
 //!
 //!     begin      declare, probe, enter, fix, go live              no lock
 //!     get        take the bucket, see the key, give it back
@@ -11,11 +11,11 @@
 //!     commit     hand over, into the queue; the commit lock; lead all that waits there, or be led; end
 //!     rollback   an undo for each record; end
 //!
-//! What a call leaves of the session's log is a function of the log before, the statement and the reply (`Answers`): each entry
-//! once, and nothing besides. So a command that prints the replies has nothing to prove of contents or of snapshots. It shows
-//! the logs, once, at its end.
+//! The session's log after a call is a function of the log before, the statement, the reply, and what no reply prints (`Answers`): the
+//! statement's entries are appended once, and nothing else. So a command that prints the replies has nothing to prove about contents or
+//! snapshots. It shows the logs, once, at its end.
 //!
-//! A statement outside a transaction is one of its own: it begins with its one table declared, does its work, and commits.
+//! A statement outside a transaction is a transaction of its own: it begins with its one table declared, does its work, and commits.
 #![tactic(auto)]
 
 mod answers;

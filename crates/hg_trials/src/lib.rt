@@ -1,10 +1,11 @@
-//! Trials of what threads share: locks, snapshots, commits, and several crates at once, as a program over them would call them.
+//! Tests of the crates that threads share: locks, snapshots and commits, each crate alone and several at once, as a program would call
+//! them.
 //!
 //!     lock, seat, register, snapshot, store, queue, batch    each by its own calls, in one thread and in two or more
 //!     entering    a session enters while others commit, or begins anew while a pass looks, step by step
 //!     sharing     eight threads commit at one engine
 //!
-//! Nothing here is called by other crates.
+//! No crate uses this one.
 #![tactic(auto)]
 
 #[cfg(test)]

@@ -1,13 +1,13 @@
-//! What the collectors share: a round of a pass, bucket by bucket.
+//! What the collectors share: a pass makes a round, bucket by bucket.
 //!
 //!     round      [ gather ][ bucket 0 ][ bucket 1 ] .. [ the last one ]
 //!     bucket     [ take ][ table 0 ][ table 1 ] .. [ give back ]
 //!
-//! Each visit of a bucket is of one kind of collector. It adds to the pass's list what it removed there and what it gave
-//! back, and to the pass's steps what it reclaimed (`Visits`, `VisitsAll`). From the round's steps alone follows what its
-//! report says (`Reports`). No more goes than was ever made, so the sums don't overflow.
+//! Each visit of a bucket is of one kind of collector. It adds to the pass's list of visits what it removed there and how it gave the
+//! bucket back, and to the pass's steps what it reclaimed (`Visits`, `VisitsAll`). What a round's report says follows from the round's
+//! steps (`Reports`). No more versions are removed than were ever made, so the sums do not overflow.
 //!
-//! The collectors' own crates say what a visit does to each table.
+//! What a visit does to each table is defined in the collectors' own crates.
 #![tactic(auto)]
 
 mod report;

@@ -1,11 +1,11 @@
-//! The program: standard input and output as source and sink of one call.
+//! The program: one call, with standard input as its source and standard output as its sink.
 //!
 //!     hybridgc replay < script.csv
 //!     hybridgc run --rounds 4 < script.csv
 //!     hybridgc load 7
 //!     hybridgc audit < script-and-text
 //!
-//! What is said beside the answers goes to standard error. The exit status tells how the call ended.
+//! If a call does not end with `Done`, its status is one line on standard error. The exit status says how the call ended.
 #![tactic(auto)]
 
 ghost use Rattle.std.specs.Prelude.{◌≡◌, ◌↔◌};
