@@ -3,6 +3,7 @@
 //!
 //!     lock, seat, register, snapshot, store, queue, batch    each by its own calls, in one thread and in two or more
 //!     entering    a session enters while others commit, or begins anew while a pass looks, step by step
+//!     session     the caller that crates/hg_session/CALLING.md shows
 //!     sharing     eight threads commit at one engine
 //!
 //! No crate uses this one.
@@ -20,6 +21,8 @@ mod queue_tests;
 mod register_tests;
 #[cfg(test)]
 mod seat_tests;
+#[cfg(test)]
+mod session_tests;
 #[cfg(test)]
 mod sharing_tests;
 #[cfg(test)]
