@@ -1,0 +1,35 @@
+# What ./hybridgc, ./dist and examples/check share. A script sets $root, the top of the repository, and reads this file by `.`.
+program=$root/crates/hybridgc/out/hybridgc
+
+# Prints the crates of the program, a line each: its name and the crates of this repository that it depends on, which come
+# before it. Test crates are not among them, since nothing depends on one.
+crates_of_program() {
+    awk '
+        function visit(name,  i, n, deps, line) {
+            if (name in seen) return
+            seen[name]
+            n = split(below[name], deps, " ")
+            line = name
+            for (i = 1; i <= n; i++) if (deps[i] in below) { visit(deps[i]); line = line " " deps[i] }
+            print line
+        }
+        { sub(/#.*/, "") }
+        NF { name = $1; sub(/:$/, "", name); $1 = ""; below[name] = $0 }
+        END { visit("hybridgc") }' "$root/crates.txt"
+}
+
+# Whether the file is there, and newer than each file that the proofs of these crates read: is_newer FILE CRATE..
+is_newer() {
+    [ -e "$1" ] || return 1
+    file=$1
+    shift
+    folders=$(echo "$@" | sed 's|[^ ][^ ]*|&/src &/specs &/proofs|g')
+    changed=$(cd "$root/crates" && find $folders -newer "$file" 2>/dev/null | head -n 1)
+    [ -z "$changed" ]
+}
+
+# Whether the program is there, and newer than the list of crates and the files of its crates.
+is_built() {
+    [ -x "$program" ] && [ -z "$(find "$root/crates.txt" -newer "$program")" ] || return 1
+    is_newer "$program" $(crates_of_program | cut -d ' ' -f 1)
+}
