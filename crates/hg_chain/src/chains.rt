@@ -71,6 +71,13 @@ impl Chains {
         self.arena.head(place).strand.count == 0
     }
 
+    /// How many versions a place has.
+    pub fn count(&self, place: u64) -> u32
+        ensures { result ≡ length (list_at self.now place) }
+    {
+        self.arena.head(place).strand.count
+    }
+
     /// Who wrote the newest version, and its number if it has one. All others have one.
     pub fn newest(&self, place: u64) -> Option<Stamp>
         ensures newest { result ≡ newest (list_at self.now place) }

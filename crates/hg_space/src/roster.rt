@@ -82,6 +82,15 @@ impl Roster {
         list[at].key
     }
 
+    /// The place of one of them.
+    pub fn place(&self, table: TableId, at: usize) -> u64
+        requires { at < length (list_of self.now table.0) }
+        ensures { option_map (λ e. e.place) (slice_get (list_of self.now table.0) at) ≡ Some result }
+    {
+        let list = &self.lists[table.0 as usize];
+        list[at].place
+    }
+
     /// Puts a record at the end of its table's list. No list has another of its place. A list of 2^32 records takes no more: that
     /// is refused as memory is.
     pub fn enter(&mut self, table: TableId, key: u64, place: u64) -> Result<(), NoMemory>
