@@ -5,7 +5,7 @@ use Rattle.std.specs.Bool.{OnTrue, OnFalse}
 use Rattle.std.specs.List.{swap_remove}
 use Rattle.std.proofs.lemmas.Bool.Decides.{nat_tests}
 use Rattle.std.proofs.lemmas.List.{take-take}
-use Rattle.std.proofs.lemmas.Option.{none-some, same_Some}
+use Rattle.std.proofs.lemmas.Option.{none-some, same_Some, slice_get_within}
 use Rattle.hg_base.specs.declared.rid.Rid.{Rid}
 use Rattle.hg_base.specs.declared.rid.TableId.{TableId}
 use Rattle.hg_base.specs.History.{same_rid}
@@ -368,3 +368,14 @@ front_keys es cs ds ls ms r p old has leaves listed at there = go (length (list_
     go : (b : Bool) → OnTrue b (Leaves ls ms r p) → OnFalse b (ms ≡ ls) → take at (keys_in (longs_of ms) r.table) ≡ take at (keys_in (longs_of ls) r.table)
     go true h k = ap (take at) (keys_seen ms r.table) ∙ take_keys at (list_of ms r.table.0) ∙ ap keys_of (h.front at e.0 e.1.0 is) ∙ sym (take_keys at (list_of ls r.table.0)) ∙ ap (take at) (sym (keys_seen ls r.table))
     go false h k = ap (λ xs. take at (keys_in (longs_of xs) r.table)) k
+
+-- a record that a list has is found without the index: its place, and that it has a chain
+pub listed_at : (es : List (Rid × ℕ)) (cs : Places) (ls : List (List Listed)) (r : Rid) (p at : ℕ) → AreListed es cs ls → slice_get (keys_in (longs_of ls) r.table) at ≡ Some r.key → option_map (λ e. e.place) (slice_get (list_of ls r.table.0) at) ≡ Some p → (place_of es r ≡ Some p) × (0 < length (list_at cs p))
+listed_at es cs ls r p at h key place =
+    let e = key_of (list_of ls r.table.0) at r.key (ap (λ ks. slice_get ks at) (sym (keys_seen ls r.table)) ∙ key) in
+    let is : e.0.place ≡ p = same_Some e.0.place p (ap (λ (o : Option Listed). option_map (λ (e : Listed). e.place) o) (sym e.1.0) ∙ place) in
+    let has = of_list es cs ls r.table e.0 h (at, e.1.0) in
+    (ap (λ k. place_of es (record_at r.table k)) (sym e.1.1) ∙ has.0 ∙ ap Some is, subst (λ n. 0 < length (list_at cs n)) is has.1)
+
+pub listed_within : (ls : List (List Listed)) (r : Rid) (at : ℕ) → slice_get (keys_in (longs_of ls) r.table) at ≡ Some r.key → at < length (list_of ls r.table.0)
+listed_within ls r at key = let e = key_of (list_of ls r.table.0) at r.key (ap (λ ks. slice_get ks at) (sym (keys_seen ls r.table)) ∙ key) in slice_get_within (list_of ls r.table.0) at e.0 e.1.0

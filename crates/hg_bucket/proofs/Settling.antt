@@ -1,6 +1,6 @@
 -- Records that can't be shortened, and those that have a chain.
-use Rattle.std.proofs.Common.{◌≡◌, ℕ, List, [], ◌∷◌, ◌++◌, Bool, true, false, Option, Some, None, refl, sym, ap, ◌∙◌, cond, subst, not, ◌<◌, length, arith}
-use Rattle.std.specs.Prelude.{is_some, IsSome, IfSome}
+use Rattle.std.proofs.Common.{◌≡◌, ℕ, List, [], ◌∷◌, ◌++◌, Bool, true, false, Option, Some, None, refl, sym, ap, ◌∙◌, cond, subst, not, ◌<◌, ◌≤◌, length, arith}
+use Rattle.std.specs.Prelude.{is_some, IsSome, IfSome, option_to_list}
 use Rattle.hg_base.specs.declared.rid.Rid.{Rid}
 use Rattle.hg_base.specs.declared.rid.TableId.{TableId}
 use Rattle.hg_chain.specs.declared.version.Version.{Version}
@@ -13,6 +13,7 @@ use Rattle.hg_bucket.specs.Sweeping.{is_long}
 use Rattle.hg_bucket.specs.Long.{IsShort}
 use Rattle.hg_bucket.proofs.Reading.{there, versions_there, no_versions}
 use Rattle.hg_bucket.proofs.Costing.{whole_long}
+use Rattle.hg_bucket.proofs.Bare.{whole_sum, no_image}
 use Rattle.hg_bucket.proofs.Sweeps.{IsSettled, settled_swept, settled_clean}
 
 pub oldest_settled : (im : Oldest) → IsRow im → IsSettled (whole [] im)
@@ -52,6 +53,10 @@ chained_long es cs places r p has some = ap is_long (versions_there es cs places
     long : (vs : List Version) (im : Oldest) → 0 < length vs → is_long (whole vs im) ≡ true
     long [] im less = absurd (omega (arith, less))
     long (v ∷ vs) im less = whole_long v vs im
+
+-- a record whose chain has one version, and that has no oldest image
+pub lone : (es : List (Rid × ℕ)) (cs : Places) (places : List Seat) (r : Rid) (p : ℕ) → place_of es r ≡ Some p → length (list_at cs p) ≡ 1 → is_some (image_at places p) ≡ false → length (versions_of (records_of es cs places) r) ≤ 1
+lone es cs places r p has one none = omega (arith, one, ap (λ vs. length vs) (versions_there es cs places r p has), whole_sum (list_at cs p) (image_at places p), ap (λ im. length (option_to_list im)) (no_image (image_at places p) none))
 
 -- ---- a record of the index has a version
 

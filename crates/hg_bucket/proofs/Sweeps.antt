@@ -141,6 +141,17 @@ settled_clean horizon xs [] h = tt
 settled_clean horizon xs (v ∷ []) h = (tt, tt)
 settled_clean horizon xs (v ∷ w ∷ vs) h = absurd h
 
+-- where there is one version or none: the newest stays
+pub lone_swept : (horizon : ℕ) (xs : List ℕ) (vs : List Kept) → length vs ≤ 1 → vs ≡ swept horizon xs vs
+lone_swept horizon xs [] h = refl
+lone_swept horizon xs (v ∷ []) h = refl
+lone_swept horizon xs (v ∷ w ∷ vs) h = absurd (omega (arith, h))
+
+pub lone_clean : (horizon : ℕ) (xs : List ℕ) (vs : List Kept) → length vs ≤ 1 → IsClean horizon xs vs
+lone_clean horizon xs [] h = tt
+lone_clean horizon xs (v ∷ []) h = (tt, tt)
+lone_clean horizon xs (v ∷ w ∷ vs) h = absurd (omega (arith, h))
+
 -- ---- what a protected reader sees stays
 
 abbrev IsBefore : ℕ → Option ℕ → Type 0

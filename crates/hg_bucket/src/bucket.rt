@@ -126,43 +126,6 @@ impl Bucket {
         gone
     }
 
-    /// The same for the table collector.
-    pub fn cut_for_table(&mut self, rid: Rid, bound: u64) -> u64
-        ensures here { versions_of self.new.records rid ≡ cut_at bound (versions_of self.old.records rid) }
-        ensures others { OthersStay self.old.records self.new.records rid }
-        ensures gone { length (versions_of self.new.records rid) + result ≡ length (versions_of self.old.records rid) }
-        ensures table { self.new ≡ record self.old { records = self.new.records; long = self.new.long; table = self.old.table + result } }
-        ensures front { (at : ℕ) → slice_get (long_keys self.old rid.table) at ≡ Some rid.key → take at (long_keys self.new rid.table) ≡ take at (long_keys self.old rid.table) }
-    {
-        let gone = self.records.cut(rid, bound);
-        self.table += gone;
-        gone
-    }
-
-    /// Removes of a record every version that no snapshot sees, as `sweep` does of each record of a table. The answer says how
-    /// many went.
-    pub fn sweep_record<L: Ledger>(
-        &mut self,
-        rid: Rid,
-        horizon: u64,
-        snapshots: &[u64],
-        steps: &mut Steps<L>,
-    ) -> u64
-        requires { Rises snapshots.now }
-        ensures here { versions_of self.new.records rid ≡ swept horizon snapshots.now (versions_of self.old.records rid) }
-        ensures clean { IsClean horizon snapshots.now (versions_of self.new.records rid) }
-        ensures seen { (s : ℕ) (own : Writer) → IsGuarded horizon snapshots.now s → read_at own s (versions_of self.new.records rid) ≡ read_at own s (versions_of self.old.records rid) }
-        ensures others { OthersStay self.old.records self.new.records rid }
-        ensures gone { length (versions_of self.new.records rid) + result ≡ length (versions_of self.old.records rid) }
-        ensures interval { self.new ≡ record self.old { records = self.new.records; long = self.new.long; interval = self.old.interval + result } }
-        ensures front { (at : ℕ) → slice_get (long_keys self.old rid.table) at ≡ Some rid.key → take at (long_keys self.new rid.table) ≡ take at (long_keys self.old rid.table) }
-        ensures cost { steps.new ≤ steps.old + record_steps snapshots.now (versions_of self.old.records rid) }
-    {
-        let swept = self.records.sweep(rid, horizon, snapshots, steps);
-        self.interval += swept;
-        swept
-    }
-
     /// How many records of a table can be shortened: each has more than its oldest image.
     pub fn long_count(&self, table: TableId) -> usize
         ensures count { result ≡ length (long_keys self.now table) }
@@ -178,6 +141,47 @@ impl Bucket {
         ensures { slice_get (long_keys self.now table) at ≡ Some result }
     {
         self.records.long_key(table, at)
+    }
+
+    /// Cuts one of them at a bound, for the table collector. `at` is where `long_key` gives its key, so it isn't looked up. The
+    /// answer says how many versions went.
+    pub fn cut_long(&mut self, rid: Rid, at: usize, bound: u64) -> u64
+        requires { slice_get (long_keys self.old rid.table) at ≡ Some rid.key }
+        ensures here { versions_of self.new.records rid ≡ cut_at bound (versions_of self.old.records rid) }
+        ensures others { OthersStay self.old.records self.new.records rid }
+        ensures gone { length (versions_of self.new.records rid) + result ≡ length (versions_of self.old.records rid) }
+        ensures table { self.new ≡ record self.old { records = self.new.records; long = self.new.long; table = self.old.table + result } }
+        ensures front { take at (long_keys self.new rid.table) ≡ take at (long_keys self.old rid.table) }
+    {
+        let gone = self.records.cut_long(rid, at, bound);
+        self.table += gone;
+        gone
+    }
+
+    /// Removes of one of them every version that no snapshot sees, as `sweep` does of each record of a table. `at` is where
+    /// `long_key` gives its key, so it isn't looked up. The answer says how many versions went.
+    pub fn sweep_long<L: Ledger>(
+        &mut self,
+        rid: Rid,
+        at: usize,
+        horizon: u64,
+        snapshots: &[u64],
+        steps: &mut Steps<L>,
+    ) -> u64
+        requires stands { slice_get (long_keys self.old rid.table) at ≡ Some rid.key }
+        requires rises { Rises snapshots.now }
+        ensures here { versions_of self.new.records rid ≡ swept horizon snapshots.now (versions_of self.old.records rid) }
+        ensures clean { IsClean horizon snapshots.now (versions_of self.new.records rid) }
+        ensures seen { (s : ℕ) (own : Writer) → IsGuarded horizon snapshots.now s → read_at own s (versions_of self.new.records rid) ≡ read_at own s (versions_of self.old.records rid) }
+        ensures others { OthersStay self.old.records self.new.records rid }
+        ensures gone { length (versions_of self.new.records rid) + result ≡ length (versions_of self.old.records rid) }
+        ensures interval { self.new ≡ record self.old { records = self.new.records; long = self.new.long; interval = self.old.interval + result } }
+        ensures front { take at (long_keys self.new rid.table) ≡ take at (long_keys self.old rid.table) }
+        ensures cost { steps.new ≤ steps.old + record_steps snapshots.now (versions_of self.old.records rid) }
+    {
+        let swept = self.records.sweep_long(rid, at, horizon, snapshots, steps);
+        self.interval += swept;
+        swept
     }
 
     /// Cuts each record of a table at a bound. The answer says how many versions went. A record that has only its oldest

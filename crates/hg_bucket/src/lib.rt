@@ -19,6 +19,7 @@
 #![tactic(auto)]
 
 mod bucket;
+mod cut;
 mod places;
 mod records;
 mod refusal;

@@ -14,10 +14,11 @@ ghost use Rattle.hg_bucket.specs.Sweeping.{swept, IsClean, is_long, record_steps
 ghost use Rattle.hg_bucket.specs.Long.{AreLong};
 ghost use Rattle.hg_bucket.specs.BucketModel.{keys_in, versions_of, begins_open, open_write, installed, stamped, OthersStay, IsBelow, read_at, record_at, cut_at, IsNextKey, left};
 
+use crate::cut::cut;
 use crate::places::{self, drop_bare, leave_bare};
 use crate::refusal::WriteRefusal;
 use hg_base::{Image, NoMemory, Rid, Steps, TableId, Writer};
-use hg_chain::{Chains, Cut};
+use hg_chain::Chains;
 use hg_space::{RidIndex, Roster, TableSpace};
 use std::alloc::Global;
 use std::marker::Model;
@@ -168,19 +169,42 @@ impl Records {
         ensures others { OthersStay self.old.records self.new.records rid }
         ensures gone { length (versions_of self.new.records rid) + result ≡ length (versions_of self.old.records rid) }
         ensures left { left self.new.records + result ≡ left self.old.records }
-        ensures front { (at : ℕ) → slice_get (keys_in self.old.long rid.table) at ≡ Some rid.key → take at (keys_in self.new.long rid.table) ≡ take at (keys_in self.old.long rid.table) }
     {
         let Some(place) = self.index.place(rid) else {
             return 0;
         };
-        let Cut { image, gone } = self.chains.cut(place, bound);
-        let Some(newest) = image else {
-            return 0;
-        };
-        let gone = gone + places::settle(&mut self.space, place, newest);
-        leave_bare(&mut self.longs, &self.chains, rid, place);
-        drop_bare(&mut self.index, &mut self.space, &self.chains, rid, place);
-        gone
+        cut(
+            &mut self.index,
+            &mut self.space,
+            &mut self.chains,
+            &mut self.longs,
+            rid,
+            place,
+            bound,
+        )
+    }
+
+    /// The same for a record of which the caller knows where its table's list has it. The index is not searched.
+    pub fn cut_long(&mut self, rid: Rid, at: usize, bound: u64) -> u64
+        requires stands { slice_get (keys_in self.old.long rid.table) at ≡ Some rid.key }
+        requires few { left self.old.records ≤ 2 ^ 40 }
+        ensures here { versions_of self.new.records rid ≡ cut_at bound (versions_of self.old.records rid) }
+        ensures others { OthersStay self.old.records self.new.records rid }
+        ensures gone { length (versions_of self.new.records rid) + result ≡ length (versions_of self.old.records rid) }
+        ensures left { left self.new.records + result ≡ left self.old.records }
+        ensures front { take at (keys_in self.new.long rid.table) ≡ take at (keys_in self.old.long rid.table) }
+    {
+        self.index.stands_once();
+        let place = self.longs.place(rid.table, at);
+        cut(
+            &mut self.index,
+            &mut self.space,
+            &mut self.chains,
+            &mut self.longs,
+            rid,
+            place,
+            bound,
+        )
     }
 
     /// How many records of a table can be shortened.
@@ -213,19 +237,22 @@ impl Records {
         while left > 0 {
             left -= 1;
             let key = self.long_key(table, left);
-            gone += self.cut(Rid { table, key }, bound);
+            gone += self.cut_long(Rid { table, key }, left, bound);
         }
         gone
     }
 
-    /// Removes every version of a record that no snapshot sees. The answer says how many went.
-    pub fn sweep<L: Ledger>(
+    /// Removes every version that no snapshot sees, of a record of which the caller knows where its table's list has it. The
+    /// answer says how many went. The index is not searched.
+    pub fn sweep_long<L: Ledger>(
         &mut self,
         rid: Rid,
+        at: usize,
         horizon: u64,
         snapshots: &[u64],
         steps: &mut Steps<L>,
     ) -> u64
+        requires stands { slice_get (keys_in self.old.long rid.table) at ≡ Some rid.key }
         requires rises { Rises snapshots.now }
         requires few { left self.old.records ≤ 2 ^ 40 }
         ensures here { versions_of self.new.records rid ≡ swept horizon snapshots.now (versions_of self.old.records rid) }
@@ -236,13 +263,14 @@ impl Records {
         ensures listed { self.new.long ≡ self.old.long }
         ensures cost { steps.new ≤ steps.old + record_steps snapshots.now (versions_of self.old.records rid) }
     {
-        let Some(place) = self.index.place(rid) else {
-            return 0;
-        };
-        if self.chains.is_empty(place) {
+        self.index.stands_once();
+        let place = self.longs.place(rid.table, at);
+        let base = places::number(&self.space, place);
+
+        // A newest version always stays. Where it is the only one, its node isn't read.
+        if self.chains.count(place) == 1 && base.is_none() {
             return 0;
         }
-        let base = places::number(&self.space, place);
         let swept = self.chains.sweep(place, base, horizon, snapshots, steps);
         if !swept.base_gone {
             return swept.gone;
@@ -272,7 +300,7 @@ impl Records {
         while left > 0 {
             left -= 1;
             let key = self.long_key(table, left);
-            gone += self.sweep(Rid { table, key }, horizon, snapshots, steps);
+            gone += self.sweep_long(Rid { table, key }, left, horizon, snapshots, steps);
         }
         gone
     }

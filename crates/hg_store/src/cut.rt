@@ -71,26 +71,34 @@ impl<'a> Held<'a> {
         while left > 0 {
             left -= 1;
             let key = self.bucket.long_key(table, left);
-            gone += self.cut_one(board, pass, Rid { table, key }, bound);
+            gone += self.cut_one(board, pass, Rid { table, key }, left, bound);
         }
         gone
     }
 
-    // Cuts one record at its table's bound.
-    fn cut_one(&mut self, board: &Board, pass: &mut CollectorPass, rid: Rid, bound: u64) -> u64
+    // Cuts one record at its table's bound, where the bucket's list has it at that index.
+    fn cut_one(
+        &mut self,
+        board: &Board,
+        pass: &mut CollectorPass,
+        rid: Rid,
+        at: usize,
+        bound: u64,
+    ) -> u64
         requires own { IsPassOf (board_id board.now) pass.old }
         requires whole { IsWhole (sizes_of board.now).sessions (record_of (own_pass (pass_view pass.old))) }
         requires holds { Holds (pass_view pass.old) self.old }
         requires here { bucket_of (sizes_of board.now).buckets rid ≡ held_number self.old }
+        requires stands { slice_get (long_keys (held_records self.old) rid.table) at ≡ Some rid.key }
         requires bound { bound ≡ table_bound rid.table (record_of (own_pass (pass_view pass.old))) }
         ensures step { Reclaims (pass_view pass.old) rid Table (pass_view pass.new) }
         ensures gone { result ≡ removed_of (pass_view pass.old) rid Table }
         ensures holds { Holds (pass_view pass.new) self.new }
         ensures held { (held_board_id self.new ≡ held_board_id self.old) × (held_number self.new ≡ held_number self.old) }
-        ensures front { (at : ℕ) → slice_get (long_keys (held_records self.old) rid.table) at ≡ Some rid.key → take at (long_keys (held_records self.new) rid.table) ≡ take at (long_keys (held_records self.old) rid.table) }
+        ensures front { take at (long_keys (held_records self.new) rid.table) ≡ take at (long_keys (held_records self.old) rid.table) }
         ensures own { IsPassOf (board_id board.now) pass.new }
     {
         board.reclaim(pass, rid, Kind::Table);
-        self.bucket.cut_for_table(rid, bound)
+        self.bucket.cut_long(rid, at, bound)
     }
 }

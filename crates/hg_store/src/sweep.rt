@@ -58,17 +58,18 @@ impl<'a> Held<'a> {
         while left > 0 {
             left -= 1;
             let key = self.bucket.long_key(table, left);
-            gone += self.sweep_one(board, pass, Rid { table, key }, horizon, snapshots, steps);
+            gone += self.sweep_one(board, pass, Rid { table, key }, left, horizon, snapshots, steps);
         }
         gone
     }
 
-    // Sweeps one record.
+    // Sweeps one record, where the bucket's list has it at that index.
     fn sweep_one<L: Ledger>(
         &mut self,
         board: &Board,
         pass: &mut CollectorPass,
         rid: Rid,
+        at: usize,
         horizon: u64,
         snapshots: &[u64],
         steps: &mut Steps<L>,
@@ -77,6 +78,7 @@ impl<'a> Held<'a> {
         requires whole { IsWhole (sizes_of board.now).sessions (record_of (own_pass (pass_view pass.old))) }
         requires holds { Holds (pass_view pass.old) self.old }
         requires here { bucket_of (sizes_of board.now).buckets rid ≡ held_number self.old }
+        requires stands { slice_get (long_keys (held_records self.old) rid.table) at ≡ Some rid.key }
         requires horizon { horizon ≡ own_horizon (record_of (own_pass (pass_view pass.old))) }
         requires rises { IsNonDecreasing snapshots.now }
         requires snapshots { HaveSame snapshots.now (recorded rid.table (record_of (own_pass (pass_view pass.old)))) }
@@ -84,11 +86,11 @@ impl<'a> Held<'a> {
         ensures gone { result ≡ removed_of (pass_view pass.old) rid Interval }
         ensures holds { Holds (pass_view pass.new) self.new }
         ensures held { (held_board_id self.new ≡ held_board_id self.old) × (held_number self.new ≡ held_number self.old) }
-        ensures front { (at : ℕ) → slice_get (long_keys (held_records self.old) rid.table) at ≡ Some rid.key → take at (long_keys (held_records self.new) rid.table) ≡ take at (long_keys (held_records self.old) rid.table) }
+        ensures front { take at (long_keys (held_records self.new) rid.table) ≡ take at (long_keys (held_records self.old) rid.table) }
         ensures own { IsPassOf (board_id board.now) pass.new }
         ensures cost { steps.new ≤ steps.old + record_steps snapshots.now (versions_of (held_records self.old).records rid) }
     {
         board.reclaim(pass, rid, Kind::Interval);
-        self.bucket.sweep_record(rid, horizon, snapshots, steps)
+        self.bucket.sweep_long(rid, at, horizon, snapshots, steps)
     }
 }

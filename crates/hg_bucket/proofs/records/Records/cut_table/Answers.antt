@@ -21,7 +21,7 @@ loop-left-preserved c =
     let t = c.args.table in
     let old = c.args.self.now in
     let now = c.loop-left.self in
-    let new = c.cut-gone.new.self in
+    let new = c.cut_long-gone.new.self in
     let keys = keys_in old.long t in
     let many = c.loop-left.left in
     let l = many - 1 in
@@ -29,15 +29,15 @@ loop-left-preserved c =
     let some = c.loop-left-test.true in
     let walk = c.loop-left.invariant in
     let there = leads_key many l k (keys_in now.long t) keys walk.1 (omega (arith, some)) c.long_key-key.ensures in (
-      round_goes (Cut c.args.bound) t keys old.records now.records new.records many l k c.loop-left.gone c.cut-gone.result (omega (arith, some)) c.long_count-left.ensures.whole.once there walk.0 c.cut-gone.ensures.here c.cut-gone.ensures.others c.cut-gone.ensures.left,
-      leads_on many l (keys_in now.long t) (keys_in new.long t) keys walk.1 (omega (arith, some)) (c.cut-gone.ensures.front l c.long_key-key.ensures),
+      round_goes (Cut c.args.bound) t keys old.records now.records new.records many l k c.loop-left.gone c.cut_long-gone.result (omega (arith, some)) c.long_count-left.ensures.whole.once there walk.0 c.cut_long-gone.ensures.here c.cut_long-gone.ensures.others c.cut_long-gone.ensures.left,
+      leads_on many l (keys_in now.long t) (keys_in new.long t) keys walk.1 (omega (arith, some)) c.cut_long-gone.ensures.front,
     )
 
-pub cut-gone-requires : goal.cut-gone-requires
-cut-gone-requires c = omega (arith, c.requires, c.loop-left.invariant.0.left)
+pub cut_long-gone-requires-clause-few : goal.cut_long-gone-requires-clause-few
+cut_long-gone-requires-clause-few c = omega (arith, c.requires, c.loop-left.invariant.0.left)
 
 pub overflow_add-gone : goal.overflow_add-gone
-overflow_add-gone c = omega (arith, c.requires, c.loop-left.invariant.0.left, c.cut-gone.ensures.left)
+overflow_add-gone c = omega (arith, c.requires, c.loop-left.invariant.0.left, c.cut_long-gone.ensures.left)
 
 pub returns-clause-each : goal.returns-clause-each
 returns-clause-each c =

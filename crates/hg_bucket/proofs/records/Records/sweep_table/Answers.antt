@@ -36,7 +36,7 @@ loop-left-preserved g c =
     let t = c.args.table in
     let old = c.args.self.now in
     let now = c.loop-left.self in
-    let new = c.sweep-gone.new.self in
+    let new = c.sweep_long-gone.new.self in
     let keys = keys_in old.long t in
     let many = c.loop-left.left in
     let l = many - 1 in
@@ -45,19 +45,19 @@ loop-left-preserved g c =
     let walk = c.loop-left.invariant in
     let there = ap (λ ls. slice_get (keys_in ls t) l) (sym walk.1) ∙ c.long_key-key.ensures in
     let same = walk.0.rest l k (omega (arith, some)) there in
-    let cost = subst (λ vs. c.sweep-gone.new.steps ≤ c.loop-left.steps + cost_of n vs) same c.sweep-gone.ensures.cost in
+    let cost = subst (λ vs. c.sweep_long-gone.new.steps ≤ c.loop-left.steps + cost_of n vs) same c.sweep_long-gone.ensures.cost in
     let once = key_paid t n old.records keys many l k (omega (arith, some)) there in (
-      round_goes (Swept c.args.horizon xs) t keys old.records now.records new.records many l k c.loop-left.gone c.sweep-gone.result (omega (arith, some)) c.long_count-left.ensures.whole.once there walk.0 (c.sweep-gone.ensures.here, c.sweep-gone.ensures.clean) c.sweep-gone.ensures.others c.sweep-gone.ensures.left,
-      c.sweep-gone.ensures.listed ∙ walk.1,
+      round_goes (Swept c.args.horizon xs) t keys old.records now.records new.records many l k c.loop-left.gone c.sweep_long-gone.result (omega (arith, some)) c.long_count-left.ensures.whole.once there walk.0 (c.sweep_long-gone.ensures.here, c.sweep_long-gone.ensures.clean) c.sweep_long-gone.ensures.others c.sweep_long-gone.ensures.left,
+      c.sweep_long-gone.ensures.listed ∙ walk.1,
       omega (arith, some, walk.2),
       omega (arith, walk.3, cost, once),
     )
 
-pub sweep-gone-requires-clause-few : goal.sweep-gone-requires-clause-few
-sweep-gone-requires-clause-few g c = omega (arith, c.requires.few, c.loop-left.invariant.0.left)
+pub sweep_long-gone-requires-clause-few : goal.sweep_long-gone-requires-clause-few
+sweep_long-gone-requires-clause-few g c = omega (arith, c.requires.few, c.loop-left.invariant.0.left)
 
 pub overflow_add-gone : goal.overflow_add-gone
-overflow_add-gone g c = omega (arith, c.requires.few, c.loop-left.invariant.0.left, c.sweep-gone.ensures.left)
+overflow_add-gone g c = omega (arith, c.requires.few, c.loop-left.invariant.0.left, c.sweep_long-gone.ensures.left)
 
 pub returns-clause-each : goal.returns-clause-each
 returns-clause-each g c =

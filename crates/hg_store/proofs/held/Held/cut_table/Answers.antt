@@ -94,7 +94,7 @@ loop-left-preserved c =
       c.cut_one-gone.ensures.own,
       c.cut_one-gone.ensures.held.0 ∙ c.loop-left.invariant.3,
       c.cut_one-gone.ensures.held.1 ∙ c.loop-left.invariant.4,
-      leads_on left l (long_keys (held_records c.loop-left.self) t) (long_keys (held_records c.cut_one-gone.new.self) t) keys c.loop-left.invariant.5 (omega arith) (c.cut_one-gone.ensures.front l stands),
+      leads_on left l (long_keys (held_records c.loop-left.self) t) (long_keys (held_records c.cut_one-gone.new.self) t) keys c.loop-left.invariant.5 (omega arith) c.cut_one-gone.ensures.front,
     )
 
 pub returns-clause-each : goal.returns-clause-each

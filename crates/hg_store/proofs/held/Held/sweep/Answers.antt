@@ -111,7 +111,7 @@ loop-left-preserved g c =
       c.sweep_one-gone.ensures.own,
       c.sweep_one-gone.ensures.held.0 ∙ c.loop-left.invariant.3,
       c.sweep_one-gone.ensures.held.1 ∙ c.loop-left.invariant.4,
-      leads_on left l (long_keys (held_records c.loop-left.self) t) (long_keys (held_records c.sweep_one-gone.new.self) t) keys c.loop-left.invariant.5 (omega arith) (c.sweep_one-gone.ensures.front l stands),
+      leads_on left l (long_keys (held_records c.loop-left.self) t) (long_keys (held_records c.sweep_one-gone.new.self) t) keys c.loop-left.invariant.5 (omega arith) c.sweep_one-gone.ensures.front,
       omega (arith, before, cost, once),
     )
 
