@@ -1,6 +1,6 @@
-use Rattle.std.proofs.Common.{refl}
+use Rattle.std.proofs.Common.{◌≡◌, refl, sym, subst, slice_get, Some}
 use Rattle.hg_base.specs.declared.report.Kind.TheVariants.{Table}
-use Rattle.hg_bucket.specs.BucketModel.{cut_at}
+use Rattle.hg_bucket.specs.BucketModel.{BucketModel, cut_at, long_keys}
 use Rattle.hg_rule.specs.Facts.{record_of}
 use Rattle.hg_rule.specs.Views.{pass}
 use Rattle.hg_rule.specs.Seats.{pass_view}
@@ -11,10 +11,13 @@ use Rattle.hg_store.proofs.held.Held.cut_one.Goals as goal
 
 pub returns-clause-gone : goal.returns-clause-gone
 returns-clause-gone c =
-    reclaim_gone Table (cut_at c.args.bound) (pass_view c.args.pass.now) (boxed c.args.self.now c.deref_mut.result.now) c.cut_for_table.new.self c.args.rid c.cut_for_table.result (boxed_holds c.args.self.now c.deref_mut.result.now c.deref_mut.ensures.value c.requires.holds)
-    (does_table c.args.rid.table (record_of (pass (pass_view c.args.pass.now))) c.args.bound c.requires.bound) c.cut_for_table.ensures.here c.cut_for_table.ensures.gone
+    reclaim_gone Table (cut_at c.args.bound) (pass_view c.args.pass.now) (boxed c.args.self.now c.deref_mut.result.now) c.cut_long.new.self c.args.rid c.cut_long.result (boxed_holds c.args.self.now c.deref_mut.result.now c.deref_mut.ensures.value c.requires.holds)
+    (does_table c.args.rid.table (record_of (pass (pass_view c.args.pass.now))) c.args.bound c.requires.bound) c.cut_long.ensures.here c.cut_long.ensures.gone
 
 pub returns-clause-holds : goal.returns-clause-holds
 returns-clause-holds c =
-    reclaim_holds Table (cut_at c.args.bound) (pass_view c.args.pass.now) (pass_view c.reclaim.new.pass) (boxed c.args.self.now c.deref_mut.result.now) _ c.args.rid c.cut_for_table.result (boxed_holds c.args.self.now c.deref_mut.result.now c.deref_mut.ensures.value c.requires.holds) c.requires.own.1 refl
-    (does_table c.args.rid.table (record_of (pass (pass_view c.args.pass.now))) c.args.bound c.requires.bound) c.reclaim.ensures.step c.cut_for_table.ensures.here c.cut_for_table.ensures.others c.cut_for_table.ensures.gone c.cut_for_table.ensures.table
+    reclaim_holds Table (cut_at c.args.bound) (pass_view c.args.pass.now) (pass_view c.reclaim.new.pass) (boxed c.args.self.now c.deref_mut.result.now) _ c.args.rid c.cut_long.result (boxed_holds c.args.self.now c.deref_mut.result.now c.deref_mut.ensures.value c.requires.holds) c.requires.own.1 refl
+    (does_table c.args.rid.table (record_of (pass (pass_view c.args.pass.now))) c.args.bound c.requires.bound) c.reclaim.ensures.step c.cut_long.ensures.here c.cut_long.ensures.others c.cut_long.ensures.gone c.cut_long.ensures.table
+
+pub cut_long-requires : goal.cut_long-requires
+cut_long-requires c = subst (λ (b : BucketModel). slice_get (long_keys b c.args.rid.table) c.args.at ≡ Some c.args.rid.key) (sym c.deref_mut.ensures.value) c.requires.stands

@@ -118,3 +118,6 @@ returns-clause-steps c = c.loop-left.invariant.0.clears
 
 pub returns-clause-gone : goal.returns-clause-gone
 returns-clause-gone c = c.loop-left.invariant.0.counts
+
+pub cut_one-gone-requires-clause-stands : goal.cut_one-gone-requires-clause-stands
+cut_one-gone-requires-clause-stands c = subst (λ (b : BucketModel). slice_get (long_keys b c.args.table) (c.loop-left.left - 1) ≡ Some c.long_key-key.result) c.deref-in-loop-left.ensures c.long_key-key.ensures

@@ -152,3 +152,6 @@ returns-clause-spends g c =
     let keys = long_keys (held_records h) t in
     let long = subst (λ (b : BucketModel). AreLong (long_keys b t) t b.records) c.deref.ensures c.long_count-left.ensures.whole in
     spends_keys t (length c.args.snapshots.now) c.args.steps.now c.loop-left.steps (pass_view c.args.pass.now) h keys c.requires.holds long (omega (arith, c.loop-left.invariant.6))
+
+pub sweep_one-gone-requires-clause-stands : goal.sweep_one-gone-requires-clause-stands
+sweep_one-gone-requires-clause-stands g c = subst (λ (b : BucketModel). slice_get (long_keys b c.args.table) (c.loop-left.left - 1) ≡ Some c.long_key-key.result) c.deref-in-loop-left.ensures c.long_key-key.ensures

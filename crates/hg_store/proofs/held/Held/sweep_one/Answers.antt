@@ -1,5 +1,6 @@
-use Rattle.std.proofs.Common.{refl}
+use Rattle.std.proofs.Common.{◌≡◌, refl, sym, subst, slice_get, Some}
 use Rattle.hg_base.specs.declared.report.Kind.TheVariants.{Interval}
+use Rattle.hg_bucket.specs.BucketModel.{BucketModel, long_keys}
 use Rattle.hg_bucket.specs.Sweeping.{swept}
 use Rattle.hg_rule.specs.Facts.{record_of}
 use Rattle.hg_rule.specs.Views.{pass}
@@ -12,13 +13,16 @@ use Rattle.hg_store.proofs.held.Held.sweep_one.Goals as goal
 
 pub returns-clause-gone : goal.returns-clause-gone
 returns-clause-gone g c =
-    reclaim_gone Interval (swept c.args.horizon c.args.snapshots.now) (pass_view c.args.pass.now) (boxed c.args.self.now c.deref_mut.result.now) c.sweep_record.new.self c.args.rid c.sweep_record.result (boxed_holds c.args.self.now c.deref_mut.result.now c.deref_mut.ensures.value c.requires.holds)
-    (does_interval c.args.rid.table (record_of (pass (pass_view c.args.pass.now))) c.args.horizon c.args.snapshots.now c.requires.horizon c.requires.snapshots) c.sweep_record.ensures.here c.sweep_record.ensures.gone
+    reclaim_gone Interval (swept c.args.horizon c.args.snapshots.now) (pass_view c.args.pass.now) (boxed c.args.self.now c.deref_mut.result.now) c.sweep_long.new.self c.args.rid c.sweep_long.result (boxed_holds c.args.self.now c.deref_mut.result.now c.deref_mut.ensures.value c.requires.holds)
+    (does_interval c.args.rid.table (record_of (pass (pass_view c.args.pass.now))) c.args.horizon c.args.snapshots.now c.requires.horizon c.requires.snapshots) c.sweep_long.ensures.here c.sweep_long.ensures.gone
 
 pub returns-clause-holds : goal.returns-clause-holds
 returns-clause-holds g c =
-    reclaim_holds Interval (swept c.args.horizon c.args.snapshots.now) (pass_view c.args.pass.now) (pass_view c.reclaim.new.pass) (boxed c.args.self.now c.deref_mut.result.now) _ c.args.rid c.sweep_record.result (boxed_holds c.args.self.now c.deref_mut.result.now c.deref_mut.ensures.value c.requires.holds) c.requires.own.1 refl
-    (does_interval c.args.rid.table (record_of (pass (pass_view c.args.pass.now))) c.args.horizon c.args.snapshots.now c.requires.horizon c.requires.snapshots) c.reclaim.ensures.step c.sweep_record.ensures.here c.sweep_record.ensures.others c.sweep_record.ensures.gone c.sweep_record.ensures.interval
+    reclaim_holds Interval (swept c.args.horizon c.args.snapshots.now) (pass_view c.args.pass.now) (pass_view c.reclaim.new.pass) (boxed c.args.self.now c.deref_mut.result.now) _ c.args.rid c.sweep_long.result (boxed_holds c.args.self.now c.deref_mut.result.now c.deref_mut.ensures.value c.requires.holds) c.requires.own.1 refl
+    (does_interval c.args.rid.table (record_of (pass (pass_view c.args.pass.now))) c.args.horizon c.args.snapshots.now c.requires.horizon c.requires.snapshots) c.reclaim.ensures.step c.sweep_long.ensures.here c.sweep_long.ensures.others c.sweep_long.ensures.gone c.sweep_long.ensures.interval
 
-pub sweep_record-requires : goal.sweep_record-requires
-sweep_record-requires g c = rises_of c.args.snapshots.now c.requires.rises
+pub sweep_long-requires-clause-rises : goal.sweep_long-requires-clause-rises
+sweep_long-requires-clause-rises g c = rises_of c.args.snapshots.now c.requires.rises
+
+pub sweep_long-requires-clause-stands : goal.sweep_long-requires-clause-stands
+sweep_long-requires-clause-stands g c = subst (λ (b : BucketModel). slice_get (long_keys b c.args.rid.table) c.args.at ≡ Some c.args.rid.key) (sym c.deref_mut.ensures.value) c.requires.stands
