@@ -58,7 +58,15 @@ impl<'a> Held<'a> {
         while left > 0 {
             left -= 1;
             let key = self.bucket.long_key(table, left);
-            gone += self.sweep_one(board, pass, Rid { table, key }, left, horizon, snapshots, steps);
+            gone += self.sweep_one(
+                board,
+                pass,
+                Rid { table, key },
+                left,
+                horizon,
+                snapshots,
+                steps,
+            );
         }
         gone
     }
