@@ -1,12 +1,16 @@
--- The oldest group is taken, or none is.
-use Rattle.std.proofs.Common.{◌≡◌, ℕ, zero, suc, ◌+◌, ◌<◌, ◌≤◌, List, [], ◌∷◌, ◌++◌, length, drop, Option, Some, None, refl, sym, ap, ◌∙◌, subst, arith, append_assoc, inl}
+-- The oldest groups are taken, or none is.
+use Rattle.std.proofs.Common.{◌≡◌, ℕ, zero, suc, ◌+◌, ◌<◌, ◌≤◌, List, [], ◌∷◌, ◌++◌, length, drop, Option, Some, None, refl, sym, ap, ◌∙◌, subst, arith, append_assoc, append-nil, length-append, inl}
+use Rattle.std.proofs.lemmas.List.{map-append}
 use Rattle.std.specs.Prelude.{IsSome, option_to_list}
+use Rattle.hg_base.specs.declared.rid.Rid.{Rid}
 use Rattle.hg_base.specs.Lists.{Each}
 use Rattle.hg_base.specs.History.{Group, History}
 use Rattle.hg_core.specs.State.{CoreState}
 use Rattle.hg_rule.specs.declared.view.CommitPart.{CommitPart}
 use Rattle.hg_rule.specs.declared.view.Part.TheVariants.{OfPass, OfCommit}
 use Rattle.hg_rule.specs.declared.view.Sight.{Sight}
+use Rattle.hg_rule.specs.declared.view.Event.{Event}
+use Rattle.hg_rule.specs.declared.view.Event.TheVariants.{Take}
 use Rattle.hg_rule.specs.declared.view.Sight.TheVariants.{Saw, Heard, Took, Did}
 use Rattle.hg_rule.specs.declared.view.View.{View}
 use Rattle.hg_rule.specs.declared.view.Sizes.{Sizes}
@@ -14,7 +18,7 @@ use Rattle.hg_rule.specs.Facts.{Known}
 use Rattle.hg_rule.specs.Rules.{IsBacked}
 use Rattle.hg_rule.specs.Views.{number, pass, others, seeing, HasPass}
 use Rattle.hg_rule.specs.Moves.{joined, put_in}
-use Rattle.hg_rule.specs.Holding.{commit}
+use Rattle.hg_rule.specs.Holding.{commit, beyond, HasCommit}
 use Rattle.hg_rule.specs.Places.{without_commit}
 use Rattle.hg_rule.specs.Removes.{Takes, taking}
 use Rattle.hg_rule.specs.Rounds.{seen_taken}
@@ -22,7 +26,7 @@ use Rattle.hg_rule.proofs.Growing.{among_later}
 use Rattle.hg_rule.proofs.Rounds.{taken_append}
 use Rattle.hg_group.specs.declared.context.GroupContext.{GroupContext}
 use Rattle.hg_group.specs.Contexts.{IsContextOf, EachContextOf, AreContexts}
-use Rattle.hg_group.specs.Oldest.{StandsBehind, TakesOne, TakesNone, TakesOldest, PopsBelow}
+use Rattle.hg_group.specs.Oldest.{StandsBehind, IsNext, AreNext, records_of, takes_by, TakesNext, TakesOldest, TakesSome, PopsBelow, PopsNext, PopsSome}
 use Rattle.hg_group.proofs.Contexts.{drop_length}
 
 -- ---- contexts
@@ -58,6 +62,63 @@ pops v w bound mark cs rest (Some c) items some below are takes =
       subst (λ (p : CommitPart). AreContexts p.history.list p.taken rest) (sym is) (subst (λ gs. EachContextOf (suc (suc n)) gs rest) (sym (drop_next n h f.1.0 f.0 f.1.1.0)) f.1.1.1.1),
     )
 
+-- ---- one after the other
+
+next_more : (n : ℕ) (h : History) (cs : List GroupContext) (c : GroupContext) → AreNext n h cs → IsNext (n + length cs) h c → AreNext n h (cs ++ c ∷ [])
+next_more n h [] c are next = let e : n + 0 ≡ n = omega arith in (subst (λ m. IsNext m h c) e next, tt)
+next_more n h (d ∷ cs) c are next = let e : n + suc (length cs) ≡ suc n + length cs = omega arith in (are.0, next_more (suc n) h cs c are.1 (subst (λ m. IsNext m h c) e next))
+
+-- the view once so many were taken, when it has seen and done this besides
+abbrev after : View → ℕ → List Sight → List Event → View
+after v n sights events = seeing (OfPass (number v) (pass v) ∷ OfCommit (record (commit v) { taken = n }) ∷ beyond v) (v.sights ++ sights) (v.events ++ events)
+
+pub pops_none : (v : View) (bound : ℕ) → HasPass v → HasCommit v → PopsNext v bound [] v
+pops_none v bound own held = record {
+  sights = [];
+  marks = [];
+  count = refl;
+  is = let e : (commit v).taken ≡ (commit v).taken + 0 = omega arith in λ i. seeing ((own ∙ ap (λ l. OfPass (number v) (pass v) ∷ l) held ∙ (λ j. OfPass (number v) (pass v) ∷ OfCommit (record (commit v) { taken = e j }) ∷ beyond v)) i) (sym (append-nil v.sights) i) (sym (append-nil v.events) i);
+  most = omega arith;
+  below = omega arith;
+  next = tt;
+}
+
+pub pops_more : (v u w : View) (bound : ℕ) (cs : List GroupContext) (c : GroupContext) → PopsNext v bound cs u → PopsBelow u bound (Some c) w → PopsNext v bound (cs ++ c ∷ []) w
+pops_more v u w bound cs c p t =
+    let n = (commit v).taken + length cs in
+    let x = after v n p.sights (takes_by (number v) p.marks) in
+    let s : PopsBelow x bound (Some c) w = subst (λ y. PopsBelow y bound (Some c) w) p.is t in
+    let seen = Saw (commit v).history ∷ Took (suc n) ∷ [] in
+    let long : length (cs ++ c ∷ []) ≡ length cs + 1 = length-append cs (c ∷ []) in
+    let many : length (p.marks ++ s.1.1.0 ∷ []) ≡ length p.marks + 1 = length-append p.marks (s.1.1.0 ∷ []) in
+    let now : suc n ≡ (commit v).taken + length (cs ++ c ∷ []) = omega (arith, long) in
+    record {
+      sights = p.sights ++ seen;
+      marks = p.marks ++ s.1.1.0 ∷ [];
+      count = omega (arith, long, many, p.count);
+      is = s.1.1.1.1 ∙ (λ i. seeing (OfPass (number v) (pass v) ∷ OfCommit (record (commit v) { taken = now i }) ∷ beyond v) (append_assoc v.sights p.sights seen i) ((append_assoc v.events (takes_by (number v) p.marks) (takes_by (number v) (s.1.1.0 ∷ [])) ∙ ap (λ l. v.events ++ l) (sym (map-append (λ mark. Take (number v) mark) p.marks (s.1.1.0 ∷ [])))) i));
+      most = omega (arith, taken_append p.sights seen, p.most, long);
+      below = let less : n < bound = s.0 in omega (arith, less, long);
+      next = next_more (commit v).taken (commit v).history.list cs c p.next s.1.0;
+    }
+
+-- what a further turn asks
+pub record Still (v w : View) : Type 0 where
+  pub held : HasCommit w
+  pub history : (commit w).history ≡ (commit v).history
+  pub own : HasPass w
+
+pub still : (v w : View) (bound : ℕ) (cs : List GroupContext) → PopsNext v bound cs w → Still v w
+still v w bound cs p = subst (Still v) (sym p.is) record { held = refl; history = refl; own = refl }
+
+pub taken_still : (v w : View) (bound mark : ℕ) (cs : List GroupContext) → PopsNext v bound cs w → (commit v).taken ≤ mark → bound ≤ mark → (commit w).taken ≤ mark
+taken_still v w bound mark cs p low most = let e : (commit w).taken ≡ (commit v).taken + length cs = ap (λ y. (commit y).taken) p.is in omega (arith, e, p.below, low, most)
+
+-- the records of a context more
+pub records_more : (cs : List GroupContext) (c : GroupContext) → records_of (cs ++ c ∷ []) ≡ records_of cs ++ c.records.list
+records_more [] c = append-nil c.records.list
+records_more (d ∷ cs) c = ap (λ l. d.records.list ++ l) (records_more cs c) ∙ sym (append_assoc d.records.list (records_of cs) c.records.list)
+
 -- ---- what was seen
 
 known_taken : (s : CoreState) (sights : List Sight) → Each (Known s) sights → seen_taken sights ≤ s.taken
@@ -85,37 +146,34 @@ module _ (z : Sizes) (mark : ℕ) (v seat : View) (part : CommitPart) where
     seen_before : seen_taken v.sights ≤ part.taken
     seen_before = omega (arith, most, taken_append v.sights seat.sights)
 
-    -- so many are seen at the end
-    then_seen : (n : ℕ) (more : List Sight) → part.taken ≤ n → seen_taken more ≡ n → seen_taken ((v.sights ++ seat.sights) ++ more) ≡ n
-    then_seen n more le is = omega (arith, most, taken_append (v.sights ++ seat.sights) more)
-
-    pub none_taken : (bound : ℕ) (w : View) → bound ≤ part.taken → w ≡ without_commit hand → TakesNone v bound w
-    none_taken bound w over is = subst (TakesNone v bound) (sym is) record {
-      taken = let s = then_seen part.taken (Saw part.history ∷ Took part.taken ∷ []) (omega arith) (omega arith) in omega (arith, s);
-      parts = sym own;
-      kept = (seat.sights ++ Saw part.history ∷ Took part.taken ∷ [], append_assoc v.sights seat.sights (Saw part.history ∷ Took part.taken ∷ []));
-      events = refl;
-    }
-
-    pub one_taken : (bound n : ℕ) (c : GroupContext) (u w : View) (g : Group) → part.taken < bound → StandsBehind part.taken g part.history.list → IsContextOf (suc part.taken) g c → Takes hand n u → w ≡ without_commit u → TakesOne v bound c w
-    one_taken bound n c u w g below stands context takes is =
-        let next = Saw part.history ∷ Took (suc part.taken) ∷ [] in
-        subst (TakesOne v bound c) (sym (is ∙ ap without_commit takes.1)) record {
+    pub next_taken : (bound : ℕ) (cs : List GroupContext) (u w : View) → PopsNext hand bound cs u → w ≡ without_commit u → TakesNext v bound cs w
+    next_taken bound cs u w p is =
+        let last = Saw part.history ∷ Took (part.taken + length cs) ∷ [] in
+        subst (TakesNext v bound cs) (sym (is ∙ ap without_commit p.is)) record {
           before = part.taken;
-          below = below;
           seen = seen_before;
-          taken = ap seen_taken (append_assoc (v.sights ++ seat.sights) next next) ∙ then_seen (suc part.taken) (next ++ next) (omega arith) (omega arith);
+          below = p.below;
+          taken = omega (arith, most, p.most, taken_append (v.sights ++ seat.sights) p.sights, taken_append ((v.sights ++ seat.sights) ++ p.sights) last);
           history = part.history.list;
-          saw = among_later (Saw part.history) ((v.sights ++ seat.sights) ++ next) next (inl refl);
-          group = g;
-          stands = stands;
-          context_is = context;
-          mark = n;
+          saw = among_later (Saw part.history) ((v.sights ++ seat.sights) ++ p.sights) last (inl refl);
+          next = p.next;
+          marks = p.marks;
+          count = p.count;
           parts = sym own;
-          kept = (seat.sights ++ (next ++ next), append_assoc (v.sights ++ seat.sights) next next ∙ append_assoc v.sights seat.sights (next ++ next));
+          kept = (seat.sights ++ (p.sights ++ last), append_assoc (v.sights ++ seat.sights) p.sights last ∙ append_assoc v.sights seat.sights (p.sights ++ last));
           events = refl;
         }
 
+    -- so many were taken, and that is seen
+    pub then_enough : (bound : ℕ) (u w : View) → bound ≤ (commit u).taken → w ≡ without_commit u → bound ≤ seen_taken w.sights
+    then_enough bound u w le is =
+        let last = Saw (commit u).history ∷ Took (commit u).taken ∷ [] in
+        let e : seen_taken w.sights ≡ seen_taken (u.sights ++ last) = ap (λ (y : View). seen_taken y.sights) is in
+        omega (arith, e, taken_append u.sights last, le)
+
     pub oldest : (bound : ℕ) (o : Option GroupContext) (u w : View) → PopsBelow hand bound o u → w ≡ without_commit u → TakesOldest v bound o w
-    oldest bound None u w h is = none_taken bound w h.0 (is ∙ ap without_commit h.1)
-    oldest bound (Some c) u w h is = one_taken bound h.1.1.0 c u w h.1.0.0 h.0 h.1.0.1.0 h.1.0.1.1 h.1.1.1 is
+    oldest bound None u w h is = record { takes = next_taken bound [] u w (subst (PopsNext hand bound []) (sym h.1) (pops_none hand bound refl refl)) is; enough = λ e. then_enough bound u w (subst (λ (y : View). bound ≤ (commit y).taken) (sym h.1) h.0) is }
+    oldest bound (Some c) u w h is = record { takes = next_taken bound (c ∷ []) u w (pops_more hand hand u bound [] c (pops_none hand bound refl refl) h) is; enough = λ e. absurd cc }
+
+    pub some_taken : (bound : ℕ) (old new : List Rid) (o : Option GroupContext) (u w : View) → PopsSome hand bound old o new u → w ≡ without_commit u → TakesSome v bound old o new w
+    some_taken bound old new o u w p is = record { contexts = p.contexts; listed = p.listed; takes = next_taken bound (p.contexts ++ option_to_list o) u w p.pops is; enough = λ e. then_enough bound u w (p.enough e) is }

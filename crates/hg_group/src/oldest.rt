@@ -1,14 +1,15 @@
-//! A collector's pass takes the oldest group.
+//! A collector's pass takes the oldest groups.
 
-ghost use Rattle.std.specs.Prelude.{◌≡◌, ◌≤◌, length};
+ghost use Rattle.std.specs.Prelude.{◌≡◌, ◌+◌, ◌≤◌, ◌++◌, length, vec_capacity};
 ghost use Rattle.hg_rule.specs.Views.{pass as own_pass};
 ghost use Rattle.hg_rule.specs.Holding.{HasCommit, commit};
 ghost use Rattle.hg_rule.specs.Seats.{board_id, pass_view, IsPassOf};
 ghost use Rattle.hg_group.specs.Contexts.{AreContexts};
-ghost use Rattle.hg_group.specs.Oldest.{TakesOldest, PopsBelow};
+ghost use Rattle.hg_group.specs.Oldest.{TakesOldest, TakesSome, PopsBelow, PopsSome};
 
 use crate::context::GroupContext;
 use crate::group_list::GroupList;
+use hg_base::Rid;
 use hg_rule::{Board, CollectorPass};
 use std::collections::VecDeque;
 use std::sync::Wait;
@@ -40,6 +41,44 @@ fn pop_below(
     contexts.pop_front()
 }
 
+// Puts these records behind those that are there. No memory is taken.
+fn push_all(into: &mut Vec<Rid>, rids: &[Rid])
+    requires room { length into.old.items + length rids.now ≤ vec_capacity into.old }
+    ensures pushed { into.new.items ≡ into.old.items ++ rids.now }
+{
+    for rid in rids {
+        into.push_reserved(*rid);
+    }
+}
+
+// Pops contexts, and puts their records into the list, while there is room. A context that finds no room is given out, and ends it.
+fn pop_some(
+    board: &Board,
+    pass: &mut CollectorPass,
+    contexts: &mut VecDeque<GroupContext>,
+    into: &mut Vec<Rid>,
+    mark: u64,
+    bound: u64,
+) -> Option<GroupContext>
+    requires own { IsPassOf (board_id board.now) pass.old }
+    requires held { HasCommit (pass_view pass.old) }
+    requires mark { length (commit (pass_view pass.old)).history.list ≡ mark }
+    requires taken { (commit (pass_view pass.old)).taken ≤ mark }
+    requires bound { bound ≤ mark }
+    requires contexts { AreContexts (commit (pass_view pass.old)).history.list (commit (pass_view pass.old)).taken contexts.old.items }
+    ensures popped { PopsSome (pass_view pass.old) bound into.old.items result into.new.items (pass_view pass.new) }
+    ensures contexts { AreContexts (commit (pass_view pass.new)).history.list (commit (pass_view pass.new)).taken contexts.new.items }
+    ensures own { IsPassOf (board_id board.now) pass.new }
+{
+    while let Some(context) = pop_below(board, pass, contexts, mark, bound) {
+        if context.records.len() > into.capacity() - into.len() {
+            return Some(context);
+        }
+        push_all(into, context.records.as_slice());
+    }
+    None
+}
+
 impl GroupList {
     ghost use Rattle.hg_group.specs.Lists.{groups_board_id};
 
@@ -65,5 +104,31 @@ impl GroupList {
         let seat = board.split_commit(pass);
         held.give(seat);
         context
+    }
+
+    /// Counts groups as taken, oldest first, until `bound` were, and puts their records into the list. It ends early where a
+    /// group's records find no room there: that group is taken too, and its context is given out. The commit lock is taken once,
+    /// and held for no more records than the list has room for. The bound is at most the mark of the pass's record, and the pass
+    /// holds no bucket. No memory is taken.
+    pub fn take_some<R: Wait>(
+        &self,
+        rt: &R,
+        board: &Board,
+        bound: u64,
+        into: &mut Vec<Rid>,
+        pass: &mut CollectorPass,
+    ) -> Option<GroupContext>
+        requires board { groups_board_id self.now ≡ board_id board.now }
+        requires own { IsPassOf (board_id board.now) pass.old }
+        requires bound { bound ≤ (own_pass (pass_view pass.old)).mark }
+        ensures taken { TakesSome (pass_view pass.old) bound into.old.items result into.new.items (pass_view pass.new) }
+        ensures own { IsPassOf (board_id board.now) pass.new }
+    {
+        let (mut held, seat) = self.take(rt);
+        let mark = board.join_commit(pass, seat);
+        let last = pop_some(board, pass, &mut held.contexts, into, mark, bound);
+        let seat = board.split_commit(pass);
+        held.give(seat);
+        last
     }
 }
