@@ -31,13 +31,15 @@ abbrev pub FallsBelow : ℕ → List ℕ → Type 0
 FallsBelow n [] = ⊤
 FallsBelow n (m ∷ ms) = (m < n) × FallsBelow m ms
 
--- Groups were taken, one with each Take, and the records of each were cut. Their numbers are given, the last one first.
+-- Groups were taken, one with each Take, and the records of each were cut. Their numbers are given, the last one first. Each is
+-- over the count that the pass had seen taken before, and at most the count that it has seen in the end.
 pub record TakesGroups (buckets bound : ℕ) (v : View) (gone : ℕ) (w : View) : Type 0 where
   pub on : GoesOn kinds.Group v w
   pub gone_is : gone ≡ gone_in on.steps
   pub taken : List ℕ
   pub count : length taken ≡ takes_in on.steps
   pub falls : FallsBelow (suc (seen_taken w.sights)) taken
+  pub over : Each (λ n. seen_taken v.sights < n) taken
   pub each : Each (WasTaken buckets (number v) (pass v).mark bound w.sights on.visits on.steps) taken
 
 -- so many groups or more were taken in the end

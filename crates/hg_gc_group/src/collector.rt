@@ -6,8 +6,7 @@ ghost use Rattle.hg_store.specs.Stores.{store_board_id, store_buckets};
 ghost use Rattle.hg_group.specs.Lists.{groups_board_id};
 ghost use Rattle.hg_tracker.specs.Boards.{trackers_board_id, board_sizes};
 
-use crate::taking::take_all;
-use hg_base::{Kind, NoMemory, Report};
+use hg_base::{Kind, NoMemory, Report, Rid};
 use hg_group::GroupList;
 use hg_rule::CollectorPass;
 use hg_store::Store;
@@ -16,11 +15,16 @@ use hg_visit::{new_report, rewrite};
 use std::alloc::Global;
 use std::sync::Wait;
 
-/// A collector's pass, with room for a gather and for the report of its last round.
+// How many records of groups that are taken together there is room for. The commit lock is held for no more at a time.
+const ROOM: usize = 2048;
+
+/// A collector's pass, with room for a gather, for the records of groups that are taken together, and for the report of its last
+/// round.
 #[derive(Drop)]
 pub struct GroupCollector {
     pub(crate) pass: CollectorPass,
     pub(crate) gathered: Gathered,
+    pub(crate) rids: Vec<Rid>,
     pub(crate) report: Report,
 }
 
@@ -46,12 +50,16 @@ impl GroupCollector {
         let Ok(gathered) = Gathered::new(alloc, sessions, tables) else {
             return Err((pass, NoMemory));
         };
+        let Ok(rids) = Vec::with_capacity(alloc, ROOM) else {
+            return Err((pass, NoMemory));
+        };
         let Ok(report) = new_report(alloc, Kind::Group, sessions) else {
             return Err((pass, NoMemory));
         };
         Ok(GroupCollector {
             pass,
             gathered,
+            rids,
             report,
         })
     }
@@ -96,7 +104,7 @@ impl GroupCollector {
         trackers.gather(&mut self.pass, &mut self.gathered);
         board.look_at(&mut self.pass);
         let bound = self.gathered.least();
-        let removed = take_all(rt, board, store, groups, &mut self.pass, bound);
+        let removed = self.take_groups(rt, board, store, groups, bound);
         rewrite(&mut self.report, Kind::Group, &self.gathered, removed);
     }
 

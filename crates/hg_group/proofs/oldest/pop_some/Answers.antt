@@ -24,10 +24,13 @@ loop-context-preserved-else-len-capacity c =
     let old = c.args.into.now.items in
     let new = c.in-Some.context.records.list in
     record {
-      popped = (p.0 ++ c.in-Some.context ∷ [], (
-        c.push_all.ensures.pushed ∙ ((λ i. p.1.0 i ++ c.as_slice.ensures i) ∙ (append_assoc old (records_of p.0) new ∙ ap (λ l. old ++ l) (sym (records_more p.0 c.in-Some.context)))),
-        pops_more (pass_view c.args.pass.now) (pass_view c.loop-context.pass) (pass_view c.pop_below.new.pass) c.args.bound p.0 c.in-Some.context p.1.1 c.in-Some.ensures.popped,
-      ));
+      popped = (
+        p.0 ++ c.in-Some.context ∷ [],
+        (
+          c.push_all.ensures.pushed ∙ ((λ i. p.1.0 i ++ c.as_slice.ensures i) ∙ (append_assoc old (records_of p.0) new ∙ ap (λ l. old ++ l) (sym (records_more p.0 c.in-Some.context)))),
+          pops_more (pass_view c.args.pass.now) (pass_view c.loop-context.pass) (pass_view c.pop_below.new.pass) c.args.bound p.0 c.in-Some.context p.1.1 c.in-Some.ensures.popped,
+        ),
+      );
       contexts = c.in-Some.ensures.contexts;
       own = c.in-Some.ensures.own;
     }
@@ -38,10 +41,13 @@ loop-context-preserved c =
     let old = c.args.into.now.items in
     let new = c.in-Some.context.records.list in
     record {
-      popped = (p.0 ++ c.in-Some.context ∷ [], (
-        c.push_all.ensures.pushed ∙ ((λ i. p.1.0 i ++ c.as_slice.ensures i) ∙ (append_assoc old (records_of p.0) new ∙ ap (λ l. old ++ l) (sym (records_more p.0 c.in-Some.context)))),
-        pops_more (pass_view c.args.pass.now) (pass_view c.loop-context.pass) (pass_view c.pop_below.new.pass) c.args.bound p.0 c.in-Some.context p.1.1 c.in-Some.ensures.popped,
-      ));
+      popped = (
+        p.0 ++ c.in-Some.context ∷ [],
+        (
+          c.push_all.ensures.pushed ∙ ((λ i. p.1.0 i ++ c.as_slice.ensures i) ∙ (append_assoc old (records_of p.0) new ∙ ap (λ l. old ++ l) (sym (records_more p.0 c.in-Some.context)))),
+          pops_more (pass_view c.args.pass.now) (pass_view c.loop-context.pass) (pass_view c.pop_below.new.pass) c.args.bound p.0 c.in-Some.context p.1.1 c.in-Some.ensures.popped,
+        ),
+      );
       contexts = c.in-Some.ensures.contexts;
       own = c.in-Some.ensures.own;
     }

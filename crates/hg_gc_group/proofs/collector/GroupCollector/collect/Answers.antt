@@ -1,5 +1,6 @@
-use Rattle.std.proofs.Common.{sym, subst, arith}
+use Rattle.std.proofs.Common.{◌≤◌, sym, subst, arith}
 use Rattle.hg_base.specs.declared.report.Kind.TheVariants.{Group}
+use Rattle.hg_base.specs.declared.report.Report.{Report}
 use Rattle.hg_core.specs.Passes.{group_bound}
 use Rattle.hg_rule.specs.declared.board.Board.{Board}
 use Rattle.hg_rule.specs.declared.view.View.{View}
@@ -7,29 +8,34 @@ use Rattle.hg_rule.specs.Facts.{record_of}
 use Rattle.hg_rule.specs.Views.{pass, HasPass}
 use Rattle.hg_rule.specs.Seats.{sizes_of, pass_view}
 use Rattle.hg_tracker.specs.Boards.{board_sizes}
+use Rattle.hg_tracker.specs.Gathers.{IsGatherOf}
 use Rattle.hg_gc_group.specs.Taking.{TakesAll}
 use Rattle.hg_visit.proofs.Counted.{few}
 use Rattle.hg_gc_group.proofs.Rounds.{collects}
 use Rattle.hg_gc_group.proofs.collector.GroupCollector.collect.Goals as goal
 
-pub take_all-removed-requires-clause-few : goal.take_all-removed-requires-clause-few
-take_all-removed-requires-clause-few g c =
+pub take_groups-removed-requires-clause-few : goal.take_groups-removed-requires-clause-few
+take_groups-removed-requires-clause-few g c =
     let x = pass_view c.look_at.new.pass in
     let own : HasPass x = subst HasPass (sym c.look_at.ensures.stays) c.gather.ensures.own.1 in
     let least = few Group (sizes_of c.board-board.result.now) c.look_at.result x c.board-board.result.now.room c.look_at.ensures.backed own in
     omega (arith, least)
 
 pub rewrite-requires : goal.rewrite-requires
-rewrite-requires g c = record { room = ((board_sizes c.args.trackers.now).sessions, pass (pass_view c.gather.new.pass), c.gather.ensures.shown, c.requires.own.1.1) }
+rewrite-requires g c =
+    let z = (board_sizes c.args.trackers.now).sessions in
+    let x = pass (pass_view c.gather.new.pass) in
+    let same = c.take_groups-removed.ensures.same in
+    record { room = (z, x, subst (IsGatherOf z x) (sym same.0) c.gather.ensures.shown, subst (λ (r : Report). z ≤ r.entries.room) (sym same.1) c.requires.own.1.1) }
 
 pub returns-clause-collects : goal.returns-clause-collects
 returns-clause-collects g c =
     let x = pass_view c.gather.new.pass in
-    let w = pass_view c.take_all-removed.new.pass in
+    let w = pass_view c.take_groups-removed.new.self.pass in
     let shown = c.gather.ensures.shown in
-    let there = subst (λ (u : View). TakesAll (sizes_of c.board-board.result.now).buckets c.least-bound.result u c.take_all-removed.result w) c.look_at.ensures.stays c.take_all-removed.ensures.takes in
-    let at = subst (λ n. TakesAll (sizes_of c.board-board.result.now).buckets n x c.take_all-removed.result w) (c.least-bound.ensures _ _ shown) there in
-    let takes = subst (λ (b : Board). TakesAll (sizes_of b).buckets (group_bound (record_of (pass x))) x c.take_all-removed.result w) c.board-board.ensures at in
-    let report = c.rewrite.ensures.reports _ _ shown in
-    collects (board_sizes c.args.trackers.now) (pass_view c.args.self.now.pass) x w _ c.take_all-removed.result c.gather.ensures.gathered
+    let there = subst (λ (u : View). TakesAll (sizes_of c.board-board.result.now).buckets c.least-bound.result u c.take_groups-removed.result w) c.look_at.ensures.stays c.take_groups-removed.ensures.takes in
+    let at = subst (λ n. TakesAll (sizes_of c.board-board.result.now).buckets n x c.take_groups-removed.result w) (c.least-bound.ensures _ _ shown) there in
+    let takes = subst (λ (b : Board). TakesAll (sizes_of b).buckets (group_bound (record_of (pass x))) x c.take_groups-removed.result w) c.board-board.ensures at in
+    let report = c.rewrite.ensures.reports _ _ (subst (IsGatherOf (board_sizes c.args.trackers.now).sessions (pass x)) (sym c.take_groups-removed.ensures.same.0) shown) in
+    collects (board_sizes c.args.trackers.now) (pass_view c.args.self.now.pass) x w _ c.take_groups-removed.result c.gather.ensures.gathered
     (subst (λ n. TakesAll (board_sizes c.args.trackers.now).buckets (group_bound (record_of (pass x))) x n w) (sym report.removed_is) takes) report
