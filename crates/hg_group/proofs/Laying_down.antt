@@ -1,5 +1,6 @@
 -- What became of a batch is laid down, one after the other.
-use Rattle.std.proofs.Common.{◌≡◌, ℕ, zero, suc, ◌+◌, ◌<◌, List, [], ◌∷◌, ◌++◌, length, map, take, drop, get_or, set, Option, Some, None, refl, sym, ap, ◌∙◌, subst, arith}
+use Rattle.std.proofs.Common.{◌≡◌, ℕ, zero, suc, ◌+◌, ◌<◌, List, [], ◌∷◌, ◌++◌, length, map, take, drop, get_or, set, Option, Some, None, refl, sym, ap, ◌∙◌, subst, arith, append_assoc, append-nil}
+use Rattle.std.proofs.lemmas.List.{map-append}
 use Rattle.std.specs.Prelude.{IfSome}
 use Rattle.hg_base.specs.Lists.{Each}
 use Rattle.hg_core.specs.declared.log.LogEntry.TheVariants.{Published}
@@ -8,22 +9,23 @@ use Rattle.hg_rule.specs.declared.view.SessionPart.{SessionPart}
 use Rattle.hg_rule.specs.declared.view.Part.{Part}
 use Rattle.hg_rule.specs.declared.view.Part.TheVariants.{Away, Lent}
 use Rattle.hg_rule.specs.declared.view.Sight.TheVariants.{Saw, Heard}
+use Rattle.hg_rule.specs.declared.view.Event.TheVariants.{HandBack}
 use Rattle.hg_rule.specs.declared.view.View.{View}
-use Rattle.hg_rule.specs.Facts.{IsAmong, StartsWith, groups, new_session}
-use Rattle.hg_rule.specs.Views.{number, session, since, others, seeing}
+use Rattle.hg_rule.specs.Facts.{IsAmong, groups, new_session}
+use Rattle.hg_rule.specs.Views.{number, number_in, session, since, others, seeing}
 use Rattle.hg_rule.specs.Holding.{beyond}
 use Rattle.hg_rule.specs.Writes.{with_published}
 use Rattle.hg_rule.specs.Handing.{Members, lent, who, numbered, group_of, next_lent, lent_alone, hands_back}
 use Rattle.hg_rule.specs.Seats.{BoardId, tx_view, IsTxOf}
-use Rattle.hg_rule.proofs.Lists.{starts_same, starts_on}
 use Rattle.hg_queue.specs.declared.open_tx.OpenTx.{OpenTx}
 use Rattle.hg_queue.specs.Handing.{seat_number, seat_part}
 use Rattle.hg_group.specs.declared.receipt.Receipt.{Receipt}
 use Rattle.hg_group.specs.declared.laid.Outcome.TheVariants.{Committed}
 use Rattle.hg_group.specs.declared.laid.Laid.{Laid}
 use Rattle.hg_group.specs.Order.{StandsIn}
-use Rattle.hg_group.specs.Batch.{IsOutcome, IsLaid, AreLaid, HasGroup, LaysAll}
+use Rattle.hg_group.specs.Batch.{IsOutcome, IsLaid, AreLaid, HasGroup, LaysAll, sessions_of, backs}
 use Rattle.hg_group.proofs.Grouped.{stands}
+use Rattle.hg_group.proofs.Stamped.{take_all}
 
 -- ---- lists
 
@@ -92,16 +94,21 @@ laid_set t k (suc i) (z ∷ xs) x l h y = (h.0, laid_set t (suc k) i xs x (omega
     up : (k i : ℕ) → k + suc i ≡ suc k + i
     up k i = omega arith
 
+take_more : (txs : List OpenTx) (i : ℕ) (d : OpenTx) → i < length txs → take (i + 1) txs ≡ take i txs ++ get_or txs i d ∷ []
+take_more [] i d l = absurd (omega (arith, l))
+take_more (tx ∷ txs) zero d l = refl
+take_more (tx ∷ txs) (suc i) d l = let up : suc i + 1 ≡ suc (i + 1) = omega arith in ap (λ n. take n (tx ∷ txs)) up ∙ ap (λ ys. tx ∷ ys) (take_more txs i d (omega (arith, l)))
+
 -- ---- one more
 
 -- what the pass has while so many were laid down
 pub record Laying (sessions : ℕ) (v : View) (txs : List OpenTx) (n place : ℕ) (g : HasGroup sessions v txs n place) (i : ℕ) (w : View) : Type 0 where
   pub parts : w.parts ≡ Away (number v) (session v) (since v) ∷ lent (drop i (numbered n g.ms))
   pub sights : w.sights ≡ v.sights
-  pub events : StartsWith w.events v.events
+  pub events : w.events ≡ v.events ++ backs (sessions_of (take i txs))
 
 pub laying_none : (sessions : ℕ) (v : View) (txs : List OpenTx) (n place : ℕ) (g : HasGroup sessions v txs n place) → Laying sessions v txs n place g 0 v
-laying_none sessions v txs n place g = record { parts = g.parts; sights = refl; events = starts_same v.events }
+laying_none sessions v txs n place g = record { parts = g.parts; sights = refl; events = sym (append-nil v.events) }
 
 module _ (sessions : ℕ) (v : View) (txs : List OpenTx) (n place : ℕ) (g : HasGroup sessions v txs n place) (i : ℕ) (w : View) (d : OpenTx) (s : Laying sessions v txs n place g i w) (l : i < length txs) where
   abbrev pub m : ℕ × SessionPart
@@ -129,7 +136,10 @@ module _ (sessions : ℕ) (v : View) (txs : List OpenTx) (n place : ℕ) (g : Ha
   laying_more x is = record {
     parts = ap (λ (y : View). y.parts) is ∙ ap (λ (ps : List Part). (hands_back (seeing ps w.sights w.events)).parts) now;
     sights = ap (λ (y : View). y.sights) is ∙ s.sights;
-    events = starts_on x.events w.events v.events s.events (_, ap (λ (y : View). y.events) is);
+    events =
+        let js = sessions_of (take i txs) in
+        let j = (get_or txs i d).writer.session in
+        ap (λ (y : View). y.events) is ∙ ((λ q. s.events q ++ HandBack (number_in (next_is.0 q)) ∷ []) ∙ (append_assoc v.events (backs js) (HandBack j ∷ []) ∙ ap (λ l. v.events ++ l) (sym (map-append (λ k. HandBack k) js (j ∷ [])) ∙ ap backs (sym (map-append (λ (tx : OpenTx). tx.writer.session) (take i txs) (get_or txs i d ∷ [])) ∙ ap sessions_of (sym (take_more txs i d l))))));
   }
 
   pub laid_one : (t : BoardId) (x : Laid) (receipt : Receipt) → x.outcome ≡ Committed receipt → IsTxOf t x.seat → seat_number x.seat ≡ (get_or txs i d).writer.session → tx_view x.seat ≡ lent_alone (get_or txs i d).writer.session (next_lent w) w → receipt.number ≡ n → receipt.place ≡ place + i → IsLaid t (get_or txs i d).writer.session x
@@ -158,11 +168,11 @@ module _ (sessions : ℕ) (v : View) (txs : List OpenTx) (n place : ℕ) (g : Ha
         );
       }
 
-pub laid_end : (sessions : ℕ) (v : View) (txs : List OpenTx) (n place : ℕ) (g : HasGroup sessions v txs n place) (i : ℕ) (w : View) → i ≡ length txs → Laying sessions v txs n place g i w → LaysAll v w
+pub laid_end : (sessions : ℕ) (v : View) (txs : List OpenTx) (n place : ℕ) (g : HasGroup sessions v txs n place) (i : ℕ) (w : View) → i ≡ length txs → Laying sessions v txs n place g i w → LaysAll v txs w
 laid_end sessions v txs n place g i w end s = record {
   parts = s.parts ∙ ap (λ (ms : Members). Away (number v) (session v) (since v) ∷ lent ms) (ap (λ k. drop k (numbered n g.ms)) (end ∙ sym (numbered_length n g.ms ∙ whose_length txs g.ms g.whose)) ∙ drop_end (numbered n g.ms));
   sights = s.sights;
-  events = s.events;
+  events = s.events ∙ ap (λ l. v.events ++ backs (sessions_of l)) (ap (λ k. take k txs) end ∙ take_all txs);
 }
 
 -- ---- what is laid at a place

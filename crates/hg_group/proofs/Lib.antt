@@ -14,6 +14,7 @@ pub mod Grouped
 pub mod Whole
 -- It is laid down, and handed back.
 pub mod Laying_down
+pub mod Turning
 pub mod Returning
 pub mod Back
 pub mod Through

@@ -1,10 +1,11 @@
 -- The records of a batch are stamped, one after the other.
-use Rattle.std.proofs.Common.{◌≡◌, ℕ, zero, suc, ◌+◌, ◌<◌, Bool, true, false, List, [], ◌∷◌, ◌++◌, length, take, get_or, refl, sym, ap, ◌∙◌, subst, arith, append_assoc, true≢false}
+use Rattle.std.proofs.Common.{◌≡◌, ℕ, zero, suc, ◌+◌, ◌<◌, Bool, true, false, List, [], ◌∷◌, ◌++◌, length, take, get_or, refl, sym, ap, ◌∙◌, subst, arith, append_assoc, append-nil, true≢false}
 use Rattle.std.specs.Prelude.{◌==◌, ◌&&◌, ◌||◌, if◌then◌else◌, IsSome, IsTrue, is_some}
 use Rattle.std.proofs.lemmas.Bool.Decides.{Decides-eqb, nat_tests}
 use Rattle.std.proofs.lemmas.List.{map-append}
 use Rattle.hg_base.specs.declared.rid.Rid.{Rid}
 use Rattle.hg_base.specs.Lists.{Each}
+use Rattle.hg_base.proofs.ListFacts.{each_snoc}
 use Rattle.hg_base.specs.History.{NoNumberTwice, NoneTwice, same_rid, is_among}
 use Rattle.hg_core.specs.Contents.{is_stamped, has_stamped}
 use Rattle.hg_core.specs.Logs.{begans, is_plain, is_in, open_in}
@@ -19,7 +20,7 @@ use Rattle.hg_rule.specs.Writes.{with_stamp, listing}
 use Rattle.hg_rule.specs.Handing.{Members, members, lent, who, part_of, writer_at, flag}
 use Rattle.hg_rule.proofs.Lists.{starts_same, starts_on}
 use Rattle.hg_queue.specs.declared.open_tx.OpenTx.{OpenTx}
-use Rattle.hg_group.specs.Batch.{IsTaken, AreTaken, StampsOne, with_session, all_pairs, bare, Stamped}
+use Rattle.hg_group.specs.Batch.{IsTaken, AreTaken, StampsOne, with_session, all_pairs, bare, IsStamp, Stamped}
 use Rattle.hg_base.proofs.RidOrder.{same_back}
 use Rattle.hg_group.proofs.Recording.{among_at, among_before, take_next}
 use Rattle.hg_group.proofs.Batching.{away_there}
@@ -103,7 +104,9 @@ stamped_start v own has far none = record {
   exact = λ j r. refl;
   alone = tt;
   kept = starts_same v.sights;
-  events = starts_same v.events;
+  steps = [];
+  only = tt;
+  events = sym (append-nil v.events);
 }
   where
     never : (ms : Members) → Each (λ m. has_stamped m.0 [] ≡ true → m.1.stamped ≡ true) ms
@@ -122,7 +125,9 @@ stamped_next v w x done j n r among s one =
       exact = λ k q. ap (λ b. (j == k && same_rid r q) || b) (s.exact k q) ∙ (swap_or (j == k && same_rid r q) (is_stamped k q done) ∙ sym (stamped_append k q done ((j, r) ∷ [])));
       alone = subst (λ js. Each (λ e. IsTrue (is_in js e.0)) ((j, r) ∷ s.list)) (sym who_flag) (subst (λ js. IsTrue (is_in js j)) (sym (same_who s.ms (members (beyond v)) s.alike)) among, s.alone);
       kept = starts_on x.sights w.sights v.sights s.kept one.kept;
-      events = starts_on x.events w.events v.events s.events (Stamp j r n ∷ [], one.events);
+      steps = s.steps ++ Stamp j r n ∷ [];
+      only = each_snoc IsStamp s.steps (Stamp j r n) s.only tt;
+      events = one.events ∙ (ap (λ l. l ++ Stamp j r n ∷ []) s.events ∙ append_assoc v.events s.steps (Stamp j r n ∷ []));
     }
   where
     swap_or : (a b : Bool) → (a || b) ≡ (b || (a || false))

@@ -12,7 +12,8 @@ use Rattle.hg_rule.specs.declared.view.Sight.TheVariants.{Saw, Heard}
 use Rattle.hg_rule.specs.declared.view.View.{View}
 use Rattle.hg_rule.specs.Facts.{StartsWith, IsAmong, groups}
 use Rattle.hg_rule.specs.Views.{number, session, since}
-use Rattle.hg_rule.specs.declared.view.Event.TheVariants.{Stamp}
+use Rattle.hg_rule.specs.declared.view.Event.{Event}
+use Rattle.hg_rule.specs.declared.view.Event.TheVariants.{Stamp, HandBack}
 use Rattle.hg_rule.specs.Holding.{commit, beyond}
 use Rattle.hg_base.specs.Lists.{Each}
 use Rattle.hg_core.specs.Contents.{is_stamped, has_stamped}
@@ -94,6 +95,10 @@ abbrev pub HasRoomForAll : List OpenTx → Type 0
 HasRoomForAll [] = ⊤
 HasRoomForAll (tx ∷ txs) = length (all_records txs) ≤ tx.records.room
 
+abbrev pub IsStamp : Event → Type 0
+IsStamp (Stamp j rid n) = ⊤
+IsStamp _ = ⊥
+
 -- With the committer's part joined, these were stamped, and nothing else of the parts has changed.
 pub record Stamped (v : View) (done : List (ℕ × Rid)) (w : View) : Type 0 where
   pub ms : Members
@@ -104,7 +109,9 @@ pub record Stamped (v : View) (done : List (ℕ × Rid)) (w : View) : Type 0 whe
   pub exact : (j : ℕ) (r : Rid) → is_stamped j r list ≡ is_stamped j r done
   pub alone : Each (λ e. IsTrue (is_in (who ms) e.0)) list
   pub kept : StartsWith w.sights v.sights
-  pub events : StartsWith w.events v.events
+  pub steps : List Event
+  pub only : Each IsStamp steps
+  pub events : w.events ≡ v.events ++ steps
 
 -- ---- what is laid for a session
 
@@ -144,11 +151,19 @@ pub record HasBatch (sessions : ℕ) (v : View) (txs : List OpenTx) : Type 0 whe
   pub inside : Each (λ tx. IsSession sessions tx.writer.session) txs
   pub parts : v.parts ≡ Away (number v) (session v) (since v) ∷ lent ms
 
--- what the pass had of others is gone
-pub record LaysAll (v w : View) : Type 0 where
+-- the sessions of these transactions, in order
+abbrev pub sessions_of : List OpenTx → List ℕ
+sessions_of txs = map (λ tx. tx.writer.session) txs
+
+-- the steps by which sessions have their parts back, in order
+abbrev pub backs : List ℕ → List Event
+backs js = map (λ j. HandBack j) js
+
+-- the sessions of these transactions have their parts back, and the pass has nothing of others now
+pub record LaysAll (v : View) (txs : List OpenTx) (w : View) : Type 0 where
   pub parts : w.parts ≡ Away (number v) (session v) (since v) ∷ []
   pub sights : w.sights ≡ v.sights
-  pub events : StartsWith w.events v.events
+  pub events : w.events ≡ v.events ++ backs (sessions_of txs)
 
 -- ---- what a session has again
 

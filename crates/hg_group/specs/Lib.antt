@@ -4,6 +4,7 @@ pub mod Places
 pub mod Lists
 pub mod Order
 pub mod Batch
+pub mod Turns
 pub mod Leading
 pub mod Founded
 pub mod Submitting

@@ -6,6 +6,7 @@ ghost use Rattle.hg_rule.specs.Seats.{board_id, sizes_of, session_view, IsAwayOf
 ghost use Rattle.hg_store.specs.Stores.{store_board_id, store_buckets};
 ghost use Rattle.hg_queue.specs.Queues.{IsPassOf};
 ghost use Rattle.hg_group.specs.Leading.{IsKept, Leads};
+ghost use Rattle.hg_group.specs.Turns.{TakesTurn};
 
 use crate::context::GroupContext;
 use crate::gathering::gather;
@@ -69,6 +70,7 @@ pub(crate) fn lead<R: Wait>(
     requires most { sessions ≡ (sizes_of board.now).sessions }
     ensures kept { IsKept (board_id board.now) (sizes_of board.now).sessions result × IsPassOf queue.now result.line }
     ensures led { Leads (session_view pass.old) (session_view pass.new) }
+    ensures turn { TakesTurn (session_view pass.old) (session_view pass.new) }
     ensures own { IsAwayOf (board_id board.now) (sizes_of board.now) pass.new × (pass.new.number ≡ pass.old.number) }
 {
     let Batches {

@@ -1,4 +1,4 @@
-use Rattle.std.proofs.Common.{rules, ◌≡◌, ◌<◌, ◌+◌, ◌++◌, ◌∷◌, [], ℕ, suc, List, length, map, sym, ap, ◌∙◌, subst, arith}
+use Rattle.std.proofs.Common.{rules, ◌≡◌, inl, ◌<◌, ◌+◌, ◌++◌, ◌∷◌, [], ℕ, suc, List, length, map, refl, sym, ap, ◌∙◌, subst, arith, append-nil}
 use Rattle.hg_base.specs.History.{History, NoNumberTwice}
 use Rattle.hg_rule.specs.declared.groups.Groups.{Groups}
 use Rattle.hg_rule.specs.declared.view.CommitPart.{CommitPart}
@@ -31,6 +31,7 @@ use Rattle.hg_group.specs.declared.context.GroupContext.{GroupContext}
 use Rattle.hg_group.proofs.Contexts.{contexts_more}
 use Rattle.hg_group.proofs.Collecting.{group_context}
 use Rattle.hg_group.proofs.Listing.{records_room, pairs_room, taken_room}
+use Rattle.hg_group.proofs.Turning.{published_whole}
 use Rattle.hg_group.proofs.batch.lead.Goals as goal
 
 roomy : (txs was : List OpenTx) (ms : Members) → (room : ℕ) × (txs ≡ with_room room was) → AreTaken was ms → AreTaken txs ms
@@ -81,6 +82,31 @@ lay-requires-clause-group g c =
     subst (λ l. HasGroup (sizes_of c.args.board.now).sessions (session_view c.split_commit-seat-2.new.pass) l n c.args.kept.count) (c.as_slice.ensures.value ∙ sym c.as_slice-2.ensures.value)
     (has_group v w (session_view c.stamp_batch.new.pass) (session_view c.publish.new.pass) (session_view c.split_commit-seat-2.new.pass) part h.ms c.as_slice.result.now n o c.stamp_batch.ensures.stamped c.publish.ensures.step c.split_commit-seat-2.ensures.view
     (sizes_of c.args.board.now) mark c.args.kept.count c.join_commit-number.ensures.backed taken next c.requires.kept.0.count_is)
+
+pub returns-then-is_empty-clause-turn : goal.returns-then-is_empty-clause-turn
+returns-then-is_empty-clause-turn g c = record { steps = []; events = c.gather.ensures.gathered.events ∙ sym (append-nil (session_view c.args.pass.now).events); whole = inl ([], refl) }
+
+pub returns-clause-turn : goal.returns-clause-turn
+returns-clause-turn g c =
+    let v = session_view c.args.pass.now in
+    let h = c.gather.ensures.gathered in
+    let part = part_in c.args.kept.seat in
+    let w = session_view c.join_commit-number.new.pass in
+    let x = session_view c.stamp_batch.new.pass in
+    let y = session_view c.publish.new.pass in
+    let u = session_view c.split_commit-seat-2.new.pass in
+    let o = in_hand v (session_view c.gather.new.pass) (commit_view c.args.kept.seat) w part h.ms h.parts c.requires.kept.0.seat.1 c.join_commit-number.ensures.view in
+    let mark = c.join_commit-number.result in
+    let n : ℕ = mark + 1 in
+    let s = c.stamp_batch.ensures.stamped in
+    let long : length part.history.list ≡ mark = ap (λ (q : CommitPart). length q.history.list) (sym o.commit_is) ∙ c.join_commit-number.ensures.mark.is_length in
+    let next : n ≡ suc (length part.history.list) = omega (arith, long) in
+    let z = (sizes_of c.args.board.now).sessions in
+    let taken : AreTaken c.as_slice.result.now h.ms = subst (λ l. AreTaken l h.ms) (sym c.as_slice.ensures.value) (roomy c.make_room.new.popped.items c.gather.new.popped.items h.ms c.make_room.ensures.whole h.taken) in
+    let group : HasGroup z u c.as_slice-2.result.now n c.args.kept.count = subst (λ l. HasGroup z u l n c.args.kept.count) (c.as_slice.ensures.value ∙ sym c.as_slice-2.ensures.value)
+        (has_group v w x y u part h.ms c.as_slice.result.now n o s c.publish.ensures.step c.split_commit-seat-2.ensures.view (sizes_of c.args.board.now) mark c.args.kept.count c.join_commit-number.ensures.backed taken next c.requires.kept.0.count_is) in
+    published_whole v w x y u (session_view c.lay.new.pass) s.steps n c.args.kept.count z c.as_slice-2.result.now
+    (ap (λ (t : View). t.events) c.join_commit-number.ensures.view ∙ h.events) s.only s.events (ap (λ (t : View). t.events) c.publish.ensures.step.1) (ap (λ (t : View). t.events) c.split_commit-seat-2.ensures.view) group c.lay.ensures.all
 
 low : (a h b k : ℕ) → a ≤ h → b ≡ a → k ≡ suc h → b ≤ k
 low a h b k le e f = omega (arith, le, e, f)

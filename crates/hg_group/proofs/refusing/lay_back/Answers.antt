@@ -7,14 +7,14 @@ use Rattle.hg_group.specs.declared.laid.Outcome.TheVariants.{Refused}
 use Rattle.hg_group.specs.Batch.{IsLaid, HasBatch}
 use Rattle.hg_group.proofs.Batching.{away_back}
 use Rattle.hg_group.proofs.Laying_down.{laid_set}
-use Rattle.hg_group.proofs.Back.{Same, Next, next_of, same_none, same_on, refused_one, back_end}
+use Rattle.hg_group.proofs.Back.{Same, Parted, Next, next_of, parted_none, parted_more, refused_one, back_end}
 use Rattle.hg_group.proofs.refusing.lay_back.Goals as goal
 
 none : (n : ℕ) → 0 + n ≡ n
 none n = omega arith
 
 pub loop-turn-init : goal.loop-turn-init
-loop-turn-init c = record { own = (c.requires.own, refl); laid = c.requires.laid; batch = c.requires.batch; same = same_none (session_view c.args.pass.now); left = none (length c.args.popped.now.items); room = refl }
+loop-turn-init c = record { own = (c.requires.own, refl); laid = c.requires.laid; batch = c.requires.batch; parted = parted_none (session_view c.args.pass.now) c.args.popped.now.items; left = none (length c.args.popped.now.items); room = refl }
 
 some_left : (n i long all : ℕ) → i + long ≡ all → n ≡ all → i < n → 0 < long
 some_left n i long all e f l = omega (arith, e, f, l)
@@ -71,12 +71,13 @@ loop-turn-preserved c =
     let new : Laid = record { seat = c.hand_back-seat.result; outcome = Refused tx } in
     let one : IsLaid t j new = refused_one z w tx rest t new n refl c.hand_back-seat.ensures.tx.0 c.hand_back-seat.ensures.tx.1 c.hand_back-seat.ensures.seat in
     let away = away_back t (sizes_of c.args.board.now) c.loop-turn.pass c.hand_back-seat.new.pass c.loop-turn.invariant.own.0 c.hand_back-seat.ensures.own.0 c.hand_back-seat.ensures.own.1 c.hand_back-seat.ensures.view in
-    let long : length txs ≡ suc (length rest) = ap length (parted txs tx c.remove-tx.ensures.value (some_left c.len-turn-end.result c.loop-turn.turn (length txs) (length c.args.popped.now.items) c.loop-turn.invariant.left (c.len-turn-end.ensures ∙ c.args.popped.now.ok.0) c.loop-turn-test.true)) ∙ ap (λ (ys : List OpenTx). suc (length ys)) (sym c.remove-tx.ensures.items) in
+    let first : txs ≡ tx ∷ drop 1 txs = parted txs tx c.remove-tx.ensures.value (some_left c.len-turn-end.result c.loop-turn.turn (length txs) (length c.args.popped.now.items) c.loop-turn.invariant.left (c.len-turn-end.ensures ∙ c.args.popped.now.ok.0) c.loop-turn-test.true) in
+    let long : length txs ≡ suc (length rest) = ap length first ∙ ap (λ (ys : List OpenTx). suc (length ys)) (sym c.remove-tx.ensures.items) in
     record {
       own = (away.0, away.1 ∙ c.loop-turn.invariant.own.1);
       laid = (laid_set t 1 (j - 1) c.loop-turn.laid.items new (low j z (length c.loop-turn.laid.items) n.inside.first n.inside.last c.loop-turn.invariant.laid.1) c.loop-turn.invariant.laid.0 (subst (λ m. IsLaid t m new) (back_up j n.inside.first) one), search rules);
       batch = subst (λ y. HasBatch z y rest) (sym c.hand_back-seat.ensures.view) n.rest;
-      same = same_on (session_view c.args.pass.now) w u c.loop-turn.invariant.same (subst (λ y. Same w y) (sym c.hand_back-seat.ensures.view) n.same);
+      parted = parted_more (session_view c.args.pass.now) w u c.args.popped.now.items rest tx (subst (Parted (session_view c.args.pass.now) c.args.popped.now.items w) (first ∙ ap (λ ys. tx ∷ ys) (sym c.remove-tx.ensures.items)) c.loop-turn.invariant.parted) (subst (λ y. Same w (j ∷ []) y) (sym c.hand_back-seat.ensures.view) n.same);
       left = one_less c.loop-turn.turn (length txs) (length rest) (length c.args.popped.now.items) c.loop-turn.invariant.left long;
       room = c.remove-tx.ensures.capacity ∙ c.loop-turn.invariant.room;
     }
@@ -95,7 +96,7 @@ pub returns-clause-all : goal.returns-clause-all
 returns-clause-all c =
     let txs = c.loop-turn.popped.items in
     let none : txs ≡ [] = empty txs (none_left c.len-turn-end.result c.loop-turn.turn (length txs) (length c.args.popped.now.items) c.loop-turn.invariant.left (c.len-turn-end.ensures ∙ c.args.popped.now.ok.0) (search rules)) in
-    back_end (sizes_of c.args.board.now).sessions (session_view c.args.pass.now) (session_view c.loop-turn.pass) txs none c.loop-turn.invariant.batch c.loop-turn.invariant.same
+    back_end (sizes_of c.args.board.now).sessions (session_view c.args.pass.now) (session_view c.loop-turn.pass) c.args.popped.now.items txs none c.loop-turn.invariant.batch c.loop-turn.invariant.parted
 
 pub returns-clause-own : goal.returns-clause-own
 returns-clause-own c = c.loop-turn.invariant.own
