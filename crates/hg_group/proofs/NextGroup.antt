@@ -26,7 +26,7 @@ use Rattle.hg_rule.proofs.Growing.{among_later}
 use Rattle.hg_rule.proofs.Rounds.{taken_append}
 use Rattle.hg_group.specs.declared.context.GroupContext.{GroupContext}
 use Rattle.hg_group.specs.Contexts.{IsContextOf, EachContextOf, AreContexts}
-use Rattle.hg_group.specs.Oldest.{StandsBehind, IsNext, AreNext, records_of, takes_by, TakesNext, TakesOldest, TakesSome, PopsBelow, PopsNext, PopsSome}
+use Rattle.hg_group.specs.Oldest.{IsNext, AreNext, records_of, takes_by, TakesNext, TakesOldest, TakesSome, PopsBelow, PopsNext, PopsSome}
 use Rattle.hg_group.proofs.Contexts.{drop_length}
 
 -- ---- contexts

@@ -1,7 +1,6 @@
 //! A session waits for what becomes of its transaction, and leads a batch where nobody has.
 
 ghost use Rattle.std.specs.Prelude.{◌≡◌, ℕ, suc, ◌<◌, [], length, IfOk, IfErr, IfSome};
-ghost use Rattle.hg_lock.specs.Locks.{tag_of, count_of};
 ghost use Rattle.hg_rule.specs.Views.{session, others};
 ghost use Rattle.hg_rule.specs.Seats.{BoardId, board_id, sizes_of, session_view, IsSessionOf, IsAwayOf};
 ghost use Rattle.hg_store.specs.Stores.{store_board_id, store_buckets};
@@ -9,13 +8,14 @@ ghost use Rattle.hg_queue.specs.Handing.{MayCommit};
 ghost use Rattle.hg_queue.specs.Queues.{IsPassOf};
 ghost use Rattle.hg_group.specs.Batch.{IsLaid, HasFinished, IsRefused};
 ghost use Rattle.hg_group.specs.Leading.{IsKept, Leads};
-ghost use Rattle.hg_group.specs.Founded.{founding_board_id};
+ghost use Rattle.hg_group.specs.Lists.{groups_board_id, groups_sessions};
+ghost use Rattle.hg_group.specs.Turns.{TakesTurn};
 
 use crate::batch::{Batches, lead};
+use crate::group_list::GroupList;
 use crate::laid::Laid;
 use crate::receipt::Receipt;
 use crate::taking::take_back;
-use hg_lock::Locks;
 use hg_queue::{OpenTx, Queue};
 use hg_rule::{Board, SessionPass};
 use hg_store::Store;
@@ -40,6 +40,7 @@ fn ready<R: Wait>(
     requires sessions { (sessions ≡ (sizes_of board.now).sessions) × (index < sessions) }
     ensures kept { IsKept (board_id board.now) (sizes_of board.now).sessions result × IsPassOf queue.now result.line }
     ensures led { Leads (session_view pass.old) (session_view pass.new) }
+    ensures turn { TakesTurn (session_view pass.old) (session_view pass.new) }
     ensures own { IsAwayOf (board_id board.now) (sizes_of board.now) pass.new × (pass.new.number ≡ pass.old.number) }
 {
     if kept.laid[index].is_none() {
@@ -57,21 +58,17 @@ fn take_laid(kept: &mut Batches, index: usize) -> Option<Laid>
     kept.laid[index].take()
 }
 
-/// Takes the commit lock. Where nothing is laid for the session, it leads a batch; and then again, until something is.
+/// Turn after turn, until something is laid for the session.
 pub(crate) fn finish<R: Wait>(
     rt: &R,
     board: &Board,
     store: &Store,
-    queue: &Queue,
-    batches: &Locks<Batches>,
+    groups: &GroupList,
     pass: &mut SessionPass,
-    sessions: u32,
 ) -> Result<Receipt, OpenTx>
-    requires boards { store_board_id store.now ≡ board_id board.now }
+    requires boards { (store_board_id store.now ≡ board_id board.now) × (groups_board_id groups.now ≡ board_id board.now) }
     requires buckets { (0 < store_buckets store.now) × (store_buckets store.now ≡ (sizes_of board.now).buckets) }
-    requires founded { (founding_board_id (tag_of batches.now).value ≡ board_id board.now) × ((tag_of batches.now).value.queue.value ≡ queue.now) × ((tag_of batches.now).value.sessions ≡ sessions) }
-    requires one { count_of batches.now ≡ 1 }
-    requires sessions { sessions ≡ (sizes_of board.now).sessions }
+    requires sessions { groups_sessions groups.now ≡ (sizes_of board.now).sessions }
     requires own { IsAwayOf (board_id board.now) (sizes_of board.now) pass.old }
     requires alone { others (session_view pass.old) ≡ [] }
     requires may { MayCommit (session (session_view pass.old)) }
@@ -79,15 +76,52 @@ pub(crate) fn finish<R: Wait>(
     ensures refused { IfErr result (λ tx. IsRefused (session_view pass.old) tx (session_view pass.new)) }
     ensures own { IsSessionOf (board_id board.now) (sizes_of board.now) pass.new × (pass.new.number ≡ pass.old.number) }
 {
-    let index = pass.writer().session as usize - 1;
     for _ in rt.forever() {
-        let (kept, loan) = batches.take(rt, 0);
-        let mut kept = ready(rt, board, store, queue, pass, kept, sessions, index);
-        let laid = take_laid(&mut kept, index);
-        batches.give(kept, loan);
-        if let Some(laid) = laid {
+        if let Some(laid) = groups.turn(rt, board, store, pass) {
             return take_back(board, pass, laid);
         }
     }
     unreachable!()
+}
+
+impl GroupList {
+    ghost use Rattle.std.specs.Prelude.{IfSome};
+
+    /// The commit lock is held once. Where nothing is laid for the session, it leads: all that it pops is published as one group,
+    /// or, where memory is refused, nothing is stamped and nothing published, and each transaction is open still. The answer is
+    /// what is laid for the session then.
+    pub fn turn<R: Wait>(
+        &self,
+        rt: &R,
+        board: &Board,
+        store: &Store,
+        pass: &mut SessionPass,
+    ) -> Option<Laid>
+        requires boards { (store_board_id store.now ≡ board_id board.now) × (groups_board_id self.now ≡ board_id board.now) }
+        requires buckets { (0 < store_buckets store.now) × (store_buckets store.now ≡ (sizes_of board.now).buckets) }
+        requires sessions { groups_sessions self.now ≡ (sizes_of board.now).sessions }
+        requires own { IsAwayOf (board_id board.now) (sizes_of board.now) pass.old }
+        requires alone { others (session_view pass.old) ≡ [] }
+        requires may { MayCommit (session (session_view pass.old)) }
+        ensures turn { TakesTurn (session_view pass.old) (session_view pass.new) }
+        ensures led { Leads (session_view pass.old) (session_view pass.new) }
+        ensures laid { IfSome result (IsLaid (board_id board.now) pass.new.number) }
+        ensures own { IsAwayOf (board_id board.now) (sizes_of board.now) pass.new × (pass.new.number ≡ pass.old.number) }
+    {
+        let index = pass.writer().session as usize - 1;
+        let (kept, loan) = self.batches.take(rt, 0);
+        let mut kept = ready(
+            rt,
+            board,
+            store,
+            &self.queue,
+            pass,
+            kept,
+            self.sessions,
+            index,
+        );
+        let laid = take_laid(&mut kept, index);
+        self.batches.give(kept, loan);
+        laid
+    }
 }

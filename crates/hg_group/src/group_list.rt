@@ -135,15 +135,7 @@ impl GroupList {
         ensures refused { IfErr result (λ e. IsRefused (session_view pass.old) e.0 (session_view pass.new)) }
         ensures own { IsSessionOf (board_id board.now) (sizes_of board.now) pass.new × (pass.new.number ≡ pass.old.number) }
     {
-        let finished = finish(
-            rt,
-            board,
-            store,
-            &self.queue,
-            &self.batches,
-            pass,
-            self.sessions,
-        );
+        let finished = finish(rt, board, store, self, pass);
         let Submitted { pusher, loan } = submitted;
         self.pushers.give(pusher, loan);
         match finished {

@@ -104,7 +104,7 @@ returns-clause-turn g c =
     let z = (sizes_of c.args.board.now).sessions in
     let taken : AreTaken c.as_slice.result.now h.ms = subst (λ l. AreTaken l h.ms) (sym c.as_slice.ensures.value) (roomy c.make_room.new.popped.items c.gather.new.popped.items h.ms c.make_room.ensures.whole h.taken) in
     let group : HasGroup z u c.as_slice-2.result.now n c.args.kept.count = subst (λ l. HasGroup z u l n c.args.kept.count) (c.as_slice.ensures.value ∙ sym c.as_slice-2.ensures.value)
-        (has_group v w x y u part h.ms c.as_slice.result.now n o s c.publish.ensures.step c.split_commit-seat-2.ensures.view (sizes_of c.args.board.now) mark c.args.kept.count c.join_commit-number.ensures.backed taken next c.requires.kept.0.count_is) in
+    (has_group v w x y u part h.ms c.as_slice.result.now n o s c.publish.ensures.step c.split_commit-seat-2.ensures.view (sizes_of c.args.board.now) mark c.args.kept.count c.join_commit-number.ensures.backed taken next c.requires.kept.0.count_is) in
     published_whole v w x y u (session_view c.lay.new.pass) s.steps n c.args.kept.count z c.as_slice-2.result.now
     (ap (λ (t : View). t.events) c.join_commit-number.ensures.view ∙ h.events) s.only s.events (ap (λ (t : View). t.events) c.publish.ensures.step.1) (ap (λ (t : View). t.events) c.split_commit-seat-2.ensures.view) group c.lay.ensures.all
 

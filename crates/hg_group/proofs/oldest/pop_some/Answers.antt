@@ -1,8 +1,7 @@
-use Rattle.std.proofs.Common.{◌≡◌, ◌++◌, ◌∷◌, [], sym, ap, ◌∙◌, append_assoc, append-nil}
+use Rattle.std.proofs.Common.{◌++◌, ◌∷◌, [], sym, ap, ◌∙◌, append_assoc, append-nil}
 use Rattle.hg_rule.specs.Seats.{pass_view}
 use Rattle.hg_group.specs.Oldest.{records_of}
 use Rattle.hg_group.proofs.NextGroup.{pops_none, pops_more, records_more}
-use Rattle.hg_group.proofs.oldest.pop_some.Given as given
 use Rattle.hg_group.proofs.oldest.pop_some.Goals as goal
 
 pub loop-context-init : goal.loop-context-init

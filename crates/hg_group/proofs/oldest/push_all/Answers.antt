@@ -1,4 +1,4 @@
-use Rattle.std.proofs.Common.{◌≡◌, ◌+◌, ◌++◌, ◌∷◌, [], ◌∙◌, length, take, get_or, ap, sym, subst, arith, append_assoc}
+use Rattle.std.proofs.Common.{◌≡◌, ◌++◌, ◌∷◌, [], ◌∙◌, length, take, get_or, ap, sym, arith, append_assoc}
 use Rattle.hg_base.specs.declared.rid.Rid.{Rid}
 use Rattle.hg_group.proofs.Recording.{take_next}
 use Rattle.hg_group.proofs.Stamped.{take_all}
