@@ -3,7 +3,6 @@ use Rattle.std.proofs.Common.{◌≡◌, inl, ℕ, ◌+◌, Bool, true, false, L
 use Rattle.std.specs.Prelude.{if◌then◌else◌}
 use Rattle.hg_base.specs.declared.rid.Rid.{Rid}
 use Rattle.hg_base.specs.declared.report.Kind.TheVariants.{Group}
-use Rattle.hg_base.specs.Lists.{Each}
 use Rattle.hg_base.specs.History.{same_rid}
 use Rattle.hg_base.proofs.ListFacts.{each_snoc, each_keeps}
 use Rattle.hg_core.specs.Clean.{IsCutAt}
@@ -12,14 +11,13 @@ use Rattle.hg_core.proofs.Clean.{cut_is_cut}
 use Rattle.hg_rule.specs.declared.view.Event.{Event}
 use Rattle.hg_rule.specs.declared.view.Event.TheVariants.{Reclaim}
 use Rattle.hg_rule.specs.declared.view.View.{View}
-use Rattle.hg_rule.specs.Facts.{IsAmong, record_of}
+use Rattle.hg_rule.specs.Facts.{record_of}
 use Rattle.hg_rule.specs.Holding.{held}
 use Rattle.hg_rule.specs.Views.{number, pass}
 use Rattle.hg_rule.specs.Removes.{Reclaims, left_of, removed_of}
 use Rattle.hg_rule.proofs.Growing.{among_later}
 use Rattle.hg_rule.proofs.Rounds.{gone_on, takes_on}
 use Rattle.hg_store.proofs.Clearing.{counts_none, counts_more, same_record, held_after, held_here}
-use Rattle.hg_visit.specs.Tables.{Removes}
 use Rattle.hg_visit.proofs.Going.{among_first, works}
 use Rattle.hg_gc_group.specs.Cutting.{IsCutIn, CutsHeld}
 

@@ -1,5 +1,5 @@
 -- A bucket is taken, some of its records are cut, and it is given back.
-use Rattle.std.proofs.Common.{◌≡◌, inl, ℕ, ◌+◌, ◌*◌, ◌≤◌, ◌^◌, List, [], ◌∷◌, ◌++◌, refl, sym, ap, ◌∙◌, subst, arith}
+use Rattle.std.proofs.Common.{◌≡◌, inl, ℕ, ◌≤◌, ◌^◌, List, [], ◌∷◌, ◌++◌, sym, ap, ◌∙◌, subst, arith}
 use Rattle.hg_base.specs.declared.rid.Rid.{Rid}
 use Rattle.hg_base.specs.declared.report.Kind.TheVariants.{Group}
 use Rattle.hg_base.specs.Lists.{Each}
@@ -21,7 +21,7 @@ use Rattle.hg_store.specs.Stores.{Takes}
 use Rattle.hg_store.proofs.Holding.{total_at}
 use Rattle.hg_visit.specs.Visits.{closed_visit}
 use Rattle.hg_visit.proofs.Counted.{few}
-use Rattle.hg_visit.proofs.Going.{more_is, more_only, removed_append, visits_after}
+use Rattle.hg_visit.proofs.Going.{more_is, more_only, visits_after}
 use Rattle.hg_visit.proofs.Visiting.{parts_taken, pass_taken, number_taken, own_taken}
 use Rattle.hg_gc_group.specs.Cutting.{AreIn, WasCut, IsCutIn, CutsHeld, CutsAll}
 
