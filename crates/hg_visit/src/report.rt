@@ -1,6 +1,6 @@
-//! A collector's report of its last round.
+//! The report of a collector's last round.
 
-ghost use Rattle.std.specs.Prelude.{ℕ, ◌≤◌, IfOk};
+ghost use Rattle.std.specs.Prelude.{◌≡◌, ℕ, ◌≤◌, [], IfOk};
 ghost use Rattle.hg_rule.specs.declared.view.PassPart.{PassPart};
 ghost use Rattle.hg_tracker.specs.Gathers.{IsGatherOf};
 ghost use Rattle.hg_visit.specs.Reports.{IsReportBy};
@@ -9,9 +9,12 @@ use hg_base::{EntryList, Kind, NoMemory, Report};
 use hg_tracker::Gathered;
 use std::alloc::Global;
 
-/// A report of no round yet, with room for the entries of so many sessions.
+/// The report of a collector that has made no round yet: no version removed, and no entries. It has room for the entries of so many
+/// sessions.
 pub fn new_report(alloc: Global, kind: Kind, sessions: u32) -> Result<Report, NoMemory>
-    ensures { IfOk result (λ report. sessions ≤ report.entries.room) }
+    ensures kind { IfOk result (λ report. report.kind ≡ kind) }
+    ensures none { IfOk result (λ report. (report.mark ≡ 0) × (report.horizon ≡ 0) × (report.removed ≡ 0) × (report.entries.list ≡ [])) }
+    ensures room { IfOk result (λ report. sessions ≤ report.entries.room) }
 {
     Ok(Report {
         kind,
@@ -22,7 +25,7 @@ pub fn new_report(alloc: Global, kind: Kind, sessions: u32) -> Result<Report, No
     })
 }
 
-/// Has what was gathered, and how many versions went, in place of an earlier round. No memory is taken.
+/// Replaces the last round's report by what was gathered now and how many versions were removed. Allocates nothing.
 pub fn rewrite(report: &mut Report, kind: Kind, gathered: &Gathered, removed: u64)
     requires room { (sessions : ℕ) × (part : PassPart) × IsGatherOf sessions part gathered.now × (sessions ≤ report.old.entries.room) }
     ensures reports { (sessions : ℕ) (part : PassPart) → IsGatherOf sessions part gathered.now → IsReportBy kind part removed report.new }
