@@ -66,7 +66,8 @@ impl Queue {
         self.line.push_as::<Pushing, R>(rt, &mut pass.pass, handed)
     }
 
-    /// The transaction at the front leaves. None only if the queue was empty.
+    /// Takes the transaction at the front, and its pair is then the last that the pass knows of. With None the pass knows what it
+    /// knew before: no clause says that the queue was empty.
     pub fn pop<R: Wait>(&self, rt: &R, pass: &mut LinePass) -> Option<Handed>
         requires own { IsPassOf self.now pass.old }
         requires pops { MayPop (known pass.old) }
