@@ -31,16 +31,17 @@ pub record Counts (z : Sizes) (v : View) (b : ℕ) (counts : Totals) (w : View) 
   pub counts_are : AreCountsOf (bucket held).counters counts
   pub after : w ≡ without_bucket held
 
--- a visit that removed nothing, and gave this content back
+-- a visit of bucket b that removed nothing, and gave this content back
 abbrev pub empty_visit : ℕ → ℕ → Content → Visit
 empty_visit mark b content = record { bucket = b; mark = mark; removed = none_removed; given = Some content }
 
--- such a visit of each of the first buckets, by what they held, the last one first
+-- one such visit of each of the first buckets, by their contents; a list of visits has the newest first
 abbrev pub empty_visits : ℕ → List Content → List Visit
 empty_visits mark [] = []
 empty_visits mark (content ∷ contents) = empty_visit mark (length contents) content ∷ empty_visits mark contents
 
--- a pass has visited each of the first n buckets once more, and removed nothing
+-- The pass gained exactly one visit of each of the first n buckets, in order, none of which removed anything. All else that it has
+-- is as before.
 pub record HasVisited (v : View) (n : ℕ) (w : View) : Type 0 where
   pub contents : List Content
   pub each : length contents ≡ n

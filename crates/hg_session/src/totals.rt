@@ -1,12 +1,12 @@
-//! The counts of all buckets, taken one after the other.
+//! The counts of all buckets, read one bucket at a time.
 //!
 //!     pass     [ pass | commit | sessions | passes ]
-//!              [ pass | bucket 0 | commit | .. ]       counts of bucket 0: by a state that meets the rule
+//!              [ pass | bucket 0 | commit | .. ]       counts of bucket 0: in one state that meets the rule
 //!              [ pass | commit | .. ]
-//!              [ pass | bucket 1 | commit | .. ]       counts of bucket 1: by another
+//!              [ pass | bucket 1 | commit | .. ]       counts of bucket 1: in another one
 //!
-//! No state is seen that has all buckets at once. But logs, visits and history stand in the pass's own parts, so they are the
-//! same each time, and what one bucket's counts tell is said of them alone.
+//! No single state has all buckets in the pass's hands. But the logs, the other visits and the history are in parts that the pass
+//! keeps all the time, so they are the same for every bucket, and what is claimed of one bucket's counts speaks of these alone.
 
 ghost use Rattle.std.specs.Prelude.{◌≡◌, ℕ, ◌+◌, ◌^◌, ◌<◌, length};
 ghost use Rattle.hg_core.specs.Logs.{newest_of};
@@ -30,7 +30,7 @@ use hg_rule::{Board, CollectorPass, CommitSeat};
 use hg_store::Store;
 use std::sync::Wait;
 
-// One bucket's counts more.
+// Adds one bucket's counts to the sums.
 fn add(sums: Totals, counts: Totals) -> Totals
     requires made { sums.made + counts.made < 2 ^ 64 }
     requires undone { sums.undone + counts.undone < 2 ^ 64 }
@@ -50,7 +50,7 @@ fn add(sums: Totals, counts: Totals) -> Totals
     }
 }
 
-// Takes one bucket, and gives it back.
+// Takes one bucket, reads its counts, and gives it back.
 fn count_bucket<R: Wait>(
     rt: &R,
     board: &Board,
@@ -70,7 +70,7 @@ fn count_bucket<R: Wait>(
     counts
 }
 
-/// The counts of all buckets together. The pass has the committer's part, and all others were joined to it.
+/// The sums of all buckets' counts. The pass holds the committer's part, and all other parts were joined to it.
 pub(crate) fn counted<R: Wait>(
     rt: &R,
     board: &Board,
@@ -108,8 +108,8 @@ pub(crate) fn counted<R: Wait>(
     sums
 }
 
-/// What the buckets counted, all together. All others were joined to the pass. While it has the committer's part nobody
-/// publishes, so there is one history all along. The seat comes back with the same part.
+/// The same for a pass without the committer's part, which is joined to it and split off again. While the pass holds that part nobody
+/// publishes a group, so the history is the same for every bucket. The seat comes back with the same part.
 pub(crate) fn totals_with<R: Wait>(
     rt: &R,
     board: &Board,
@@ -141,12 +141,14 @@ pub(crate) fn totals_with<R: Wait>(
 }
 
 impl Engine {
-    /// What all buckets counted, for some history that the logs have, each group once. All sessions and all other passes were
-    /// joined to the pass. It waits for the commit lock, and for each bucket's, and takes no memory.
+    /// The sums of all buckets' counts. They are those of some history that contains each group of the logs once (`totals`). All
+    /// sessions and all other passes were joined to the pass. Each bucket is taken once, in order, and nothing is removed
+    /// from it (`visited`). The call waits for the commit lock and for each bucket's lock, and allocates nothing.
     pub fn totals<R: Wait>(&self, rt: &R, pass: &mut CollectorPass) -> Totals
         requires own { IsPassOf (engine_board_id self.now) pass.old }
         requires ended { IsEnded (engine_sizes self.now) (pass_view pass.old) }
         ensures totals { AreTotals (engine_sizes self.now) (pass_view pass.old) result }
+        ensures visited { HasVisited (pass_view pass.old) (engine_sizes self.now).buckets (pass_view pass.new) }
         ensures logs { logs_in (pass_view pass.new) ≡ logs_in (pass_view pass.old) }
         ensures passes { passes_in (pass_view pass.new).parts ≡ passes_in (pass_view pass.old).parts }
         ensures removed { (kind : Kind) (p : ℕ) → removed_all kind (visits_in (pass_view pass.new) p) ≡ removed_all kind (visits_in (pass_view pass.old) p) }

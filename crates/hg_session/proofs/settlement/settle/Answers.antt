@@ -16,6 +16,9 @@ cuts_at v w long report a b same h = subst (λ (x : Board). Cuts (sizes_of x) lo
 backed_at : (w : View) (a b : Board) → a ≡ b → (mark : ℕ) × IsBacked (sizes_of a) mark w → (mark : ℕ) × IsBacked (sizes_of b) mark w
 backed_at w a b same h = subst (λ (x : Board). (mark : ℕ) × IsBacked (sizes_of x) mark w) same h
 
+pub returns-clause-round : goal.returns-clause-round
+returns-clause-round g c = cuts_at _ _ _ _ _ _ c.trackers.ensures c.collect.ensures.cuts
+
 pub returns-clause-settled : goal.returns-clause-settled
 returns-clause-settled g c =
     let v = view_of c.args.collector.now in
