@@ -6,7 +6,7 @@ ghost use Rattle.hg_script.specs.Lawful.{IsLawful};
 use crate::cases::{RUN, answers, written};
 use crate::order::Order;
 use hg_audit::{Verdict, audit};
-use hg_base::{Answer, DEFAULT_BUCKETS, DEFAULT_LONG, NoGate, Printed, Totals};
+use hg_base::{Answer, DEFAULT_BUCKETS, DEFAULT_LONG, Kind, NoGate, Printed, Totals};
 use hg_report::read_text;
 use hg_run::{close, open_for, run_on};
 use hg_script::{Script, read_script};
@@ -370,12 +370,14 @@ fn each_session_declares_its_own_table(rt: HostRuntime) -> Result<(), Fail> {
     Ok(())
 }
 
-// Eight sessions put 50 keys each, all different.
-fn puts(alloc: Global) -> Result<String, Fail> {
+// Eight sessions put 50 keys each, all different, so many times.
+fn puts(alloc: Global, times: u64) -> Result<String, Fail> {
     let mut script = String::from_str(alloc, "table,t,1\n")?;
-    for i in 0..50 {
-        for session in 1..9 {
-            script.push_str(&format!(in alloc; "{session},put,t,{session}{i},{i}\n")?)?;
+    for _ in 0..times {
+        for i in 0..50 {
+            for session in 1..9 {
+                script.push_str(&format!(in alloc; "{session},put,t,{session}{i},{i}\n")?)?;
+            }
         }
     }
     Ok(script)
@@ -411,11 +413,40 @@ fn commits_without_gap(counts: &[u64]) -> Option<u64> {
 // Nobody is refused, and groups have the numbers from 1 on.
 #[test]
 fn eight_workers_commit_beside_the_collectors(rt: HostRuntime) -> Result<(), Fail> {
-    let script = puts(rt.alloc())?;
+    let script = puts(rt.alloc(), 1)?;
     let printed = printed(&rt, rt.alloc(), "run --rounds 20", script.as_str())?;
     let counts = numbers_of(rt.alloc(), &printed)?;
     assert_eq!(rt; commits_without_gap(&counts), Some(400));
     assert_eq!(rt; (printed.totals.made, printed.totals.left), (400, 400));
     balances(&rt, &printed.totals);
+    Ok(())
+}
+
+// How many versions the rounds removed. The table collector's total also counts what is removed at the end, after the last round, so
+// its rounds are counted by their reports.
+fn removed_by_rounds(printed: &Printed) -> u64 {
+    let mut removed = printed.totals.group.saturating_add(printed.totals.interval);
+    for line in printed.lines.as_slice() {
+        if let Answer::Swept(sweep) = &line.reply.answer {
+            if sweep.kind == Kind::Table {
+                removed = removed.saturating_add(sweep.removed);
+            }
+        }
+    }
+    removed
+}
+
+// Each of 400 keys is put 40 times, so 15,600 versions are old in the end. No gate holds anybody: the rounds have to come when sessions
+// have written something that they can remove.
+#[test]
+fn rounds_remove_more_than_half(rt: HostRuntime) -> Result<(), Fail> {
+    let script = puts(rt.alloc(), 40)?;
+    for run in 0..3 {
+        let printed = printed(&rt, rt.alloc(), "run --rounds 20", script.as_str())?;
+        let (made, left) = (printed.totals.made, printed.totals.left);
+        assert_eq!(rt; (made, left), (16_000, 400));
+        let removed = removed_by_rounds(&printed);
+        assert!(rt; removed > 7_800, "{removed} in run {run}");
+    }
     Ok(())
 }
