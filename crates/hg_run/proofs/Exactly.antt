@@ -11,7 +11,7 @@ use Rattle.hg_script.specs.Meaning.{refusal_of}
 use Rattle.hg_run.specs.declared.status.Status.{Status}
 use Rattle.hg_run.specs.declared.status.Status.TheVariants.{Done, Usage, BadScript, ReadFault, WriteFault, TooLong, NoMemory}
 use Rattle.hg_run.specs.Words.{AsksFor, IsMaking, IsReading, Task, audits, makes, reads, task_of}
-use Rattle.hg_run.specs.Serving.{Change, Answers, Gives, HasFailed, IsScriptIn, IsTooLong, ReadsAll, Refuses, WritesAll, WritesPart, Comes, IsUnlessNoMemory}
+use Rattle.hg_run.specs.Serving.{Change, Answers, FailsToRead, Gives, HasFailed, IsScriptIn, IsTooLong, ReadsAll, Refuses, WritesAll, WritesPart, Comes, IsUnlessNoMemory}
 use Rattle.hg_run.specs.Parting.{AreParts}
 use Rattle.hg_run.proofs.Parted.{one_script}
 
@@ -93,7 +93,7 @@ loaded words source sink status comes making steady = go status comes
     go Done comes = inl refl
     go Usage comes = absurd (not_usage words IsMaking making comes)
     go (BadScript line code) comes = absurd (not_both words (record { options = comes.options; asked = comes.asked; holds = refuses_read (task_of comes.options) source line code comes.holds }) making)
-    go ReadFault comes = absurd (no (HasFailed source) comes)
+    go ReadFault comes = absurd (no (FailsToRead source) comes)
     go WriteFault comes = absurd (steady comes.holds.failed)
     go TooLong comes = absurd (no (IsTooLong source) comes)
     go NoMemory comes = inr refl
@@ -142,7 +142,7 @@ module _ (words : List (List ℕ)) (source sink : Change) (bytes : List ℕ) whe
   complete script (BadScript line code) comes within gives short valid steady =
       let one = same_asked words (λ task. IsScriptIn task bytes script) (λ task. Refuses task source line code) within comes in
       absurd (none_some _ (line, code) valid (refused_in source bytes gives (task_of comes.options) script line code one comes.holds))
-  complete script ReadFault comes within gives short valid steady = absurd (gives.steady comes.holds.1)
+  complete script ReadFault comes within gives short valid steady = absurd (gives.steady comes.holds.1.failed)
   complete script WriteFault comes within gives short valid steady = absurd (steady comes.holds.failed)
   complete script TooLong comes within gives short valid steady = absurd (not_long IsReading gives short comes)
   complete script NoMemory comes within gives short valid steady = inr refl
@@ -157,7 +157,7 @@ module _ (words : List (List ℕ)) (source sink : Change) (bytes : List ℕ) whe
   bad_script script line code (BadScript l c) comes within gives short refused =
       let one = same_asked words (λ task. IsScriptIn task bytes script) (λ task. Refuses task source l c) within comes in
       inl (same_refusal l line c code (sym (refused_in source bytes gives (task_of comes.options) script l c one comes.holds) ∙ refused))
-  bad_script script line code ReadFault comes within gives short refused = absurd (gives.steady comes.holds.1)
+  bad_script script line code ReadFault comes within gives short refused = absurd (gives.steady comes.holds.1.failed)
   bad_script script line code WriteFault comes within gives short refused =
       let one = same_asked words (λ task. IsScriptIn task bytes script) (λ task. WritesPart task source sink) within comes in
       absurd (none_some _ (line, code) (valid_in source bytes gives (task_of comes.options) script comes.holds.text one comes.holds.answers) refused)
@@ -173,7 +173,7 @@ module _ (words : List (List ℕ)) (source sink : Change) (bytes : List ℕ) whe
   too_long (BadScript line code) comes reading gives long =
       let same = reads_all source bytes comes.holds.bytes gives comes.holds.all in
       absurd (omega (arith, ap length same, comes.holds.all.short, long))
-  too_long ReadFault comes reading gives long = absurd (gives.steady comes.holds.1)
+  too_long ReadFault comes reading gives long = absurd (gives.steady comes.holds.1.failed)
   too_long WriteFault comes reading gives long =
       absurd (omega (arith, short_in source bytes gives (task_of comes.options) comes.holds.text (same_asked words IsReading (λ task. WritesPart task source sink) reading comes) comes.holds.answers, long))
   too_long TooLong comes reading gives long = inl refl

@@ -3,6 +3,7 @@ use Rattle.std.specs.Prelude.{◌≡◌, ℕ, ◌+◌, ◌<◌, ◌≤◌, ◌�
 use Rattle.std.specs.Io.KnownBytes.{Appends, Consumes, IsAtEnd}
 use Rattle.hg_base.specs.declared.limits.TheConstants.{MOST_SCRIPT_BYTES}
 use Rattle.hg_base.specs.Faults.{Rose}
+use Rattle.hg_base.specs.Memory.{SteadyFeed}
 use Rattle.hg_base.specs.Script.{Mode}
 use Rattle.hg_script.specs.declared.code.Code.{Code}
 use Rattle.hg_script.specs.Fields.{rows_of}
@@ -36,6 +37,20 @@ HasFailed change = Rose change.faults change.faults_after
 pub record Gives (source : Change) (bytes : List ℕ) : Type 0 where
   pub told : source.before ≡ Some bytes
   pub steady : ¬ HasFailed source
+
+-- the source gave some bytes, at most so many, and lost no others
+pub record HasGiven (most : ℕ) (source : Change) : Type 0 where
+  pub bytes : List ℕ
+  pub read : Consumes source.before source.after bytes
+  pub few : length bytes ≤ most
+
+-- of a source in memory that never fails, the bytes before a call and after it
+abbrev pub steady_source : SteadyFeed → SteadyFeed → Change
+steady_source old new = record { before = Some old.left; after = Some new.left; faults = 0; faults_after = 0 }
+
+-- of a sink in memory that never fails and tells no contract what it took
+abbrev pub steady_sink : Change
+steady_sink = record { before = None; after = None; faults = 0; faults_after = 0 }
 
 -- ---- what the bytes of a script mean
 
@@ -88,6 +103,11 @@ pub record IsTooLong (source : Change) : Type 0 where
   pub read : Consumes source.before source.after bytes
   pub long : length bytes ≡ MOST_SCRIPT_BYTES + 1
 
+-- a read failed, and before it the source had given no more than a script may have
+pub record FailsToRead (source : Change) : Type 0 where
+  pub failed : HasFailed source
+  pub within : HasGiven MOST_SCRIPT_BYTES source
+
 -- the sink took the whole text
 pub record WritesAll (task : Task) (source sink : Change) : Type 0 where
   pub text : List ℕ
@@ -108,7 +128,7 @@ abbrev pub Comes : List (List ℕ) → Change → Change → Status → Type 0
 Comes words source sink Done = AsksFor words (λ task. WritesAll task source sink)
 Comes words source sink Usage = options_of words ≡ None
 Comes words source sink (BadScript line code) = AsksFor words (λ task. Refuses task source line code)
-Comes words source sink ReadFault = AsksFor words (λ task. IsReading task × HasFailed source)
+Comes words source sink ReadFault = AsksFor words (λ task. IsReading task × FailsToRead source)
 Comes words source sink WriteFault = AsksFor words (λ task. WritesPart task source sink)
 Comes words source sink TooLong = AsksFor words (λ task. IsReading task × IsTooLong source)
 Comes words source sink NoMemory = ⊤
@@ -134,7 +154,7 @@ RefusesBytes task bytes _ = ⊥
 -- why a source has no text
 abbrev pub RefusesSource : Task → Change → Status → Type 0
 RefusesSource task source (BadScript line code) = Refuses task source line code
-RefusesSource task source ReadFault = HasFailed source
+RefusesSource task source ReadFault = FailsToRead source
 RefusesSource task source TooLong = IsTooLong source
 RefusesSource task source NoMemory = ⊤
 RefusesSource task source _ = ⊥

@@ -1,12 +1,12 @@
 //! The steps in their order: of a script that is run, of one that is made, and of one whose text is audited.
 
-ghost use Rattle.std.specs.Prelude.{◌≡◌, ◌≤◌, ◌<◌, ℕ, List, length, map, Some, None, IfOk, IfErr, IsFalse, string_bytes};
+ghost use Rattle.std.specs.Prelude.{◌≡◌, ◌+◌, ◌≤◌, ◌<◌, ℕ, List, length, map, Some, None, IfOk, IfErr, IsFalse, string_bytes};
 ghost use Rattle.hg_script.specs.declared.code.Code.{Code};
 ghost use Rattle.hg_script.specs.Fields.{rows_of};
 ghost use Rattle.hg_script.specs.Meaning.{refusal_of};
 ghost use Rattle.hg_words.specs.Options.{AreWithin, options_of};
 ghost use Rattle.hg_run.specs.Words.{AsksFor, IsMaking, IsReading, audits, mode_of, reads, task_of};
-ghost use Rattle.hg_run.specs.Serving.{Answers, Comes, Gives, HasFailed, IsScriptIn, IsTextFor, IsUnlessNoMemory, RefusesBytes, RefusesTask, WritesAll, change_of, may_write};
+ghost use Rattle.hg_run.specs.Serving.{Answers, Comes, Gives, HasFailed, HasGiven, IsScriptIn, IsTextFor, IsUnlessNoMemory, RefusesBytes, RefusesTask, WritesAll, change_of, may_write};
 
 use crate::audit::audit_bytes;
 use crate::load::load;
@@ -54,6 +54,7 @@ fn text_of_source<R: Threads + Wait + Sync, S: Source, G: Gate + Sync>(
     requires { AreWithin options.now }
     ensures text { IfOk result (λ text. Answers (reads (mode_of options.now)) (change_of S.left S.faults source.old source.new) text.items) }
     ensures refused { IfErr result (RefusesTask (reads (mode_of options.now)) (change_of S.left S.faults source.old source.new)) }
+    ensures no_more { HasGiven (MOST_SCRIPT_BYTES + 1) (change_of S.left S.faults source.old source.new) }
 {
     let bytes = read_all(alloc, source)?;
     text_of_bytes(rt, alloc, options, bytes, gate)
@@ -63,6 +64,7 @@ fn text_of_source<R: Threads + Wait + Sync, S: Source, G: Gate + Sync>(
 fn audit_source<S: Source>(alloc: Global, source: &mut S) -> Result<Vec<u8>, Status>
     ensures text { IfOk result (λ text. Answers audits (change_of S.left S.faults source.old source.new) text.items) }
     ensures refused { IfErr result (RefusesTask audits (change_of S.left S.faults source.old source.new)) }
+    ensures no_more { HasGiven (MOST_SCRIPT_BYTES + 1) (change_of S.left S.faults source.old source.new) }
 {
     let bytes = read_all(alloc, source)?;
     audit_bytes(alloc, &bytes)
@@ -80,6 +82,7 @@ fn text_for<R: Threads + Wait + Sync, S: Source, G: Gate + Sync>(
     ensures text { IfOk result (λ text. Answers (task_of options.now) (change_of S.left S.faults source.old source.new) text.items) }
     ensures refused { IfErr result (RefusesTask (task_of options.now) (change_of S.left S.faults source.old source.new)) }
     ensures unread { IsMaking (task_of options.now) → source.new ≡ source.old }
+    ensures no_more { HasGiven (MOST_SCRIPT_BYTES + 1) (change_of S.left S.faults source.old source.new) }
 {
     match options.command {
         Command::Load(seed) => Ok(load(rt, alloc, seed, options)?),
@@ -102,6 +105,7 @@ fn outcome<R: Threads + Wait + Sync, So: Source, Si: Sink, G: Gate + Sync>(
     ensures refused { options_of (map string_bytes words.now) ≡ None → IsUnlessNoMemory result Status.Usage }
     ensures unread { result ≡ Status.Usage → source.new ≡ source.old }
     ensures made { AsksFor (map string_bytes words.now) IsMaking → source.new ≡ source.old }
+    ensures no_more { HasGiven (MOST_SCRIPT_BYTES + 1) (change_of So.left So.faults source.old source.new) }
     ensures untouched { IsFalse (may_write result) → sink.new ≡ sink.old }
 {
     let options = match read_words(alloc, words) {
@@ -144,6 +148,9 @@ pub fn serve<R: Threads + Wait + Sync, So: Source, Si: Sink, G: Gate + Sync>(
     ensures unread { result ≡ Status.Usage → source.new ≡ source.old }
     ensures made { AsksFor (map string_bytes words.now) IsMaking → source.new ≡ source.old }
     ensures untouched { IsFalse (may_write result) → sink.new ≡ sink.old }
+
+    // However the call ends, at most one byte more than a script may have was read.
+    ensures no_more { HasGiven (MOST_SCRIPT_BYTES + 1) (change_of So.left So.faults source.old source.new) }
 
     // What a source holds that tells its bytes and does not fail decides the answer, where memory is found. Whether there is one hangs
     // on the script's bytes alone, which are all of them, or those before the line that parts them.

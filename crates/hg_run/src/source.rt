@@ -1,8 +1,9 @@
 //! Reading a source to its end.
 
-ghost use Rattle.std.specs.Prelude.{◌≡◌, ◌+◌, ◌≤◌, ℕ, List, length, IfOk, OnOk, OnErr, IsErrOf};
+ghost use Rattle.std.specs.Prelude.{◌≡◌, ◌+◌, ◌≤◌, ℕ, List, length, IfOk, OnOk, IsErrOf};
 ghost use Rattle.std.specs.Io.KnownBytes.{Consumes, IsAtEnd};
 ghost use Rattle.hg_base.specs.Faults.{Rose};
+ghost use Rattle.hg_run.specs.Serving.{HasGiven, change_of};
 
 use hg_base::{Failed, MOST_SCRIPT_BYTES, Source};
 use std::alloc::{AllocError, Global};
@@ -47,8 +48,9 @@ pub(crate) fn read_all<S: Source>(alloc: Global, source: &mut S) -> Result<Vec<u
     ensures end { OnOk result (IsAtEnd (S.left source.new)) }
     ensures short { IfOk result (λ bytes. length bytes.items ≤ MOST_SCRIPT_BYTES) }
     ensures too_long { IsErrOf result ReadError.TooLong → (bytes : List ℕ) × Consumes (S.left source.old) (S.left source.new) bytes × (length bytes ≡ MOST_SCRIPT_BYTES + 1) }
-    ensures no_more { OnErr result ((bytes : List ℕ) × Consumes (S.left source.old) (S.left source.new) bytes × (length bytes ≤ MOST_SCRIPT_BYTES + 1)) }
+    ensures no_more { HasGiven (MOST_SCRIPT_BYTES + 1) (change_of S.left S.faults source.old source.new) }
     ensures fault { IsErrOf result ReadError.Fault → Rose (S.faults source.old) (S.faults source.new) }
+    ensures within { IsErrOf result ReadError.Fault → HasGiven MOST_SCRIPT_BYTES (change_of S.left S.faults source.old source.new) }
     ensures later { S.faults source.old ≤ S.faults source.new }
 {
     let mut bytes = Vec::new(alloc);

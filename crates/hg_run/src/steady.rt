@@ -1,15 +1,21 @@
 //! `serve` over streams that never fail.
 
-ghost use Rattle.std.specs.Prelude.{◌≡◌};
+ghost use Rattle.std.specs.Prelude.{◌≡◌, ◌+◌, ◌≤◌, ◌<◌, ℕ, List, length, map, Some, None, string_bytes};
+ghost use Rattle.hg_script.specs.declared.code.Code.{Code};
+ghost use Rattle.hg_script.specs.Fields.{rows_of};
+ghost use Rattle.hg_script.specs.Meaning.{refusal_of};
+ghost use Rattle.hg_run.specs.Words.{AsksFor, IsMaking, IsReading};
+ghost use Rattle.hg_run.specs.Serving.{Comes, HasGiven, IsScriptIn, IsUnlessNoMemory, steady_sink, steady_source};
 
 use crate::serving::serve;
 use crate::status::Status;
-use hg_base::{Gate, SteadySink, SteadySource};
+use hg_base::{Gate, MOST_SCRIPT_BYTES, SteadySink, SteadySource};
 use std::alloc::Global;
 use std::sync::Wait;
 use std::thread::Threads;
 
-/// Does what the words ask for, from a source to a sink in memory that never fail. So no status tells of a fault.
+/// Does what the words ask for, from a source to a sink in memory that never fail. So no status reports a fault, and where memory is
+/// found, the bytes of the source decide which other status is returned. `SteadySink::bytes` has what was written.
 pub fn serve_steadily<R: Threads + Wait + Sync, G: Gate + Sync>(
     rt: &R,
     alloc: Global,
@@ -20,6 +26,20 @@ pub fn serve_steadily<R: Threads + Wait + Sync, G: Gate + Sync>(
 ) -> Status
     ensures reads { ¬ (result ≡ Status.ReadFault) }
     ensures writes { ¬ (result ≡ Status.WriteFault) }
+
+    // What `serve` says of each status, and of what was read.
+    ensures comes { Comes (map string_bytes words.now) (steady_source source.old source.new) steady_sink result }
+    ensures no_more { HasGiven (MOST_SCRIPT_BYTES + 1) (steady_source source.old source.new) }
+
+    // The bytes of the source decide.
+    ensures complete { (script : List ℕ) → AsksFor (map string_bytes words.now) (λ task. IsScriptIn task source.old.left script)
+        → length source.old.left ≤ MOST_SCRIPT_BYTES → refusal_of (rows_of script) ≡ None → IsUnlessNoMemory result Status.Done }
+    ensures bad_script { (script : List ℕ) (line : ℕ) (code : Code) → AsksFor (map string_bytes words.now) (λ task. IsScriptIn task source.old.left script)
+        → length source.old.left ≤ MOST_SCRIPT_BYTES → refusal_of (rows_of script) ≡ Some (line, code)
+        → IsUnlessNoMemory result (Status.BadScript line code) }
+    ensures too_long { AsksFor (map string_bytes words.now) IsReading → MOST_SCRIPT_BYTES < length source.old.left
+        → IsUnlessNoMemory result Status.TooLong }
+    ensures loaded { AsksFor (map string_bytes words.now) IsMaking → IsUnlessNoMemory result Status.Done }
 {
     serve(rt, alloc, words, source, sink, gate)
 }

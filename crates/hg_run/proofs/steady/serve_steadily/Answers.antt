@@ -1,15 +1,33 @@
-use Rattle.std.proofs.Common.{◌≡◌, subst, arith}
+use Rattle.std.proofs.Common.{◌≡◌, List, map, Some, refl, subst, arith}
+use Rattle.std.specs.Prelude.{string_bytes}
 use Rattle.hg_base.specs.Faults.{Rose}
+use Rattle.hg_base.specs.Memory.{SteadyFeed}
 use Rattle.hg_run.specs.declared.status.Status.{Status}
-use Rattle.hg_run.specs.Serving.{Comes}
+use Rattle.hg_run.specs.Serving.{Comes, Gives, HasFailed, steady_sink, steady_source}
 use Rattle.hg_run.proofs.steady.serve_steadily.Goals as goal
 
 -- a count that is always 0 never rose
 never : ¬ (Rose 0 0)
 never h = omega (arith, h)
 
+-- the source tells its bytes
+gives : (old new : SteadyFeed) → Gives (steady_source old new) old.left
+gives old new = record { told = refl; steady = never }
+
 pub returns-clause-reads : goal.returns-clause-reads
-returns-clause-reads g c = λ e. let k = subst (Comes _ _ _) e c.serve.ensures.comes in never k.holds.1
+returns-clause-reads g c = λ e. let k = subst (Comes _ _ _) e c.serve.ensures.comes in never k.holds.1.failed
 
 pub returns-clause-writes : goal.returns-clause-writes
 returns-clause-writes g c = λ e. let k = subst (Comes _ _ _) e c.serve.ensures.comes in never k.holds.failed
+
+pub returns-clause-complete : goal.returns-clause-complete
+returns-clause-complete g c script within short valid = c.serve.ensures.complete c.args.source.now.left script within (gives c.args.source.now c.serve.new.source) short valid never
+
+pub returns-clause-bad_script : goal.returns-clause-bad_script
+returns-clause-bad_script g c script line code within short refused = c.serve.ensures.bad_script c.args.source.now.left script line code within (gives c.args.source.now c.serve.new.source) short refused
+
+pub returns-clause-too_long : goal.returns-clause-too_long
+returns-clause-too_long g c reading long = c.serve.ensures.too_long c.args.source.now.left reading (gives c.args.source.now c.serve.new.source) long
+
+pub returns-clause-loaded : goal.returns-clause-loaded
+returns-clause-loaded g c making = c.serve.ensures.loaded making never
