@@ -1,5 +1,5 @@
 -- Rounds one after the other, with meetings between them.
-use Rattle.std.proofs.Common.{◌≡◌, ◌⊎◌, inl, inr, ℕ, ◌+◌, ◌≢◌, List, [], ◌∷◌, ◌++◌, Bool, true, false, Option, None, refl, sym, ap, ◌∙◌, subst, arith}
+use Rattle.std.proofs.Common.{◌≡◌, ◌⊎◌, inl, inr, ℕ, suc, ◌+◌, ◌≢◌, List, [], ◌∷◌, ◌++◌, Bool, true, false, Option, None, refl, sym, ap, ◌∙◌, subst, arith}
 use Rattle.std.specs.Prelude.{cond, filter, filter_map, sum_by}
 use Rattle.std.specs.List.{cons_option}
 use Rattle.std.proofs.lemmas.List.Elements.{filter-append, filter_map-append}
@@ -30,7 +30,7 @@ use Rattle.hg_session.specs.Replies.{inside}
 use Rattle.hg_run.specs.declared.collecting.Collectors.{Collectors}
 use Rattle.hg_run.specs.Collecting.{HaveMade, removed_of, view_in}
 use Rattle.hg_run.specs.Driven.{sweeps_in, sweeps_of}
-use Rattle.hg_run.specs.Rounding.{IsRoundBy, AreRounds}
+use Rattle.hg_run.specs.Rounding.{IsRoundBy, AreRounds, sweep_lines}
 use Rattle.hg_run.specs.Swept.{HasSwept, HasMetSessions, swept_by}
 use Rattle.hg_run.proofs.Meetings.{met_none, met_more}
 use Rattle.hg_run.proofs.Rounds.{group_swept, table_swept, interval_swept}
@@ -127,10 +127,9 @@ made_none z long c reply none k = subst (λ o. AreRounds (IsRoundBy k z long) (v
 pub made_first : (z : Sizes) (long : ℕ) (c : Collectors) → HaveMade z long c (λ k. sweeps_of k []) c
 made_first z long c k = met_none (view_in k c)
 
--- one line more
-pub made_more : (z : Sizes) (long : ℕ) (a b c : Collectors) (lines : List Line) (line : Line) → HaveMade z long a (λ k. sweeps_of k lines) b → HaveMade z long b (λ k. sweeps_in k line.reply) c → HaveMade z long a (λ k. sweeps_of k (lines ++ line ∷ [])) c
-made_more z long a b c lines line before now k =
-    subst (λ sweeps. AreRounds (IsRoundBy k z long) (view_in k a) sweeps (view_in k c)) (sym all) (rounds_append (IsRoundBy k z long) (view_in k a) (view_in k b) (view_in k c) (sweeps_of k lines) (sweeps_in k line.reply) (before k) (now k))
+-- what two rows of lines tell
+pub told_append : (k : Kind) (xs ys : List Line) → sweeps_of k (xs ++ ys) ≡ sweeps_of k xs ++ sweeps_of k ys
+told_append k xs ys = ap (filter test) (filter_map-append report xs ys) ∙ filter-append test (filter_map report xs) (filter_map report ys)
   where
     test : Sweep → Bool
     test sweep = same_kind sweep.kind k
@@ -138,8 +137,36 @@ made_more z long a b c lines line before now k =
     report : Line → Option Sweep
     report l = report_of l.reply
 
-    all : sweeps_of k (lines ++ line ∷ []) ≡ sweeps_of k lines ++ sweeps_in k line.reply
-    all = ap (filter test) (filter_map-append report lines (line ∷ [])) ∙ filter-append test (filter_map report lines) (cons_option (report line) [])
+-- one line more
+pub made_more : (z : Sizes) (long : ℕ) (a b c : Collectors) (lines : List Line) (line : Line) → HaveMade z long a (λ k. sweeps_of k lines) b → HaveMade z long b (λ k. sweeps_in k line.reply) c → HaveMade z long a (λ k. sweeps_of k (lines ++ line ∷ [])) c
+made_more z long a b c lines line before now k =
+    subst (λ sweeps. AreRounds (IsRoundBy k z long) (view_in k a) sweeps (view_in k c)) (sym (told_append k lines (line ∷ []))) (rounds_append (IsRoundBy k z long) (view_in k a) (view_in k b) (view_in k c) (sweeps_of k lines) (sweeps_in k line.reply) (before k) (now k))
+
+-- the lines of a collector's rounds tell these
+lines_told : (n : ℕ) (sweeps : List Sweep) → filter_map (λ (line : Line). report_of line.reply) (sweep_lines n sweeps) ≡ sweeps
+lines_told n [] = refl
+lines_told n (sweep ∷ sweeps) = ap (λ l. sweep ∷ l) (lines_told (suc n) sweeps)
+
+-- rounds of one kind are told as rounds of that kind alone
+kinds_told : (kind k : Kind) (z : Sizes) (long : ℕ) (v w : View) (sweeps : List Sweep) → AreRounds (IsRoundBy kind z long) v sweeps w → filter (λ (sweep : Sweep). same_kind sweep.kind k) sweeps ≡ cond (same_kind kind k) sweeps []
+kinds_told kind k z long v w [] m = go (same_kind kind k)
+  where
+    go : (t : Bool) → ◌≡◌ {A = List Sweep} [] (cond t [] [])
+    go true = refl
+    go false = refl
+kinds_told kind k z long v w (sweep ∷ sweeps) (a, (m, (b, (round, rest)))) =
+    subst (λ t. cond t (sweep ∷ filter (λ (s : Sweep). same_kind s.kind k) sweeps) (filter (λ (s : Sweep). same_kind s.kind k) sweeps) ≡ cond (same_kind kind k) (sweep ∷ sweeps) [])
+    (sym (ap (λ (x : Kind). same_kind x k) is)) (go (same_kind kind k) (kinds_told kind k z long b w sweeps rest))
+  where
+    is : sweep.kind ≡ kind
+    is = ap (λ (s : Sweep). s.kind) (swept_of kind z long a b sweep round).told
+
+    go : (t : Bool) → filter (λ (s : Sweep). same_kind s.kind k) sweeps ≡ cond t sweeps [] → cond t (sweep ∷ filter (λ (s : Sweep). same_kind s.kind k) sweeps) (filter (λ (s : Sweep). same_kind s.kind k) sweeps) ≡ cond t (sweep ∷ sweeps) []
+    go true later = ap (λ l. sweep ∷ l) later
+    go false later = later
+
+pub told_lines : (kind k : Kind) (z : Sizes) (long : ℕ) (v w : View) (sweeps : List Sweep) → AreRounds (IsRoundBy kind z long) v sweeps w → sweeps_of k (sweep_lines 1 sweeps) ≡ cond (same_kind kind k) sweeps []
+told_lines kind k z long v w sweeps rounds = ap (filter (λ (s : Sweep). same_kind s.kind k)) (lines_told 1 sweeps) ∙ kinds_told kind k z long v w sweeps rounds
 
 -- ---- what a round of one leaves of all
 

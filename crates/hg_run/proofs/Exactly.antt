@@ -64,8 +64,8 @@ not_both : (words : List (List ℕ)) → AsksFor words IsReading → AsksFor wor
 not_both words reading making = clash (task_of making.options) (subst IsReading (same_task words IsReading IsMaking reading making) reading.holds) making.holds
   where
     clash : (task : Task) → IsReading task → IsMaking task → ⊥
-    clash (reads mode) r m = m
-    clash (makes seed) r m = r
+    clash (reads settings) r m = m
+    clash (makes seed settings) r m = r
     clash audits r m = m
 
 -- words that ask for something are not refused
@@ -78,8 +78,8 @@ same_asked words P Q a b = subst P (same_task words P Q a b) a.holds
 
 -- a script that is made is not in the source
 refuses_read : (task : Task) (source : Change) (line : ℕ) (code : Code) → Refuses task source line code → IsReading task
-refuses_read (reads mode) source line code r = tt
-refuses_read (makes seed) source line code r = r.refused.within
+refuses_read (reads settings) source line code r = tt
+refuses_read (makes seed settings) source line code r = r.refused.within
 refuses_read audits source line code r = tt
 
 -- a script that is made wants no source
@@ -101,8 +101,8 @@ loaded words source sink status comes making steady = go status comes
 -- ---- the script in the source is one
 
 one_within : (task : Task) (bytes s t : List ℕ) → IsScriptIn task bytes s → IsScriptIn task bytes t → s ≡ t
-one_within (reads mode) bytes s t a b = a ∙ sym b
-one_within (makes seed) bytes s t a b = absurd a
+one_within (reads settings) bytes s t a b = a ∙ sym b
+one_within (makes seed settings) bytes s t a b = absurd a
 one_within audits bytes s t a b = one_script bytes s a.0 t b.0 a.1 b.1
 
 -- what is answered of the source is answered of its bytes
@@ -116,8 +116,8 @@ module _ (source : Change) (bytes : List ℕ) (gives : Gives source bytes) where
 
   -- where there is an answer, the script is valid
   valid_in : (task : Task) (script text : List ℕ) → IsScriptIn task bytes script → Answers task source text → refusal_of (rows_of script) ≡ None
-  valid_in (reads mode) script text within answers = ap (λ (s : List ℕ). refusal_of (rows_of s)) (within ∙ reads_all source bytes answers.bytes gives answers.all) ∙ answers.text_for.valid
-  valid_in (makes seed) script text within answers = absurd within
+  valid_in (reads settings) script text within answers = ap (λ (s : List ℕ). refusal_of (rows_of s)) (within ∙ reads_all source bytes answers.bytes gives answers.all) ∙ answers.text_for.valid
+  valid_in (makes seed settings) script text within answers = absurd within
   valid_in audits script text within answers =
       let judged = answers.text_for in
       let parts = subst (λ (b : List ℕ). AreParts b judged.script judged.text) (sym (reads_all source bytes answers.bytes gives answers.all)) judged.parts in
@@ -125,8 +125,8 @@ module _ (source : Change) (bytes : List ℕ) (gives : Gives source bytes) where
 
   -- and the source has no more than a script may have
   short_in : (task : Task) (text : List ℕ) → IsReading task → Answers task source text → length bytes ≤ MOST_SCRIPT_BYTES
-  short_in (reads mode) text reading answers = rw (reads_all source bytes answers.bytes gives answers.all) answers.all.short
-  short_in (makes seed) text reading answers = absurd reading
+  short_in (reads settings) text reading answers = rw (reads_all source bytes answers.bytes gives answers.all) answers.all.short
+  short_in (makes seed settings) text reading answers = absurd reading
   short_in audits text reading answers = rw (reads_all source bytes answers.bytes gives answers.all) answers.all.short
 
 module _ (words : List (List ℕ)) (source sink : Change) (bytes : List ℕ) where

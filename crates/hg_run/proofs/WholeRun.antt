@@ -1,8 +1,9 @@
 -- What is driven beside each other, and closed then, is sound as a run.
-use Rattle.std.proofs.Common.{◌≡◌, ℕ, zero, suc, ◌≤◌, List, [], ◌∷◌, ◌++◌, map, None, refl, sym, ap, ◌∙◌, subst, arith}
-use Rattle.std.specs.Prelude.{max, sum_by}
-use Rattle.std.specs.List.{flat_map}
+use Rattle.std.proofs.Common.{◌≡◌, ℕ, zero, suc, ◌≤◌, List, [], ◌∷◌, ◌++◌, map, Option, None, refl, sym, ap, ◌∙◌, subst, arith}
+use Rattle.std.specs.Prelude.{cond, filter, filter_map, max, sum_by}
+use Rattle.std.specs.List.{cons_option, flat_map}
 use Rattle.std.specs.Option.{option_map_or}
+use Rattle.std.proofs.lemmas.List.Elements.{filter_map-append}
 use Rattle.std.proofs.lemmas.List.Sums.{sum_by-cons, sum_by-append}
 use Rattle.hg_base.specs.declared.line.Answer.{Answer}
 use Rattle.hg_base.specs.declared.line.Answer.TheVariants.{Swept}
@@ -19,9 +20,10 @@ use Rattle.hg_base.specs.Counts.{removed_by}
 use Rattle.hg_base.specs.History.{Write}
 use Rattle.hg_base.specs.Lists.{Each, greatest, numbers_from}
 use Rattle.hg_base.specs.Script.{Script, run}
-use Rattle.hg_base.specs.Shape.{HasShape, report_of}
+use Rattle.hg_base.specs.Shape.{HasShape, report_of, same_kind}
 use Rattle.hg_base.specs.Sound.{IsSound}
 use Rattle.hg_base.specs.Transcript.{of_session, said_from, in_order}
+use Rattle.hg_base.proofs.ListFacts.{append_nil}
 use Rattle.hg_core.specs.declared.log.LogEntry.{LogEntry}
 use Rattle.hg_core.specs.Logs.{own_writes}
 use Rattle.hg_core.specs.Reading.{Unprinted, FitsAnswer, Tells, log_after}
@@ -40,12 +42,12 @@ use Rattle.hg_session.specs.Engines.{engine_sizes}
 use Rattle.hg_session.specs.Finished.{logs_of}
 use Rattle.hg_run.specs.declared.collecting.Collectors.{Collectors}
 use Rattle.hg_run.specs.Closed.{IsClosedBy}
-use Rattle.hg_run.specs.Collecting.{view_in, removed_of}
-use Rattle.hg_run.specs.Driven.{HasDrivenAll}
+use Rattle.hg_run.specs.Collecting.{HaveMade, view_in, removed_of}
+use Rattle.hg_run.specs.Driven.{HasDrivenAll, sweeps_of}
 use Rattle.hg_run.specs.Rounding.{IsRoundBy, AreRounds, sweep_lines}
 use Rattle.hg_run.specs.Swept.{HasSwept, swept_by}
 use Rattle.hg_run.proofs.Begun.{began_before}
-use Rattle.hg_run.proofs.Driving.{swept_of, removed_rounds}
+use Rattle.hg_run.proofs.Driving.{swept_of, removed_rounds, told_append, told_lines}
 use Rattle.hg_run.proofs.Reported.{rounds_map, reported, lines_removed}
 
 -- ---- a session's lines tell of no round
@@ -60,12 +62,15 @@ none_swept buckets u own Commit sweep h l = h
 none_swept buckets u own Rollback sweep h l = h.0
 none_swept buckets u own (Gc kind) sweep h l = l
 
-none_told : (k : Kind) (buckets : ℕ) (u : Unprinted) (own : List Write) (s : Statement) (line : Line) → FitsAnswer buckets u own s line.reply.answer → LeavesGc s line.reply.answer → told_by k line ≡ 0
-none_told k buckets u own s line h l = ap (λ o. option_map_or (swept_by k) o 0) (go line.reply.answer h l)
+none_reported : (buckets : ℕ) (u : Unprinted) (own : List Write) (s : Statement) (line : Line) → FitsAnswer buckets u own s line.reply.answer → LeavesGc s line.reply.answer → report_of line.reply ≡ None
+none_reported buckets u own s line h l = go line.reply.answer h l
   where
     go : (a : Answer) → FitsAnswer buckets u own s a → LeavesGc s a → report_of (record line.reply { answer = a }) ≡ None
     go (Swept sweep) h l = absurd (none_swept buckets u own s sweep h l)
     go _ h l = refl
+
+none_told : (k : Kind) (buckets : ℕ) (u : Unprinted) (own : List Write) (s : Statement) (line : Line) → FitsAnswer buckets u own s line.reply.answer → LeavesGc s line.reply.answer → told_by k line ≡ 0
+none_told k buckets u own s line h l = ap (λ o. option_map_or (swept_by k) o 0) (none_reported buckets u own s line h l)
 
 tells_none : (k : Kind) (buckets : ℕ) (rs : List Record) (lines : List Line) (log final : List LogEntry) → Tells buckets (λ r line. LeavesGc r.statement line.reply.answer) log rs lines final → told_removed k lines ≡ 0
 tells_none k buckets [] [] log final t = refl
@@ -84,6 +89,54 @@ flat_none k lines none i (suc n) =
     let later = flat_none k lines none (suc i) n in
     let sum = sum_by-append (told_by k) (lines i) (flat_map lines (numbers_from (suc i) n)) in
     omega (arith, here, later, sum)
+
+abbrev report : Line → Option Sweep
+report line = report_of line.reply
+
+no_reports : (buckets : ℕ) (rs : List Record) (lines : List Line) (log final : List LogEntry) → Tells buckets (λ r line. LeavesGc r.statement line.reply.answer) log rs lines final → filter_map report lines ≡ []
+no_reports buckets [] [] log final t = refl
+no_reports buckets [] (line ∷ lines) log final t = absurd t
+no_reports buckets (r ∷ rs) [] log final t = absurd t
+no_reports buckets (r ∷ rs) (line ∷ lines) log final t =
+    ap (λ o. cons_option o (filter_map report lines)) (none_reported buckets t.1.0 (own_writes log) r.statement line t.1.1.answer t.0) ∙ no_reports buckets rs lines (log_after buckets t.1.0 r.statement line.reply log) final t.1.2
+
+flat_reports : (lines : ℕ → List Line) → ((j : ℕ) → filter_map report (lines j) ≡ []) → (i n : ℕ) → filter_map report (flat_map lines (numbers_from i n)) ≡ []
+flat_reports lines none i zero = refl
+flat_reports lines none i (suc n) = filter_map-append report (lines i) (flat_map lines (numbers_from (suc i) n)) ∙ (λ j. none i j ++ flat_reports lines none (suc i) n j)
+
+-- the lines of a run tell the rounds of each collector
+module _ (e : Engine) (long rounds : ℕ) (script : Script) (old new : List Session) (before after : Collectors) (all : List Line) (d : HasDrivenAll (engine_sizes e) long rounds script.records old before all new after) where
+  abbrev sizes : Sizes
+  sizes = engine_sizes e
+
+  told_rounds : (k : Kind) → sweeps_of k all ≡ d.sweeps k
+  told_rounds k = ap (sweeps_of k) d.told ∙ (told_append k flat (g ++ (t ++ i)) ∙ ((λ j. flat_told j ++ (told_append k g (t ++ i) ∙ (λ j. of_kind Group j ++ (told_append k t i ∙ (λ j. of_kind Table j ++ of_kind Interval j)) j)) j) ∙ only k))
+    where
+      flat : List Line
+      flat = flat_map d.lines (numbers_from 1 sizes.sessions)
+
+      g : List Line
+      g = sweep_lines 1 (d.sweeps Group)
+
+      t : List Line
+      t = sweep_lines 1 (d.sweeps Table)
+
+      i : List Line
+      i = sweep_lines 1 (d.sweeps Interval)
+
+      flat_told : sweeps_of k flat ≡ []
+      flat_told = ap (filter (λ (s : Sweep). same_kind s.kind k)) (flat_reports d.lines (λ j. no_reports sizes.buckets (of_session j script.records) (d.lines j) (logs_of old j) (d.worked j).log (d.worked j).tells) 1 sizes.sessions)
+
+      of_kind : (kind : Kind) → sweeps_of k (sweep_lines 1 (d.sweeps kind)) ≡ cond (same_kind kind k) (d.sweeps kind) []
+      of_kind kind = told_lines kind k sizes long (view_in kind before) (view_in kind after) (d.sweeps kind) (d.made kind)
+
+      only : (k : Kind) → [] ++ (cond (same_kind Group k) (d.sweeps Group) [] ++ (cond (same_kind Table k) (d.sweeps Table) [] ++ cond (same_kind Interval k) (d.sweeps Interval) [])) ≡ d.sweeps k
+      only Group = append_nil (d.sweeps Group)
+      only Table = append_nil (d.sweeps Table)
+      only Interval = refl
+
+  pub rounds_told : HaveMade sizes long before (λ kind. sweeps_of kind all) after
+  rounds_told k = subst (λ sweeps. AreRounds (IsRoundBy k sizes long) (view_in k before) sweeps (view_in k after)) (sym (told_rounds k)) (d.made k)
 
 -- ---- which sessions there are
 

@@ -1,28 +1,49 @@
 -- What a script may print.
 use Rattle.std.specs.Prelude.{◌≡◌, ℕ, List}
 use Rattle.std.specs.List.{flat_map}
+use Rattle.hg_base.specs.declared.line.Line.{Line}
 use Rattle.hg_base.specs.declared.line.Printed.{Printed}
 use Rattle.hg_base.specs.Script.{Mode, Script, replay, run}
 use Rattle.hg_base.specs.Sound.{IsSound}
 use Rattle.hg_base.specs.Text.{IsFit, text_of, totals_records}
 use Rattle.hg_report.specs.Bytes.{record_bytes}
 use Rattle.hg_script.specs.Generator.{IsMade}
+use Rattle.hg_session.specs.declared.engine.Engine.{Engine}
+use Rattle.hg_session.specs.declared.session.Session.{Session}
+use Rattle.hg_session.specs.Engines.{engine_sizes}
+use Rattle.hg_run.specs.declared.collecting.Collectors.{Collectors}
+use Rattle.hg_run.specs.Collecting.{HaveMade}
+use Rattle.hg_run.specs.Driven.{IsOpenedFor, sweeps_of}
+use Rattle.hg_run.specs.Words.{Settings}
 
--- A text that a script may print under a command: that of a printed value which is sound for it and fits it. So the text
--- determines the value.
-pub record IsPrintedFor (mode : Mode) (script : Script) (text : List ℕ) : Type 0 where
+-- The lines report rounds that were made as the settings say: an engine was opened for the script with so many buckets, and each of
+-- its collectors made the rounds of its kind that the lines report, in their order and no others, each with that `long`.
+pub record ReportsRounds (settings : Settings) (script : Script) (lines : List Line) : Type 0 where
+  pub engine : Engine
+  pub sessions : List Session
+  pub new : Collectors
+  pub opened : IsOpenedFor script settings.buckets engine sessions new
+  pub done : Collectors
+  pub rounds : HaveMade (engine_sizes engine) settings.long new (λ kind. sweeps_of kind lines) done
+
+-- A text that a script may print under these settings: that of a printed value which is sound for it, fits it, and reports rounds
+-- that were made as the settings say. So the text determines the value.
+pub record IsPrintedFor (settings : Settings) (script : Script) (text : List ℕ) : Type 0 where
   pub printed : Printed
-  pub sound : IsSound mode script printed
+  pub sound : IsSound settings.mode script printed
   pub fit : IsFit script printed
+  pub rounds : ReportsRounds settings script printed.lines
   pub same : text ≡ text_of record_bytes script printed
 
--- the text of the totals of a printed value that is sound for the script of a seed in a replay and fits it: the last six records of its text
-pub record AreTotalsOf (seed : ℕ) (text : List ℕ) : Type 0 where
+-- The text of the totals of a printed value that is sound for the script of a seed in a replay, fits it, and reports rounds that were
+-- made as the settings say: the last six records of its text.
+pub record AreTotalsOf (seed : ℕ) (settings : Settings) (text : List ℕ) : Type 0 where
   pub script : Script
   pub made : IsMade seed script
   pub printed : Printed
   pub sound : IsSound replay script printed
   pub fit : IsFit script printed
+  pub rounds : ReportsRounds settings script printed.lines
   pub same : text ≡ flat_map record_bytes (totals_records printed.totals)
 
 -- how many rounds each collector makes beside the sessions

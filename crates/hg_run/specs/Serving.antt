@@ -4,14 +4,13 @@ use Rattle.std.specs.Io.KnownBytes.{Appends, Consumes, IsAtEnd}
 use Rattle.hg_base.specs.declared.limits.TheConstants.{MOST_SCRIPT_BYTES}
 use Rattle.hg_base.specs.Faults.{Rose}
 use Rattle.hg_base.specs.Memory.{SteadyFeed}
-use Rattle.hg_base.specs.Script.{Mode}
 use Rattle.hg_script.specs.declared.code.Code.{Code}
 use Rattle.hg_script.specs.Fields.{rows_of}
 use Rattle.hg_script.specs.Meaning.{refusal_of, script_of}
 use Rattle.hg_words.specs.Options.{options_of}
 use Rattle.hg_run.specs.declared.status.Status.{Status}
 use Rattle.hg_run.specs.declared.status.Status.TheVariants.{Done, Usage, BadScript, ReadFault, WriteFault, TooLong, NoMemory}
-use Rattle.hg_run.specs.Words.{AsksFor, IsReading, Task, audits, makes, reads}
+use Rattle.hg_run.specs.Words.{AsksFor, IsReading, Settings, Task, audits, makes, reads}
 use Rattle.hg_run.specs.Printing.{AreTotalsOf, IsPrintedFor}
 use Rattle.hg_run.specs.Parting.{AreParts}
 use Rattle.hg_run.specs.Judging.{IsJudgedBy}
@@ -54,10 +53,10 @@ steady_sink = record { before = None; after = None; faults = 0; faults_after = 0
 
 -- ---- what the bytes of a script mean
 
--- a text that the script which the bytes mean may print under a command
-pub record IsTextFor (mode : Mode) (bytes text : List ℕ) : Type 0 where
+-- a text that the script which the bytes mean may print under these settings
+pub record IsTextFor (settings : Settings) (bytes text : List ℕ) : Type 0 where
   pub valid : refusal_of (rows_of bytes) ≡ None
-  pub printed : IsPrintedFor mode (script_of (rows_of bytes)) text
+  pub printed : IsPrintedFor settings (script_of (rows_of bytes)) text
 
 -- the bytes are all that the source had, and no more than a script may have
 pub record ReadsAll (source : Change) (bytes : List ℕ) : Type 0 where
@@ -73,16 +72,16 @@ pub record AnswersSource (P : List ℕ → List ℕ → Type 0) (source : Change
 
 -- a text that does what is asked
 abbrev pub Answers : Task → Change → List ℕ → Type 0
-Answers (reads mode) source text = AnswersSource (IsTextFor mode) source text
-Answers (makes seed) source text = AreTotalsOf seed text
+Answers (reads settings) source text = AnswersSource (IsTextFor settings) source text
+Answers (makes seed settings) source text = AreTotalsOf seed settings text
 Answers audits source text = AnswersSource IsJudgedBy source text
 
 -- ---- what was done with them
 
 -- which of the bytes of a source are the script's: all of them, or those before the line that parts it; one that is made has none there
 abbrev pub IsScriptIn : Task → List ℕ → List ℕ → Type 0
-IsScriptIn (reads mode) bytes script = script ≡ bytes
-IsScriptIn (makes seed) bytes script = ⊥
+IsScriptIn (reads settings) bytes script = script ≡ bytes
+IsScriptIn (makes seed settings) bytes script = ⊥
 IsScriptIn audits bytes script = (text : List ℕ) × AreParts bytes script text
 
 -- the first record of the script that breaks a rule, and its first code
@@ -161,5 +160,5 @@ RefusesSource task source _ = ⊥
 
 -- why what is asked has no text: a script that is made wants memory alone
 abbrev pub RefusesTask : Task → Change → Status → Type 0
-RefusesTask (makes seed) source status = status ≡ NoMemory
+RefusesTask (makes seed settings) source status = status ≡ NoMemory
 RefusesTask task source status = RefusesSource task source status

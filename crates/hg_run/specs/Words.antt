@@ -5,28 +5,40 @@ use Rattle.hg_words.specs.declared.options.Options.{Options}
 use Rattle.hg_words.specs.declared.options.Command.TheVariants.{Run, Load, Audit}
 use Rattle.hg_words.specs.Options.{options_of}
 
--- The text of the script in the source under a command; the totals alone of the script that is made from a seed; or the verdict on the
--- text that stands behind the script in the source.
-pub data Task : Type 0 where
-  reads : Mode → Task
-  makes : ℕ → Task
-  audits : Task
+-- How a script is run: in which mode, over how many buckets, and how many commit numbers behind the mark a snapshot is long in use.
+pub record Settings : Type 0 where
+  pub mode : Mode
+  pub buckets : ℕ
+  pub long : ℕ
 
--- how a script is run: one that is made from a seed is replayed
+abbrev pub settings_in : Mode → Options → Settings
+settings_in mode options = record { mode = mode; buckets = options.buckets; long = options.long }
+
+-- what the words say of it: a script that is made from a seed is replayed
 abbrev pub mode_of : Options → Mode
 mode_of options = elim options.command [ Run ↦ run options.rounds | _ ↦ replay ]
 
+abbrev pub settings_of : Options → Settings
+settings_of options = settings_in (mode_of options) options
+
+-- The text of the script in the source; the totals alone of the script that is made from a seed; or the verdict on the text that
+-- follows the script in the source.
+pub data Task : Type 0 where
+  reads : Settings → Task
+  makes : ℕ → Settings → Task
+  audits : Task
+
 abbrev pub task_of : Options → Task
-task_of options = elim options.command [ Load seed ↦ makes seed | Audit ↦ audits | _ ↦ reads (mode_of options) ]
+task_of options = elim options.command [ Load seed ↦ makes seed (settings_of options) | Audit ↦ audits | _ ↦ reads (settings_of options) ]
 
 abbrev pub IsReading : Task → Type 0
-IsReading (reads mode) = ⊤
-IsReading (makes seed) = ⊥
+IsReading (reads settings) = ⊤
+IsReading (makes seed settings) = ⊥
 IsReading audits = ⊤
 
 abbrev pub IsMaking : Task → Type 0
-IsMaking (reads mode) = ⊥
-IsMaking (makes seed) = ⊤
+IsMaking (reads settings) = ⊥
+IsMaking (makes seed settings) = ⊤
 IsMaking audits = ⊥
 
 -- the words ask for something, and P holds of it

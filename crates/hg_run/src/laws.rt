@@ -11,6 +11,7 @@ ghost use Rattle.hg_report.specs.Readable.{IsTextOf};
 ghost use Rattle.hg_run.specs.Printing.{IsPrintedFor, rounds_beside};
 ghost use Rattle.hg_run.specs.Rows.{PrintsColumns};
 ghost use Rattle.hg_run.specs.Serving.{IsTextFor};
+ghost use Rattle.hg_run.specs.Words.{Settings};
 
 /// What is sound for a script prints rows that were put. So where each put has a value for each column, of the column's
 /// kind, each row that is printed has such values too.
@@ -25,9 +26,9 @@ pub fn what_is_sound_fits()
     ensures { (mode : Mode) (script : Script) (printed : Printed) → rounds_beside mode < 2 ^ 32 → IsLawful script → IsSound mode script printed → IsFit script printed }
 {}
 
-/// The bytes of a text determine what was printed, under whichever command: whatever fits the script and has these bytes is
+/// The bytes of a text determine what was printed, under whichever settings: whatever fits the script and has these bytes is
 /// the value that was printed. So the bytes of a script and those that a sink took for it leave no choice.
 pub fn text_determines_what_was_printed()
-    ensures only { (mode : Mode) (script : Script) (text : List ℕ) (other : Printed) → IsLawful script → (p : IsPrintedFor mode script text) → IsTextOf script text other → other ≡ p.printed }
-    ensures served { (mode other : Mode) (bytes text : List ℕ) → (a : IsTextFor mode bytes text) → (b : IsTextFor other bytes text) → a.printed.printed ≡ b.printed.printed }
+    ensures only { (settings : Settings) (script : Script) (text : List ℕ) (other : Printed) → IsLawful script → (p : IsPrintedFor settings script text) → IsTextOf script text other → other ≡ p.printed }
+    ensures served { (settings other : Settings) (bytes text : List ℕ) → (a : IsTextFor settings bytes text) → (b : IsTextFor other bytes text) → a.printed.printed ≡ b.printed.printed }
 {}

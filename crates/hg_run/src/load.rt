@@ -1,8 +1,10 @@
 //! The replay of a script that is made from a seed.
 
 ghost use Rattle.std.specs.Prelude.{IfOk};
+ghost use Rattle.hg_base.specs.Script.{replay};
 ghost use Rattle.hg_words.specs.Options.{AreWithin};
 ghost use Rattle.hg_run.specs.Printing.{AreTotalsOf};
+ghost use Rattle.hg_run.specs.Words.{settings_in};
 
 use crate::replay::replay_lines;
 use hg_base::NoMemory;
@@ -20,7 +22,7 @@ pub(crate) fn load<R: Wait>(
     options: &Options,
 ) -> Result<Vec<u8>, NoMemory>
     requires { AreWithin options.now }
-    ensures { IfOk result (λ text. AreTotalsOf seed text.items) }
+    ensures { IfOk result (λ text. AreTotalsOf seed (settings_in replay options.now) text.items) }
 {
     let script = make_script(alloc, seed)?;
     let (_, totals) = replay_lines(rt, alloc, &script, options)?;

@@ -14,7 +14,8 @@ ghost use Rattle.hg_words.specs.Options.{AreWithin};
 ghost use Rattle.hg_run.specs.Collecting.{AreCollectors};
 ghost use Rattle.hg_run.specs.Driven.{HasDrivenOne};
 ghost use Rattle.hg_run.specs.Played.{HasPlayedOut};
-ghost use Rattle.hg_run.specs.Printing.{IsPrintedFor};
+ghost use Rattle.hg_run.specs.Printing.{IsPrintedFor, ReportsRounds};
+ghost use Rattle.hg_run.specs.Words.{settings_in};
 
 use crate::collecting::Collectors;
 use crate::ending::{close, close_all};
@@ -81,6 +82,7 @@ pub(crate) fn replay_lines<'a, R: Wait>(
     requires within { AreWithin options.now }
     ensures sound { IfOk result (λ p. IsSound replay script.now (record { lines = p.0.lines; totals = p.1 })) }
     ensures fit { IfOk result (λ p. IsFit script.now (record { lines = p.0.lines; totals = p.1 })) }
+    ensures rounds { IfOk result (λ p. ReportsRounds (settings_in replay options.now) script.now p.0.lines) }
     ensures tables { IfOk result (λ p. p.0.tables ≡ script.now.tables) }
 {
     let (engine, list, collectors) = open_for(alloc, script, options)?;
@@ -108,7 +110,7 @@ pub(crate) fn replay<R: Wait>(
 ) -> Result<Vec<u8>, NoMemory>
     requires lawful { IsLawful script.now }
     requires within { AreWithin options.now }
-    ensures { IfOk result (λ text. IsPrintedFor replay script.now text.items) }
+    ensures { IfOk result (λ text. IsPrintedFor (settings_in replay options.now) script.now text.items) }
 {
     let (transcript, totals) = replay_lines(rt, alloc, script, options)?;
     let text = transcript.with_totals(&totals)?;

@@ -19,6 +19,7 @@ ghost use Rattle.hg_run.specs.Collecting.{AreCollectors};
 ghost use Rattle.hg_run.specs.Driven.{HasDrivenAll};
 ghost use Rattle.hg_run.specs.Printing.{IsPrintedFor};
 ghost use Rattle.hg_run.specs.Rounding.{sweep_lines};
+ghost use Rattle.hg_run.specs.Words.{settings_in};
 ghost use Rattle.hg_run.specs.Working.{AreWilling, hired, lines_in, sessions_in};
 
 use crate::beside::{RoundLists, run_beside};
@@ -196,7 +197,7 @@ pub(crate) fn run_all<R: Threads + Wait + Sync, G: Gate + Sync>(
 ) -> Result<Vec<u8>, NoMemory>
     requires lawful { IsLawful script.now }
     requires within { AreWithin options.now }
-    ensures { IfOk result (λ text. IsPrintedFor (run options.now.rounds) script.now text.items) }
+    ensures { IfOk result (λ text. IsPrintedFor (settings_in (run options.now.rounds) options.now) script.now text.items) }
 {
     let (engine, list, collectors) = open_for(alloc, script, options)?;
     let mut list = list;

@@ -5,7 +5,7 @@ ghost use Rattle.hg_script.specs.declared.code.Code.{Code};
 ghost use Rattle.hg_script.specs.Fields.{rows_of};
 ghost use Rattle.hg_script.specs.Meaning.{refusal_of};
 ghost use Rattle.hg_words.specs.Options.{AreWithin, options_of};
-ghost use Rattle.hg_run.specs.Words.{AsksFor, IsMaking, IsReading, audits, mode_of, reads, task_of};
+ghost use Rattle.hg_run.specs.Words.{AsksFor, IsMaking, IsReading, audits, reads, settings_of, task_of};
 ghost use Rattle.hg_run.specs.Serving.{Answers, Comes, Gives, HasFailed, HasGiven, IsScriptIn, IsTextFor, IsUnlessNoMemory, RefusesBytes, RefusesTask, WritesAll, change_of, may_write};
 
 use crate::audit::audit_bytes;
@@ -31,8 +31,8 @@ fn text_of_bytes<R: Threads + Wait + Sync, G: Gate + Sync>(
     gate: &G,
 ) -> Result<Vec<u8>, Status>
     requires { AreWithin options.now }
-    ensures text { IfOk result (λ text. IsTextFor (mode_of options.now) bytes.items text.items) }
-    ensures refused { IfErr result (RefusesBytes (reads (mode_of options.now)) bytes.items) }
+    ensures text { IfOk result (λ text. IsTextFor (settings_of options.now) bytes.items text.items) }
+    ensures refused { IfErr result (RefusesBytes (reads (settings_of options.now)) bytes.items) }
 {
     let script = read_script(alloc, &bytes)?;
     drop(bytes);
@@ -52,8 +52,8 @@ fn text_of_source<R: Threads + Wait + Sync, S: Source, G: Gate + Sync>(
     gate: &G,
 ) -> Result<Vec<u8>, Status>
     requires { AreWithin options.now }
-    ensures text { IfOk result (λ text. Answers (reads (mode_of options.now)) (change_of S.left S.faults source.old source.new) text.items) }
-    ensures refused { IfErr result (RefusesTask (reads (mode_of options.now)) (change_of S.left S.faults source.old source.new)) }
+    ensures text { IfOk result (λ text. Answers (reads (settings_of options.now)) (change_of S.left S.faults source.old source.new) text.items) }
+    ensures refused { IfErr result (RefusesTask (reads (settings_of options.now)) (change_of S.left S.faults source.old source.new)) }
     ensures no_more { HasGiven (MOST_SCRIPT_BYTES + 1) (change_of S.left S.faults source.old source.new) }
 {
     let bytes = read_all(alloc, source)?;

@@ -30,3 +30,13 @@ pub returns-clause-fit : goal.returns-clause-fit
 returns-clause-fit g c =
     let printed : Printed = record { lines = c.in_ok-transcript.transcript.lines; totals = c.close-totals.result } in
     sound_fits replay c.args.script.now printed (omega arith) c.requires.lawful (returns-clause-sound g c)
+
+pub returns-clause-rounds : goal.returns-clause-rounds
+returns-clause-rounds g c = record {
+  engine = c.in_ok-engine.engine;
+  sessions = c.in_ok-engine.list;
+  new = c.in_ok-engine.collectors;
+  opened = c.in_ok-engine.ensures;
+  done = c.replay_on.new.collectors;
+  rounds = c.in_ok-transcript.ensures.driven.rounds;
+}

@@ -9,9 +9,11 @@ use Rattle.hg_script.specs.Lawful.{IsStatement}
 use Rattle.hg_session.specs.declared.session.Session.{Session}
 use Rattle.hg_session.specs.Engines.{engine_sizes}
 use Rattle.hg_run.specs.Closed.{IsClosedBy}
+use Rattle.hg_run.specs.Printing.{ReportsRounds}
+use Rattle.hg_run.specs.Words.{settings_in}
 use Rattle.hg_run.proofs.Closes.{new_logs}
 use Rattle.hg_run.proofs.Fits.{sound_fits}
-use Rattle.hg_run.proofs.WholeRun.{driven_sound}
+use Rattle.hg_run.proofs.WholeRun.{driven_sound, rounds_told}
 use Rattle.hg_run.proofs.run.run_all.Goals as goal
 
 pub returns : goal.returns
@@ -29,4 +31,12 @@ returns g c =
     let sound : IsSound (run rounds) script printed = driven_sound e long rounds script c.in_ok-engine.list c.run_on.new.sessions c.in_ok-engine.collectors c.run_on.new.collectors shown.lines totals c.in_ok-transcript.ensures.driven t
     (new_logs e (engine_sizes e).quota c.in_ok-engine.list o.new) o.none numbered o.sessions in
     let same = c.in_ok-text.ensures script (sym c.in_ok-transcript.ensures.tables) in
-    record { printed = printed; sound = sound; fit = sound_fits (run rounds) script printed (let most = c.requires.within.most_rounds in omega (arith, most)) c.requires.lawful sound; same = same }
+    let reported : ReportsRounds (settings_in (run rounds) c.args.options.now) script shown.lines = record {
+      engine = e;
+      sessions = c.in_ok-engine.list;
+      new = c.in_ok-engine.collectors;
+      opened = o;
+      done = c.run_on.new.collectors;
+      rounds = rounds_told e long rounds script c.in_ok-engine.list c.run_on.new.sessions c.in_ok-engine.collectors c.run_on.new.collectors shown.lines c.in_ok-transcript.ensures.driven;
+    } in
+    record { printed = printed; sound = sound; rounds = reported; fit = sound_fits (run rounds) script printed (let most = c.requires.within.most_rounds in omega (arith, most)) c.requires.lawful sound; same = same }
