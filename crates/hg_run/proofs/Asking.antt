@@ -15,10 +15,11 @@ use Rattle.hg_session.specs.declared.session.Session.{Session}
 use Rattle.hg_session.specs.Engines.{engine_sizes}
 use Rattle.hg_session.specs.Finished.{logs_of}
 use Rattle.hg_run.specs.Asked.{HasReplied, collector_asked}
-use Rattle.hg_run.specs.Listed.{AreReady}
+use Rattle.hg_run.specs.Listed.{AreReady, one_more}
 use Rattle.hg_run.specs.Swept.{swept_by, told_of}
 use Rattle.hg_run.proofs.FreshNumbers.{leaves_gc}
 use Rattle.hg_run.proofs.Going.{ready_less}
+use Rattle.hg_run.proofs.Turns.{more_than}
 
 pub gc_is : (s : Statement) (kind : Kind) → collector_asked s ≡ Some kind → s ≡ Gc kind
 gc_is (Gc other) kind e = ap Gc (same other kind e)
@@ -40,8 +41,8 @@ none_reported e seen old i s reply new other h = no_report (engine_sizes e).buck
 pub none_told : (e : Engine) (seen : ℕ) (old : List Session) (i : ℕ) (s : Statement) (reply : Reply) (new : List Session) → collector_asked s ≡ None → HasReplied e seen old i s reply new → (k : Kind) → told_of k reply ≡ 0
 none_told e seen old i s reply new other h k = ap (λ (o : Option Sweep). option_map_or (swept_by k) o 0) (none_reported e seen old i s reply new other h)
 
-pub ready_fewer : (e : Engine) (i left : ℕ) (list : List Session) → AreReady e i (suc left) list → AreReady e i left list
-ready_fewer e i left list r = let less : left ≤ suc left = omega arith in ready_less e i left (suc left) list less r
+pub ready_fewer : (e : Engine) (i : ℕ) (left : ℕ → ℕ) (list : List Session) → AreReady e i (one_more (suc i) left) list → AreReady e i left list
+ready_fewer e i left list r = ready_less e i left (one_more (suc i) left) list (λ j. more_than (suc i) j left) r
 
 pub if_ok : {A E : Type 0} (P Q : A → Type 0) (result : Result A E) → ((x : A) → P x → Q x) → IfOk result P → IfOk result Q
 if_ok P Q (Ok x) f h = f x h

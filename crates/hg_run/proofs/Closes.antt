@@ -79,7 +79,7 @@ new_logs e quota list row = by_place (λ j. logs_of list j ≡ []) list refl
     from i (y ∷ ys) r zero = r.0.log
     from i (y ∷ ys) r (suc k) = from (suc i) ys r.1 k
 
-pub new_ready : (e : Engine) (quota : ℕ) (list : List Session) → length list ≡ (engine_sizes e).sessions → 0 < length list → EachFrom (IsNewOf e quota) 1 list → AreReady e 0 quota list
+pub new_ready : (e : Engine) (quota : ℕ) (list : List Session) → length list ≡ (engine_sizes e).sessions → 0 < length list → EachFrom (IsNewOf e quota) 1 list → AreReady e 0 (λ j. quota) list
 new_ready e quota list many some row = record {
   many = many;
   within = some;

@@ -1,6 +1,6 @@
 -- A replay amid a script that breaks no rule.
-use Rattle.std.proofs.Common.{◌≡◌, ℕ, suc, ◌+◌, ◌≤◌, inl, List, [], ◌∷◌, ◌++◌, length, refl, sym, ap, ◌∙◌, subst, arith, append_assoc}
-use Rattle.std.specs.Prelude.{map, max, is_some, ⊤}
+use Rattle.std.proofs.Common.{◌≡◌, ℕ, suc, ◌+◌, ◌≤◌, inl, List, [], ◌∷◌, ◌++◌, length, Bool, true, false, refl, sym, ap, ◌∙◌, subst, arith, append_assoc}
+use Rattle.std.specs.Prelude.{cond, map, max, is_some, ⊤, ◌==◌}
 use Rattle.std.proofs.lemmas.List.Sums.{sum_by-cons, sum_by-append}
 use Rattle.hg_base.specs.declared.limits.TheConstants.{MOST_SESSIONS}
 use Rattle.hg_base.specs.declared.statement.Statement.{Statement}
@@ -12,6 +12,7 @@ use Rattle.hg_base.specs.declared.statement.Record.{Record}
 use Rattle.hg_base.specs.declared.line.Line.{Line}
 use Rattle.hg_base.specs.Lists.{Each, greatest}
 use Rattle.hg_base.specs.Script.{Declaration, Script}
+use Rattle.hg_base.specs.Transcript.{of_session}
 use Rattle.hg_base.proofs.ListFacts.{append_nil}
 use Rattle.hg_core.specs.declared.log.LogEntry.{LogEntry}
 use Rattle.hg_core.specs.Logs.{current}
@@ -27,7 +28,7 @@ use Rattle.hg_session.specs.declared.engine.Engine.{Engine}
 use Rattle.hg_session.specs.declared.session.Session.{Session}
 use Rattle.hg_session.specs.Engines.{engine_sizes}
 use Rattle.hg_session.specs.Finished.{logs_of}
-use Rattle.hg_run.specs.Listed.{ArePlaced, AreReady, SawAt}
+use Rattle.hg_run.specs.Listed.{ArePlaced, AreReady, SawAt, none_left, one_more}
 use Rattle.hg_run.specs.Asked.{IsOnTables, IsReplied, HasReplied}
 use Rattle.hg_run.specs.Swept.{told_of}
 use Rattle.hg_run.specs.Played.{HasPlayed, HasPlayedOut}
@@ -50,7 +51,7 @@ pub record Going (e : Engine) (long : ℕ) (before now : Collectors) (list : Lis
   pub all : script.records ≡ done ++ rest
   pub following : IsFollowing (engine_sizes e).buckets (engine_sizes e).sessions (logs_of list) seen top done lines
   pub opened : (j : ℕ) → is_open j done ≡ is_some (current (logs_of list j))
-  pub ready : AreReady e last (length rest) list
+  pub ready : AreReady e last (λ j. length (of_session j rest)) list
   pub saw : SawAt seen last list
   pub told : (k : Kind) → removed_of k now ≡ removed_of k before + told_removed k lines
   pub rounds : HaveMade (engine_sizes e) long before (λ k. sweeps_of k lines) now
@@ -76,9 +77,42 @@ greatest_within script (r ∷ rs) h =
 pub sessions_within : (script : Script) → IsLawful script → max 1 (greatest (map (λ r. r.session) script.records)) ≤ MOST_SESSIONS
 sessions_within script h = let most = greatest_within script script.records h.statements in omega (arith, most)
 
+-- ---- what a session may run
+
+pub are_placed : (e : Engine) (last : ℕ) (left : ℕ → ℕ) (list : List Session) → AreReady e last left list → ArePlaced e list
+are_placed e last left list r = record { many = r.many; placed = r.placed }
+
+pub ready_less : (e : Engine) (last : ℕ) (left more : ℕ → ℕ) (list : List Session) → ((j : ℕ) → left j ≤ more j) → AreReady e last more list → AreReady e last left list
+ready_less e last left more list less r = record {
+  many = r.many;
+  within = r.within;
+  placed = r.placed;
+  left_is = λ d k within. (let more = r.left_is d k within in let l = less (suc k) in omega (arith, l, more));
+  heard = r.heard;
+}
+
+-- the session of the next record may run one statement more than it has to run then
+more_left : (e : Engine) (i : ℕ) (list : List Session) (r : Record) (rest : List Record) → suc i ≡ r.session → AreReady e i (λ j. length (of_session j (r ∷ rest))) list → AreReady e i (one_more (suc i) (λ j. length (of_session j rest))) list
+more_left e i list r rest is ready =
+    ready_less e i (one_more (suc i) (λ j. length (of_session j rest))) (λ j. length (of_session j (r ∷ rest))) list
+    (subst (λ s. (j : ℕ) → one_more s (λ j. length (of_session j rest)) j ≤ length (of_session j (r ∷ rest))) (sym is) (λ j. go j (r.session == j))) ready
+  where
+    go : (j : ℕ) (b : Bool) → cond b (suc (length (of_session j rest))) (length (of_session j rest)) ≤ length (cond b (r ∷ of_session j rest) (of_session j rest))
+    go j true = omega arith
+    go j false = omega arith
+
+-- which is one at least
+pub ready_one_more : (e : Engine) (i : ℕ) (list : List Session) (r : Record) (rest : List Record) → suc i ≡ r.session → AreReady e i (λ j. length (of_session j (r ∷ rest))) list → AreReady e i (one_more (suc i) none_left) list
+ready_one_more e i list r rest is ready =
+    ready_less e i (one_more (suc i) none_left) (one_more (suc i) (λ j. length (of_session j rest))) list (λ j. go j (suc i == j)) (more_left e i list r rest is ready)
+  where
+    go : (j : ℕ) (b : Bool) → cond b (suc (none_left j)) (none_left j) ≤ cond b (suc (length (of_session j rest))) (length (of_session j rest))
+    go j true = omega arith
+    go j false = omega arith
+
 -- ---- one turn
 
-pub going_first : (e : Engine) (long : ℕ) (c : Collectors) (list : List Session) (script : Script) → (engine_sizes e).sessions ≡ max 1 (greatest (map (λ r. r.session) script.records)) → IsLawful script → AreReady e 0 (length script.records) list → ((j : ℕ) → logs_of list j ≡ []) → Going e long c c list 0 [] script.records script
+pub going_first : (e : Engine) (long : ℕ) (c : Collectors) (list : List Session) (script : Script) → (engine_sizes e).sessions ≡ max 1 (greatest (map (λ r. r.session) script.records)) → IsLawful script → AreReady e 0 (λ j. length (of_session j script.records)) list → ((j : ℕ) → logs_of list j ≡ []) → Going e long c c list 0 [] script.records script
 going_first e long c list script sessions h ready none =
     let most : greatest (map (λ (r : Record). r.session) script.records) ≤ (engine_sizes e).sessions = omega (arith, sessions) in
     let same : (λ j. []) ≡ logs_of list = (λ p j. sym (none j) p) in
@@ -98,7 +132,7 @@ going_first e long c list script sessions h ready none =
     }
 
 -- the session of the next record has met the one that ran last
-pub going_turned : (e : Engine) (long : ℕ) (before now : Collectors) (old mid : List Session) (last i : ℕ) (lines : List Line) (rest : List Record) (script : Script) → Going e long before now old last lines rest script → logs_of mid ≡ logs_of old → ((seen : ℕ) → SawAt seen last old → SawAt seen i mid) → ((left : ℕ) → AreReady e last left old → AreReady e i left mid) → Going e long before now mid i lines rest script
+pub going_turned : (e : Engine) (long : ℕ) (before now : Collectors) (old mid : List Session) (last i : ℕ) (lines : List Line) (rest : List Record) (script : Script) → Going e long before now old last lines rest script → logs_of mid ≡ logs_of old → ((seen : ℕ) → SawAt seen last old → SawAt seen i mid) → ((left : ℕ → ℕ) → AreReady e last left old → AreReady e i left mid) → Going e long before now mid i lines rest script
 going_turned e long before now old mid last i lines rest script g same saw ready = record {
   done = g.done;
   seen = g.seen;
@@ -106,7 +140,7 @@ going_turned e long before now old mid last i lines rest script g same saw ready
   all = g.all;
   following = subst (λ logs. IsFollowing (engine_sizes e).buckets (engine_sizes e).sessions logs g.seen g.top g.done lines) (sym same) g.following;
   opened = λ j. g.opened j ∙ ap (λ (l : ℕ → List LogEntry). is_some (current (l j))) (sym same);
-  ready = ready (length rest) g.ready;
+  ready = ready (λ j. length (of_session j rest)) g.ready;
   saw = saw g.seen g.saw;
   told = g.told;
   rounds = g.rounds;
@@ -123,7 +157,7 @@ told_more k lines line =
     omega (arith, all, one, none, same)
 
 pub going_on : (e : Engine) (long : ℕ) (before now later : Collectors) (old new : List Session) (i : ℕ) (lines : List Line) (r : Record) (rest : List Record) (script : Script) (line : Line) → (g : Going e long before now old i lines (r ∷ rest) script) → suc i ≡ r.session → line.session ≡ r.session → line.place ≡ r.place →
-    HasReplied e g.seen old i r.statement line.reply new → ((left : ℕ) → AreReady e i (suc left) old → AreReady e i left new) → ((k : Kind) → removed_of k later ≡ removed_of k now + told_of k line.reply) → HaveMade (engine_sizes e) long now (λ k. sweeps_in k line.reply) later →
+    HasReplied e g.seen old i r.statement line.reply new → ((left : ℕ → ℕ) → AreReady e i (one_more (suc i) left) old → AreReady e i left new) → ((k : Kind) → removed_of k later ≡ removed_of k now + told_of k line.reply) → HaveMade (engine_sizes e) long now (λ k. sweeps_in k line.reply) later →
     Going e long before later new i (lines ++ line ∷ []) rest script
 going_on e long before now later old new i lines r rest script line g is session place h ready gone made =
     let z = engine_sizes e in
@@ -137,7 +171,7 @@ going_on e long before now later old new i lines r rest script line g is session
       following = subst (λ logs. IsFollowing z.buckets z.sessions logs h.later top (g.done ++ r ∷ []) (lines ++ line ∷ [])) (sym a.logs)
           (following_more z.buckets z.sessions (logs_of old) g.seen h.later g.top g.done lines r line a.u g.following g.coming.0.stands.some g.coming.0.most session place a.fits a.met a.fresh);
       opened = opened_more z.buckets (logs_of old) (logs_of new) g.done r a.u line.reply a.logs a.fits g.opened;
-      ready = ready (length rest) g.ready;
+      ready = ready (λ j. length (of_session j rest)) (more_left e i old r rest is g.ready);
       saw = h.saw;
       told = λ k. let first = g.told k in let here = gone k in let more = told_more k lines line in omega (arith, first, here, more);
       rounds = made_more z long before now later lines line g.rounds made;
@@ -194,18 +228,6 @@ played_out e long before after played closed script lines p closes many saw = re
 }
 
 -- ---- what the next record asks for
-
-pub are_placed : (e : Engine) (last left : ℕ) (list : List Session) → AreReady e last left list → ArePlaced e list
-are_placed e last left list r = record { many = r.many; placed = r.placed }
-
-pub ready_less : (e : Engine) (last left more : ℕ) (list : List Session) → left ≤ more → AreReady e last more list → AreReady e last left list
-ready_less e last left more list less r = record {
-  many = r.many;
-  within = r.within;
-  placed = r.placed;
-  left_is = λ d k within. (let more = r.left_is d k within in omega (arith, less, more));
-  heard = r.heard;
-}
 
 pub may_stand : (e : Engine) (long : ℕ) (before now : Collectors) (list : List Session) (last : ℕ) (lines : List Line) (r : Record) (rest : List Record) (script : Script) → Going e long before now list last lines (r ∷ rest) script → MayStand (is_some (current (logs_of list r.session))) r.statement
 may_stand e long before now list last lines r rest script g = subst (λ b. MayStand b r.statement) (g.opened r.session) g.order.0

@@ -81,7 +81,7 @@ each_filter P f (x ∷ xs) h = go (f x) (each_filter P f xs h.1)
     go true rest = (h.0, rest)
     go false rest = rest
 
-few : {A : Type 0} (f : A → Bool) (xs : List A) → length (filter f xs) ≤ length xs
+pub few : {A : Type 0} (f : A → Bool) (xs : List A) → length (filter f xs) ≤ length xs
 few f [] = omega arith
 few f (x ∷ xs) = go (f x) (few f xs)
   where
@@ -120,7 +120,7 @@ follow j before (r ∷ rs) h = go (subst (λ b. MayFollow b (of_session j rs)) (
         )
     go later false e = subst (λ b. MayFollow (cond b (opened (is_open j before) r.statement) (is_open j before)) (of_session j rs)) e later
 
-module _ (e : Engine) (quota : ℕ) (script : Script) (lawful : IsLawful script) (tables : (engine_sizes e).tables ≡ length script.tables) (room : length script.records ≤ quota) where
+module _ (e : Engine) (quota : ℕ) (script : Script) (lawful : IsLawful script) (tables : (engine_sizes e).tables ≡ length script.tables) (room : (j : ℕ) → length (of_session j script.records) ≤ quota) where
   hired_one : (j : ℕ) (s : Session) → IsNewOf e quota j s → IsHired e (worker_of script j s)
   hired_one j s n = record {
     ready = record {
@@ -128,7 +128,7 @@ module _ (e : Engine) (quota : ℕ) (script : Script) (lawful : IsLawful script)
       asked = each_filter (IsAskedOf (engine_sizes e).tables) (λ (r : Record). r.session == j) script.records
           (each_keeps (IsStatement script.tables) (IsAskedOf (engine_sizes e).tables) (λ r is. record { some = is.some; on = subst (λ m. IsOnTables m r.statement) (sym tables) (on_tables script.tables r.statement is.fits) }) script.records lawful.statements);
       may = subst (λ log. MayFollow (is_some (current log)) (of_session j script.records)) (sym n.log) (follow j [] script.records lawful.order);
-      left = (let here = few (λ (r : Record). r.session == j) script.records in let left = n.left in omega (arith, here, left, room));
+      left = (let here = room j in let left = n.left in omega (arith, here, left));
     };
     most = (let here = few (λ (r : Record). r.session == j) script.records in let all = lawful.records in omega (arith, here, all));
     none = refl;

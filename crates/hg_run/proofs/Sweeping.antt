@@ -38,7 +38,7 @@ use Rattle.hg_session.specs.Ties.{IsHeard}
 use Rattle.hg_session.proofs.Quiet.{heard_whole}
 use Rattle.hg_run.specs.Asked.{HasReplied}
 use Rattle.hg_run.specs.Heard.{HasHeard, HasSeen}
-use Rattle.hg_run.specs.Listed.{IsPlaced, AreReady, SawAt}
+use Rattle.hg_run.specs.Listed.{IsPlaced, AreReady, SawAt, none_left}
 use Rattle.hg_run.specs.Swept.{HasSwept, HasMetSessions, HasMetPass}
 use Rattle.hg_run.proofs.Gathering.{ShowsLog, ShowLogs, reached, at_rest, all_show, none_enters, held_are, moved_are}
 use Rattle.hg_run.proofs.Hearing.{heard_kept, over_at_most, seen_among, among_left}
@@ -128,14 +128,14 @@ logs_all e w i mid new within h =
     let d = some_of mid i within in
     logs_same d mid new h.many (λ k below. log_met w (get_or mid k d) (get_or new k d) (h.met d k below))
 
-pub ready_one : (e : Engine) (v v1 : View) (i left : ℕ) (old mid : List Session) → HasOneMet e v v1 i old mid → AreReady e i left old → AreReady e i left mid
+pub ready_one : (e : Engine) (v v1 : View) (i : ℕ) (left : ℕ → ℕ) (old mid : List Session) → HasOneMet e v v1 i old mid → AreReady e i left old → AreReady e i left mid
 ready_one e v v1 i left old mid h r = record {
   many = h.many ∙ r.many;
   within = (let e = h.many in let w = r.within in omega (arith, e, w));
   placed = λ d k within. by_two i i k (λ k. IsPlaced e k (get_or mid k d)) (here d) (here d)
       (λ p q. subst (IsPlaced e k) (sym (h.rest d k p)) (r.placed d k (let e = h.many in omega (arith, e, within))));
-  left_is = λ d k within. by_two i i k (λ k. left ≤ left_of (get_or mid k d)) (less d) (less d)
-      (λ p q. subst (λ s. left ≤ left_of s) (sym (h.rest d k p)) (r.left_is d k (let e = h.many in omega (arith, e, within))));
+  left_is = λ d k within. by_two i i k (λ k. left (suc k) ≤ left_of (get_or mid k d)) (less d) (less d)
+      (λ p q. subst (λ s. left (suc k) ≤ left_of s) (sym (h.rest d k p)) (r.left_is d k (let e = h.many in omega (arith, e, within))));
   heard = λ d. subst (λ logs. HasHeard logs (view_of (get_or mid i d))) (sym (logs_one e v v1 i old mid r.within h))
       (heard_kept (logs_of old) (view_of (get_or old i d)) (view_of (get_or mid i d)) (r.heard d) (h.met d).kept);
 }
@@ -143,10 +143,10 @@ ready_one e v v1 i left old mid h r = record {
     here : (d : Session) → IsPlaced e i (get_or mid i d)
     here d = record { own = h.own d; number_is = ap number_in (h.met d).parts ∙ (r.placed d i r.within).number_is }
 
-    less : (d : Session) → left ≤ left_of (get_or mid i d)
+    less : (d : Session) → left (suc i) ≤ left_of (get_or mid i d)
     less d = let a = r.left_is d i r.within in let b = (h.met d).left in omega (arith, a, b)
 
-pub ready_all : (e : Engine) (w : View) (i left : ℕ) (mid new : List Session) → HaveAllMet e w mid new → AreReady e i left mid → AreReady e i left new
+pub ready_all : (e : Engine) (w : View) (i : ℕ) (left : ℕ → ℕ) (mid new : List Session) → HaveAllMet e w mid new → AreReady e i left mid → AreReady e i left new
 ready_all e w i left mid new h r = record {
   many = h.many ∙ r.many;
   within = (let e = h.many in let w = r.within in omega (arith, e, w));
@@ -169,7 +169,7 @@ heard_there logs v w all h k = go (h k)
     go (inl e) = inl e
     go (inr i) = inr (all _ i)
 
-module _ (e : Engine) (kind : Kind) (i : ℕ) (v v1 w : View) (sweep : Sweep) (old mid new : List Session) (one : HasOneMet e v v1 i old mid) (round : HasSwept kind (engine_sizes e).sessions v1 sweep w) (all : HaveAllMet e w mid new) (ready : AreReady e i 0 old) where
+module _ (e : Engine) (kind : Kind) (i : ℕ) (v v1 w : View) (sweep : Sweep) (old mid new : List Session) (one : HasOneMet e v v1 i old mid) (round : HasSwept kind (engine_sizes e).sessions v1 sweep w) (all : HaveAllMet e w mid new) (ready : AreReady e i none_left old) where
   abbrev sessions : ℕ
   sessions = (engine_sizes e).sessions
 
@@ -179,8 +179,8 @@ module _ (e : Engine) (kind : Kind) (i : ℕ) (v v1 w : View) (sweep : Sweep) (o
   abbrev d : Session
   d = some_of old i ready.within
 
-  there : AreReady e i 0 mid
-  there = ready_one e v v1 i 0 old mid one ready
+  there : AreReady e i none_left mid
+  there = ready_one e v v1 i none_left old mid one ready
 
   pass_heard : HasHeard logs v1
   pass_heard = heard_there logs (view_of (get_or old i d)) v1 (one.heard d) (ready.heard d)
@@ -268,5 +268,5 @@ module _ (e : Engine) (kind : Kind) (i : ℕ) (v v1 w : View) (sweep : Sweep) (o
         saw = λ d. seen_among sweep.mark w.sights (view_of (get_or new i d)).sights (all.met d i there.within).seen (inr round.saw);
       }
 
-  pub swept_ready : (left : ℕ) → AreReady e i left old → AreReady e i left new
+  pub swept_ready : (left : ℕ → ℕ) → AreReady e i left old → AreReady e i left new
   swept_ready left r = ready_all e w i left mid new all (ready_one e v v1 i left old mid one r)

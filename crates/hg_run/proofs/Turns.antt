@@ -1,6 +1,6 @@
 -- Sessions of a list that meet, and one that answers.
-use Rattle.std.proofs.Common.{◌≡◌, ℕ, suc, ◌+◌, ◌-◌, ◌<◌, ◌≤◌, ◌≢◌, List, [], ◌∷◌, length, true, false, Some, None, sym, ap, ◌∙◌, subst, arith}
-use Rattle.std.specs.Prelude.{get_or, ◌==◌, IsFalse}
+use Rattle.std.proofs.Common.{◌≡◌, ℕ, suc, ◌+◌, ◌-◌, ◌<◌, ◌≤◌, ◌≢◌, List, [], ◌∷◌, length, Bool, true, false, Some, None, refl, sym, ap, ◌∙◌, subst, arith}
+use Rattle.std.specs.Prelude.{cond, get_or, ◌==◌, IsFalse}
 use Rattle.std.proofs.lemmas.Bool.Decides.{Decides-eqb}
 use Rattle.hg_base.specs.declared.writer.Writer.{Writer}
 use Rattle.hg_base.specs.declared.statement.Statement.{Statement}
@@ -27,7 +27,7 @@ use Rattle.hg_session.specs.Ties.{IsHeard}
 use Rattle.hg_session.specs.Replies.{Answers, GoesOn}
 use Rattle.hg_run.specs.Heard.{HasHeard}
 use Rattle.hg_session.specs.Finished.{logs_of}
-use Rattle.hg_run.specs.Listed.{IsPlaced, ArePlaced, AreReady, SawAt}
+use Rattle.hg_run.specs.Listed.{IsPlaced, ArePlaced, AreReady, SawAt, one_more}
 use Rattle.hg_run.specs.Asked.{IsReplied, collector_asked}
 use Rattle.hg_run.proofs.Hearing.{among_right, heard_met, heard_kept, heard_more, heard_goes, met_open, seen_among, seen_kept}
 use Rattle.hg_run.proofs.Listing.{by_two, log_at, logs_same, logs_put}
@@ -56,7 +56,7 @@ logs_met e i j old new within m =
     (ap (λ v. (session v).log) (m.this d)) (ap (λ v. (session v).log) (m.other d)) (λ p q. ap log_of (m.rest d k p q)))
 
 -- all are ready, where the one at i has heard every log
-pub ready_met : (e : Engine) (a i j left : ℕ) (old new : List Session) → i < length old → j < length old → HaveMet e i j old new → AreReady e a left old → ((d : Session) → HasHeard (logs_of old) (view_of (get_or new i d))) → AreReady e i left new
+pub ready_met : (e : Engine) (a i j : ℕ) (left : ℕ → ℕ) (old new : List Session) → i < length old → j < length old → HaveMet e i j old new → AreReady e a left old → ((d : Session) → HasHeard (logs_of old) (view_of (get_or new i d))) → AreReady e i left new
 ready_met e a i j left old new first second m r heard = record {
   many = m.many ∙ r.many;
   within = (let e = m.many in omega (arith, e, first));
@@ -64,24 +64,36 @@ ready_met e a i j left old new first second m r heard = record {
       (record { own = (m.own d).0; number_is = ap number (m.this d) ∙ (r.placed d i first).number_is })
       (record { own = (m.own d).1; number_is = ap number (m.other d) ∙ (r.placed d j second).number_is })
       (λ p q. subst (IsPlaced e k) (sym (m.rest d k p q)) (r.placed d k (let e = m.many in omega (arith, e, within))));
-  left_is = λ d k within. by_two i j k (λ k. left ≤ left_of (get_or new k d))
-      (subst (λ n. left ≤ n) (sym (m.left d).0) (r.left_is d i first))
-      (subst (λ n. left ≤ n) (sym (m.left d).1) (r.left_is d j second))
-      (λ p q. subst (λ s. left ≤ left_of s) (sym (m.rest d k p q)) (r.left_is d k (let e = m.many in omega (arith, e, within))));
+  left_is = λ d k within. by_two i j k (λ k. left (suc k) ≤ left_of (get_or new k d))
+      (subst (λ n. left (suc i) ≤ n) (sym (m.left d).0) (r.left_is d i first))
+      (subst (λ n. left (suc j) ≤ n) (sym (m.left d).1) (r.left_is d j second))
+      (λ p q. subst (λ s. left (suc k) ≤ left_of s) (sym (m.rest d k p q)) (r.left_is d k (let e = m.many in omega (arith, e, within))));
   heard = λ d. subst (λ logs. HasHeard logs (view_of (get_or new i d))) (sym (logs_met e i j old new first m)) (heard d);
 }
 
 -- the session of a record meets the one that ran last
-pub ready_turned : (e : Engine) (i last left : ℕ) (old new : List Session) → i < length old → HaveMet e i last old new → AreReady e last left old → AreReady e i left new
+pub ready_turned : (e : Engine) (i last : ℕ) (left : ℕ → ℕ) (old new : List Session) → i < length old → HaveMet e i last old new → AreReady e last left old → AreReady e i left new
 ready_turned e i last left old new first m r = ready_met e last i last left old new first r.within m r
     (λ d. subst (HasHeard (logs_of old)) (sym (m.this d)) (heard_met (logs_of old) (view_of (get_or old i d)) (view_of (get_or old last d)) (r.heard d)))
 
 -- it meets another one besides
-pub ready_shown : (e : Engine) (i j left : ℕ) (old new : List Session) → j < length old → HaveMet e i j old new → AreReady e i left old → AreReady e i left new
+pub ready_shown : (e : Engine) (i j : ℕ) (left : ℕ → ℕ) (old new : List Session) → j < length old → HaveMet e i j old new → AreReady e i left old → AreReady e i left new
 ready_shown e i j left old new second m r = ready_met e i i j left old new r.within second m r
     (λ d. heard_kept (logs_of old) (view_of (get_or old i d)) (view_of (get_or new i d)) (r.heard d) ((view_of (get_or old j d)).sights, ap (λ v. v.sights) (m.this d)))
 
 -- ---- an answer
+
+-- one statement more is at least as many
+pub more_than : (i j : ℕ) (left : ℕ → ℕ) → left j ≤ one_more i left j
+more_than i j left = go (i == j)
+  where
+    go : (b : Bool) → left j ≤ cond b (suc (left j)) (left j)
+    go true = omega arith
+    go false = omega arith
+
+-- and one more for that session
+pub more_here : (i : ℕ) (left : ℕ → ℕ) → one_more i left i ≡ suc (left i)
+more_here i left = ap (λ b. cond b (suc (left i)) (left i)) ((Decides-eqb i i).1 refl)
 
 -- what the answer of the session at i says
 pub record HasAsked (e : Engine) (i : ℕ) (s : Statement) (reply : Reply) (old new : List Session) : Type 0 where
@@ -96,22 +108,22 @@ logs_asked e i s reply old new d within h =
     logs_put d old new i (log_after (engine_sizes e).buckets (h.answers d).u s reply (logs_of old (suc i))) h.many within
     ((h.answers d).log ∙ ap (λ l. log_after (engine_sizes e).buckets (h.answers d).u s reply l) (sym (log_at d old i within))) (h.rest d)
 
-pub ready_asked : (e : Engine) (i left : ℕ) (s : Statement) (reply : Reply) (old new : List Session) → HasAsked e i s reply old new → AreReady e i (suc left) old → AreReady e i left new
+pub ready_asked : (e : Engine) (i : ℕ) (left : ℕ → ℕ) (s : Statement) (reply : Reply) (old new : List Session) → HasAsked e i s reply old new → AreReady e i (one_more (suc i) left) old → AreReady e i left new
 ready_asked e i left s reply old new h r = record {
   many = h.many ∙ r.many;
   within = (let e = h.many in let w = r.within in omega (arith, e, w));
   placed = λ d k within. by_two i i k (λ k. IsPlaced e k (get_or new k d)) (here d) (here d)
       (λ p q. subst (IsPlaced e k) (sym (h.rest d k p)) (r.placed d k (let e = h.many in omega (arith, e, within))));
-  left_is = λ d k within. by_two i i k (λ k. left ≤ left_of (get_or new k d)) (less d) (less d)
-      (λ p q. subst (λ s. left ≤ left_of s) (sym (h.rest d k p)) (let z = r.left_is d k (let e = h.many in omega (arith, e, within)) in omega (arith, z)));
+  left_is = λ d k within. by_two i i k (λ k. left (suc k) ≤ left_of (get_or new k d)) (less d) (less d)
+      (λ p q. subst (λ s. left (suc k) ≤ left_of s) (sym (h.rest d k p)) (let z = r.left_is d k (let e = h.many in omega (arith, e, within)) in let m = more_than (suc i) (suc k) left in omega (arith, m, z)));
   heard = λ d. subst (λ logs. HasHeard logs (view_of (get_or new i d))) (sym (logs_asked e i s reply old new d r.within h)) (all d);
 }
   where
     here : (d : Session) → IsPlaced e i (get_or new i d)
     here d = record { own = h.own d; number_is = (h.answers d).number_is ∙ (r.placed d i r.within).number_is }
 
-    less : (d : Session) → left ≤ left_of (get_or new i d)
-    less d = let a = r.left_is d i r.within in let b = h.left d in omega (arith, a, b)
+    less : (d : Session) → left (suc i) ≤ left_of (get_or new i d)
+    less d = let a = r.left_is d i r.within in let b = h.left d in let m = more_here (suc i) left in omega (arith, a, b, m)
 
     all : (d : Session) → HasHeard (put (logs_of old) (suc i) (log_after (engine_sizes e).buckets (h.answers d).u s reply (logs_of old (suc i)))) (view_of (get_or new i d))
     all d =
@@ -133,7 +145,7 @@ placed_asked e i old new many number rest own within r = record {
     here d = record { own = own d; number_is = number d ∙ (r.placed d i within).number_is }
 
 -- whom an answer names that has the record open
-pub other_asked : (e : Engine) (i : ℕ) (s : Statement) (reply : Reply) (old new : List Session) (left : ℕ) → HasAsked e i s reply old new → AreReady e i left old → (w : Writer) → reply.answer ≡ OpenBy w → IsSession (engine_sizes e).sessions w.session × (w.session ≢ suc i)
+pub other_asked : (e : Engine) (i : ℕ) (s : Statement) (reply : Reply) (old new : List Session) (left : ℕ → ℕ) → HasAsked e i s reply old new → AreReady e i left old → (w : Writer) → reply.answer ≡ OpenBy w → IsSession (engine_sizes e).sessions w.session × (w.session ≢ suc i)
 other_asked e i s reply old new left h r w is =
     let d = some_of old i r.within in
     let on : GoesOn (engine_sizes e) (view_of (get_or old i d)) (OpenBy w) = subst (GoesOn (engine_sizes e) (view_of (get_or old i d))) is (h.answers d).goes_on in
@@ -155,14 +167,14 @@ gc_none sessions logs CommitIt a h = tt
 gc_none sessions logs Rollback a h = tt
 
 -- the session that answered has met the one that it names
-pub knows_other : (e : Engine) (i left : ℕ) (s : Statement) (reply : Reply) (old new : List Session) (d : Session) → 0 < (engine_sizes e).buckets → (h : HasAsked e i s reply old new) → AreReady e i (suc left) old → (w : Writer) → reply.answer ≡ OpenBy w →
+pub knows_other : (e : Engine) (i : ℕ) (left : ℕ → ℕ) (s : Statement) (reply : Reply) (old new : List Session) (d : Session) → 0 < (engine_sizes e).buckets → (h : HasAsked e i s reply old new) → AreReady e i (one_more (suc i) left) old → (w : Writer) → reply.answer ≡ OpenBy w →
     IsMet (engine_sizes e) (joined (view_of (get_or new i d)) (view_of (get_or new (w.session - 1) d))) → KnowsOpen (engine_sizes e).buckets (logs_of old) (suc i) (log_after (engine_sizes e).buckets (h.answers d).u s reply (logs_of old (suc i))) w
 knows_other e i left s reply old new d some h r w is met =
     let z = engine_sizes e in
     let k : ℕ = w.session - 1 in
     let v : View = view_of (get_or new i d) in
     let u : View = view_of (get_or new k d) in
-    let other = other_asked e i s reply old new (suc left) h r w is in
+    let other = other_asked e i s reply old new (one_more (suc i) left) h r w is in
     let first = other.0.first in
     let last = other.0.last in
     let many = r.many in
@@ -179,7 +191,7 @@ knows_other e i left s reply old new d some h r w is met =
     subst (λ j. KnowsOpen z.buckets (logs_of old) j after w) mine
     (met_open z (logs_of old) v u after w some met (h.own d).only own (record { only = placed.own.only; own = log }) (placed.number_is ∙ next) (heard_goes (logs_of old) (view_of (get_or old i d)) w (r.heard d) on.1.1))
 
-pub replied : (e : Engine) (i left seen : ℕ) (s : Statement) (reply : Reply) (old new : List Session) (d : Session) → 0 < (engine_sizes e).buckets → collector_asked s ≡ None → (h : HasAsked e i s reply old new) → AreReady e i (suc left) old → SawAt seen i old →
+pub replied : (e : Engine) (i : ℕ) (left : ℕ → ℕ) (seen : ℕ) (s : Statement) (reply : Reply) (old new : List Session) (d : Session) → 0 < (engine_sizes e).buckets → collector_asked s ≡ None → (h : HasAsked e i s reply old new) → AreReady e i (one_more (suc i) left) old → SawAt seen i old →
     ((w : Writer) → reply.answer ≡ OpenBy w → IsMet (engine_sizes e) (joined (view_of (get_or new i d)) (view_of (get_or new (w.session - 1) d)))) → IsReplied (engine_sizes e).buckets (engine_sizes e).sessions (logs_of old) seen seen (suc i) s reply (logs_of new)
 replied e i left seen s reply old new d some other h r saw met =
     let z = engine_sizes e in

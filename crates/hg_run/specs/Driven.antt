@@ -32,6 +32,7 @@ pub record IsOpenedFor (script : Script) (buckets : ℕ) (e : Engine) (list : Li
   pub tables : (engine_sizes e).tables ≡ length script.tables
   pub buckets_are : (engine_sizes e).buckets ≡ buckets
   pub quota : length script.records ≤ (engine_sizes e).quota
+  pub statements : (j : ℕ) → length (of_session j script.records) ≤ (engine_sizes e).quota
   pub all : length list ≡ (engine_sizes e).sessions
   pub new : EachFrom (IsNewOf e (engine_sizes e).quota) 1 list
   pub collectors_are : AreCollectors e collectors

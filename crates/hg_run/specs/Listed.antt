@@ -1,5 +1,5 @@
 -- The sessions of a replay in the order of their numbers: session j stands at j - 1.
-use Rattle.std.specs.Prelude.{◌≡◌, ℕ, suc, ◌≤◌, ◌<◌, List, length, get_or}
+use Rattle.std.specs.Prelude.{◌≡◌, ℕ, suc, ◌≤◌, ◌<◌, List, length, get_or, cond, ◌==◌}
 use Rattle.hg_session.specs.declared.engine.Engine.{Engine}
 use Rattle.hg_session.specs.declared.session.Session.{Session}
 use Rattle.hg_session.specs.Engines.{engine_sizes}
@@ -17,12 +17,20 @@ pub record ArePlaced (e : Engine) (list : List Session) : Type 0 where
   pub many : length list ≡ (engine_sizes e).sessions
   pub placed : (d : Session) (k : ℕ) → k < length list → IsPlaced e k (get_or list k d)
 
--- All sessions of the engine, each in its place, which may run `left` statements more. The last one that ran has heard every log.
-pub record AreReady (e : Engine) (last : ℕ) (left : ℕ) (list : List Session) : Type 0 where
+-- how many statements more each session may run: none
+abbrev pub none_left : ℕ → ℕ
+none_left j = 0
+
+-- or one more for session i, and as many as before for each other
+abbrev pub one_more : ℕ → (ℕ → ℕ) → ℕ → ℕ
+one_more i left j = cond (i == j) (suc (left j)) (left j)
+
+-- All sessions of the engine, each in its place. Session j may run `left j` statements more. The last one that ran has heard every log.
+pub record AreReady (e : Engine) (last : ℕ) (left : ℕ → ℕ) (list : List Session) : Type 0 where
   pub many : length list ≡ (engine_sizes e).sessions
   pub within : last < length list
   pub placed : (d : Session) (k : ℕ) → k < length list → IsPlaced e k (get_or list k d)
-  pub left_is : (d : Session) (k : ℕ) → k < length list → left ≤ left_of (get_or list k d)
+  pub left_is : (d : Session) (k : ℕ) → k < length list → left (suc k) ≤ left_of (get_or list k d)
   pub heard : (d : Session) → HasHeard (logs_of list) (view_of (get_or list last d))
 
 -- the one at a place has seen so many groups

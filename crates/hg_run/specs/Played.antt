@@ -13,7 +13,7 @@ use Rattle.hg_session.specs.Finished.{logs_of}
 use Rattle.hg_run.specs.declared.collecting.Collectors.{Collectors}
 use Rattle.hg_run.specs.Collecting.{HaveMade, removed_of}
 use Rattle.hg_run.specs.Driven.{sweeps_of}
-use Rattle.hg_run.specs.Listed.{AreReady, SawAt}
+use Rattle.hg_run.specs.Listed.{AreReady, SawAt, none_left}
 
 -- The lines follow the logs, where so many groups were seen, by the session that ran last too. Their reports tell all that the
 -- collectors removed, and each round of theirs.
@@ -22,7 +22,7 @@ pub record HasPlayed (e : Engine) (long : ℕ) (before after : Collectors) (list
   pub top : ℕ
   pub following : IsFollowing (engine_sizes e).buckets (engine_sizes e).sessions (logs_of list) seen top script.records lines
   pub last : ℕ
-  pub ready : AreReady e last 0 list
+  pub ready : AreReady e last none_left list
   pub saw : SawAt seen last list
   pub told : (k : Kind) → removed_of k after ≡ removed_of k before + told_removed k lines
   pub rounds : HaveMade (engine_sizes e) long before (λ k. sweeps_of k lines) after

@@ -11,7 +11,7 @@ ghost use Rattle.hg_session.specs.declared.session.Session.{Session};
 ghost use Rattle.hg_session.specs.Engines.{engine_sizes};
 ghost use Rattle.hg_session.specs.Finished.{AreAmong};
 ghost use Rattle.hg_session.specs.Sessions.{IsOf, seen_by};
-ghost use Rattle.hg_run.specs.Listed.{ArePlaced, AreReady, SawAt};
+ghost use Rattle.hg_run.specs.Listed.{ArePlaced, AreReady, SawAt, none_left};
 ghost use Rattle.hg_run.specs.Asked.{HasReplied};
 ghost use Rattle.hg_run.specs.Swept.{HasMetSessions, HasMetPass, told_of};
 ghost use Rattle.hg_run.specs.Collecting.{AreCollectors, HaveMade, removed_of, view_in};
@@ -72,10 +72,10 @@ pub(crate) fn sweep<R: Wait>(
     kind: Kind,
     long: u64,
 ) -> Result<Reply, NoMemory>
-    requires ready { AreReady engine.now i 0 list.old.items }
+    requires ready { AreReady engine.now i none_left list.old.items }
     requires collectors { AreCollectors engine.now collectors.old }
     ensures replied { IfOk result (λ reply. (seen : ℕ) → SawAt seen i list.old.items → HasReplied engine.now seen list.old.items i (say.Gc kind) reply list.new.items) }
-    ensures ready { OnOk result ((left : ℕ) → AreReady engine.now i left list.old.items → AreReady engine.now i left list.new.items) }
+    ensures ready { OnOk result ((left : ℕ → ℕ) → AreReady engine.now i left list.old.items → AreReady engine.now i left list.new.items) }
     ensures removed { IfOk result (λ reply. (k : Kind) → removed_of k collectors.new ≡ removed_of k collectors.old + told_of k reply) }
     ensures rounds { IfOk result (λ reply. HaveMade (engine_sizes engine.now) long collectors.old (λ k. sweeps_in k reply) collectors.new) }
     ensures placed { ArePlaced engine.now list.new.items }

@@ -3,11 +3,12 @@
 ghost use Rattle.std.specs.Prelude.{◌≡◌, ℕ, suc, ◌+◌, ◌<◌, [], length, map, max, is_some, IfOk, OnOk};
 ghost use Rattle.hg_base.specs.declared.report.Kind.{Kind};
 ghost use Rattle.hg_base.specs.Lists.{greatest};
+ghost use Rattle.hg_base.specs.Transcript.{of_session};
 ghost use Rattle.hg_core.specs.Logs.{current};
 ghost use Rattle.hg_script.specs.Lawful.{IsLawful, MayStand};
 ghost use Rattle.hg_session.specs.Engines.{engine_sizes};
 ghost use Rattle.hg_session.specs.Finished.{logs_of};
-ghost use Rattle.hg_run.specs.Listed.{ArePlaced, AreReady, SawAt};
+ghost use Rattle.hg_run.specs.Listed.{ArePlaced, AreReady, SawAt, none_left, one_more};
 ghost use Rattle.hg_run.specs.Asked.{IsOnTables, HasReplied, collector_asked};
 ghost use Rattle.hg_run.specs.Swept.{told_of};
 ghost use Rattle.hg_run.specs.Collecting.{AreCollectors, HaveMade, removed_of};
@@ -50,13 +51,13 @@ fn reply_at<R: Wait>(
     statement: &Statement,
     long: u64,
 ) -> Result<Reply, NoMemory>
-    requires ready { AreReady engine.now i 1 list.old.items }
+    requires ready { AreReady engine.now i (one_more (suc i) none_left) list.old.items }
     requires some { 0 < (engine_sizes engine.now).buckets }
     requires may { MayStand (is_some (current (logs_of list.old.items (suc i)))) statement.now }
     requires tables { IsOnTables (engine_sizes engine.now).tables statement.now }
     requires collectors { AreCollectors engine.now collectors.old }
     ensures replied { IfOk result (λ reply. (seen : ℕ) → SawAt seen i list.old.items → HasReplied engine.now seen list.old.items i statement.now reply list.new.items) }
-    ensures ready { OnOk result ((left : ℕ) → AreReady engine.now i (suc left) list.old.items → AreReady engine.now i left list.new.items) }
+    ensures ready { OnOk result ((left : ℕ → ℕ) → AreReady engine.now i (one_more (suc i) left) list.old.items → AreReady engine.now i left list.new.items) }
     ensures removed { IfOk result (λ reply. (k : Kind) → removed_of k collectors.new ≡ removed_of k collectors.old + told_of k reply) }
     ensures rounds { IfOk result (λ reply. HaveMade (engine_sizes engine.now) long collectors.old (λ k. sweeps_in k reply) collectors.new) }
     ensures placed { ArePlaced engine.now list.new.items }
@@ -82,7 +83,7 @@ pub(crate) fn play<'a, R: Wait>(
     requires sessions { (engine_sizes engine.now).sessions ≡ max 1 (greatest (map (λ r. r.session) script.now.records)) }
     requires tables { (engine_sizes engine.now).tables ≡ length script.now.tables }
     requires some { 0 < (engine_sizes engine.now).buckets }
-    requires ready { AreReady engine.now 0 (length script.now.records) list.old.items }
+    requires ready { AreReady engine.now 0 (λ j. length (of_session j script.now.records)) list.old.items }
     requires none { (j : ℕ) → logs_of list.old.items j ≡ [] }
     requires collectors { AreCollectors engine.now collectors.old }
     ensures tables { IfOk result (λ transcript. transcript.tables ≡ script.now.tables) }

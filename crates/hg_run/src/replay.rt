@@ -1,10 +1,11 @@
 //! The run of a script on one thread.
 
-ghost use Rattle.std.specs.Prelude.{◌≡◌, ◌<◌, ◌≤◌, length, map, max, IfOk};
+ghost use Rattle.std.specs.Prelude.{◌≡◌, ℕ, ◌<◌, ◌≤◌, length, map, max, IfOk};
 ghost use Rattle.hg_base.specs.Lists.{greatest};
 ghost use Rattle.hg_base.specs.Script.{replay};
 ghost use Rattle.hg_base.specs.Sound.{IsSound};
 ghost use Rattle.hg_base.specs.Text.{IsFit};
+ghost use Rattle.hg_base.specs.Transcript.{of_session};
 ghost use Rattle.hg_rule.specs.New.{EachFrom};
 ghost use Rattle.hg_script.specs.Lawful.{IsLawful};
 ghost use Rattle.hg_session.specs.Engines.{engine_sizes};
@@ -45,7 +46,7 @@ pub fn replay_on<'a, R: Wait>(
     requires sessions { (engine_sizes engine.now).sessions ≡ max 1 (greatest (map (λ r. r.session) script.now.records)) }
     requires tables { (engine_sizes engine.now).tables ≡ length script.now.tables }
     requires some { 0 < (engine_sizes engine.now).buckets }
-    requires quota { length script.now.records ≤ (engine_sizes engine.now).quota }
+    requires quota { (j : ℕ) → length (of_session j script.now.records) ≤ (engine_sizes engine.now).quota }
     requires all { length sessions.old ≡ (engine_sizes engine.now).sessions }
     requires new { EachFrom (IsNewOf engine.now (engine_sizes engine.now).quota) 1 sessions.old }
     requires collectors { AreCollectors engine.now collectors.old }

@@ -5,10 +5,11 @@
 //!     gather     the lines of each session by number, and then of each collector's rounds
 //!     retire     the sessions go back to their list
 
-ghost use Rattle.std.specs.Prelude.{◌≡◌, ◌+◌, ◌++◌, ◌<◌, ◌≤◌, ◌^◌, length, map, max, false, vec_capacity, IfOk, IfErr, OnOk};
+ghost use Rattle.std.specs.Prelude.{◌≡◌, ℕ, ◌+◌, ◌++◌, ◌<◌, ◌≤◌, ◌^◌, length, map, max, false, vec_capacity, IfOk, IfErr, OnOk};
 ghost use Rattle.hg_base.specs.Lists.{Each, greatest};
 ghost use Rattle.hg_base.specs.Script.{run};
 ghost use Rattle.hg_run.specs.declared.work.Worker.{Worker};
+ghost use Rattle.hg_base.specs.Transcript.{of_session};
 ghost use Rattle.hg_rule.specs.New.{EachFrom};
 ghost use Rattle.hg_script.specs.Lawful.{IsLawful};
 ghost use Rattle.hg_session.specs.Engines.{engine_sizes};
@@ -146,7 +147,7 @@ pub fn run_on<'a, R: Threads + Wait + Sync, G: Gate + Sync>(
     requires sessions { (engine_sizes engine.now).sessions ≡ max 1 (greatest (map (λ r. r.session) script.now.records)) }
     requires tables { (engine_sizes engine.now).tables ≡ length script.now.tables }
     requires some { 0 < (engine_sizes engine.now).buckets }
-    requires quota { length script.now.records ≤ (engine_sizes engine.now).quota }
+    requires quota { (j : ℕ) → length (of_session j script.now.records) ≤ (engine_sizes engine.now).quota }
     requires all { length sessions.old ≡ (engine_sizes engine.now).sessions }
     requires new { EachFrom (IsNewOf engine.now (engine_sizes engine.now).quota) 1 sessions.old }
     requires collectors { AreCollectors engine.now collectors.old }

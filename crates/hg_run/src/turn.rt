@@ -16,7 +16,7 @@ ghost use Rattle.hg_session.specs.Engines.{engine_sizes};
 ghost use Rattle.hg_session.specs.Sessions.{IsOf, view_of, number_of, open_of, left_of};
 ghost use Rattle.hg_session.specs.Replies.{Answers};
 ghost use Rattle.hg_session.specs.Finished.{logs_of};
-ghost use Rattle.hg_run.specs.Listed.{ArePlaced, AreReady, SawAt};
+ghost use Rattle.hg_run.specs.Listed.{ArePlaced, AreReady, SawAt, none_left, one_more};
 ghost use Rattle.hg_run.specs.Asked.{IsOnTables, HasReplied, collector_asked};
 
 use crate::ask::ask;
@@ -49,11 +49,11 @@ fn meet_two(engine: &Engine, list: &mut Vec<Session>, i: usize, j: usize)
 
 /// The session at i meets the one that ran last, where that is another.
 pub(crate) fn turn(engine: &Engine, list: &mut Vec<Session>, i: usize, last: usize)
-    requires ready { AreReady engine.now last 0 list.old.items }
+    requires ready { AreReady engine.now last none_left list.old.items }
     requires within { i < length list.old.items }
     ensures logs { logs_of list.new.items ≡ logs_of list.old.items }
     ensures saw { (seen : ℕ) → SawAt seen last list.old.items → SawAt seen i list.new.items }
-    ensures ready { (left : ℕ) → AreReady engine.now last left list.old.items → AreReady engine.now i left list.new.items }
+    ensures ready { (left : ℕ → ℕ) → AreReady engine.now last left list.old.items → AreReady engine.now i left list.new.items }
 {
     if i != last {
         meet_two(engine, list, i, last);
@@ -86,12 +86,12 @@ fn ask_at<R: Wait>(
 
 // Where a write of the session at i is refused for another's, it meets that other session.
 fn show(engine: &Engine, list: &mut Vec<Session>, i: usize, answer: &Answer)
-    requires ready { AreReady engine.now i 0 list.old.items }
+    requires ready { AreReady engine.now i none_left list.old.items }
     requires other { (writer : Writer) → answer.now ≡ Answer.OpenBy writer → IsSession (engine_sizes engine.now).sessions writer.session × (writer.session ≢ suc i) }
     ensures backed { (d : Session) (writer : Writer) → answer.now ≡ Answer.OpenBy writer → IsMet (engine_sizes engine.now) (joined (view_of (get_or list.old.items i d)) (view_of (get_or list.old.items (writer.session - 1) d))) }
     ensures logs { logs_of list.new.items ≡ logs_of list.old.items }
     ensures saw { (seen : ℕ) → SawAt seen i list.old.items → SawAt seen i list.new.items }
-    ensures ready { (left : ℕ) → AreReady engine.now i left list.old.items → AreReady engine.now i left list.new.items }
+    ensures ready { (left : ℕ → ℕ) → AreReady engine.now i left list.old.items → AreReady engine.now i left list.new.items }
 {
     if let Answer::OpenBy(writer) = answer {
         meet_two(engine, list, i, writer.session as usize - 1);
@@ -106,13 +106,13 @@ pub(crate) fn answer<R: Wait>(
     i: usize,
     statement: &Statement,
 ) -> Result<Reply, NoMemory>
-    requires ready { AreReady engine.now i 1 list.old.items }
+    requires ready { AreReady engine.now i (one_more (suc i) none_left) list.old.items }
     requires some { 0 < (engine_sizes engine.now).buckets }
     requires may { MayStand (is_some (current (logs_of list.old.items (suc i)))) statement.now }
     requires tables { IsOnTables (engine_sizes engine.now).tables statement.now }
     requires other { collector_asked statement.now ≡ None }
     ensures replied { IfOk result (λ reply. (seen : ℕ) → SawAt seen i list.old.items → HasReplied engine.now seen list.old.items i statement.now reply list.new.items) }
-    ensures ready { OnOk result ((left : ℕ) → AreReady engine.now i (suc left) list.old.items → AreReady engine.now i left list.new.items) }
+    ensures ready { OnOk result ((left : ℕ → ℕ) → AreReady engine.now i (one_more (suc i) left) list.old.items → AreReady engine.now i left list.new.items) }
     ensures placed { ArePlaced engine.now list.new.items }
 {
     let reply = ask_at(rt, engine, list, i, statement)?;

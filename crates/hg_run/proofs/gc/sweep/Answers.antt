@@ -6,6 +6,7 @@ use Rattle.hg_session.specs.Engines.{engine_sizes}
 use Rattle.hg_run.specs.Asked.{HasReplied}
 use Rattle.hg_run.specs.Collecting.{HaveMade, view_in}
 use Rattle.hg_run.specs.Driven.{sweeps_in}
+use Rattle.hg_run.specs.Listed.{none_left}
 use Rattle.hg_run.specs.Swept.{told_of, swept_by}
 use Rattle.hg_run.proofs.Driving.{made_one}
 use Rattle.hg_run.proofs.Going.{are_placed}
@@ -23,7 +24,7 @@ meet_all-requires-clause-own g c d k within =
     let m = c.meet_at.ensures in
     let e = c.args.engine.now in
     let one : HasOneMet e (view_in c.args.kind c.args.collectors.now) (view_in c.args.kind c.meet_at.new.collectors) c.args.i c.args.list.now.items c.meet_at.new.list.items = record { many = m.many; met = m.met; rest = m.rest; own = m.own; pass = m.pass c.args.kind; heard = m.heard } in
-    ((ready_one e _ _ c.args.i 0 c.args.list.now.items c.meet_at.new.list.items one c.requires.ready).placed d k within).own
+    ((ready_one e _ _ c.args.i none_left c.args.list.now.items c.meet_at.new.list.items one c.requires.ready).placed d k within).own
 
 pub returns-clause-replied : goal.returns-clause-replied
 returns-clause-replied g c seen saw =
@@ -73,7 +74,7 @@ returns-in_err-swept-clause-placed g c =
     let m = c.meet_at.ensures in
     let e = c.args.engine.now in
     let one : HasOneMet e (view_in c.args.kind c.args.collectors.now) (view_in c.args.kind c.meet_at.new.collectors) c.args.i c.args.list.now.items c.meet_at.new.list.items = record { many = m.many; met = m.met; rest = m.rest; own = m.own; pass = m.pass c.args.kind; heard = m.heard } in
-    are_placed e c.args.i 0 c.meet_at.new.list.items (ready_one e _ _ c.args.i 0 c.args.list.now.items c.meet_at.new.list.items one c.requires.ready)
+    are_placed e c.args.i none_left c.meet_at.new.list.items (ready_one e _ _ c.args.i none_left c.args.list.now.items c.meet_at.new.list.items one c.requires.ready)
 
 pub returns-clause-placed : goal.returns-clause-placed
-returns-clause-placed g c = are_placed c.args.engine.now c.args.i 0 c.meet_all.new.list.items (returns-clause-ready g c 0 c.requires.ready)
+returns-clause-placed g c = are_placed c.args.engine.now c.args.i none_left c.meet_all.new.list.items (returns-clause-ready g c none_left c.requires.ready)

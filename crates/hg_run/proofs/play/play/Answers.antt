@@ -12,8 +12,9 @@ use Rattle.hg_session.specs.declared.session.Session.{Session}
 use Rattle.hg_session.specs.Finished.{logs_of}
 use Rattle.hg_report.specs.LinesText.{Shown}
 use Rattle.hg_run.specs.Asked.{IsOnTables}
+use Rattle.hg_run.specs.Listed.{none_left}
 use Rattle.hg_run.specs.declared.collecting.Collectors.{Collectors}
-use Rattle.hg_run.proofs.Going.{Going, going_first, going_turned, going_on, going_last, ready_less, may_stand, on_tables}
+use Rattle.hg_run.proofs.Going.{Going, going_first, going_turned, going_on, going_last, ready_less, ready_one_more, may_stand, on_tables}
 use Rattle.hg_run.proofs.play.play.Goals as goal
 
 -- the next record, and those behind it
@@ -42,8 +43,7 @@ record-requires g c = omega (arith, c.loop-next-test.true, c.record_count-next-e
 pub turn-requires-clause-ready : goal.turn-requires-clause-ready
 turn-requires-clause-ready g c =
     let going = at c.args.engine.now c.args.long c.args.collectors.now c.loop-next.collectors c.loop-next.list.items c.loop-next.last c.loop-next.transcript.lines c.args.script.now c.loop-next.next c.in_ok-record.record c.loop-next.invariant.going (omega (arith, c.loop-next-test.true, c.record_count-next-end.ensures.same)) c.in_ok-record.ensures in
-    let less : 0 ≤ length (c.in_ok-record.record ∷ drop (c.loop-next.next + 1) c.args.script.now.records) = omega arith in
-    ready_less c.args.engine.now c.loop-next.last 0 _ c.loop-next.list.items less going.ready
+    ready_less c.args.engine.now c.loop-next.last none_left _ c.loop-next.list.items (λ j. omega arith) going.ready
 
 pub turn-requires-clause-within : goal.turn-requires-clause-within
 turn-requires-clause-within g c =
@@ -56,8 +56,10 @@ turn-requires-clause-within g c =
 pub reply_at-requires-clause-ready : goal.reply_at-requires-clause-ready
 reply_at-requires-clause-ready g c =
     let going = at c.args.engine.now c.args.long c.args.collectors.now c.loop-next.collectors c.loop-next.list.items c.loop-next.last c.loop-next.transcript.lines c.args.script.now c.loop-next.next c.in_ok-record.record c.loop-next.invariant.going (omega (arith, c.loop-next-test.true, c.record_count-next-end.ensures.same)) c.in_ok-record.ensures in
-    let less : 1 ≤ length (c.in_ok-record.record ∷ drop (c.loop-next.next + 1) c.args.script.now.records) = omega arith in
-    c.turn.ensures.ready 1 (ready_less c.args.engine.now c.loop-next.last 1 _ c.loop-next.list.items less going.ready)
+    let r = c.in_ok-record.record in
+    let some = going.coming.0.stands.some in
+    let is : suc (r.session - 1) ≡ r.session = omega (arith, some) in
+    ready_one_more c.args.engine.now (r.session - 1) c.turn.new.list.items r (drop (c.loop-next.next + 1) c.args.script.now.records) is (c.turn.ensures.ready _ going.ready)
 
 pub reply_at-requires-clause-may : goal.reply_at-requires-clause-may
 reply_at-requires-clause-may g c =

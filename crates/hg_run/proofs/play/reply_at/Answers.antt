@@ -4,7 +4,7 @@ use Rattle.hg_run.specs.Asked.{HasReplied, collector_asked}
 use Rattle.hg_session.specs.Engines.{engine_sizes}
 use Rattle.hg_run.specs.Collecting.{HaveMade, removed_of}
 use Rattle.hg_run.specs.Driven.{sweeps_in}
-use Rattle.hg_run.specs.Listed.{AreReady, SawAt}
+use Rattle.hg_run.specs.Listed.{AreReady, SawAt, one_more}
 use Rattle.hg_run.specs.Swept.{told_of}
 use Rattle.hg_run.proofs.Asking.{none_told, none_reported, ready_fewer, if_ok, on_ok}
 use Rattle.hg_run.proofs.Driving.{made_none}
@@ -15,7 +15,7 @@ returns-in-Some-clause-ready g c =
     let e = c.args.engine.now in
     let old = c.args.list.now.items in
     let new = c.sweep.new.list.items in
-    on_ok ((left : ℕ) → AreReady e c.args.i left old → AreReady e c.args.i left new) ((left : ℕ) → AreReady e c.args.i (suc left) old → AreReady e c.args.i left new) c.sweep.result (λ f left r. f left (ready_fewer e c.args.i left old r)) c.sweep.ensures.ready
+    on_ok ((left : ℕ → ℕ) → AreReady e c.args.i left old → AreReady e c.args.i left new) ((left : ℕ → ℕ) → AreReady e c.args.i (one_more (suc c.args.i) left) old → AreReady e c.args.i left new) c.sweep.result (λ f left r. f left (ready_fewer e c.args.i left old r)) c.sweep.ensures.ready
 
 pub returns-in-None-clause-removed : goal.returns-in-None-clause-removed
 returns-in-None-clause-removed g c =

@@ -1,5 +1,6 @@
 use Rattle.std.proofs.Common.{◌≡◌, ℕ, ◌<◌, List, length, sym, ap, ◌∙◌, subst, arith, rules}
 use Rattle.std.specs.Prelude.{get_or, IfOk}
+use Rattle.hg_base.specs.Transcript.{of_session}
 use Rattle.hg_rule.specs.New.{EachFrom}
 use Rattle.hg_headline.specs.Counted.{Closes}
 use Rattle.hg_report.specs.LinesText.{Shown}
@@ -26,7 +27,7 @@ play-transcript-requires-clause-ready g c =
     let many : length list ≡ z.sessions = ap length is ∙ c.requires.all in
     let sessions = c.requires.sessions in
     let some : 0 < length list = omega (arith, many, sessions) in
-    ready_less e 0 (length c.args.script.now.records) z.quota list c.requires.quota (new_ready e z.quota list many some row)
+    ready_less e 0 (λ j. length (of_session j c.args.script.now.records)) (λ j. z.quota) list c.requires.quota (new_ready e z.quota list many some row)
 
 pub play-transcript-requires-clause-none : goal.play-transcript-requires-clause-none
 play-transcript-requires-clause-none g c =
