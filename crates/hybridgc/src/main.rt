@@ -9,6 +9,8 @@
 #![tactic(auto)]
 
 ghost use Rattle.std.specs.Prelude.{◌≡◌, ◌↔◌};
+ghost use Rattle.std.specs.Process.{exit_status};
+ghost use Rattle.hg_run.specs.Status.{exit_code_of};
 ghost use Rattle.std_io.specs.IoError.{error_kind};
 ghost use Rattle.std_io.specs.declared.io.kind.ErrorKind.TheVariants.{OutOfMemory};
 
@@ -37,6 +39,17 @@ fn words_of(rt: &HostRuntime) -> Result<Vec<String>, Status> {
     Ok(words)
 }
 
+// Says how the call ended, unless all was done, and gives the exit status of that.
+fn end(rt: &HostRuntime, status: Status) -> ExitCode
+    ensures { exit_status result ≡ exit_code_of status }
+{
+    if status != Status::Done {
+        // Where standard error takes nothing, the exit status alone reports it.
+        let _ = eprintln!(rt; "{status}");
+    }
+    ExitCode::from(status.exit_code())
+}
+
 fn main(rt: HostRuntime) -> ExitCode {
     let mut source = StdinSource::new(rt.stdin());
     let mut sink = StdoutSink::new(rt.stdout());
@@ -44,9 +57,5 @@ fn main(rt: HostRuntime) -> ExitCode {
         Ok(words) => serve(&rt, rt.alloc(), &words, &mut source, &mut sink, &NoGate),
         Err(status) => status,
     };
-    if status != Status::Done {
-        // Where standard error takes nothing, the exit status alone tells.
-        let _ = eprintln!(rt; "{status}");
-    }
-    ExitCode::from(status.exit_code())
+    end(&rt, status)
 }
