@@ -227,6 +227,53 @@ total,left,1
     Ok(())
 }
 
+// Session 1 declares the second table at the first snapshot, and stays while session 2 commits three times to the first table and the
+// table collector makes its first round. Three commits are long where the words say that one is, so the round moves session 1 to its
+// own table, and takes what it need not see. Session 1 goes on once the table collector's worker, whose number is 102, comes to its
+// second round. All other rounds are made when session 1 has ended.
+#[test]
+fn a_held_round_moves_a_long_snapshot(rt: HostRuntime) -> Result<(), Fail> {
+    let script =
+        "table,t,1\ntable,u,1\n1,begin,u\n1,get,u,1\n1,commit\n1,gc,table\n2,put,t,1,10\n2,put,t,1,20\n2,put,t,1,30\n2,gc,table\n";
+    let order = Order::new(
+        rt.alloc(),
+        &[
+            ((2, 1), (1, 2)),
+            ((TABLE, 1), (2, 4)),
+            ((1, 2), (TABLE, 2)),
+            ((TABLE, 2), (1, 4)),
+            ((GROUP, 1), (1, 4)),
+            ((INTERVAL, 1), (1, 4)),
+        ],
+    )?;
+    let words = "run --long 1 --rounds 2";
+    let text = written_in_order(&rt, rt.alloc(), words, script, &order)?;
+    let want = "1,3,begun,0
+1,4,none
+1,5,ended
+1,6,beside
+2,7,at,0,stored,committed,1
+2,8,at,1,stored,committed,2
+2,9,at,2,stored,committed,3
+2,10,beside
+0,1,swept,group,3,3,0
+0,2,swept,group,3,3,0
+0,1,swept,table,3,3,2
+0,1,held,1,0,moved
+0,2,swept,table,3,3,0
+0,1,swept,interval,3,3,0
+0,2,swept,interval,3,3,0
+total,made,3
+total,undone,0
+total,group,0
+total,table,2
+total,interval,0
+total,left,1
+";
+    assert_eq!(rt; text.as_slice(), want.as_bytes());
+    Ok(())
+}
+
 // Adds the transfer of this number by a session: a transaction that reads two neighbours of 20 accounts and puts both.
 fn add_transfer(alloc: Global, script: &mut String, session: u64, number: u64) -> Result<(), Fail>
     requires { (session < 64) × (number ≤ 100) }

@@ -117,6 +117,7 @@ fn words_are_refused(rt: HostRuntime) -> Result<(), Fail> {
 const LOADED: &str = "\
 load 0 = total,made,4225/total,undone,582/total,group,1137/total,table,1141/total,interval,745/total,left,620/
 --buckets 1 load 0 --rounds 3 = total,made,4225/total,undone,582/total,group,1137/total,table,1141/total,interval,745/total,left,620/
+load 0 --long 1 = total,made,4225/total,undone,582/total,group,1131/total,table,1129/total,interval,763/total,left,620/
 load 7 = total,made,4204/total,undone,536/total,group,1178/total,table,1030/total,interval,833/total,left,627/
 ";
 
