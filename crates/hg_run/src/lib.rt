@@ -16,9 +16,10 @@
 //! whole run.
 //!
 //! `Comes` says when each status comes. Its line for `Done` is the headline: the sink took the text of a printed value that is sound,
-//! under the command that the words ask for, for the script that all the bytes of the source mean, and that fits this script. No other
-//! value that fits has this text (`text_determines_what_was_printed`). For `load` the text is that of the totals of such a value, for
-//! the script of the seed. For `audit` it says whether the text after the script is sound for it, and if not, what fails first.
+//! in the mode that the words ask for, for the script that all the bytes of the source mean; that fits this script; and whose reports
+//! are those of rounds made with the buckets and the `--long` that the words ask for (`ReportsRounds`). No other value that fits has
+//! this text (`text_determines_what_was_printed`). For `load` the text is that of the totals of such a value, for the script of the
+//! seed. For `audit` it says whether the text after the script is sound for it, and if not, what fails first.
 #![tactic(auto)]
 
 mod ask;

@@ -1,4 +1,4 @@
-//! The replay of a script that is made from a seed.
+//! The replay of a script that is made from a seed. Only its totals are printed.
 
 ghost use Rattle.std.specs.Prelude.{IfOk};
 ghost use Rattle.hg_base.specs.Script.{replay};

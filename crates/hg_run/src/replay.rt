@@ -31,7 +31,7 @@ use std::alloc::Global;
 use std::mem;
 use std::sync::Wait;
 
-/// The driver of `replay`: answers a script on one thread, record by record, and rolls back what is open at its end. Want of
+/// The driver of `replay`: answers a script on one thread, record by record, and rolls back what is open at its end. Running out of
 /// memory ends it early, and leaves no transaction open either.
 pub fn replay_on<'a, R: Wait>(
     rt: &R,

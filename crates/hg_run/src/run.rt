@@ -130,9 +130,9 @@ fn gather<'a>(
     Ok(transcript)
 }
 
-/// The driver of `run`: each session runs its own records in a thread of its own, and beside them each collector makes its
-/// rounds. A `gc` is replied `beside`. At the end of its records a session rolls back what is open. Before each statement and each
-/// round the gate is asked. Want of memory ends the worker that meets it early, and leaves no transaction open either.
+/// The driver of `run`: each session runs its own records in a thread of its own, and concurrently each collector makes its
+/// rounds. A `gc` is answered `beside`. At the end of its records a session rolls back what is open. The gate is asked before each
+/// statement and each round. A worker that runs out of memory ends early, and leaves no transaction open either.
 pub fn run_on<'a, R: Threads + Wait + Sync, G: Gate + Sync>(
     rt: &R,
     alloc: Global,

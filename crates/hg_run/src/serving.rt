@@ -22,7 +22,7 @@ use std::alloc::Global;
 use std::sync::Wait;
 use std::thread::Threads;
 
-// The text that the script of these bytes prints. Here the script is known to be their meaning, and they are let go before it runs.
+// The text that the script of these bytes prints. The bytes are freed once the script is read, before it runs.
 fn text_of_bytes<R: Threads + Wait + Sync, G: Gate + Sync>(
     rt: &R,
     alloc: Global,
@@ -60,7 +60,7 @@ fn text_of_source<R: Threads + Wait + Sync, S: Source, G: Gate + Sync>(
     text_of_bytes(rt, alloc, options, bytes, gate)
 }
 
-// What is told of the text behind the script in a source.
+// The verdict on the text that follows the script in a source.
 fn audit_source<S: Source>(alloc: Global, source: &mut S) -> Result<Vec<u8>, Status>
     ensures text { IfOk result (λ text. Answers audits (change_of S.left S.faults source.old source.new) text.items) }
     ensures refused { IfErr result (RefusesTask audits (change_of S.left S.faults source.old source.new)) }
@@ -123,7 +123,7 @@ fn outcome<R: Threads + Wait + Sync, So: Source, Si: Sink, G: Gate + Sync>(
 }
 
 /// Does what the words ask for: runs the script in the source and writes its answers to the sink; or replays the script of a seed and
-/// writes its totals; or holds the text behind the script against it, and writes what is told of the text.
+/// writes its totals; or checks the text that follows the script against it and writes the verdict.
 pub fn serve<R: Threads + Wait + Sync, So: Source, Si: Sink, G: Gate + Sync>(
     rt: &R,
     alloc: Global,
@@ -132,8 +132,8 @@ pub fn serve<R: Threads + Wait + Sync, So: Source, Si: Sink, G: Gate + Sync>(
     sink: &mut Si,
     gate: &G,
 ) -> Status
-    // The sink took the whole text of a printed value that is sound, as the words ask for, for the script in the source; or the text of
-    // the totals of one that is sound for the script of the seed; or the verdict on the text behind the script.
+    // The sink took the whole text of a printed value that is sound for the script in the source, with the settings that the words ask for;
+    // or the text of the totals of one that is sound for the script of the seed; or the verdict on the text that follows the script.
     ensures sound { result ≡ Status.Done → AsksFor (map string_bytes words.now) (λ task.
         WritesAll task (change_of So.left So.faults source.old source.new) (change_of Si.taken Si.faults sink.old sink.new)) }
 
@@ -141,8 +141,8 @@ pub fn serve<R: Threads + Wait + Sync, So: Source, Si: Sink, G: Gate + Sync>(
     ensures comes { Comes (map string_bytes words.now) (change_of So.left So.faults source.old source.new)
         (change_of Si.taken Si.faults sink.old sink.new) result }
 
-    // Words that ask for nothing are told before anything is read, a script that is made needs no source, and a script is refused before
-    // anything is written.
+    // Words that ask for nothing are refused before anything is read, a script that is made needs no source, and a script is refused
+    // before anything is written.
     ensures usage { result ≡ Status.Usage → options_of (map string_bytes words.now) ≡ None }
     ensures refused { options_of (map string_bytes words.now) ≡ None → IsUnlessNoMemory result Status.Usage }
     ensures unread { result ≡ Status.Usage → source.new ≡ source.old }

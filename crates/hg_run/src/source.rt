@@ -41,8 +41,8 @@ impl From<AllocError> for ReadError {
 // At most how many bytes one call of a source is asked for.
 const CHUNK: usize = 65_536;
 
-/// All bytes of a source, up to the first read that gives none. A source with more than a script may have is read one
-/// byte past that, and no more.
+/// All bytes of a source, up to the first read that gives none. Of a source with more than a script may have, one byte more is read and
+/// then nothing, not even to find out whether the source fails.
 pub(crate) fn read_all<S: Source>(alloc: Global, source: &mut S) -> Result<Vec<u8>, ReadError>
     ensures whole { IfOk result (λ bytes. Consumes (S.left source.old) (S.left source.new) bytes.items) }
     ensures end { OnOk result (IsAtEnd (S.left source.new)) }
