@@ -12,6 +12,8 @@
 #[cfg(test)]
 mod chains;
 #[cfg(test)]
+mod places;
+#[cfg(test)]
 mod scripts;
 #[cfg(test)]
 mod texts;
