@@ -120,6 +120,7 @@ fn two_sessions_commit_in_one_group(rt: HostRuntime) -> Result<(), Fail> {
     let (board, seats) = Board::new(alloc, 2, 1, 2, 4)?;
     let store = Store::new(alloc, seats.buckets)?;
     let groups = GroupList::new(alloc, seats.commit, 2)?;
+    let mut collector = seats.group;
     let mut sessions = seats.sessions.into_vec();
     let mut second = sessions.pop().expect(&rt, "session 2");
     let mut first = sessions.pop().expect(&rt, "session 1");
@@ -147,6 +148,15 @@ fn two_sessions_commit_in_one_group(rt: HostRuntime) -> Result<(), Fail> {
             number: 1,
             place: 1
         })
+    );
+    let mark = board.mark(&mut collector);
+    let context = groups.take_oldest(&rt, &board, mark, &mut collector);
+    let context = context.expect(&rt, "a group");
+    assert_eq!(rt; (context.number, context.records.len()), (1, 2));
+    assert!(rt;
+        groups
+            .take_oldest(&rt, &board, mark, &mut collector)
+            .is_none()
     );
     Ok(())
 }

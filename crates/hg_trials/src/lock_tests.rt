@@ -134,18 +134,18 @@ fn two_locks_are_held_at_once(rt: HostRuntime) -> Result<(), Fail> {
 }
 
 // Takes the lock, says so, and keeps it while the others fall asleep.
-fn hold_for_a_while<R: Wait + Clock>(rt: &R, locks: &Tills, taken: &AtomicU64)
-    requires { 0 < count_of locks.now }
+fn hold_for_a_while<R: Wait + Clock>(rt: &R, locks: &Tills, lock: usize, taken: &AtomicU64)
+    requires { lock < count_of locks.now }
 {
-    let (till, loan) = locks.take(rt, 0);
+    let (till, loan) = locks.take(rt, lock);
     taken.store(1, SeqCst);
     sleep(rt, Duration::from_millis(100));
     locks.give(till, loan);
 }
 
 // Adds 1 once somebody holds the lock.
-fn add_behind<R: Wait>(rt: &R, locks: &Tills, taken: &AtomicU64)
-    requires { 0 < count_of locks.now }
+fn add_behind<R: Wait>(rt: &R, locks: &Tills, lock: usize, taken: &AtomicU64)
+    requires { lock < count_of locks.now }
 {
     for _ in 0..TURNS {
         if taken.load(SeqCst) == 1 {
@@ -153,27 +153,29 @@ fn add_behind<R: Wait>(rt: &R, locks: &Tills, taken: &AtomicU64)
         }
         yield_now();
     }
-    add(rt, locks, 0, 1);
+    add(rt, locks, lock, 1);
 }
 
-// A wake that is forgotten leaves this test asleep.
+// A wake that is forgotten leaves this test asleep, and so does one at the other lock.
 #[test]
 fn each_sleeper_is_woken(rt: HostRuntime) -> Result<(), Fail> {
-    let locks = open(rt.alloc(), 7, 1)?;
-    let taken = AtomicU64::new(0);
-    let done = map_indices(
-        &rt,
-        rt.alloc(),
-        4,
-        &|index| {
-            if index == 0 {
-                hold_for_a_while(&rt, &locks, &taken);
-            } else {
-                add_behind(&rt, &locks, &taken);
-            }
-        },
-    )?;
-    assert_eq!(rt; done.len(), 4);
-    assert_eq!(rt; add(&rt, &locks, 0, 0), (0, 3));
+    let locks = open(rt.alloc(), 7, 2)?;
+    for lock in [0, 1] {
+        let taken = AtomicU64::new(0);
+        let done = map_indices(
+            &rt,
+            rt.alloc(),
+            4,
+            &|index| {
+                if index == 0 {
+                    hold_for_a_while(&rt, &locks, lock, &taken);
+                } else {
+                    add_behind(&rt, &locks, lock, &taken);
+                }
+            },
+        )?;
+        assert_eq!(rt; done.len(), 4);
+        assert_eq!(rt; add(&rt, &locks, lock, 0), (lock, 3));
+    }
     Ok(())
 }
