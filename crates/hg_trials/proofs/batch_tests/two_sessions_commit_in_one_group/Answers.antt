@@ -15,3 +15,9 @@ finish-one-requires-clause-boards g c = (c.in_ok-store.ensures.board (board_id c
 
 pub finish-two-requires-clause-boards : goal.finish-two-requires-clause-boards
 finish-two-requires-clause-boards g c = (c.in_ok-store.ensures.board (board_id c.in_ok-board.board) c.in_ok-board.ensures.buckets.1, c.in_ok-groups.ensures.board (board_id c.in_ok-board.board) c.in_ok-board.ensures.commit)
+
+pub take_oldest-context-requires-clause-board : goal.take_oldest-context-requires-clause-board
+take_oldest-context-requires-clause-board g c = c.in_ok-groups.ensures.board (board_id c.in_ok-board.board) c.in_ok-board.ensures.commit
+
+pub take_oldest-requires-clause-board : goal.take_oldest-requires-clause-board
+take_oldest-requires-clause-board g c = c.in_ok-groups.ensures.board (board_id c.in_ok-board.board) c.in_ok-board.ensures.commit
