@@ -1,0 +1,13 @@
+-- The keys of a bucket, and its rows key by key.
+pub mod Keys
+pub mod Rows
+-- A trip to a bucket, and what a look logs.
+pub mod Trips
+pub mod Looking
+-- The first rows of all buckets.
+pub mod Gathering
+pub mod Cutting
+pub mod Picking
+pub mod Right
+pub mod Backing
+pub mod Joining

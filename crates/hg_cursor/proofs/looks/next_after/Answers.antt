@@ -1,0 +1,18 @@
+use Rattle.std.proofs.Common.{◌+◌, arith}
+use Rattle.hg_rule.specs.Holding.{bucket}
+use Rattle.hg_cursor.specs.Keys.{HasVersion}
+use Rattle.hg_cursor.proofs.Keys.{own_key, own_apart, own_next, leads_through}
+use Rattle.hg_cursor.proofs.looks.next_after.Goals as goal
+
+pub returns-then-high-key-clause-leads : goal.returns-then-high-key-clause-leads
+returns-then-high-key-clause-leads c = λ v b h are own k l m has.
+    let far = own_apart c.args.count b c.args.table c.args.key k c.requires.some own (own_key c.args.count b (bucket v).content c.args.table k are has) l in
+    omega (arith, far, m, c.if-high-key.true, c.requires.within)
+
+pub returns-else-high-key-clause-own : goal.returns-else-high-key-clause-own
+returns-else-high-key-clause-own c = λ v b h are own. c.next_from.ensures.own v b h are (own_next c.args.count b c.args.table c.args.key c.requires.some own)
+
+pub returns-else-high-key-clause-leads : goal.returns-else-high-key-clause-leads
+returns-else-high-key-clause-leads c = λ v b h are own. leads_through (HasVersion (bucket v).content c.args.table) (c.args.key + 1) (c.args.key + c.args.count) c.args.high c.next_from.result
+    (λ k l has. own_apart c.args.count b c.args.table c.args.key k c.requires.some own (own_key c.args.count b (bucket v).content c.args.table k are has) l)
+    (c.next_from.ensures.leads v h)

@@ -1,0 +1,19 @@
+use Rattle.std.proofs.Common.{ℕ, ◌≤◌, length}
+use Rattle.std.specs.Prelude.{IfSome}
+use Rattle.hg_rule.specs.declared.view.View.{View}
+use Rattle.hg_rule.specs.Holding.{bucket}
+use Rattle.hg_store.specs.Stores.{Holds}
+use Rattle.hg_cursor.specs.Keys.{IsOwnKey, AreOwn, IsWithin, read_of}
+use Rattle.hg_cursor.proofs.Rows.{IsSoFar, room}
+use Rattle.hg_cursor.proofs.looks.push_rows.Given as goal
+
+abbrev pub invariant-loop-next : goal.invariant-loop-next
+invariant-loop-next l = record {
+  within : IsWithin l.own l.high l.next;
+  grown : length l.fn.rows.items ≤ length l.rows.items;
+  own_next : (v : View) (b : ℕ) → Holds v l.fn.held → AreOwn l.count b (bucket v).content → IsOwnKey l.count b l.range.table l.own → IfSome l.next (IsOwnKey l.count b l.range.table);
+  so_far : (v : View) (b : ℕ) → Holds v l.fn.held → AreOwn l.count b (bucket v).content → IsOwnKey l.count b l.range.table l.own → IsSoFar (read_of l.by l.range.at l.range.table (bucket v).content) l.own l.high l.fn.rows.items l.rows.items l.next;
+}
+
+abbrev pub decreases-loop-next : goal.decreases-loop-next
+decreases-loop-next l = room l.high l.next

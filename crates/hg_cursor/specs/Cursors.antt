@@ -1,0 +1,65 @@
+-- What a fetch looks at, and what it gives.
+use Rattle.std.specs.Prelude.{◌≡◌, ℕ, ◌+◌, ◌<◌, ◌≤◌, [], map, length, Option, Some, None, Result, Ok, Err, Contains}
+use Rattle.hg_base.specs.declared.rid.TableId.{TableId}
+use Rattle.hg_base.specs.declared.fault.NoMemory.{NoMemory}
+use Rattle.hg_base.specs.declared.image.Image.{Image}
+use Rattle.hg_base.specs.History.{History, visible}
+use Rattle.hg_base.specs.Lists.{Each, Ascends}
+use Rattle.hg_bucket.specs.BucketModel.{record_at}
+use Rattle.hg_rule.specs.declared.view.View.{View}
+use Rattle.hg_cursor.specs.declared.cursor.Cursor.{Cursor}
+use Rattle.hg_cursor.specs.Keys.{Rows, bucket_at, IsOwnKey}
+use Rattle.hg_cursor.specs.Logs.{Adds, looks}
+use Rattle.hg_cursor.specs.Firsts.{passed}
+
+-- a cursor's snapshot, its table, the last key of its range, and the first key that it has not passed, if there is one
+abbrev pub at_of : Cursor → ℕ
+at_of c = c.at
+
+abbrev pub table_of : Cursor → TableId
+table_of c = c.table
+
+abbrev pub high_of : Cursor → ℕ
+high_of c = c.high
+
+abbrev pub rest_of : Cursor → Option ℕ
+rest_of c = c.rest
+
+-- ---- looks
+
+-- Looks at a range, each at another bucket, which has a key of the range: the log has gained them, and nothing besides.
+pub record LooksAt (count : ℕ) (old : View) (table : TableId) (low high : ℕ) (new : View) : Type 0 where
+  pub number : ℕ
+  pub once : number ≤ count
+  pub reached : low + number ≤ high + 1
+  pub part : ℕ → Rows
+  pub adds : Adds old (looks count table low high part number) new
+
+-- The first n rows of what was looked at, and nothing was left out before the last key that was passed.
+pub record Picks (count n : ℕ) (table : TableId) (low high number : ℕ) (part : ℕ → Rows) (rows : Rows) : Type 0 where
+  pub few : length rows ≤ n
+  pub within : passed n high rows ≤ high
+  pub ascend : Ascends (map (λ p. p.0) rows)
+  pub each : Each (λ p. ((i : ℕ) × (i < number) × Contains (part i) p) × (p.0 ≤ passed n high rows)) rows
+  pub every : (i : ℕ) → i < number → Each (λ p. p.0 ≤ passed n high rows → Contains rows p) (part i)
+  pub none_left : (k : ℕ) → low ≤ k → k ≤ passed n high rows → (i : ℕ) × (i < number) × IsOwnKey count (bucket_at count table low i) table k
+
+-- the rows of a range, by looks at it; and only looks where memory was wanting
+pub record FetchesRows (count n : ℕ) (old : View) (table : TableId) (low high : ℕ) (rows : Rows) (new : View) : Type 0 where
+  pub looked : LooksAt count old table low high new
+  pub picks : Picks count n table low high looked.number looked.part rows
+
+abbrev pub Fetches : ℕ → ℕ → View → TableId → ℕ → ℕ → Result Rows NoMemory → View → Type 0
+Fetches count n old table low high (Ok rows) new = FetchesRows count n old table low high rows new
+Fetches count n old table low high (Err e) new = LooksAt count old table low high new
+
+-- the same where there may be no rest of the range: then nothing is looked at
+abbrev pub FetchesRest : ℕ → ℕ → View → TableId → Option ℕ → ℕ → Result Rows NoMemory → View → Type 0
+FetchesRest count n old table None high answer new = (answer ≡ Ok []) × (new ≡ old)
+FetchesRest count n old table (Some low) high answer new = Fetches count n old table low high answer new
+
+-- ---- rows
+
+-- what a table shows at a snapshot that never reclaims
+abbrev pub shown_at : History → TableId → ℕ → ℕ → Image
+shown_at h table at key = visible h (record_at table key) at

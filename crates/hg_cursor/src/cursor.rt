@@ -1,0 +1,102 @@
+//! A cursor over a range of a table, at a snapshot.
+
+ghost use Rattle.std.specs.Prelude.{◌≤◌};
+ghost use Rattle.std.specs.Option.{ForSome};
+
+use crate::firsts::{first_rows, last_passed};
+use crate::looks::Range;
+use hg_base::{NoMemory, RowList, TableId};
+use hg_rule::{Board, SessionPass};
+use hg_store::Store;
+use std::alloc::Global;
+use std::sync::Wait;
+
+/// The rows of a range that were not given yet. It is plain data: whoever holds it sees to it that the session stays live at the
+/// cursor's snapshot.
+#[derive(Clone, Copy, Debug)]
+pub struct Cursor {
+    pub(crate) at: u64,
+    pub(crate) table: TableId,
+    pub(crate) high: u64,
+    // The first key that was not passed. There is none where the cursor is done.
+    pub(crate) rest: Option<u64>,
+    ghost within: { ForSome rest (λ low. low ≤ high) },
+}
+
+impl Cursor {
+    ghost use Rattle.std.specs.Prelude.{◌≡◌, ◌<◌, ℕ, List, None, is_none, IfOk, OnErr};
+    ghost use Rattle.hg_base.specs.History.{History};
+    ghost use Rattle.hg_core.specs.declared.log.LogEntry.{LogEntry};
+    ghost use Rattle.hg_rule.specs.Seats.{board_id, sizes_of, session_view, IsSessionOf};
+    ghost use Rattle.hg_store.specs.Stores.{store_board_id, store_buckets};
+    ghost use Rattle.hg_cursor.specs.Logs.{IsHeard, ReadsAt, GoesOn};
+    ghost use Rattle.hg_cursor.specs.Cursors.{at_of, table_of, high_of, rest_of, shown_at, FetchesRest};
+    ghost use Rattle.hg_cursor.specs.Given.{begins_at, goes_on, AreFirstOf};
+
+    /// A cursor that has given nothing yet.
+    pub fn over(at: u64, table: TableId, low: u64, high: u64) -> Cursor
+        ensures at { at_of result ≡ at }
+        ensures table { table_of result ≡ table }
+        ensures high { high_of result ≡ high }
+        ensures rest { rest_of result ≡ begins_at low high }
+    {
+        let rest = if low <= high { Some(low) } else { None };
+        Cursor {
+            at,
+            table,
+            high,
+            rest,
+        }
+    }
+
+    /// Whether all rows were given: the range is empty, or a fetch answered fewer rows than were wanted, or the last key that was
+    /// given is that of the range.
+    pub fn done(&self) -> bool
+        ensures { result ≡ is_none (rest_of self.now) }
+    {
+        self.rest.is_none()
+    }
+
+    /// The first `most` rows, by key, of those that were not given yet, or all where there are fewer. Only buckets that can have
+    /// a key of the rest of the range are taken, each at most once.
+    pub fn fetch<R: Wait>(
+        &mut self,
+        rt: &R,
+        alloc: Global,
+        board: &Board,
+        store: &Store,
+        pass: &mut SessionPass,
+        most: u32,
+    ) -> Result<RowList, NoMemory>
+        requires board { store_board_id store.now ≡ board_id board.now }
+        requires buckets { store_buckets store.now ≡ (sizes_of board.now).buckets }
+        requires own { IsSessionOf (board_id board.now) (sizes_of board.now) pass.old }
+        requires reads { ReadsAt (at_of self.old) (table_of self.old) (session_view pass.old) }
+        requires most { 1 ≤ most }
+        ensures looks { FetchesRest (store_buckets store.now) most (session_view pass.old) (table_of self.old) (rest_of self.old) (high_of self.old) result (session_view pass.new) }
+        ensures rows { IfOk result (λ rows. (h : History) (logs : ℕ → List LogEntry) → GoesOn (store_buckets store.now) (session_view pass.new) h logs → AreFirstOf (shown_at h (table_of self.old) (at_of self.old)) most (rest_of self.old) (high_of self.old) rows) }
+        ensures moved { IfOk result (λ rows. (at_of self.new ≡ at_of self.old) × (table_of self.new ≡ table_of self.old) × (high_of self.new ≡ high_of self.old) × (rest_of self.new ≡ goes_on most (high_of self.old) rows (rest_of self.old))) }
+        ensures refused { OnErr result (self.new ≡ self.old) }
+        ensures reads { ReadsAt (at_of self.old) (table_of self.old) (session_view pass.new) }
+        ensures heard { IsHeard (session_view pass.old) → IsHeard (session_view pass.new) }
+        ensures own { IsSessionOf (board_id board.now) (sizes_of board.now) pass.new }
+    {
+        let Some(low) = self.rest else {
+            return Ok(RowList::from(Vec::new(alloc)));
+        };
+        let range = Range {
+            at: self.at,
+            table: self.table,
+            low,
+            high: self.high,
+        };
+        let rows = first_rows(rt, alloc, board, store, pass, range, most as usize)?;
+        let reached = last_passed(rows.as_slice(), most as usize, self.high);
+        self.rest = if reached < self.high {
+            Some(reached + 1)
+        } else {
+            None
+        };
+        Ok(rows)
+    }
+}
