@@ -13,7 +13,7 @@ use Rattle.hg_base.specs.declared.line.Answer.TheVariants.{Newer, OpenBy}
 use Rattle.hg_base.specs.Lists.{Each, EachAfter, onto}
 use Rattle.hg_base.specs.Script.{Mode}
 use Rattle.hg_base.specs.History.{Write, Group, History, writes, group_image, does_write, seen, image_in, same_rid}
-use Rattle.hg_base.specs.Transcript.{Said, committed, is_of, stored, stored_in, numbers_in, own_writes}
+use Rattle.hg_base.specs.Transcript.{Said, committed, is_of, stored, stored_in, numbers_in, own_writes, rest_in}
 use Rattle.hg_base.specs.Shape.{report_of}
 use Rattle.hg_base.specs.Replies.{IsAnswer, IsReply, is_written}
 use Rattle.hg_base.specs.Conflicts.{ShowsNewer, ShowsOpen, ShowsCause, ShowsConflict, target}
@@ -50,7 +50,7 @@ reply_stays mode h k earlier now x r = record {
   number = r.number;
   snapshot = let a : now.at ≤ length h = r.snapshot in let b : length h ≤ length k = x.longer in omega (arith, a, b);
   answer =
-      let P : (Rid → Image) → Type 0 = λ look. IsAnswer mode look (is_written (own_writes earlier now)) now now.statement in
+      let P : (Rid → Image) → Type 0 = λ look. IsAnswer mode look (is_written (own_writes earlier now)) (rest_in now.session now.transaction earlier) now now.statement in
       subst P (x.sees (own_writes earlier now) now.at r.snapshot) r.answer;
 }
 

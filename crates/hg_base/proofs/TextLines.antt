@@ -7,15 +7,15 @@ use Rattle.hg_base.specs.declared.line.Totals.{Totals}
 use Rattle.hg_base.specs.declared.line.Printed.{Printed}
 use Rattle.hg_base.specs.Lists.{Each}
 use Rattle.hg_base.specs.Script.{Script}
-use Rattle.hg_base.specs.Text.{Field, Fits, FitTotals, IsFit, asked, answer_fields, told_as, line_records, totals_records, text_records}
+use Rattle.hg_base.specs.Text.{Field, Fits, FitTotals, IsFit, asked, cursor_before, answer_fields, told_as, line_records, totals_records, text_records}
 use Rattle.hg_base.proofs.TextNumbers.{number_read, first_digit, number_is_no_word}
 use Rattle.hg_base.proofs.TextFits.{IsPlainReply, named, plain_reply}
 use Rattle.hg_base.proofs.TextReading.{begins_held, after_at, line_in, after_line, totals_in}
 use Rattle.hg_base.proofs.TextReplies.{answer_read, records_left, commit_read, answer_begins, at_read, at_left, behind_at}
 
 module _ (script : Script) where
-  plain : (line : Line) → Fits script line → IsPlainReply script.tables (named (asked script.records line)) line.reply
-  plain line fit = plain_reply script.tables (line.session == 0) (asked script.records line) line.reply fit.reply
+  plain : (line : Line) → Fits script line → IsPlainReply script.tables (named (cursor_before script.records line.session line.place) (asked script.records line)) line.reply
+  plain line fit = plain_reply script.tables (line.session == 0) (cursor_before script.records line.session line.place) (asked script.records line) line.reply fit.reply
 
   -- the answer, and the commit number behind it
   abbrev answer_of : Line → List Field
@@ -37,12 +37,12 @@ module _ (script : Script) where
           number_read line.place fit.place,
           at_read (answer_of line) (number_of_commit line) (answer_begins script.tables line.reply.answer (number_of_commit line)).0 line.reply.at reply.at,
           answer_left,
-          answer_read script.tables (named (asked script.records line)) line rest end line.reply.answer line.reply.number reply.answer reply.number,
+          answer_read script.tables (named (cursor_before script.records line.session line.place) (asked script.records line)) line rest end line.reply.answer line.reply.number reply.answer reply.number,
           commit_read script.tables line.reply.answer line.reply.number reply.number,
         )
 
     line_left : after_line (line_records script.tables line ++ rest) ≡ rest
-    line_left = rw (answer_left, records_left script.tables (named (asked script.records line)) line rest end line.reply.answer (number_of_commit line) (plain line fit).answer)
+    line_left = rw (answer_left, records_left script.tables (named (cursor_before script.records line.session line.place) (asked script.records line)) line rest end line.reply.answer (number_of_commit line) (plain line fit).answer)
 
   abbrev records_of : List Line → Totals → List (List Field)
   records_of lines totals = flat_map (line_records script.tables) lines ++ totals_records totals

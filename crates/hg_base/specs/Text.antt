@@ -1,12 +1,12 @@
 -- The records of a printed text, as lists of fields. The bytes are made of them by the row text of a CSV writer.
-use Rattle.std.specs.Prelude.{◌≡◌, ℕ, ◌<◌, ◌^◌, List, [], ◌∷◌, ◌++◌, length, map, Bool, true, false, ◌&&◌, ◌==◌, Option, Some, None, find, is_some, is_none, IsTrue, IfSome, MatchOption, codes, decimal, if◌then◌else◌, ⊤}
+use Rattle.std.specs.Prelude.{◌≡◌, ℕ, ◌<◌, ◌^◌, List, [], ◌∷◌, ◌++◌, length, map, Bool, true, false, ◌&&◌, ◌==◌, Option, Some, None, find, is_some, is_none, nat_lt, IsTrue, IfSome, MatchOption, codes, decimal, if◌then◌else◌, ⊤}
 use Rattle.std.specs.Fmt.{signed_decimal}
 use Rattle.std.specs.List.{flat_map, slice_get}
 use Rattle.std.specs.Bool.{MatchBool}
-use Rattle.std.specs.Option.{option_map_or}
+use Rattle.std.specs.Option.{option_map_or, option_or}
 use Rattle.hg_base.specs.declared.rid.TableId.{TableId}
 use Rattle.hg_base.specs.declared.statement.Statement.{Statement}
-use Rattle.hg_base.specs.declared.statement.Statement.TheVariants.{Begin, Get, Put, Del, Scan, Commit as CommitIt, Rollback, Gc}
+use Rattle.hg_base.specs.declared.statement.Statement.TheVariants.{Begin, Get, Put, Del, Scan, CursorOpen, Fetch, CursorClose, Commit as CommitIt, Rollback, Gc}
 use Rattle.hg_base.specs.declared.statement.Record.{Record}
 use Rattle.hg_base.specs.declared.report.Kind.{Kind}
 use Rattle.hg_base.specs.declared.report.Kind.TheVariants as kinds
@@ -146,6 +146,15 @@ FitsScan tables table (Rows rows) = Fits64 (length rows) × Each (λ p. Fits64 p
 FitsScan tables table (Undeclared other) = other.0 ≡ table.0
 FitsScan tables table _ = ⊥
 
+-- the rows of a fetch, of the table of the session's cursor
+abbrev pub FitsFetch : List Declaration → Option TableId → Answer → Type 0
+FitsFetch tables (Some table) (Rows rows) = Fits64 (length rows) × Each (λ p. Fits64 p.0 × FitsRow tables table p.1) rows
+FitsFetch tables cursor answer = ⊥
+
+abbrev pub FitsClose : Answer → Type 0
+FitsClose Ended = ⊤
+FitsClose _ = ⊥
+
 abbrev pub FitsCommit : Answer → Type 0
 FitsCommit (Committed c) = Fits64 c
 FitsCommit Ended = ⊤
@@ -166,20 +175,33 @@ abbrev pub FitsGc : Answer → Type 0
 FitsGc Beside = ⊤
 FitsGc answer = FitsReport answer
 
--- the answers that the format has for a statement
-abbrev pub FitsAnswer : List Declaration → Statement → Answer → Type 0
-FitsAnswer tables (Begin scope) answer = FitsBegin answer
-FitsAnswer tables (Get r) answer = FitsGet tables r.table answer
-FitsAnswer tables (Put r row) answer = FitsPut r.table answer
-FitsAnswer tables (Del r) answer = FitsDel r.table answer
-FitsAnswer tables (Scan table low high) answer = FitsScan tables table answer
-FitsAnswer tables CommitIt answer = FitsCommit answer
-FitsAnswer tables Rollback answer = FitsRollback answer
-FitsAnswer tables (Gc kind) answer = FitsGc answer
+-- the answers that the format has for a statement, where the session's last cursor is of that table
+abbrev pub FitsAnswer : List Declaration → Option TableId → Statement → Answer → Type 0
+FitsAnswer tables cursor (Begin scope) answer = FitsBegin answer
+FitsAnswer tables cursor (Get r) answer = FitsGet tables r.table answer
+FitsAnswer tables cursor (Put r row) answer = FitsPut r.table answer
+FitsAnswer tables cursor (Del r) answer = FitsDel r.table answer
+FitsAnswer tables cursor (Scan table low high) answer = FitsScan tables table answer
+FitsAnswer tables cursor (CursorOpen table low high) answer = FitsBegin answer
+FitsAnswer tables cursor (Fetch n) answer = FitsFetch tables cursor answer
+FitsAnswer tables cursor CursorClose answer = FitsClose answer
+FitsAnswer tables cursor CommitIt answer = FitsCommit answer
+FitsAnswer tables cursor Rollback answer = FitsRollback answer
+FitsAnswer tables cursor (Gc kind) answer = FitsGc answer
 
 -- the record that a line answers: that of its place and session
 abbrev pub asked : List Record → Line → Option Statement
 asked records line = option_map_or (λ r. Some r.statement) (find (λ r. (r.place == line.place) && (r.session == line.session)) records) None
+
+-- the table that an `open` reads
+abbrev pub opens : Statement → Option TableId
+opens (CursorOpen table low high) = Some table
+opens _ = None
+
+-- the table of the last cursor that a session opened before a place
+abbrev pub cursor_before : List Record → ℕ → ℕ → Option TableId
+cursor_before [] session place = None
+cursor_before (r ∷ rs) session place = option_or (cursor_before rs session place) (if (r.session == session) && nat_lt r.place place then opens r.statement else None)
 
 -- whether the answer is a stored write
 abbrev pub is_write : Answer → Bool
@@ -188,9 +210,9 @@ is_write Gone = true
 is_write _ = false
 
 -- `at` stands only in replies to get, put, del and scan, and `committed` only behind `stored` and `gone`
-pub record FitsReply (tables : List Declaration) (statement : Statement) (reply : Reply) : Type 0 where
+pub record FitsReply (tables : List Declaration) (cursor : Option TableId) (statement : Statement) (reply : Reply) : Type 0 where
   pub at : IfSome reply.at (λ s. Fits64 s × IsTrue (is_some (table_of statement)))
-  pub answer : FitsAnswer tables statement reply.answer
+  pub answer : FitsAnswer tables cursor statement reply.answer
   pub number : IfSome reply.number (λ c. Fits64 c × IsTrue (is_write reply.answer))
 
 -- a report of a run stands alone
@@ -203,7 +225,7 @@ pub record IsReport (reply : Reply) : Type 0 where
 pub record Fits (script : Script) (line : Line) : Type 0 where
   pub session : Fits32 line.session
   pub place : Fits64 line.place
-  pub reply : MatchBool (line.session == 0) (IsReport line.reply) (MatchOption (asked script.records line) ⊥ (λ statement. FitsReply script.tables statement line.reply))
+  pub reply : MatchBool (line.session == 0) (IsReport line.reply) (MatchOption (asked script.records line) ⊥ (λ statement. FitsReply script.tables (cursor_before script.records line.session line.place) statement line.reply))
 
 pub record FitTotals (t : Totals) : Type 0 where
   pub made : Fits64 t.made

@@ -1,19 +1,20 @@
 -- What a printed text says: the replies beside the records, the transactions in which they stand, and the commits that they print.
 -- Own: that a statement outside a transaction is a transaction of its own, which declares its one table.
-use Rattle.std.specs.Prelude.{ℕ, suc, ◌/◌, ◌%◌, ◌^◌, List, [], ◌∷◌, ◌++◌, map, filter, filter_map, find, Bool, true, false, not, ◌&&◌, ◌||◌, ◌==◌, nat_lt, if◌then◌else◌, Option, Some, None, option_map, unwrap_or}
+use Rattle.std.specs.Prelude.{ℕ, suc, ◌/◌, ◌%◌, ◌^◌, List, [], ◌∷◌, ◌++◌, length, map, filter, filter_map, find, Bool, true, false, not, ◌&&◌, ◌||◌, ◌==◌, nat_lt, if◌then◌else◌, Option, Some, None, option_map, unwrap_or}
 use Rattle.std.specs.List.{flat_map, cons_option}
 use Rattle.hg_base.specs.declared.rid.TableId.{TableId}
 use Rattle.hg_base.specs.declared.scope.Scope.{Scope}
 use Rattle.hg_base.specs.declared.scope.Scope.TheVariants.{All, Declared}
 use Rattle.hg_base.specs.declared.statement.Statement.{Statement}
-use Rattle.hg_base.specs.declared.statement.Statement.TheVariants.{Begin, Get, Put, Del, Scan, Commit as CommitIt, Rollback, Gc}
+use Rattle.hg_base.specs.declared.statement.Statement.TheVariants.{Begin, Get, Put, Del, Scan, CursorOpen, Fetch, CursorClose, Commit as CommitIt, Rollback, Gc}
 use Rattle.hg_base.specs.declared.statement.Record.{Record}
 use Rattle.hg_base.specs.declared.report.Kind.{Kind}
 use Rattle.hg_base.specs.declared.report.Kind.TheVariants as kinds
 use Rattle.hg_base.specs.declared.line.Answer.{Answer}
-use Rattle.hg_base.specs.declared.line.Answer.TheVariants.{Begun, Stored, Gone, Committed}
+use Rattle.hg_base.specs.declared.line.Answer.TheVariants.{Begun, Stored, Gone, Rows, Committed}
 use Rattle.hg_base.specs.declared.line.Reply.{Reply}
 use Rattle.hg_base.specs.declared.line.Line.{Line}
+use Rattle.hg_base.specs.declared.value.Value.{Value}
 use Rattle.hg_base.specs.Lists.{numbers_from, greatest}
 use Rattle.hg_base.specs.Script.{Mode, replay, run}
 use Rattle.hg_base.specs.History.{Write, Commit, Group, History, same_rid, nothing}
@@ -55,6 +56,7 @@ pub record Said : Type 0 where
 abbrev pub is_end : Statement → Bool
 is_end CommitIt = true
 is_end Rollback = true
+is_end CursorClose = true
 is_end _ = false
 
 abbrev pub ends : Said → Bool
@@ -78,7 +80,7 @@ next_after (Some last) = suc last.transaction
 abbrev pub open_of : ℕ → List Said → Option Said
 open_of j earlier = open_after (last_of j earlier)
 
--- the snapshot that a `begin` is answered
+-- the snapshot that a `begin` or an `open` is answered
 abbrev pub begun : Reply → ℕ
 begun reply = elim reply.answer [ Begun s ↦ s | _ ↦ 0 ]
 
@@ -100,7 +102,7 @@ abbrev pub has : Scope → TableId → Bool
 has All table = true
 has (Declared mask) table = (mask / 2 ^ table.0) % 2 == 1
 
--- A get, put, del, scan, commit or rollback stands in the open transaction, and is one of its own, the next, where none is open.
+-- Every other statement but a `gc` stands in the open transaction, and is one of its own, the next, where none is open.
 abbrev pub standing : Option Said → ℕ → Record → Reply → Said
 standing None next r reply = record { session = r.session; place = r.place; transaction = next; at = unwrap_or reply.at 0; scope = only (table_of r.statement); alone = true; statement = r.statement; reply = reply }
 standing (Some opened) next r reply = record { session = r.session; place = r.place; transaction = opened.transaction; at = opened.at; scope = opened.scope; alone = false; statement = r.statement; reply = reply }
@@ -108,6 +110,7 @@ standing (Some opened) next r reply = record { session = r.session; place = r.pl
 -- the record and its reply, after the session's last record that stands in a transaction
 abbrev pub said_after : Option Said → Record → Reply → Statement → Said
 said_after last r reply (Begin scope) = record { session = r.session; place = r.place; transaction = next_after last; at = begun reply; scope = scope; alone = false; statement = r.statement; reply = reply }
+said_after last r reply (CursorOpen table low high) = record { session = r.session; place = r.place; transaction = next_after last; at = begun reply; scope = only (Some table); alone = false; statement = r.statement; reply = reply }
 said_after last r reply (Gc kind) = record { session = r.session; place = r.place; transaction = 0; at = 0; scope = All; alone = false; statement = r.statement; reply = reply }
 said_after last r reply _ = standing (open_after last) (next_after last) r reply
 
@@ -121,11 +124,46 @@ said_from earlier [] lines = []
 said_from earlier (r ∷ rs) [] = []
 said_from earlier (r ∷ rs) (line ∷ lines) = let now = said earlier r line.reply in now ∷ said_from (now ∷ earlier) rs lines
 
--- ---- what the records of a transaction write and commit
-
 -- whether the record stands in transaction x of session j
 abbrev pub is_of : ℕ → ℕ → Said → Bool
 is_of j x said = (said.session == j) && (said.transaction == x)
+
+-- ---- what a cursor has left
+
+-- the keys of a table from one to another, both included
+pub record Rest : Type 0 where
+  pub table : TableId
+  pub low : ℕ
+  pub high : ℕ
+
+-- the key of the last row, and another number where there is none
+abbrev pub last_key : ℕ → List (ℕ × List Value) → ℕ
+last_key none [] = none
+last_key none (p ∷ []) = p.0
+last_key none (p ∷ q ∷ rows) = last_key none (q ∷ rows)
+
+-- The last key that was passed where n rows were asked for up to `high`: that of the last row where so many were there, and else
+-- `high`.
+abbrev pub passed : ℕ → ℕ → List (ℕ × List Value) → ℕ
+passed n high rows = if nat_lt (length rows) n then high else last_key high rows
+
+-- what is left behind the rows that a fetch of n gave
+abbrev pub rest_behind : ℕ → List (ℕ × List Value) → Rest → Rest
+rest_behind n rows rest = record { table = rest.table; low = suc (passed n rest.high rows); high = rest.high }
+
+-- what the cursor of a transaction has left after a record of it, with its answer; a `begin` has none
+abbrev pub rest_after : Statement → Answer → Option Rest → Option Rest
+rest_after (Begin scope) answer rest = None
+rest_after (CursorOpen table low high) answer rest = Some (record { table = table; low = low; high = high })
+rest_after (Fetch n) (Rows rows) rest = option_map (rest_behind n rows) rest
+rest_after _ _ rest = rest
+
+-- what the cursor of transaction x of session j has left after these records, newest first
+abbrev pub rest_in : ℕ → ℕ → List Said → Option Rest
+rest_in j x [] = None
+rest_in j x (said ∷ earlier) = if is_of j x said then rest_after said.statement said.reply.answer (rest_in j x earlier) else rest_in j x earlier
+
+-- ---- what the records of a transaction write and commit
 
 -- a stored write: a put that is answered `stored`, or a del that is answered `gone`
 abbrev pub stored_by : Statement → Answer → Option Write

@@ -14,6 +14,11 @@ pub enum Statement {
     Del(Rid),
     /// Every key from `low` to `high`, both included.
     Scan { table: TableId, low: u64, high: u64 },
+    /// Begins a transaction that reads every key from `low` to `high` in parts, all at its snapshot.
+    CursorOpen { table: TableId, low: u64, high: u64 },
+    /// The next rows of the open cursor, at most so many. One at least is asked for.
+    Fetch(u32),
+    CursorClose,
     Commit,
     Rollback,
     /// One pass of a collector.

@@ -8,7 +8,7 @@ use Rattle.std.proofs.lemmas.Bool.Decides.{nat_tests}
 use Rattle.hg_base.specs.declared.rid.Rid.{Rid}
 use Rattle.hg_base.specs.declared.scope.Snapshot.{Snapshot}
 use Rattle.hg_base.specs.declared.statement.Statement.{Statement}
-use Rattle.hg_base.specs.declared.statement.Statement.TheVariants.{Begin, Get, Put, Del, Scan, Commit as CommitIt, Rollback, Gc}
+use Rattle.hg_base.specs.declared.statement.Statement.TheVariants.{Begin, Get, Put, Del, Scan, CursorOpen, Fetch, CursorClose, Commit as CommitIt, Rollback, Gc}
 use Rattle.hg_base.specs.declared.line.Answer.{Answer}
 use Rattle.hg_base.specs.declared.line.Answer.TheVariants.{Rows, Committed, Newer, OpenBy}
 use Rattle.hg_base.specs.declared.line.Reply.{Reply}
@@ -16,7 +16,7 @@ use Rattle.hg_base.specs.declared.value.Value.{Value}
 use Rattle.hg_base.specs.Script.{replay}
 use Rattle.hg_base.specs.History.{History, seen, group_at}
 use Rattle.hg_base.specs.Transcript.{Said, only, table_of, committed_by}
-use Rattle.hg_base.specs.Replies.{IsCommitted, IsAnswer, is_written}
+use Rattle.hg_base.specs.Replies.{IsFetched, IsCommitted, IsAnswer, is_written}
 use Rattle.hg_base.specs.Conflicts.{target}
 use Rattle.hg_base.proofs.ListFacts.{if_some_keeps}
 use Rattle.hg_core.specs.declared.log.LogEntry.{LogEntry}
@@ -24,11 +24,11 @@ use Rattle.hg_core.specs.declared.log.LogEntry.TheVariants.{Began, Saw, Refused,
 use Rattle.hg_core.specs.Logs.{current, own_writes, commit_in, published, UpTo}
 use Rattle.hg_core.specs.Judged.{of_session}
 use Rattle.hg_core.specs.Replies.{AreReplied}
-use Rattle.hg_core.specs.Reading.{Unprinted, close, commit_entries, put_entries, del_entries, own_entries, is_access, is_alone, log_with, log_after, FitsAnswer, FitsScope, Fits}
+use Rattle.hg_core.specs.Reading.{Unprinted, close, commit_entries, put_entries, del_entries, own_entries, is_access, is_alone, log_with, log_after, IsFetchAnswer, FitsAnswer, FitsScope, FitsIn, Fits}
 use Rattle.hg_core.specs.Answered.{begun_log, done_log, is_gc, StandsAt, IsCaused, IsAnswered}
 use Rattle.hg_core.specs.State.{CoreState}
 use Rattle.hg_core.specs.Invariant.{IsSteady}
-use Rattle.hg_core.proofs.Right.{answer_right, of_some, places_of}
+use Rattle.hg_core.proofs.Right.{answer_right, fetch_right, of_some, places_of}
 
 -- ---- the older part of a log
 
@@ -115,6 +115,7 @@ scope_at statement reply before access declared c e = go (current before) refl d
 
 snapshot_up : (n buckets : ℕ) (u : Unprinted) (statement : Statement) (reply : Reply) (before : List LogEntry) → UpTo n (log_after buckets u statement reply before) → UpTo n (begun_log statement reply before)
 snapshot_up n buckets u (Begin scope) reply before up = subst (λ b. UpTo n (log_with b buckets u (Begin scope) reply before)) (not_alone (current before) (Begin scope) refl) up
+snapshot_up n buckets u (CursorOpen table low high) reply before up = subst (λ b. UpTo n (log_with b buckets u (CursorOpen table low high) reply before)) (not_alone (current before) (CursorOpen table low high) refl) up
 snapshot_up n buckets u s reply before up = up_at n buckets u s reply before (is_alone (current before) s) up
 
 -- ---- its answer
@@ -122,27 +123,45 @@ snapshot_up n buckets u s reply before up = up_at n buckets u s reply before (is
 access_answered : (buckets : ℕ) (h : History) (logs : ℕ → List LogEntry) (j : ℕ) (u : Unprinted) (before : List LogEntry) (now : Said) (statement : Statement) → 0 < buckets → is_access statement ≡ true → AreReplied buckets h logs j (log_after buckets u statement now.reply before) → FitsAnswer buckets u (own_writes before) statement now.reply.answer
     → IfSome (current before) (λ snapshot. FitsScope snapshot.scope statement now.reply.answer)
     → IfSome (current (access_log (is_alone (current before) statement) statement now.reply before)) (λ snapshot. (now.at ≡ snapshot.at) × (now.scope ≡ snapshot.scope))
-    → (let own = own_writes (access_log (is_alone (current before) statement) statement now.reply before) in IsAnswer replay (seen h own now.at) (is_written own) now statement)
+    → (let own = own_writes (access_log (is_alone (current before) statement) statement now.reply before) in IsAnswer replay (seen h own now.at) (is_written own) u.rest now statement)
 access_answered buckets h logs j u before now statement some access g fits declared at =
     let l : List LogEntry = access_log (is_alone (current before) statement) statement now.reply before in
     let c = current_at statement now.reply before access in
     let same = of_some (current l) (λ snapshot. (now.at ≡ snapshot.at) × (now.scope ≡ snapshot.scope)) c.0 c.1 at in
-    subst (λ n. IsAnswer replay (seen h (own_writes l) n) (is_written (own_writes l)) now statement) (sym same.0)
-    (answer_right replay buckets h logs (is_written (own_writes l)) u j (own_writes before) statement now l c.0 (places_of buckets some) c.1 same.1 access fits (scope_at statement now.reply before access declared c.0 c.1) (replied_at buckets h logs j u statement now.reply before (is_alone (current before) statement) g))
+    subst (λ n. IsAnswer replay (seen h (own_writes l) n) (is_written (own_writes l)) u.rest now statement) (sym same.0)
+    (answer_right replay buckets h logs (is_written (own_writes l)) u.rest u j (own_writes before) statement now l c.0 (places_of buckets some) c.1 same.1 access fits (scope_at statement now.reply before access declared c.0 c.1) (replied_at buckets h logs j u statement now.reply before (is_alone (current before) statement) g))
 
 -- a commit or a rollback reads the log before it
 own_before : (statement : Statement) (reply : Reply) (before : List LogEntry) → is_access statement ≡ false → own_writes (access_log (is_alone (current before) statement) statement reply before) ≡ own_writes before
 own_before statement reply before e = ap (λ b. own_writes (access_log b statement reply before)) (not_alone (current before) statement e)
 
+-- a fetch stands in a transaction, and reads what is left of its cursor's range
+fetch_answered : (buckets : ℕ) (h : History) (logs : ℕ → List LogEntry) (j : ℕ) (u : Unprinted) (before : List LogEntry) (now : Said) (n : ℕ) → AreReplied buckets h logs j (log_after buckets u (Fetch n) now.reply before) → IsFetchAnswer buckets n u.rest u.part u.looked now.reply.answer
+    → IfSome (current (access_log (is_alone (current before) (Fetch n)) (Fetch n) now.reply before)) (λ snapshot. (now.at ≡ snapshot.at) × (now.scope ≡ snapshot.scope))
+    → FitsIn (current before) (Fetch n)
+    → IsFetched (seen h (own_writes (access_log (is_alone (current before) (Fetch n)) (Fetch n) now.reply before)) now.at) n u.rest now.reply.answer
+fetch_answered buckets h logs j u before now n g fits at inside = go (current before) refl g at inside
+  where
+    go : (x : Option Snapshot) → current before ≡ x → AreReplied buckets h logs j (log_with (is_alone x (Fetch n)) buckets u (Fetch n) now.reply before) → IfSome (current (access_log (is_alone x (Fetch n)) (Fetch n) now.reply before)) (λ snapshot. (now.at ≡ snapshot.at) × (now.scope ≡ snapshot.scope)) → FitsIn x (Fetch n) →
+        IsFetched (seen h (own_writes (access_log (is_alone x (Fetch n)) (Fetch n) now.reply before)) now.at) n u.rest now.reply.answer
+    go None e g at inside = absurd (let z : false ≡ true = inside in cc)
+    go (Some c) e g at inside =
+        let same = of_some (current before) (λ snapshot. (now.at ≡ snapshot.at) × (now.scope ≡ snapshot.scope)) c e at in
+        subst (λ m. IsFetched (seen h (own_writes before) m) n u.rest now.reply.answer) (sym same.0) (fetch_right buckets h logs j n u.rest u.part u.looked now.reply.answer before c e fits g)
+
 answer_due : (buckets : ℕ) (h : History) (logs : ℕ → List LogEntry) (j : ℕ) (u : Unprinted) (before : List LogEntry) (now : Said) (statement : Statement) → 0 < buckets → IsFalse (is_gc statement) → AreReplied buckets h logs j (log_after buckets u statement now.reply before) → FitsAnswer buckets u (own_writes before) statement now.reply.answer
     → IfSome (current before) (λ snapshot. FitsScope snapshot.scope statement now.reply.answer)
     → IfSome (current (begun_log statement now.reply before)) (λ snapshot. (now.at ≡ snapshot.at) × (now.scope ≡ snapshot.scope))
-    → (let own = own_writes (begun_log statement now.reply before) in IsAnswer replay (seen h own now.at) (is_written own) now statement)
-answer_due buckets h logs j u before now (Begin scope) some logged g fits declared at = fits
-answer_due buckets h logs j u before now CommitIt some logged g fits declared at = subst (λ own. IsCommitted (is_written own) now.reply.answer) (sym (own_before CommitIt now.reply before refl)) fits
-answer_due buckets h logs j u before now Rollback some logged g fits declared at = fits.0
-answer_due buckets h logs j u before now (Gc kind) some logged g fits declared at = absurd (let z : true ≡ false = logged in cc)
-answer_due buckets h logs j u before now s some logged g fits declared at = access_answered buckets h logs j u before now s some refl g fits declared at
+    → FitsIn (current before) statement
+    → (let own = own_writes (begun_log statement now.reply before) in IsAnswer replay (seen h own now.at) (is_written own) u.rest now statement)
+answer_due buckets h logs j u before now (Begin scope) some logged g fits declared at inside = fits
+answer_due buckets h logs j u before now (CursorOpen table low high) some logged g fits declared at inside = fits
+answer_due buckets h logs j u before now (Fetch n) some logged g fits declared at inside = fetch_answered buckets h logs j u before now n g fits at inside
+answer_due buckets h logs j u before now CursorClose some logged g fits declared at inside = fits
+answer_due buckets h logs j u before now CommitIt some logged g fits declared at inside = subst (λ own. IsCommitted (is_written own) now.reply.answer) (sym (own_before CommitIt now.reply before refl)) fits
+answer_due buckets h logs j u before now Rollback some logged g fits declared at inside = fits.0
+answer_due buckets h logs j u before now (Gc kind) some logged g fits declared at inside = absurd (let z : true ≡ false = logged in cc)
+answer_due buckets h logs j u before now s some logged g fits declared at inside = access_answered buckets h logs j u before now s some refl g fits declared at
 
 -- ---- the cause of a refusal
 
@@ -209,7 +228,7 @@ answered s h some j later before u now log fits stands =
     let up : UpTo (length s.history) (log_after s.buckets u now.statement now.reply before) = older_up (length s.history) later _ (subst (UpTo (length s.history)) log (h.logs_answer.within j)) in
     record {
       snapshot = current_up (length s.history) (begun_log now.statement now.reply before) (snapshot_up (length s.history) s.buckets u now.statement now.reply before up);
-      answer = answer_due s.buckets s.history s.log j u before now now.statement some stands.logged replied fits.answer fits.scope stands.snapshot;
+      answer = answer_due s.buckets s.history s.log j u before now now.statement some stands.logged replied fits.answer fits.scope stands.snapshot fits.inside;
       cause = cause_due s.buckets s.history s.log j u before now now.statement replied stands.snapshot;
       number = subst (λ b. IfSome (number_by b now.statement now.reply) (λ n. Contains (of_session j (group_at s.history n)) (commit_in j (done_log s.buckets u now.statement now.reply before)))) (sym stands.alone)
           (if_some_keeps (number_by (is_alone (current before) now.statement) now.statement now.reply)

@@ -18,15 +18,15 @@ use Rattle.hg_base.specs.declared.value.Value.{Value}
 use Rattle.hg_base.specs.Lists.{Each}
 use Rattle.hg_base.specs.Script.{Mode}
 use Rattle.hg_base.specs.History.{Write, History, seen, nothing}
-use Rattle.hg_base.specs.Transcript.{Said, has}
-use Rattle.hg_base.specs.Replies.{IsGot, IsPut, IsDeleted, IsScanned, WithinScope, IsAnswer, AreRows}
+use Rattle.hg_base.specs.Transcript.{Said, Rest, has, passed}
+use Rattle.hg_base.specs.Replies.{IsGot, IsPut, IsDeleted, IsScanned, WithinScope, IsAnswer, AreRows, AreFirst, IsFetched}
 use Rattle.hg_base.proofs.ListFacts.{cases, each_at, each_keeps}
 use Rattle.hg_core.specs.declared.log.LogEntry.{LogEntry}
 use Rattle.hg_core.specs.declared.log.LogEntry.TheVariants.{Saw}
 use Rattle.hg_core.specs.Logs.{current, own_writes}
 use Rattle.hg_core.specs.Contents.{bucket_of, has_own}
 use Rattle.hg_core.specs.Replies.{in_bucket, AreReplied}
-use Rattle.hg_core.specs.Reading.{Unprinted, saws, get_entries, put_entries, del_entries, scan_entries, own_entries, is_access, IsReached, Joins, IsGetAnswer, IsDelAnswer, IsScanAnswer, FitsTable, FitsAnswer, FitsScope}
+use Rattle.hg_core.specs.Reading.{Unprinted, bucket_at, looks, saws, fetch_entries, Picks, IsFetchAnswer, get_entries, put_entries, del_entries, scan_entries, own_entries, is_access, IsReached, Joins, IsGetAnswer, IsDelAnswer, IsScanAnswer, FitsTable, FitsAnswer, FitsScope}
 use Rattle.hg_core.proofs.OwnKeys.{reached, saws_keep}
 
 true_false : true ≡ false → ⊥
@@ -188,12 +188,75 @@ scan_right buckets h logs j part t low high (Rows rows) l c places e f s g =
 scan_right buckets h logs j part t low high (Undeclared other) l c places e f s g = undeclared c.scope other t (IsScanned (λ key. seen h (own_writes l) c.at (record { table = t; key = key })) low high (Undeclared other)) (of_some (current l) _ c e g.0) f
 scan_right buckets h logs j part t low high _ l c places e f s g = absurd f
 
+-- ---- fetch
+
+any_found : {X : Type 0} (p : X → Bool) (xs : List X) → list_any p xs ≡ true → (x : X) × Contains xs x × (p x ≡ true)
+any_found {X = X} p [] e = absurd (let k : false ≡ true = e in cc)
+any_found {X = X} p (x ∷ xs) e = cases (p x)
+    (λ t. (x, (0, omega arith, refl), t))
+    (λ f.
+    let more = any_found p xs (sym (ap (λ b. b || list_any p xs) f) ∙ e) in
+    (more.0, behind more.1, more.2))
+  where
+    behind : {y : X} → Contains xs y → Contains (x ∷ xs) y
+    behind (k, l, e) = (suc k, omega (arith, l), e)
+
+looks_keep : (buckets : ℕ) (t : TableId) (low high : ℕ) (part : ℕ → List (ℕ × List Value)) (n : ℕ) (l : List LogEntry) → (current (looks buckets t low high part n ++ l) ≡ current l) × (own_writes (looks buckets t low high part n ++ l) ≡ own_writes l)
+looks_keep buckets t low high part zero l = (refl, refl)
+looks_keep buckets t low high part (suc n) l = looks_keep buckets t low high part n l
+
+pub looks_replied : (buckets : ℕ) (h : History) (logs : ℕ → List LogEntry) (j : ℕ) (t : TableId) (low high : ℕ) (part : ℕ → List (ℕ × List Value)) (n : ℕ) (l : List LogEntry) (c : Snapshot) → current l ≡ Some c → AreReplied buckets h logs j (looks buckets t low high part n ++ l) → (i : ℕ) → i < n →
+    AreRows (in_bucket buckets (bucket_at buckets t low i) t (seen h (own_writes l) c.at)) low high (part i)
+looks_replied buckets h logs j t low high part zero l c e g i k = absurd (omega (arith, k))
+looks_replied buckets h logs j t low high part (suc n) l c e g i k = cases (i == n)
+    (λ same.
+    let is : i ≡ n = (Decides-eqb i n).0 same in
+    let kept = looks_keep buckets t low high part n l in
+    subst (λ m. AreRows (in_bucket buckets (bucket_at buckets t low m) t (seen h (own_writes l) c.at)) low high (part m)) (sym is)
+    (subst (λ ws. AreRows (in_bucket buckets (bucket_at buckets t low n) t (seen h ws c.at)) low high (part n)) kept.1 (of_some (current (looks buckets t low high part n ++ l)) _ c (kept.0 ∙ e) g.0).1))
+    (λ other. looks_replied buckets h logs j t low high part n l c e g.1 i (below other))
+  where
+    below : (i == n) ≡ false → i < n
+    below other = grind (arith, nat_tests, other, k)
+
+-- the rows that are picked are the first of the range
+pub picked_rows : (buckets n : ℕ) (t : TableId) (f : Rid → Image) (low high looked : ℕ) (part : ℕ → List (ℕ × List Value)) (rows : List (ℕ × List Value)) → Picks buckets n t low high looked part rows → ((i : ℕ) → i < looked → AreRows (in_bucket buckets (bucket_at buckets t low i) t f) low high (part i)) →
+    AreFirst (λ key. f (record { table = t; key = key })) n low high rows
+picked_rows buckets n t f low high looked part rows picks parts = record {
+  few = picks.few;
+  within = picks.within;
+  all = record {
+    ascend = picks.ascend;
+    each = each_keeps (λ (p : ℕ × List Value). ((i : ℕ) × (i < looked) × Contains (part i) p) × (p.0 ≤ passed n high rows)) (λ (p : ℕ × List Value). (low ≤ p.0) × (p.0 ≤ passed n high rows) × ((f (record { table = t; key = p.0 })).row ≡ Some p.1)) (λ p m. one p m.0.0 m.0.1 m.0.2 m.1) rows picks.each;
+    every = λ key lo hi. let i = picks.none_left key lo hi in there key hi i.0 i.1 i.2 ((parts i.0 i.1).every key lo (let b = picks.within in omega (arith, hi, b)));
+  };
+}
+  where
+    one : (p : ℕ × List Value) (i : ℕ) → i < looked → Contains (part i) p → p.0 ≤ passed n high rows → (low ≤ p.0) × (p.0 ≤ passed n high rows) × ((f (record { table = t; key = p.0 })).row ≡ Some p.1)
+    one p i k c m = let q = each_at (λ (p : ℕ × List Value). (low ≤ p.0) × (p.0 ≤ high) × ((in_bucket buckets (bucket_at buckets t low i) t f p.0).row ≡ Some p.1)) (part i) p (parts i k).each c in (q.0, m, row_here buckets (bucket_at buckets t low i) t f p.0 p.1 q.2)
+
+    there : (key : ℕ) → key ≤ passed n high rows → (i : ℕ) → i < looked → bucket_of buckets (record { table = t; key = key }) ≡ bucket_at buckets t low i →
+        IsTrue (list_any (λ p. p.0 == key) (part i)) ⊎ ((in_bucket buckets (bucket_at buckets t low i) t f key).row ≡ None) → IsTrue (list_any (λ p. p.0 == key) rows) ⊎ ((f (record { table = t; key = key })).row ≡ None)
+    there key m i k own (inl q) =
+        let x = any_found (λ (p : ℕ × List Value). p.0 == key) (part i) q in
+        let is : x.0.0 ≡ key = (Decides-eqb x.0.0 key).0 x.2 in
+        inl (contains_any (λ p. p.0 == key) x.0 rows (each_at (λ p. p.0 ≤ passed n high rows → Contains rows p) (part i) x.0 (picks.every i k) x.1 (omega (arith, is, m))) x.2)
+    there key m i k own (inr q) =
+        let here = subst (λ b. in_bucket buckets b t f key ≡ f (record { table = t; key = key })) own (shown_here buckets (record { table = t; key = key }) f) in
+        inr (ap (λ (x : Image). x.row) (sym here) ∙ q)
+
+pub fetch_right : (buckets : ℕ) (h : History) (logs : ℕ → List LogEntry) (j n : ℕ) (rest : Option Rest) (part : ℕ → List (ℕ × List Value)) (looked : ℕ) (a : Answer) (l : List LogEntry) (c : Snapshot) → current l ≡ Some c → IsFetchAnswer buckets n rest part looked a → AreReplied buckets h logs j (fetch_entries buckets rest part looked a ++ l) →
+    IsFetched (seen h (own_writes l) c.at) n rest a
+fetch_right buckets h logs j n (Some rest) part looked (Rows rows) l c e f g = picked_rows buckets n rest.table (seen h (own_writes l) c.at) rest.low rest.high looked part rows f (looks_replied buckets h logs j rest.table rest.low rest.high part looked l c e g)
+fetch_right buckets h logs j n (Some rest) part looked _ l c e f g = absurd f
+fetch_right buckets h logs j n None part looked a l c e f g = absurd f
+
 -- ---- any of them
 
-pub answer_right : (mode : Mode) (buckets : ℕ) (h : History) (logs : ℕ → List LogEntry) (wrote : Bool) (u : Unprinted) (j : ℕ) (own : List Write) (s : Statement) (now : Said) (l : List LogEntry) (c : Snapshot) → ((r : Rid) → bucket_of buckets r < buckets) → current l ≡ Some c → now.scope ≡ c.scope → IsTrue (is_access s) → FitsAnswer buckets u own s now.reply.answer → FitsScope c.scope s now.reply.answer → AreReplied buckets h logs j (own_entries buckets u s now.reply.answer ++ l) →
-    IsAnswer mode (seen h (own_writes l) c.at) wrote now s
-answer_right mode buckets h logs wrote u j own (Get r) now l c places e sc i f k g = subst (λ scope. WithinScope scope r.table now.reply.answer (IsGot (seen h (own_writes l) c.at r) now.reply.answer)) (sym sc) (get_right buckets h logs j r now.reply.answer l c e f g)
-answer_right mode buckets h logs wrote u j own (Put r row) now l c places e sc i f k g = subst (λ scope. WithinScope scope r.table now.reply.answer (IsPut now.reply.answer)) (sym sc) (put_right buckets h logs j r row now.reply.answer l c e f g)
-answer_right mode buckets h logs wrote u j own (Del r) now l c places e sc i f k g = subst (λ scope. WithinScope scope r.table now.reply.answer (IsDeleted (seen h (own_writes l) c.at r) now.reply.answer)) (sym sc) (del_right buckets h logs j u.found r now.reply.answer l c e f g)
-answer_right mode buckets h logs wrote u j own (Scan t low high) now l c places e sc i f k g = subst (λ scope. WithinScope scope t now.reply.answer (IsScanned (λ key. seen h (own_writes l) c.at (record { table = t; key = key })) low high now.reply.answer)) (sym sc) (scan_right buckets h logs j u.part t low high now.reply.answer l c places e f k g)
-answer_right mode buckets h logs wrote u j own _ now l c places e sc i f k g = absurd (let z : false ≡ true = i in cc)
+pub answer_right : (mode : Mode) (buckets : ℕ) (h : History) (logs : ℕ → List LogEntry) (wrote : Bool) (rest : Option Rest) (u : Unprinted) (j : ℕ) (own : List Write) (s : Statement) (now : Said) (l : List LogEntry) (c : Snapshot) → ((r : Rid) → bucket_of buckets r < buckets) → current l ≡ Some c → now.scope ≡ c.scope → IsTrue (is_access s) → FitsAnswer buckets u own s now.reply.answer → FitsScope c.scope s now.reply.answer → AreReplied buckets h logs j (own_entries buckets u s now.reply.answer ++ l) →
+    IsAnswer mode (seen h (own_writes l) c.at) wrote rest now s
+answer_right mode buckets h logs wrote rest u j own (Get r) now l c places e sc i f k g = subst (λ scope. WithinScope scope r.table now.reply.answer (IsGot (seen h (own_writes l) c.at r) now.reply.answer)) (sym sc) (get_right buckets h logs j r now.reply.answer l c e f g)
+answer_right mode buckets h logs wrote rest u j own (Put r row) now l c places e sc i f k g = subst (λ scope. WithinScope scope r.table now.reply.answer (IsPut now.reply.answer)) (sym sc) (put_right buckets h logs j r row now.reply.answer l c e f g)
+answer_right mode buckets h logs wrote rest u j own (Del r) now l c places e sc i f k g = subst (λ scope. WithinScope scope r.table now.reply.answer (IsDeleted (seen h (own_writes l) c.at r) now.reply.answer)) (sym sc) (del_right buckets h logs j u.found r now.reply.answer l c e f g)
+answer_right mode buckets h logs wrote rest u j own (Scan t low high) now l c places e sc i f k g = subst (λ scope. WithinScope scope t now.reply.answer (IsScanned (λ key. seen h (own_writes l) c.at (record { table = t; key = key })) low high now.reply.answer)) (sym sc) (scan_right buckets h logs j u.part t low high now.reply.answer l c places e f k g)
+answer_right mode buckets h logs wrote rest u j own _ now l c places e sc i f k g = absurd (let z : false ≡ true = i in cc)

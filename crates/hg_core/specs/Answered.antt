@@ -1,8 +1,8 @@
 -- The replies that a session's log gives are those of a table that never reclaims.
-use Rattle.std.specs.Prelude.{◌≡◌, ℕ, ◌≤◌, List, ◌∷◌, ◌++◌, length, Bool, true, false, if◌then◌else◌, Contains, IfSome, IsFalse, is_some, unwrap_or, ⊤}
+use Rattle.std.specs.Prelude.{◌≡◌, ℕ, ◌≤◌, List, ◌∷◌, ◌++◌, length, Bool, true, false, if◌then◌else◌, Some, Contains, IfSome, IsFalse, is_some, unwrap_or, ⊤}
 use Rattle.hg_base.specs.declared.rid.Rid.{Rid}
 use Rattle.hg_base.specs.declared.statement.Statement.{Statement}
-use Rattle.hg_base.specs.declared.statement.Statement.TheVariants.{Begin, Commit as CommitIt, Gc}
+use Rattle.hg_base.specs.declared.statement.Statement.TheVariants.{Begin, CursorOpen, Commit as CommitIt, Gc}
 use Rattle.hg_base.specs.declared.line.Answer.{Answer}
 use Rattle.hg_base.specs.declared.line.Answer.TheVariants.{Newer, OpenBy}
 use Rattle.hg_base.specs.declared.line.Reply.{Reply}
@@ -21,6 +21,7 @@ use Rattle.hg_core.specs.Reading.{Unprinted, begin_entries, own_entries, is_alon
 -- the log at which a statement reads and writes: a begin has begun its transaction, and so has a statement that is one of its own
 abbrev pub begun_log : Statement → Reply → List LogEntry → List LogEntry
 begun_log (Begin scope) reply log = begin_entries scope reply.answer ++ log
+begun_log (CursorOpen table low high) reply log = begin_entries (only (Some table)) reply.answer ++ log
 begun_log statement reply log = if is_alone (current log) statement then Began (unwrap_or reply.at 0) (only (table_of statement)) ∷ log else log
 
 -- the log that a commit number of the statement closes
@@ -49,6 +50,6 @@ IsCaused h log j own at r _ = ⊤
 -- is that of the group that has the transaction.
 pub record IsAnswered (buckets : ℕ) (h : History) (log : ℕ → List LogEntry) (j : ℕ) (u : Unprinted) (before : List LogEntry) (now : Said) : Type 0 where
   pub snapshot : IfSome (current (begun_log now.statement now.reply before)) (λ snapshot. snapshot.at ≤ length h)
-  pub answer : let own = own_writes (begun_log now.statement now.reply before) in IsAnswer replay (seen h own now.at) (is_written own) now now.statement
+  pub answer : let own = own_writes (begun_log now.statement now.reply before) in IsAnswer replay (seen h own now.at) (is_written own) u.rest now now.statement
   pub cause : IfSome (target now.statement) (λ r. IsCaused h log j (own_writes (begun_log now.statement now.reply before)) now.at r now.reply.answer)
   pub number : IfSome (committed now) (λ n. Contains (of_session j (group_at h n)) (commit_in j (done_log buckets u now.statement now.reply before)))

@@ -1,11 +1,11 @@
 -- A log read as replies: which entries a session's statement leaves there, and which replies they fit.
-use Rattle.std.specs.Prelude.{◌≡◌, ℕ, zero, suc, ◌<◌, List, [], ◌∷◌, ◌++◌, map, Bool, true, false, ◌&&◌, if◌then◌else◌, Option, Some, None, is_some, unwrap_or, Contains, IsTrue, IfSome, ⊤}
+use Rattle.std.specs.Prelude.{◌≡◌, ℕ, zero, suc, ◌+◌, ◌<◌, ◌≤◌, List, [], ◌∷◌, ◌++◌, map, length, Bool, true, false, ◌&&◌, if◌then◌else◌, Option, Some, None, is_some, unwrap_or, Contains, IsTrue, IsSome, IfSome, ⊤}
 use Rattle.hg_base.specs.declared.rid.Rid.{Rid}
 use Rattle.hg_base.specs.declared.rid.TableId.{TableId}
 use Rattle.hg_base.specs.declared.scope.Scope.{Scope}
 use Rattle.hg_base.specs.declared.scope.Snapshot.{Snapshot}
 use Rattle.hg_base.specs.declared.statement.Statement.{Statement}
-use Rattle.hg_base.specs.declared.statement.Statement.TheVariants.{Begin, Get, Put, Del, Scan, Commit as CommitIt, Rollback, Gc}
+use Rattle.hg_base.specs.declared.statement.Statement.TheVariants.{Begin, Get, Put, Del, Scan, CursorOpen, Fetch, CursorClose, Commit as CommitIt, Rollback, Gc}
 use Rattle.hg_base.specs.declared.statement.Record.{Record}
 use Rattle.hg_base.specs.declared.line.Answer.{Answer}
 use Rattle.hg_base.specs.declared.line.Answer.TheVariants.{Begun, Stored, Found, Nothing, Gone, Rows, Committed, Newer, OpenBy, Undeclared, Swept, Beside}
@@ -14,8 +14,8 @@ use Rattle.hg_base.specs.declared.line.Line.{Line}
 use Rattle.hg_base.specs.declared.value.Value.{Value}
 use Rattle.hg_base.specs.Lists.{Each, Ascends}
 use Rattle.hg_base.specs.History.{Write, nothing, image_in, is_among, NoneTwice}
-use Rattle.hg_base.specs.Transcript.{only, has, table_of, stored_by}
-use Rattle.hg_base.specs.Replies.{IsBegun, IsPut, IsCommitted, IsUndone, is_written}
+use Rattle.hg_base.specs.Transcript.{Rest, only, has, passed, rest_after, table_of, stored_by}
+use Rattle.hg_base.specs.Replies.{IsBegun, IsPut, IsEnded, IsCommitted, IsUndone, is_written}
 use Rattle.hg_core.specs.declared.log.LogEntry.{LogEntry}
 use Rattle.hg_core.specs.declared.log.LogEntry.TheVariants.{Began, Saw, Refused, Outside, Wrote, Undid, Published, Over}
 use Rattle.hg_core.specs.Logs.{current, own_writes}
@@ -23,11 +23,14 @@ use Rattle.hg_core.specs.Contents.{bucket_of, has_own}
 use Rattle.hg_core.specs.Events.{put}
 
 -- What the entries of a statement hold and its reply doesn't print: the row that a `del` found, the rows that a `scan`
--- found in each bucket, and the records whose writes a `rollback` removed, the last one first.
+-- found in each bucket, the records whose writes a `rollback` removed, the last one first, and what the cursor of a `fetch` had
+-- left. A fetch looks at so many buckets, and `part` counts them in the order in which it came to them.
 pub record Unprinted : Type 0 where
   pub found : List Value
   pub part : ℕ → List (ℕ × List Value)
   pub undone : List Rid
+  pub rest : Option Rest
+  pub looked : ℕ
 
 -- ---- the entries of a statement, newest first
 
@@ -39,6 +42,15 @@ saw buckets r rows = Saw r.table r.key r.key (bucket_of buckets r) rows
 abbrev pub saws : ℕ → TableId → ℕ → ℕ → (ℕ → List (ℕ × List Value)) → ℕ → List LogEntry
 saws buckets table low high part zero = []
 saws buckets table low high part (suc b) = if has_own buckets table low high b then Saw table low high b (part b) ∷ saws buckets table low high part b else saws buckets table low high part b
+
+-- the bucket of the key that is so far from another
+abbrev pub bucket_at : ℕ → TableId → ℕ → ℕ → ℕ
+bucket_at buckets table low ahead = bucket_of buckets (record { table = table; key = low + ahead })
+
+-- so many looks at a range: at the buckets of its first keys, in the order of these keys
+abbrev pub looks : ℕ → TableId → ℕ → ℕ → (ℕ → List (ℕ × List Value)) → ℕ → List LogEntry
+looks buckets table low high part zero = []
+looks buckets table low high part (suc i) = Saw table low high (bucket_at buckets table low i) (part i) ∷ looks buckets table low high part i
 
 -- a transaction ends, with or without a commit number
 abbrev pub close : Option ℕ → List LogEntry
@@ -75,6 +87,10 @@ scan_entries buckets part table low high (Rows rows) = saws buckets table low hi
 scan_entries buckets part table low high (Undeclared other) = Outside other ∷ []
 scan_entries buckets part table low high _ = []
 
+abbrev pub fetch_entries : ℕ → Option Rest → (ℕ → List (ℕ × List Value)) → ℕ → Answer → List LogEntry
+fetch_entries buckets (Some rest) part looked (Rows rows) = looks buckets rest.table rest.low rest.high part looked
+fetch_entries buckets rest part looked answer = []
+
 abbrev pub commit_entries : Answer → List LogEntry
 commit_entries (Committed number) = close (Some number)
 commit_entries _ = close None
@@ -86,6 +102,9 @@ own_entries buckets u (Get r) answer = get_entries buckets r answer
 own_entries buckets u (Put r row) answer = put_entries r row answer
 own_entries buckets u (Del r) answer = del_entries buckets u.found r answer
 own_entries buckets u (Scan table low high) answer = scan_entries buckets u.part table low high answer
+own_entries buckets u (CursorOpen table low high) answer = begin_entries (only (Some table)) answer
+own_entries buckets u (Fetch n) answer = fetch_entries buckets u.rest u.part u.looked answer
+own_entries buckets u CursorClose answer = close None
 own_entries buckets u CommitIt answer = commit_entries answer
 own_entries buckets u Rollback answer = Over ∷ map Undid u.undone
 own_entries buckets u (Gc kind) answer = []
@@ -124,6 +143,16 @@ pub record Joins (Reached : ℕ → Type 0) (part : ℕ → List (ℕ × List Va
   pub each : Each (λ p. (b : ℕ) × Reached b × Contains (part b) p) rows
   pub every : (b : ℕ) → Reached b → Each (λ p. Contains rows p) (part b)
 
+-- The first n rows of the parts of so many looks, and nothing was left out before the last key that was passed: not in those
+-- buckets, and in no other one.
+pub record Picks (buckets n : ℕ) (table : TableId) (low high looked : ℕ) (part : ℕ → List (ℕ × List Value)) (rows : List (ℕ × List Value)) : Type 0 where
+  pub few : length rows ≤ n
+  pub within : passed n high rows ≤ high
+  pub ascend : Ascends (map (λ p. p.0) rows)
+  pub each : Each (λ p. ((i : ℕ) × (i < looked) × Contains (part i) p) × (p.0 ≤ passed n high rows)) rows
+  pub every : (i : ℕ) → i < looked → Each (λ p. p.0 ≤ passed n high rows → Contains rows p) (part i)
+  pub none_left : (k : ℕ) → low ≤ k → k ≤ passed n high rows → (i : ℕ) × (i < looked) × (bucket_of buckets (record { table = table; key = k }) ≡ bucket_at buckets table low i)
+
 abbrev pub IsGetAnswer : Answer → Type 0
 IsGetAnswer (Found row) = ⊤
 IsGetAnswer Nothing = ⊤
@@ -139,6 +168,10 @@ IsDelAnswer _ = ⊥
 abbrev pub IsScanAnswer : (ℕ → Type 0) → (ℕ → List (ℕ × List Value)) → Answer → Type 0
 IsScanAnswer Reached part (Rows rows) = Joins Reached part rows
 IsScanAnswer Reached part _ = ⊥
+
+abbrev pub IsFetchAnswer : ℕ → ℕ → Option Rest → (ℕ → List (ℕ × List Value)) → ℕ → Answer → Type 0
+IsFetchAnswer buckets n (Some rest) part looked (Rows rows) = Picks buckets n rest.table rest.low rest.high looked part rows
+IsFetchAnswer buckets n rest part looked answer = ⊥
 
 -- a statement on a table is refused as undeclared with that table, or else answered so
 abbrev pub FitsTable : TableId → Answer → Type 0 → Type 0
@@ -162,6 +195,9 @@ FitsAnswer buckets u own (Get r) answer = FitsTable r.table answer (IsGetAnswer 
 FitsAnswer buckets u own (Put r row) answer = FitsTable r.table answer (IsPut answer)
 FitsAnswer buckets u own (Del r) answer = FitsTable r.table answer (IsDelAnswer answer)
 FitsAnswer buckets u own (Scan table low high) answer = FitsTable table answer (IsScanAnswer (IsReached buckets table low high) u.part answer)
+FitsAnswer buckets u own (CursorOpen table low high) answer = IsBegun answer
+FitsAnswer buckets u own (Fetch n) answer = IsFetchAnswer buckets n u.rest u.part u.looked answer
+FitsAnswer buckets u own CursorClose answer = IsEnded answer
 FitsAnswer buckets u own CommitIt answer = IsCommitted (is_written own) answer
 FitsAnswer buckets u own Rollback answer = IsUndone answer × UndoesAll own u.undone
 FitsAnswer buckets u own (Gc kind) answer = IsGcAnswer answer
@@ -171,29 +207,54 @@ abbrev pub FitsScope : Scope → Statement → Answer → Type 0
 FitsScope scope (Scan table low high) (Rows rows) = IsTrue (has scope table)
 FitsScope scope statement answer = ⊤
 
+-- a fetch stands in a transaction
+abbrev pub FitsIn : Option Snapshot → Statement → Type 0
+FitsIn snapshot (Fetch n) = IsSome snapshot
+FitsIn snapshot statement = ⊤
+
 -- The reply to a statement after a log. Whether the answer is right is no matter here: the log's entries say that.
 pub record Fits (buckets : ℕ) (u : Unprinted) (log : List LogEntry) (statement : Statement) (reply : Reply) : Type 0 where
   pub at : is_some reply.at ≡ is_alone (current log) statement
   pub number : is_some reply.number ≡ (is_alone (current log) statement && is_some (stored_by statement reply.answer))
   pub answer : FitsAnswer buckets u (own_writes log) statement reply.answer
   pub scope : IfSome (current log) (λ snapshot. FitsScope snapshot.scope statement reply.answer)
+  pub inside : FitsIn (current log) statement
+
+-- what a fetch finds left is what its session's cursor has left
+abbrev pub HasRest : Statement → Option Rest → Option Rest → Type 0
+HasRest (Fetch n) rest left = rest ≡ left
+HasRest statement rest left = ⊤
 
 -- ---- the lines that logs give
 
 -- One session: from the log on, the lines are the replies to its records, and the log gains their entries alone. Besides, P
--- holds of each record with its line.
-abbrev pub Tells : ℕ → (Record → Line → Type 0) → List LogEntry → List Record → List Line → List LogEntry → Type 0
-Tells buckets P log [] [] final = final ≡ log
-Tells buckets P log [] (line ∷ lines) final = ⊥
-Tells buckets P log (r ∷ rs) [] final = ⊥
-Tells buckets P log (r ∷ rs) (line ∷ lines) final =
-    P r line × ((u : Unprinted) × Fits buckets u log r.statement line.reply × Tells buckets P (log_after buckets u r.statement line.reply log) rs lines final)
+-- holds of each record with its line. The session's cursor has this left before them.
+abbrev pub Tells : ℕ → (Record → Line → Type 0) → List LogEntry → Option Rest → List Record → List Line → List LogEntry → Type 0
+Tells buckets P log left [] [] final = final ≡ log
+Tells buckets P log left [] (line ∷ lines) final = ⊥
+Tells buckets P log left (r ∷ rs) [] final = ⊥
+Tells buckets P log left (r ∷ rs) (line ∷ lines) final =
+    P r line × ((u : Unprinted) × Fits buckets u log r.statement line.reply
+    × Tells buckets P (log_after buckets u r.statement line.reply log) (rest_after r.statement line.reply.answer left) rs lines final × HasRest r.statement u.rest left)
 
 -- All sessions, in any order of their records. Besides, P holds of each record with its line and the logs before it.
-abbrev pub Follows : ℕ → ((ℕ → List LogEntry) → Record → Line → Type 0) → (ℕ → List LogEntry) → List Record → List Line → (ℕ → List LogEntry) → Type 0
-Follows buckets P logs [] [] final = (j : ℕ) → final j ≡ logs j
-Follows buckets P logs [] (line ∷ lines) final = ⊥
-Follows buckets P logs (r ∷ rs) [] final = ⊥
-Follows buckets P logs (r ∷ rs) (line ∷ lines) final =
+abbrev pub Follows : ℕ → ((ℕ → List LogEntry) → Record → Line → Type 0) → (ℕ → List LogEntry) → (ℕ → Option Rest) → List Record → List Line → (ℕ → List LogEntry) → Type 0
+Follows buckets P logs left [] [] final = (j : ℕ) → final j ≡ logs j
+Follows buckets P logs left [] (line ∷ lines) final = ⊥
+Follows buckets P logs left (r ∷ rs) [] final = ⊥
+Follows buckets P logs left (r ∷ rs) (line ∷ lines) final =
     P logs r line × ((u : Unprinted) × Fits buckets u (logs r.session) r.statement line.reply
-    × Follows buckets P (put logs r.session (log_after buckets u r.statement line.reply (logs r.session))) rs lines final)
+    × Follows buckets P (put logs r.session (log_after buckets u r.statement line.reply (logs r.session))) (put left r.session (rest_after r.statement line.reply.answer (left r.session))) rs lines final
+    × HasRest r.statement u.rest (left r.session))
+
+-- what each session's cursor has left after these lines
+abbrev pub left_after : (ℕ → Option Rest) → List Record → List Line → ℕ → Option Rest
+left_after left [] lines = left
+left_after left (r ∷ rs) [] = left
+left_after left (r ∷ rs) (line ∷ lines) = left_after (put left r.session (rest_after r.statement line.reply.answer (left r.session))) rs lines
+
+-- and one session's cursor after its own
+abbrev pub rest_over : Option Rest → List Record → List Line → Option Rest
+rest_over left [] lines = left
+rest_over left (r ∷ rs) [] = left
+rest_over left (r ∷ rs) (line ∷ lines) = rest_over (rest_after r.statement line.reply.answer left) rs lines

@@ -98,7 +98,7 @@ one_swept = record { group = 0; table = 0; interval = 1 }
 -- What the log of session 2 says after its commits: a begin that is answered `begun,0`, a put that is answered `stored`, and
 -- a commit that is answered `committed,1`.
 abbrev pub all_printed : Unprinted
-all_printed = record { found = []; part = λ b. []; undone = [] }
+all_printed = record { found = []; part = λ b. []; undone = []; rest = None; looked = 0 }
 
 abbrev pub only_answer : Answer → Reply
 only_answer answer = record { at = None; answer = answer; number = None }

@@ -11,9 +11,10 @@ use Rattle.hg_base.specs.declared.rid.TableId.{TableId}
 use Rattle.hg_base.specs.declared.value.Value.{Value}
 use Rattle.hg_base.specs.Lists.{Each, Ascends}
 use Rattle.hg_base.proofs.ListFacts.{cases, each_keeps, each_at}
+use Rattle.hg_base.specs.Transcript.{last_key}
 use Rattle.hg_rule.specs.declared.view.View.{View}
 use Rattle.hg_cursor.specs.Keys.{Rows}
-use Rattle.hg_cursor.specs.Firsts.{last_key, Keeps}
+use Rattle.hg_cursor.specs.Firsts.{Keeps}
 use Rattle.hg_cursor.proofs.Keys.{differ, is_apart}
 use Rattle.hg_cursor.proofs.Rows.{key_of, ascends_tail}
 use Rattle.hg_cursor.proofs.Gathering.{IsGathered, one_upto, all_count, all_over, ascends_distinct}

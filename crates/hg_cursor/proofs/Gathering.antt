@@ -12,11 +12,12 @@ use Rattle.hg_base.specs.Lists.{Each, Ascends}
 use Rattle.hg_base.proofs.ListFacts.{cases, each_append, each_keeps, each_at}
 use Rattle.hg_core.specs.declared.log.LogEntry.TheVariants.{Saw}
 use Rattle.hg_core.specs.Contents.{bucket_of}
+use Rattle.hg_core.specs.Reading.{bucket_at, looks}
 use Rattle.hg_bucket.specs.BucketModel.{record_at}
 use Rattle.hg_rule.specs.declared.view.View.{View}
 use Rattle.hg_rule.specs.Views.{HasOnlySession}
-use Rattle.hg_cursor.specs.Keys.{Rows, bucket_at, IsOwnKey}
-use Rattle.hg_cursor.specs.Logs.{Adds, looks}
+use Rattle.hg_cursor.specs.Keys.{Rows, IsOwnKey}
+use Rattle.hg_cursor.specs.Logs.{Adds}
 use Rattle.hg_cursor.specs.Looks.{Takes}
 use Rattle.hg_cursor.specs.Cursors.{LooksAt}
 use Rattle.hg_cursor.proofs.Keys.{is_apart, far_apart}

@@ -5,11 +5,12 @@ use Rattle.std.specs.List.{list_any}
 use Rattle.std.proofs.lemmas.Bool.Decides.{nat_tests}
 use Rattle.hg_base.specs.declared.image.Image.{Image}
 use Rattle.hg_base.specs.Lists.{Each, Ascends}
-use Rattle.hg_base.specs.Replies.{AreRows}
+use Rattle.hg_base.specs.Replies.{AreRows, AreFirst}
 use Rattle.hg_base.proofs.ListFacts.{cases, each_append, each_keeps, any_more, append_nil}
+use Rattle.hg_base.specs.Transcript.{last_key, passed}
 use Rattle.hg_rule.specs.Facts.{StartsWith}
 use Rattle.hg_cursor.specs.Keys.{Rows}
-use Rattle.hg_cursor.specs.Firsts.{AreFirst, last_key, passed, rest_after}
+use Rattle.hg_cursor.specs.Firsts.{left_behind}
 use Rattle.hg_cursor.specs.Given.{begins_at, goes_on, AreFirstOf, Fetched, joined, AreGiven}
 use Rattle.hg_cursor.proofs.Rows.{key_of, rest_rows, rows_over, any_behind, same_rows}
 use Rattle.hg_cursor.proofs.Cutting.{last_of}
@@ -51,7 +52,7 @@ passed_over look n low high rows some le a = cases (nat_lt (length rows) n)
     let long : 0 < length rows = grind (arith, nat_tests, f, some) in
     subst (λ b. low ≤ (if b then high else last_key high rows)) (sym f) (last_of (λ k. low ≤ k) high rows long (each_keeps _ (λ p. low ≤ p.0) (λ p q. q.0) rows a.all.each)))
 
-given_on : (look : ℕ → Image) (n low high next : ℕ) (given rows : Rows) → 0 < n → AreGiven look low high (Some next) given → AreFirst look n next high rows → AreGiven look low high (rest_after high (passed n high rows)) (given ++ rows)
+given_on : (look : ℕ → Image) (n low high next : ℕ) (given rows : Rows) → 0 < n → AreGiven look low high (Some next) given → AreFirst look n next high rows → AreGiven look low high (left_behind high (passed n high rows)) (given ++ rows)
 given_on look n low high next given rows some g a = cases (nat_lt (passed n high rows) high)
     (λ t.
     let less : passed n high rows < high = grind (arith, nat_tests, t) in

@@ -11,6 +11,7 @@ use Rattle.hg_base.proofs.ListFacts.{cases, false_true}
 use Rattle.hg_core.specs.declared.version.Version.{Version}
 use Rattle.hg_core.specs.Contents.{Content, bucket_of, look}
 use Rattle.hg_core.specs.Replies.{read_by}
+use Rattle.hg_core.specs.Reading.{bucket_at}
 use Rattle.hg_bucket.specs.BucketModel.{record_at}
 use Rattle.hg_rule.specs.declared.view.Part.TheVariants.{OfBucket}
 use Rattle.hg_rule.specs.declared.view.View.{View}
@@ -21,7 +22,7 @@ use Rattle.hg_rule.specs.Views.{first_in}
 use Rattle.hg_rule.specs.Holding.{bucket, beyond}
 use Rattle.hg_rule.specs.Places.{HoldsBucket}
 use Rattle.hg_store.proofs.Holding.{look_none, second_shown, parts_are}
-use Rattle.hg_cursor.specs.Keys.{bucket_at, IsOwnKey, AreOwn, HasVersion, LeadsOn, read_of}
+use Rattle.hg_cursor.specs.Keys.{IsOwnKey, AreOwn, HasVersion, LeadsOn, read_of}
 
 -- ---- tests of numbers
 

@@ -6,9 +6,9 @@ use Rattle.std.proofs.lemmas.Bool.Decides.{nat_tests}
 use Rattle.hg_base.specs.declared.rid.TableId.{TableId}
 use Rattle.hg_base.specs.Lists.{Each}
 use Rattle.hg_base.proofs.ListFacts.{cases, each_keeps}
+use Rattle.hg_base.specs.Transcript.{last_key, passed}
 use Rattle.hg_rule.specs.declared.view.View.{View}
 use Rattle.hg_cursor.specs.Keys.{Rows}
-use Rattle.hg_cursor.specs.Firsts.{last_key, passed}
 use Rattle.hg_cursor.specs.Cursors.{FetchesRows}
 use Rattle.hg_cursor.proofs.Keys.{of_first}
 use Rattle.hg_cursor.proofs.Gathering.{one_upto}

@@ -1,16 +1,15 @@
 -- What a fetch looks at, and what it gives.
-use Rattle.std.specs.Prelude.{◌≡◌, ℕ, ◌+◌, ◌<◌, ◌≤◌, [], map, length, Option, Some, None, Result, Ok, Err, Contains}
+use Rattle.std.specs.Prelude.{◌≡◌, ℕ, ◌+◌, ◌≤◌, [], Option, Some, None, Result, Ok, Err}
 use Rattle.hg_base.specs.declared.rid.TableId.{TableId}
 use Rattle.hg_base.specs.declared.fault.NoMemory.{NoMemory}
 use Rattle.hg_base.specs.declared.image.Image.{Image}
 use Rattle.hg_base.specs.History.{History, visible}
-use Rattle.hg_base.specs.Lists.{Each, Ascends}
+use Rattle.hg_core.specs.Reading.{looks, Picks}
 use Rattle.hg_bucket.specs.BucketModel.{record_at}
 use Rattle.hg_rule.specs.declared.view.View.{View}
 use Rattle.hg_cursor.specs.declared.cursor.Cursor.{Cursor}
-use Rattle.hg_cursor.specs.Keys.{Rows, bucket_at, IsOwnKey}
-use Rattle.hg_cursor.specs.Logs.{Adds, looks}
-use Rattle.hg_cursor.specs.Firsts.{passed}
+use Rattle.hg_cursor.specs.Keys.{Rows}
+use Rattle.hg_cursor.specs.Logs.{Adds}
 
 -- a cursor's snapshot, its table, the last key of its range, and the first key that it has not passed, if there is one
 abbrev pub at_of : Cursor → ℕ
@@ -34,15 +33,6 @@ pub record LooksAt (count : ℕ) (old : View) (table : TableId) (low high : ℕ)
   pub reached : low + number ≤ high + 1
   pub part : ℕ → Rows
   pub adds : Adds old (looks count table low high part number) new
-
--- The first n rows of what was looked at, and nothing was left out before the last key that was passed.
-pub record Picks (count n : ℕ) (table : TableId) (low high number : ℕ) (part : ℕ → Rows) (rows : Rows) : Type 0 where
-  pub few : length rows ≤ n
-  pub within : passed n high rows ≤ high
-  pub ascend : Ascends (map (λ p. p.0) rows)
-  pub each : Each (λ p. ((i : ℕ) × (i < number) × Contains (part i) p) × (p.0 ≤ passed n high rows)) rows
-  pub every : (i : ℕ) → i < number → Each (λ p. p.0 ≤ passed n high rows → Contains rows p) (part i)
-  pub none_left : (k : ℕ) → low ≤ k → k ≤ passed n high rows → (i : ℕ) × (i < number) × IsOwnKey count (bucket_at count table low i) table k
 
 -- the rows of a range, by looks at it; and only looks where memory was wanting
 pub record FetchesRows (count n : ℕ) (old : View) (table : TableId) (low high : ℕ) (rows : Rows) (new : View) : Type 0 where

@@ -1,9 +1,10 @@
 -- The rows that all fetches gave.
 use Rattle.std.specs.Prelude.{◌≡◌, ℕ, ◌<◌, ◌≤◌, List, [], ◌∷◌, ◌++◌, nat_le, if◌then◌else◌, Option, Some, None}
 use Rattle.hg_base.specs.declared.image.Image.{Image}
-use Rattle.hg_base.specs.Replies.{AreRows}
+use Rattle.hg_base.specs.Replies.{AreRows, AreFirst}
+use Rattle.hg_base.specs.Transcript.{passed}
 use Rattle.hg_cursor.specs.Keys.{Rows}
-use Rattle.hg_cursor.specs.Firsts.{AreFirst, passed, rest_after}
+use Rattle.hg_cursor.specs.Firsts.{left_behind}
 
 -- where a cursor over a range begins
 abbrev pub begins_at : ℕ → ℕ → Option ℕ
@@ -17,7 +18,7 @@ AreFirstOf look n (Some low) high rows = AreFirst look n low high rows
 -- where a cursor goes on behind the rows that a fetch of n gave
 abbrev pub goes_on : ℕ → ℕ → Rows → Option ℕ → Option ℕ
 goes_on n high rows None = None
-goes_on n high rows (Some low) = rest_after high (passed n high rows)
+goes_on n high rows (Some low) = left_behind high (passed n high rows)
 
 -- Fetches one after the other, each with the number of rows that was wanted and those that it gave. Each gives the first rows of
 -- the rest that the one before it left.

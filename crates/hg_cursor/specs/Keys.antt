@@ -1,5 +1,5 @@
 -- The keys of a bucket, what it shows of them, and a search for those that have a version.
-use Rattle.std.specs.Prelude.{◌≡◌, ℕ, ◌+◌, ◌<◌, ◌≤◌, List, [], ◌∷◌, length, Option, Some, None, ⊤}
+use Rattle.std.specs.Prelude.{◌≡◌, ℕ, ◌<◌, ◌≤◌, List, [], ◌∷◌, length, Option, Some, None, ⊤}
 use Rattle.hg_base.specs.declared.rid.TableId.{TableId}
 use Rattle.hg_base.specs.declared.image.Image.{Image}
 use Rattle.hg_base.specs.declared.writer.Writer.{Writer}
@@ -17,10 +17,6 @@ Rows = List (ℕ × List Value)
 abbrev pub rows_at : ℕ → Option (List Value) → Rows
 rows_at key None = []
 rows_at key (Some row) = (key, row) ∷ []
-
--- the bucket of the key that is so far from another
-abbrev pub bucket_at : ℕ → TableId → ℕ → ℕ → ℕ
-bucket_at count table low ahead = bucket_of count (record_at table (low + ahead))
 
 -- bucket b is the one of the table's record of that key
 abbrev pub IsOwnKey : ℕ → ℕ → TableId → ℕ → Type 0

@@ -1,11 +1,10 @@
 -- What a session's log gains, and what a session must be to read.
-use Rattle.std.specs.Prelude.{◌≡◌, ◌⊎◌, ℕ, zero, suc, List, [], ◌∷◌, ◌++◌, false, Some, IsTrue}
+use Rattle.std.specs.Prelude.{◌≡◌, ◌⊎◌, ℕ, List, [], ◌∷◌, ◌++◌, false, Some, IsTrue}
 use Rattle.hg_base.specs.declared.rid.TableId.{TableId}
 use Rattle.hg_base.specs.declared.scope.Scope.{Scope}
 use Rattle.hg_base.specs.History.{History}
 use Rattle.hg_base.specs.Transcript.{has}
 use Rattle.hg_core.specs.declared.log.LogEntry.{LogEntry}
-use Rattle.hg_core.specs.declared.log.LogEntry.TheVariants.{Saw}
 use Rattle.hg_core.specs.declared.phase.Phase.TheVariants.{Live}
 use Rattle.hg_core.specs.Logs.{current, is_plain, own_writes}
 use Rattle.hg_core.specs.Replies.{RepliesAnswer}
@@ -15,7 +14,6 @@ use Rattle.hg_rule.specs.declared.view.View.{View}
 use Rattle.hg_rule.specs.Facts.{StartsWith, EndsWith, IsAmong}
 use Rattle.hg_rule.specs.Views.{number, session, HasOnlySession}
 use Rattle.hg_rule.specs.Writes.{with_log}
-use Rattle.hg_cursor.specs.Keys.{Rows, bucket_at}
 
 -- The view has its session's part alone, whose log has these entries more. What was seen is kept.
 pub record Adds (old : View) (entries : List LogEntry) (new : View) : Type 0 where
@@ -36,11 +34,6 @@ pub record ReadsAt (at : ℕ) (table : TableId) (v : View) : Type 0 where
   pub unwritten : own_writes (session v).log ≡ []
   pub plain : IsTrue (is_plain (session v).log)
   pub unstamped : (session v).stamped ≡ false
-
--- So many looks at a range, the newest first: at the buckets of its first keys, in the order of these keys.
-abbrev pub looks : ℕ → TableId → ℕ → ℕ → (ℕ → Rows) → ℕ → List LogEntry
-looks count table low high part zero = []
-looks count table low high part (suc i) = Saw table low high (bucket_at count table low i) (part i) ∷ looks count table low high part i
 
 -- A history with the logs of all sessions, in which each entry is right, and this session's log goes on from what the view has.
 -- So are the state that backs the view, and each later one.

@@ -4,7 +4,8 @@ ghost use Rattle.std.specs.Prelude.{◌≡◌, ◌+◌, ◌<◌, ◌≤◌, ◌&
 ghost use Rattle.hg_rule.specs.Seats.{board_id, sizes_of, session_view, IsSessionOf};
 ghost use Rattle.hg_store.specs.Stores.{store_board_id, store_buckets};
 ghost use Rattle.hg_cursor.specs.Logs.{IsHeard, ReadsAt};
-ghost use Rattle.hg_cursor.specs.Firsts.{passed, Keeps};
+ghost use Rattle.hg_base.specs.Transcript.{passed};
+ghost use Rattle.hg_cursor.specs.Firsts.{Keeps};
 ghost use Rattle.hg_cursor.specs.Cursors.{Fetches};
 
 use crate::looks::{Range, see_bucket};

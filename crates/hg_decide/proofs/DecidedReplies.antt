@@ -1,5 +1,5 @@
 -- The replies are decided by computation. Kept in step with `Replies`.
-use Rattle.std.proofs.Common.{◌≡◌, ℕ, suc, ◌≤◌, ◌⊎◌, inr, List, [], ◌∷◌, ◌++◌, length, map, Bool, true, false, Some, None, refl, sym, ap, ◌∙◌, subst}
+use Rattle.std.proofs.Common.{◌≡◌, ℕ, suc, ◌≤◌, ◌⊎◌, inr, List, [], ◌∷◌, ◌++◌, length, map, Bool, true, false, Option, Some, None, refl, sym, ap, ◌∙◌, subst}
 use Rattle.std.specs.Prelude.{◌==◌, filter, cond, IsTrue, IsFalse, is_some, ◌&&◌, ◌||◌, unwrap_or, option_map, nat_le}
 use Rattle.std.specs.List.{list_any, flat_map, cons_option}
 use Rattle.std.specs.Option.{option_or}
@@ -10,15 +10,15 @@ use Rattle.hg_base.specs.declared.rid.TableId.{TableId}
 use Rattle.hg_base.specs.declared.image.Image.{Image}
 use Rattle.hg_base.specs.declared.scope.Scope.{Scope}
 use Rattle.hg_base.specs.declared.statement.Statement.{Statement}
-use Rattle.hg_base.specs.declared.statement.Statement.TheVariants.{Begin, Get, Put, Del, Scan, Commit as CommitIt, Rollback, Gc}
+use Rattle.hg_base.specs.declared.statement.Statement.TheVariants.{Begin, Get, Put, Del, Scan, CursorOpen, Fetch, CursorClose, Commit as CommitIt, Rollback, Gc}
 use Rattle.hg_base.specs.declared.line.Answer.{Answer}
 use Rattle.hg_base.specs.declared.line.Answer.TheVariants.{Begun, Stored, Found, Nothing, Gone, Rows, Committed, Ended, Undone, Newer, OpenBy, Undeclared, Swept, Beside}
 use Rattle.hg_base.specs.declared.value.Value.{Value}
 use Rattle.hg_base.specs.Lists.{Each}
 use Rattle.hg_base.specs.Script.{Mode, replay, run}
 use Rattle.hg_base.specs.History.{Write, Group, History, image_in, group_image, rids_of, group_rids, writes_from, last_image, visible, seen, nothing}
-use Rattle.hg_base.specs.Transcript.{Said, has, stored, own_writes}
-use Rattle.hg_base.specs.Replies.{IsBegun, IsGot, IsPut, IsDeleted, AreRows, IsScanned, IsCommitted, IsUndone, IsSwept, IsBeside, IsCollected, IsUndeclared, WithinScope, IsAnswer, IsReply, is_written}
+use Rattle.hg_base.specs.Transcript.{Said, Rest, has, passed, rest_in, stored, own_writes}
+use Rattle.hg_base.specs.Replies.{IsBegun, IsGot, IsPut, IsDeleted, AreRows, IsScanned, AreFirst, IsFetched, IsEnded, IsCommitted, IsUndone, IsSwept, IsBeside, IsCollected, IsUndeclared, WithinScope, IsAnswer, IsReply, is_written}
 use Rattle.hg_base.proofs.ListFacts.{cases}
 use Rattle.hg_decide.proofs.Decide.{Decided, decide_as, decide_true, decide_false, decide_bools, decide_equal, decide_at_most, decide_always, decide_never, decide_all3, decide_all4, decide_either, decide_implies, decide_match, decide_each, decide_ascends, decide_rows, decide_some, false_is_not_true}
 
@@ -52,6 +52,10 @@ decide_committed wrote _ = decide_never
 abbrev pub decide_undone : (answer : Answer) → Decided (IsUndone answer)
 decide_undone Undone = decide_always
 decide_undone _ = decide_never
+
+abbrev pub decide_ended : (answer : Answer) → Decided (IsEnded answer)
+decide_ended Ended = decide_always
+decide_ended _ = decide_never
 
 abbrev pub decide_swept : (answer : Answer) → Decided (IsSwept answer)
 decide_swept (Swept sweep) = decide_always
@@ -149,16 +153,28 @@ abbrev pub decide_scanned : (look : ℕ → Image) (low : ℕ) (high : ℕ) (ans
 decide_scanned look low high (Rows rows) rids outside = decide_are_rows look low high rows rids outside
 decide_scanned look low high _ rids outside = decide_never
 
+abbrev pub decide_first : (look : ℕ → Image) (n : ℕ) (low : ℕ) (high : ℕ) (rows : List (ℕ × List Value)) (rids : List Rid) → ((key : ℕ) → NoneHas key rids → (look key).row ≡ None) → Decided (AreFirst look n low high rows)
+decide_first look n low high rows rids outside = decide_as (λ p. record { few = p.0; within = p.1; all = p.2 }) (λ p. (p.few, p.within, p.all))
+    (decide_all3 (decide_at_most (length rows) n) (decide_at_most (passed n high rows) high) (decide_are_rows look low (passed n high rows) rows rids outside))
+
+abbrev pub decide_fetched : (look : Rid → Image) (n : ℕ) (rest : Option Rest) (answer : Answer) (rids : List Rid) → ((r : Rid) → NoneHas r.key rids → (look r).row ≡ None) → Decided (IsFetched look n rest answer)
+decide_fetched look n None answer rids outside = decide_never
+decide_fetched look n (Some rest) (Rows rows) rids outside = decide_first (λ key. look (record { table = rest.table; key = key })) n rest.low rest.high rows rids (λ key none. outside (record { table = rest.table; key = key }) none)
+decide_fetched look n (Some rest) _ rids outside = decide_never
+
 -- ---- the reply
 
 -- where every record that is seen as a row is one of `rids`
-module _ (mode : Mode) (look : Rid → Image) (wrote : Bool) (now : Said) (rids : List Rid) (outside : (r : Rid) → NoneHas r.key rids → (look r).row ≡ None) where
-  abbrev pub decide_answer : (statement : Statement) → Decided (IsAnswer mode look wrote now statement)
+module _ (mode : Mode) (look : Rid → Image) (wrote : Bool) (rest : Option Rest) (now : Said) (rids : List Rid) (outside : (r : Rid) → NoneHas r.key rids → (look r).row ≡ None) where
+  abbrev pub decide_answer : (statement : Statement) → Decided (IsAnswer mode look wrote rest now statement)
   decide_answer (Begin scope) = decide_begun now.reply.answer
   decide_answer (Get r) = decide_scope now.scope r.table now.reply.answer (decide_got (look r) now.reply.answer)
   decide_answer (Put r row) = decide_scope now.scope r.table now.reply.answer (decide_put now.reply.answer)
   decide_answer (Del r) = decide_scope now.scope r.table now.reply.answer (decide_deleted (look r) now.reply.answer)
   decide_answer (Scan table low high) = decide_scope now.scope table now.reply.answer (decide_scanned (λ key. look (record { table = table; key = key })) low high now.reply.answer rids (λ key none. outside (record { table = table; key = key }) none))
+  decide_answer (CursorOpen table low high) = decide_begun now.reply.answer
+  decide_answer (Fetch n) = decide_fetched look n rest now.reply.answer rids outside
+  decide_answer CursorClose = decide_ended now.reply.answer
   decide_answer CommitIt = decide_committed wrote now.reply.answer
   decide_answer Rollback = decide_undone now.reply.answer
   decide_answer (Gc kind) = decide_collected mode now.session now.reply.answer
@@ -166,4 +182,4 @@ module _ (mode : Mode) (look : Rid → Image) (wrote : Bool) (now : Said) (rids 
 abbrev pub decide_reply : (mode : Mode) (h : History) (earlier : List Said) (now : Said) → Decided (IsReply mode h earlier now)
 decide_reply mode h earlier now = decide_as (λ p. record { at = p.0; number = p.1; snapshot = p.2; answer = p.3 }) (λ p. (p.at, p.number, p.snapshot, p.answer))
     (decide_all4 (decide_bools (is_some now.reply.at) now.alone) (decide_bools (is_some now.reply.number) (now.alone && is_some (stored now))) (decide_at_most now.at (length h))
-    (let own = own_writes earlier now in decide_answer mode (seen h own now.at) (is_written own) now (rids_to_see h own) (none_seen h own now.at) now.statement))
+    (let own = own_writes earlier now in decide_answer mode (seen h own now.at) (is_written own) (rest_in now.session now.transaction earlier) now (rids_to_see h own) (none_seen h own now.at) now.statement))

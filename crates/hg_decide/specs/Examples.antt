@@ -2,12 +2,13 @@
 use Rattle.std.specs.Prelude.{ℕ, List, [], ◌∷◌, ◌++◌, pos, negsuc}
 use Rattle.hg_base.specs.declared.value.Value.TheVariants.{Number}
 use Rattle.hg_base.specs.declared.scope.Scope.TheVariants.{All, Declared}
-use Rattle.hg_base.specs.declared.statement.Statement.TheVariants.{Begin, Scan, Commit, Rollback, Gc}
+use Rattle.hg_base.specs.declared.statement.Statement.TheVariants.{Begin, Scan, CursorOpen, Fetch, CursorClose, Commit, Rollback, Gc}
 use Rattle.hg_base.specs.declared.report.Kind.{Kind}
 use Rattle.hg_base.specs.declared.report.Kind.TheVariants as kinds
+use Rattle.hg_base.specs.declared.line.Answer.{Answer}
 use Rattle.hg_base.specs.declared.line.Answer.TheVariants.{Begun, Stored, Nothing, Gone, Rows, Committed, Ended, Undone, Newer, OpenBy, Undeclared}
 use Rattle.hg_base.specs.declared.line.Totals.{Totals}
-use Rattle.hg_decide.specs.Writing.{Example, Exchange, example, totals, t, u, only_t, t_and_u, get, put, del, row, swept, moved_of, unmoved_of, inside, outside, outside_commit}
+use Rattle.hg_decide.specs.Writing.{Example, Exchange, example, totals, t, u, only_t, t_and_u, get, put, del, row, rows, swept, moved_of, unmoved_of, inside, outside, outside_commit}
 
 abbrev pub empty : Example
 empty = example [] [] (totals 0 0 0 0 0 0)
@@ -175,3 +176,28 @@ kept_deletion_longer = example only_t
     ∷ inside 3 12 (Gc kinds.Table) (swept kinds.Table 2 2 2 [])
     ∷ [])
     (totals 2 0 0 2 0 0)
+
+-- ---- a scan in parts
+
+-- Three fetches of one cursor. Between the first two, a record of its range is written twice, another one is deleted, and the
+-- version between goes.
+abbrev pub cursor_by : Answer → Answer → Answer → Example
+cursor_by first second third = example only_t
+    (outside_commit 2 2 (put t 1 (pos 10)) 0 Stored 1
+    ∷ outside_commit 2 3 (put t 2 (pos 20)) 1 Stored 2
+    ∷ outside_commit 2 4 (put t 3 (pos 30)) 2 Stored 3
+    ∷ inside 1 5 (CursorOpen t 0 9) (Begun 3)
+    ∷ inside 1 6 (Fetch 2) first
+    ∷ outside_commit 2 7 (put t 3 (pos 31)) 3 Stored 4
+    ∷ outside_commit 2 8 (put t 3 (pos 32)) 4 Stored 5
+    ∷ outside_commit 2 9 (del t 1) 5 Gone 6
+    ∷ inside 3 10 (Gc kinds.Interval) (swept kinds.Interval 6 6 1 (unmoved_of 1 3 ∷ []))
+    ∷ inside 1 11 (Fetch 2) second
+    ∷ inside 1 12 (Fetch 2) third
+    ∷ inside 1 13 CursorClose Ended
+    ∷ [])
+    (totals 6 0 0 3 1 2)
+
+-- each fetch gives the next rows as they stood at the cursor's snapshot, and the last one none
+abbrev pub cursor : Example
+cursor = cursor_by (rows ((1, pos 10) ∷ (2, pos 20) ∷ [])) (rows ((3, pos 30) ∷ [])) (rows [])

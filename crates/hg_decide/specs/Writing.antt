@@ -9,7 +9,7 @@ use Rattle.hg_base.specs.declared.statement.Record.{Record}
 use Rattle.hg_base.specs.declared.report.Kind.{Kind}
 use Rattle.hg_base.specs.declared.report.Told.{Told}
 use Rattle.hg_base.specs.declared.line.Answer.{Answer}
-use Rattle.hg_base.specs.declared.line.Answer.TheVariants.{Found, Swept}
+use Rattle.hg_base.specs.declared.line.Answer.TheVariants.{Found, Rows, Swept}
 use Rattle.hg_base.specs.declared.line.Line.{Line}
 use Rattle.hg_base.specs.declared.line.Totals.{Totals}
 use Rattle.hg_base.specs.declared.line.Printed.{Printed}
@@ -60,6 +60,9 @@ del table key = Del (record { table = table; key = key })
 
 abbrev pub row : ℤ → Answer
 row value = Found (Number value ∷ [])
+
+abbrev pub rows : List (ℕ × ℤ) → Answer
+rows found = Rows (map (λ p. (p.0, Number p.1 ∷ [])) found)
 
 -- the report of a pass: its mark, its horizon, how many versions it removed, and the snapshots that it met
 abbrev pub swept : Kind → ℕ → ℕ → ℕ → List Told → Answer

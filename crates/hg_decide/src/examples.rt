@@ -5,8 +5,8 @@ ghost use Rattle.hg_base.specs.Script.{replay};
 ghost use Rattle.hg_base.specs.Sound.{IsSound};
 ghost use Rattle.hg_base.specs.Text.{text_of};
 ghost use Rattle.hg_decide.specs.Writing.{plain_row};
-ghost use Rattle.hg_decide.specs.Examples.{empty, own_write, absent_key, two_puts, absent_deletion, scan_ends, undeclared, open_write, middle_of_a_chain, group_pass, equal_to_a_successor, moved, not_long, kept_deletion, kept_deletion_longer};
-ghost use Rattle.hg_decide.specs.Broken.{another_number, another_row, another_snapshot, none_left, without_a_line};
+ghost use Rattle.hg_decide.specs.Examples.{empty, own_write, absent_key, two_puts, absent_deletion, scan_ends, undeclared, open_write, middle_of_a_chain, group_pass, equal_to_a_successor, moved, not_long, kept_deletion, kept_deletion_longer, cursor};
+ghost use Rattle.hg_decide.specs.Broken.{another_number, another_row, another_snapshot, none_left, without_a_line, row_skipped, row_twice, row_too_new, too_many_rows, too_few_rows};
 ghost use Rattle.hg_decide.specs.Audit.{HasFault, in_commits, in_reply, in_shape, in_totals};
 
 /// What is printed for each example is sound.
@@ -26,6 +26,7 @@ pub fn worked_examples_are_sound()
     ensures not_long { IsSound replay not_long.script not_long.printed }
     ensures kept_deletion { IsSound replay kept_deletion.script kept_deletion.printed }
     ensures kept_deletion_longer { IsSound replay kept_deletion_longer.script kept_deletion_longer.printed }
+    ensures cursor { IsSound replay cursor.script cursor.printed }
 {}
 
 /// What is printed for each example has these bytes. Fields are joined by commas, and a record ends with a line feed.
@@ -110,6 +111,15 @@ pub fn worked_examples_print_their_text()
         ++ codes "3,12,swept,table,2,2,2\n"
         ++ codes "total,made,2\ntotal,undone,0\ntotal,group,0\ntotal,table,2\n"
         ++ codes "total,interval,0\ntotal,left,0\n" }
+    ensures cursor { text_of plain_row cursor.script cursor.printed
+        ≡ codes "2,2,at,0,stored,committed,1\n2,3,at,1,stored,committed,2\n"
+        ++ codes "2,4,at,2,stored,committed,3\n1,5,begun,3\n1,6,rows,2\n1,6,row,1,10\n"
+        ++ codes "1,6,row,2,20\n2,7,at,3,stored,committed,4\n2,8,at,4,stored,committed,5\n"
+        ++ codes "2,9,at,5,gone,committed,6\n3,10,swept,interval,6,6,1\n"
+        ++ codes "3,10,held,1,3,unmoved\n1,11,rows,1\n1,11,row,3,30\n1,12,rows,0\n"
+        ++ codes "1,13,ended\n"
+        ++ codes "total,made,6\ntotal,undone,0\ntotal,group,0\ntotal,table,3\n"
+        ++ codes "total,interval,1\ntotal,left,2\n" }
 {}
 
 /// A text that is broken in one place is not sound, and its first fault (`.._at`) is in the part that was broken.
@@ -124,4 +134,10 @@ pub fn broken_texts_are_not_sound()
     ensures none_left_at { HasFault replay own_write.script none_left in_totals }
     ensures without_a_line { IsSound replay own_write.script without_a_line → ⊥ }
     ensures without_a_line_at { HasFault replay own_write.script without_a_line (in_shape 2) }
+    ensures row_skipped { IsSound replay cursor.script row_skipped → ⊥ }
+    ensures row_skipped_at { HasFault replay cursor.script row_skipped (in_reply 9) }
+    ensures row_twice_at { HasFault replay cursor.script row_twice (in_reply 9) }
+    ensures row_too_new_at { HasFault replay cursor.script row_too_new (in_reply 9) }
+    ensures too_many_rows_at { HasFault replay cursor.script too_many_rows (in_reply 4) }
+    ensures too_few_rows_at { HasFault replay cursor.script too_few_rows (in_reply 4) }
 {}

@@ -1,5 +1,5 @@
 -- What the entries of a get, put, del or scan add to a log, and what its reply shows.
-use Rattle.std.proofs.Common.{◌≡◌, ℕ, ◌≤◌, List, [], ◌∷◌, ◌++◌, Bool, true, false, Option, Some, None, refl, sym}
+use Rattle.std.proofs.Common.{◌≡◌, ℕ, ◌≤◌, List, [], ◌∷◌, ◌++◌, Bool, true, false, Option, Some, None, refl, sym, zero, suc}
 use Rattle.std.specs.Prelude.{◌==◌, cond, ⊤, IsTrue}
 use Rattle.std.specs.List.{cons_option}
 use Rattle.hg_base.specs.declared.rid.Rid.{Rid}
@@ -12,13 +12,13 @@ use Rattle.hg_base.specs.declared.line.Answer.TheVariants.{Begun, Stored, Found,
 use Rattle.hg_base.specs.declared.value.Value.{Value}
 use Rattle.hg_base.specs.Lists.{Each}
 use Rattle.hg_base.specs.History.{Write, nothing}
-use Rattle.hg_base.specs.Transcript.{stored_by, committed_by, is_end}
+use Rattle.hg_base.specs.Transcript.{stored_by, committed_by, is_end, Rest}
 use Rattle.hg_base.specs.Replies.{IsPut}
 use Rattle.hg_core.specs.declared.log.LogEntry.{LogEntry}
 use Rattle.hg_core.specs.declared.log.LogEntry.TheVariants.{Saw, Refused, Outside, Wrote}
 use Rattle.hg_core.specs.Logs.{current, begans, own_writes, published, UpTo, AnswerUpTo}
 use Rattle.hg_core.specs.Replies.{writes_in, numbers_in}
-use Rattle.hg_core.specs.Reading.{Unprinted, saw, saws, get_entries, put_entries, del_entries, scan_entries, own_entries, is_access, IsReached, IsGetAnswer, IsDelAnswer, IsScanAnswer, FitsTable, FitsAnswer}
+use Rattle.hg_core.specs.Reading.{Unprinted, saw, saws, get_entries, put_entries, del_entries, scan_entries, own_entries, is_access, IsReached, IsGetAnswer, IsDelAnswer, IsScanAnswer, FitsTable, FitsAnswer, looks, fetch_entries, IsFetchAnswer}
 use Rattle.hg_core.proofs.OwnKeys.{saws_keep}
 use Rattle.hg_headline.specs.Gathered.{began_at}
 use Rattle.hg_headline.proofs.Words.{cond_same}
@@ -63,6 +63,15 @@ adds_past_saw t low high b rows l after w a h = record { count = h.count; same =
 
 pub adds_saws : (buckets : ℕ) (t : TableId) (low high : ℕ) (part : ℕ → List (ℕ × List Value)) (n : ℕ) (l : List LogEntry) (a : Answer) → NotNewer a → Adds l (saws buckets t low high part n ++ l) None a
 adds_saws buckets t low high part n l a h = saws_keep (λ m. Adds l m None a) buckets t low high part n l (λ b rows m k. adds_saw t low high b rows l m None a k) (adds_nothing l a h)
+
+pub adds_looks : (buckets : ℕ) (t : TableId) (low high : ℕ) (part : ℕ → List (ℕ × List Value)) (n : ℕ) (l : List LogEntry) (a : Answer) → NotNewer a → Adds l (looks buckets t low high part n ++ l) None a
+adds_looks buckets t low high part zero l a h = adds_nothing l a h
+adds_looks buckets t low high part (suc n) l a h = adds_saw _ _ _ _ _ l _ None a (adds_looks buckets t low high part n l a h)
+
+pub adds_fetch : (buckets n : ℕ) (rest : Option Rest) (part : ℕ → List (ℕ × List Value)) (looked : ℕ) (a : Answer) (l : List LogEntry) → IsFetchAnswer buckets n rest part looked a → Adds l (fetch_entries buckets rest part looked a ++ l) None a
+adds_fetch buckets n (Some rest) part looked (Rows rows) l f = adds_looks buckets rest.table rest.low rest.high part looked l (Rows rows) tt
+adds_fetch buckets n (Some rest) part looked _ l f = absurd f
+adds_fetch buckets n None part looked a l f = absurd f
 
 pub adds_get : (buckets : ℕ) (r : Rid) (a : Answer) (l : List LogEntry) → FitsTable r.table a (IsGetAnswer a) → Adds l (get_entries buckets r a ++ l) None a
 adds_get buckets r (Found row) l f = adds_saw _ _ _ _ _ l l None (Found row) (adds_nothing l (Found row) tt)
@@ -133,6 +142,11 @@ pub scan_answer : (Reached : ℕ → Type 0) (part : ℕ → List (ℕ × List V
 scan_answer Reached part t (Rows rows) f = tt
 scan_answer Reached part t (Undeclared other) f = tt
 scan_answer Reached part t _ f = absurd f
+
+pub fetch_answer : (buckets n : ℕ) (rest : Option Rest) (part : ℕ → List (ℕ × List Value)) (looked : ℕ) (a : Answer) → IsFetchAnswer buckets n rest part looked a → IsAccessAnswer a
+fetch_answer buckets n (Some rest) part looked (Rows rows) f = tt
+fetch_answer buckets n (Some rest) part looked _ f = absurd f
+fetch_answer buckets n None part looked a f = absurd f
 
 pub access_answer : (buckets : ℕ) (u : Unprinted) (own : List Write) (s : Statement) (a : Answer) → IsTrue (is_access s) → FitsAnswer buckets u own s a → IsAccessAnswer a
 access_answer buckets u own (Get r) a e f = get_answer r a f

@@ -160,7 +160,7 @@ pub record Leaves (buckets : ℕ) (h : History) (logs : ℕ → List LogEntry) (
   pub plain : is_plain (own_entries buckets unprinted s a ++ l) ≡ true
 
 abbrev pub nothing_more : Unprinted
-nothing_more = record { found = []; part = λ b. []; undone = [] }
+nothing_more = record { found = []; part = λ b. []; undone = []; rest = None; looked = 0 }
 
 pub plain_saws : (buckets : ℕ) (t : TableId) (low high : ℕ) (part : ℕ → List (ℕ × List Value)) (n : ℕ) (l : List LogEntry) → is_plain (saws buckets t low high part n ++ l) ≡ is_plain l
 plain_saws buckets t low high part n l = saws_keep (λ m. is_plain m ≡ is_plain l) buckets t low high part n l (λ b rows m e. e) refl
@@ -191,7 +191,7 @@ on_found buckets h logs j c l r g s found =
     (row.0, on_saw buckets h logs j c l r.table r.key r.key (bucket_of buckets r) ((r.key, row.0) ∷ []) g s (key_row buckets (seen h (own_writes l) c.at) r row.0 row.1))
 
 abbrev pub finding : List Value → Unprinted
-finding row = record { found = row; part = λ b. []; undone = [] }
+finding row = record { found = row; part = λ b. []; undone = []; rest = None; looked = 0 }
 
 pub leaves_del : (buckets : ℕ) (h : History) (logs : ℕ → List LogEntry) (j : ℕ) (c : Snapshot) (l : List LogEntry) (own : List Write) (r : Rid) (a : Answer) (b : Bool) → GoesOn buckets h logs j c l → is_plain l ≡ true → has c.scope r.table ≡ b → MatchBool b (IsDeleted (seen h (own_writes l) c.at r) a) (IsUndeclared r.table a) → MayRefuse h logs j (own_writes l) c.at r a → Leaves buckets h logs j c l own (Del r) a
 leaves_del buckets h logs j c l own r Nothing true g p s m cause = record { unprinted = nothing_more; fits = tt; scope = tt; goes = on_saw buckets h logs j c l r.table r.key r.key (bucket_of buckets r) [] g s (key_nothing buckets (seen h (own_writes l) c.at) r m); plain = p }
@@ -204,7 +204,7 @@ leaves_del buckets h logs j c l own r _ false g p s m cause = absurd m
 
 pub leaves_scan : (buckets : ℕ) (h : History) (logs : ℕ → List LogEntry) (j : ℕ) (c : Snapshot) (l : List LogEntry) (own : List Write) (t : TableId) (low high : ℕ) (a : Answer) (b : Bool) → ((r : Rid) → bucket_of buckets r < buckets) → GoesOn buckets h logs j c l → is_plain l ≡ true → has c.scope t ≡ b → MatchBool b (IsScanned (λ key. seen h (own_writes l) c.at (record { table = t; key = key })) low high a) (IsUndeclared t a) → Leaves buckets h logs j c l own (Scan t low high) a
 leaves_scan buckets h logs j c l own t low high (Rows rows) true places g p s m = record {
-  unprinted = record { found = []; part = part_of buckets t rows; undone = [] };
+  unprinted = record { found = []; part = part_of buckets t rows; undone = []; rest = None; looked = 0 };
   fits = parts_join buckets t (λ key. seen h (own_writes l) c.at (record { table = t; key = key })) low high rows places m;
   scope = s;
   goes = on_saws buckets h logs j c l t low high rows buckets g s m;

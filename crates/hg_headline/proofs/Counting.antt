@@ -41,7 +41,9 @@ use Rattle.hg_headline.specs.Replayed.{HasReplayed}
 use Rattle.hg_headline.specs.Counted.{every, Closes, IsCounted}
 use Rattle.hg_headline.proofs.Ties.{Ties, ties_nothing}
 use Rattle.hg_headline.proofs.Commits.{Matches, same_printed, printed_onto}
-use Rattle.hg_headline.proofs.Whole.{lines_told, matches_all}
+use Rattle.hg_headline.proofs.Whole.{matches_all}
+use Rattle.hg_headline.proofs.Telling.{lines_told}
+use Rattle.hg_headline.proofs.Lefts.{left_nothing}
 use Rattle.hg_headline.proofs.Replaying.{met_collected, replay_sound}
 use Rattle.hg_headline.proofs.Firsts.{first_by, first_writes_is, first_undone, passes, CountsFor, lines_counted}
 use Rattle.hg_headline.proofs.Undone.{publishes, undone_in_log}
@@ -120,16 +122,16 @@ add_nothing m n z e f = omega (arith, e, f)
 -- ---- the totals
 
 pub counts_are : (mode : Mode) (buckets sessions : ℕ) (h : History) (logs closed : ℕ → List LogEntry) (P : (ℕ → List LogEntry) → Record → Line → Type 0) (records : List Record) (lines : List Line) (totals : Totals) → ((ls : ℕ → List LogEntry) (r : Record) (line : Line) → P ls r line → AsCollected mode r.session r.statement line.reply.answer) → Each (CountsFor sessions) records →
-    Logged buckets h logs → Follows buckets P (λ j. []) records lines logs → ((j : ℕ) → Closes (logs j) (closed j)) → IsCounted sessions h closed (said_from [] records lines) totals → AreTotals (said_from [] records lines) (history_of (said_from [] records lines)) totals
+    Logged buckets h logs → Follows buckets P (λ j. []) (λ j. None) records lines logs → ((j : ℕ) → Closes (logs j) (closed j)) → IsCounted sessions h closed (said_from [] records lines) totals → AreTotals (said_from [] records lines) (history_of (said_from [] records lines)) totals
 counts_are mode buckets sessions h logs closed P records lines totals gc within logged follows c t =
     let all : List Said = said_from [] records lines in
     let k : History = history_of all in
     let places = places_of buckets logged.some in
-    let told = lines_told mode buckets h k logs all P (λ j l. ⊤) (λ j e l q. tt) places gc records lines (λ j. []) logs [] (λ j. ties_nothing j) follows logged.judged logged.replied (λ j. tt) in
+    let told = lines_told mode buckets h k logs all P (λ j l. ⊤) (λ j e l q. tt) places gc records lines (λ j. []) logs [] (λ j. ties_nothing j) (λ j. None) (λ j. left_nothing j) follows logged.judged logged.replied (λ j. tt) in
     let m : Matches h (commits all) = matches_all buckets h logs all logged told.1 in
-    let tidy : (j : ℕ) → IsTidyBetween (logs j) = follows_tidy buckets h logs P records lines (λ j. []) logs follows logged.judged logged.replied (λ j. (tt, refl)) in
+    let tidy : (j : ℕ) → IsTidyBetween (logs j) = follows_tidy buckets h logs P records lines (λ j. []) logs (λ j. None) follows logged.judged logged.replied (λ j. (tt, refl)) in
     let counted = λ (test : ℕ → ℕ → Bool). add_nothing (length (filter (passes test) (printed_firsts all))) (sum_to sessions (λ j. first_by (test j) (logs j))) (sum_to sessions (λ j. 0)) (sum_none sessions)
-    (lines_counted mode buckets sessions h k logs all test P places gc records lines (λ j. []) logs [] (λ j. ties_nothing j) within follows logged.judged logged.replied) in
+    (lines_counted mode buckets sessions h k logs all test P places gc records lines (λ j. []) logs [] (λ j. ties_nothing j) (λ j. None) (λ j. left_nothing j) within follows logged.judged logged.replied) in
     record {
       made =
           t.made

@@ -12,7 +12,7 @@ use Rattle.hg_base.specs.declared.report.Kind.{Kind}
 use Rattle.hg_base.specs.declared.report.Told.{Told}
 use Rattle.hg_base.specs.declared.statement.Record.{Record}
 use Rattle.hg_base.specs.declared.statement.Statement.{Statement}
-use Rattle.hg_base.specs.declared.statement.Statement.TheVariants.{Begin, Gc}
+use Rattle.hg_base.specs.declared.statement.Statement.TheVariants.{Begin, Gc, CursorOpen}
 use Rattle.hg_base.specs.declared.line.Answer.{Answer}
 use Rattle.hg_base.specs.declared.line.Answer.TheVariants.{Begun, Stored, Newer, Swept, Beside}
 use Rattle.hg_base.specs.declared.line.Reply.{Reply}
@@ -21,6 +21,7 @@ use Rattle.hg_base.specs.History.{Write}
 use Rattle.hg_base.specs.Transcript.{Said, last_images, stored, committed, committed_by, standing, only, table_of, stored_by, said_after, next_after, is_end}
 use Rattle.hg_base.specs.Freshness.{numbers_of, snapshot_of, newer_of, is_declared}
 use Rattle.hg_base.proofs.ListFacts.{append_nil}
+use Rattle.hg_base.specs.declared.rid.TableId.{TableId}
 use Rattle.hg_core.specs.declared.log.LogEntry.{LogEntry}
 use Rattle.hg_core.specs.declared.log.LogEntry.TheVariants.{Began, Saw, Refused, Outside, Wrote, Undid, Published, Over}
 use Rattle.hg_core.specs.Logs.{current, begans, own_writes, number_in, commit_in, published, UpTo}
@@ -138,13 +139,11 @@ says_close j now l l1 o c mine ends_by tr cur at own numbers known begun made = 
 abbrev pub reply_of : Option ℕ → Answer → Option ℕ → Reply
 reply_of at a number = record { at = at; answer = a; number = number }
 
-pub says_inside : (buckets : ℕ) (u : Unprinted) (l : List LogEntry) (opened : Said) (nxt : ℕ) (r : Record) (at : Option ℕ) (a : Answer) (number : Option ℕ) → IsTrue (is_access r.statement) → FitsAnswer buckets u (own_writes l) r.statement a → at ≡ None → number ≡ None → opened.transaction ≡ begans l →
-    Says r.session (standing (Some opened) nxt r (reply_of at a number)) l (own_entries buckets u r.statement a ++ l)
-says_inside buckets u l opened nxt r at a number e f no_at no_number tr =
-    let adds : Adds l (own_entries buckets u r.statement a ++ l) (stored_by r.statement a) a = adds_access buckets u (own_writes l) r.statement a l e f in
-    let kind : IsAccessAnswer a = access_answer buckets u (own_writes l) r.statement a e f in
+pub says_within : (l after : List LogEntry) (opened : Said) (nxt : ℕ) (r : Record) (at : Option ℕ) (a : Answer) (number : Option ℕ) → Adds l after (stored_by r.statement a) a → IsAccessAnswer a → committed_by r.statement a ≡ None → at ≡ None → number ≡ None → opened.transaction ≡ begans l →
+    Says r.session (standing (Some opened) nxt r (reply_of at a number)) l after
+says_within l after opened nxt r at a number adds kind ends no_at no_number tr =
     let now : Said = standing (Some opened) nxt r (reply_of at a number) in
-    let ends_by : committed now ≡ None = access_commits r.statement a e in
+    let ends_by : committed now ≡ None = ends in
     record {
       mine = refl;
       own = λ x. adds.writes x ∙ ap (λ n. cond (n == x) (cons_option (stored now) (writes_in x l)) (writes_in x l)) (sym tr);
@@ -156,8 +155,12 @@ says_inside buckets u l opened nxt r at a number e f no_at no_number tr =
                 (each_present (λ m. m ≤ n) (committed now) (newer_of now ∷ []) (each_none (λ m. m ≤ n) (committed now) ends_by) (each_present (λ m. m ≤ n) (newer_of now) [] (access_newer n a k.1) tt)),
           );
       begun = λ d told k h. inr (sym (adds.begun d told.number) ∙ h);
-      published = λ n. adds.made n r.session ∙ sym (ap (λ o. published n r.session l ++ made_at n o (record { session = now.session; transaction = now.transaction; at = now.at; images = last_images (writes_in now.transaction (own_entries buckets u r.statement a ++ l)) })) ends_by ∙ append_nil (published n r.session l));
+      published = λ n. adds.made n r.session ∙ sym (ap (λ o. published n r.session l ++ made_at n o (record { session = now.session; transaction = now.transaction; at = now.at; images = last_images (writes_in now.transaction after) })) ends_by ∙ append_nil (published n r.session l));
     }
+
+pub says_inside : (buckets : ℕ) (u : Unprinted) (l : List LogEntry) (opened : Said) (nxt : ℕ) (r : Record) (at : Option ℕ) (a : Answer) (number : Option ℕ) → IsTrue (is_access r.statement) → FitsAnswer buckets u (own_writes l) r.statement a → at ≡ None → number ≡ None → opened.transaction ≡ begans l →
+    Says r.session (standing (Some opened) nxt r (reply_of at a number)) l (own_entries buckets u r.statement a ++ l)
+says_inside buckets u l opened nxt r at a number e f no_at no_number tr = says_within l (own_entries buckets u r.statement a ++ l) opened nxt r at a number (adds_access buckets u (own_writes l) r.statement a l e f) (access_answer buckets u (own_writes l) r.statement a e f) (access_commits r.statement a e) no_at no_number tr
 
 pub no_end_opens : (b : Bool) (s : Said) → b ≡ false → (if b then None else Some s) ≡ Some s
 no_end_opens true s e = absurd (let k : true ≡ false = e in cc)
@@ -166,17 +169,20 @@ no_end_opens false s e = refl
 pub some_number : (n m : ℕ) → n ≡ m → 0 < m → nat_lt 0 n ≡ true
 some_number n m e h = (Decides-ltb 0 n).1 (omega (arith, e, h))
 
-pub stands_inside : (buckets : ℕ) (u : Unprinted) (l : List LogEntry) (c : Snapshot) (opened : Said) (nxt : ℕ) (r : Record) (at : Option ℕ) (a : Answer) (number : Option ℕ) → IsTrue (is_access r.statement) → FitsAnswer buckets u (own_writes l) r.statement a → current l ≡ Some c → StandsIn (Some opened) (Some c) (begans l) →
-    Stands (standing (Some opened) nxt r (reply_of at a number)) (own_entries buckets u r.statement a ++ l)
-stands_inside buckets u l c opened nxt r at a number e f cur s =
-    let adds : Adds l (own_entries buckets u r.statement a ++ l) (stored_by r.statement a) a = adds_access buckets u (own_writes l) r.statement a l e f in
+pub stands_within : (l after : List LogEntry) (c : Snapshot) (opened : Said) (nxt : ℕ) (r : Record) (at : Option ℕ) (a : Answer) (number : Option ℕ) → Adds l after (stored_by r.statement a) a → is_end r.statement ≡ false → current l ≡ Some c → StandsIn (Some opened) (Some c) (begans l) →
+    Stands (standing (Some opened) nxt r (reply_of at a number)) after
+stands_within l after c opened nxt r at a number adds goes_on cur s =
     let now : Said = standing (Some opened) nxt r (reply_of at a number) in
     record {
       some = some_number opened.transaction (begans l) s.0 (begans_positive l c cur);
       number = s.0 ∙ sym adds.count;
-      standing = subst (λ o. StandsIn o (current (own_entries buckets u r.statement a ++ l)) (begans (own_entries buckets u r.statement a ++ l))) (sym (no_end_opens (is_end r.statement) now (access_no_end r.statement e)))
-          (subst (λ o. StandsIn (Some now) o (begans (own_entries buckets u r.statement a ++ l))) (sym (adds.same ∙ cur)) (s.0 ∙ sym adds.count, s.1));
+      standing = subst (λ o. StandsIn o (current after) (begans after)) (sym (no_end_opens (is_end r.statement) now goes_on))
+          (subst (λ o. StandsIn (Some now) o (begans after)) (sym (adds.same ∙ cur)) (s.0 ∙ sym adds.count, s.1));
     }
+
+pub stands_inside : (buckets : ℕ) (u : Unprinted) (l : List LogEntry) (c : Snapshot) (opened : Said) (nxt : ℕ) (r : Record) (at : Option ℕ) (a : Answer) (number : Option ℕ) → IsTrue (is_access r.statement) → FitsAnswer buckets u (own_writes l) r.statement a → current l ≡ Some c → StandsIn (Some opened) (Some c) (begans l) →
+    Stands (standing (Some opened) nxt r (reply_of at a number)) (own_entries buckets u r.statement a ++ l)
+stands_inside buckets u l c opened nxt r at a number e f cur s = stands_within l (own_entries buckets u r.statement a ++ l) c opened nxt r at a number (adds_access buckets u (own_writes l) r.statement a l e f) (access_no_end r.statement e) cur s
 
 -- ---- and outside
 
@@ -248,6 +254,30 @@ says_begin last l place j scope at s number =
 pub stands_begin : (last : Option Said) (l : List LogEntry) (place j : ℕ) (scope : Scope) (at : Option ℕ) (s : ℕ) (number : Option ℕ) → next_after last ≡ suc (begans l) →
     Stands (said_after last (record_of place j (Begin scope)) (reply_of at (Begun s) number) (Begin scope)) (Began s scope ∷ l)
 stands_begin last l place j scope at s number next = record { some = some_number (next_after last) (suc (begans l)) next (omega arith); number = next; standing = (next, (refl, refl)) }
+
+-- ---- open
+
+pub says_open : (last : Option Said) (l : List LogEntry) (place j : ℕ) (table : TableId) (low high : ℕ) (at : Option ℕ) (s : ℕ) (number : Option ℕ) →
+    Says j (said_after last (record_of place j (CursorOpen table low high)) (reply_of at (Begun s) number) (CursorOpen table low high)) l (Began s (only (Some table)) ∷ l)
+says_open last l place j table low high at s number =
+    let now : Said = said_after last (record_of place j (CursorOpen table low high)) (reply_of at (Begun s) number) (CursorOpen table low high) in
+    let none : committed now ≡ None = refl in
+    record {
+      mine = refl;
+      own = λ x. sym (cond_same (now.transaction == x) (writes_in x l));
+      numbers = λ x. sym (ap (λ o. cond (now.transaction == x) (cons_option o (numbers_in x l)) (numbers_in x l)) none ∙ cond_same (now.transaction == x) (numbers_in x l));
+      known = λ n h. (h.1, (h.0, each_present (λ m. m ≤ n) (committed now) (None ∷ []) (each_none (λ m. m ≤ n) (committed now) none) tt));
+      begun = λ d told k h. go d told k (or_cases ((s == told.number) && (if d then is_declared (only (Some table)) else true)) (began_at d told.number l) h);
+      published = λ n. sym (ap (λ o. published n j l ++ made_at n o (record { session = now.session; transaction = now.transaction; at = now.at; images = last_images (writes_in now.transaction (Began s (only (Some table)) ∷ l)) })) none ∙ append_nil (published n j l));
+    }
+  where
+    go : (d : Bool) (told : Told) → told.session ≡ j → (((s == told.number) && (if d then is_declared (only (Some table)) else true)) ≡ true) ⊎ (began_at d told.number l ≡ true) → (shows_begun d told (said_after last (record_of place j (CursorOpen table low high)) (reply_of at (Begun s) number) (CursorOpen table low high)) ≡ true) ⊎ (began_at d told.number l ≡ true)
+    go d told k (inl b) = inl (shows_it d told (said_after last (record_of place j (CursorOpen table low high)) (reply_of at (Begun s) number) (CursorOpen table low high)) s k refl b)
+    go d told k (inr b) = inr b
+
+pub stands_open : (last : Option Said) (l : List LogEntry) (place j : ℕ) (table : TableId) (low high : ℕ) (at : Option ℕ) (s : ℕ) (number : Option ℕ) → next_after last ≡ suc (begans l) →
+    Stands (said_after last (record_of place j (CursorOpen table low high)) (reply_of at (Begun s) number) (CursorOpen table low high)) (Began s (only (Some table)) ∷ l)
+stands_open last l place j table low high at s number next = record { some = some_number (next_after last) (suc (begans l)) next (omega arith); number = next; standing = (next, (refl, refl)) }
 
 -- ---- commit and rollback: the end of the open transaction
 

@@ -1,5 +1,5 @@
 -- The first writes of records in transactions: those that lines print are those that logs have.
-use Rattle.std.proofs.Common.{◌⊎◌, inl, inr, ◌≡◌, not, ℕ, ◌+◌, ◌<◌, ◌≤◌, List, [], ◌∷◌, ◌++◌, length, map, Bool, true, false, Option, Some, None, refl, sym, ap, ◌∙◌, subst, arith}
+use Rattle.std.proofs.Common.{◌⊎◌, inl, inr, ◌≡◌, not, ℕ, ◌+◌, ◌<◌, ◌≤◌, List, [], ◌∷◌, ◌++◌, length, map, Bool, true, false, Option, Some, None, refl, sym, ap, ◌∙◌, subst, arith, zero, suc}
 use Rattle.std.specs.Prelude.{is_some, ◌&&◌, cond, filter, if◌then◌else◌, IsTrue, is_none, unwrap_or}
 use Rattle.std.specs.List.{cons_option}
 use Rattle.std.specs.Option.{option_map_or}
@@ -9,7 +9,7 @@ use Rattle.hg_base.specs.declared.rid.TableId.{TableId}
 use Rattle.hg_base.specs.declared.scope.Snapshot.{Snapshot}
 use Rattle.hg_base.specs.declared.statement.Record.{Record}
 use Rattle.hg_base.specs.declared.statement.Statement.{Statement}
-use Rattle.hg_base.specs.declared.statement.Statement.TheVariants.{Begin, Get, Put, Del, Scan, Commit as CommitIt, Rollback, Gc}
+use Rattle.hg_base.specs.declared.statement.Statement.TheVariants.{Begin, Get, Put, Del, Scan, Commit as CommitIt, Rollback, Gc, CursorOpen, Fetch, CursorClose}
 use Rattle.hg_base.specs.declared.line.Answer.{Answer}
 use Rattle.hg_base.specs.declared.line.Answer.TheVariants.{Begun, Stored, Found, Nothing, Gone, Rows, Committed, Newer, OpenBy, Undeclared}
 use Rattle.hg_base.specs.declared.line.Reply.{Reply}
@@ -18,7 +18,7 @@ use Rattle.hg_base.specs.declared.value.Value.{Value}
 use Rattle.hg_base.specs.Lists.{Each}
 use Rattle.hg_base.specs.Script.{Mode}
 use Rattle.hg_base.specs.History.{Write, History, image_in}
-use Rattle.hg_base.specs.Transcript.{Said, last_of, open_of, next_after, standing, said, said_from, only, table_of, stored, stored_by}
+use Rattle.hg_base.specs.Transcript.{Said, last_of, open_of, next_after, standing, said, said_from, only, table_of, stored, stored_by, Rest, rest_after}
 use Rattle.hg_base.specs.Transcript.{own_writes as own_before}
 use Rattle.hg_base.specs.Counts.{first_writes_from}
 use Rattle.hg_core.specs.declared.log.LogEntry.{LogEntry}
@@ -30,7 +30,7 @@ use Rattle.hg_core.specs.Replies.{AreReplied}
 use Rattle.hg_core.specs.Events.{put}
 use Rattle.hg_core.specs.Sums.{sum_to}
 use Rattle.hg_core.specs.Counters.{first_writes}
-use Rattle.hg_core.specs.Reading.{Unprinted, saws, own_entries, is_access, is_alone, close, log_with, log_after, FitsAnswer, Fits, Follows}
+use Rattle.hg_core.specs.Reading.{Unprinted, saws, own_entries, is_access, is_alone, close, log_with, log_after, FitsAnswer, Fits, Follows, looks, fetch_entries}
 use Rattle.hg_core.proofs.OwnKeys.{saws_keep}
 use Rattle.hg_core.proofs.Answering.{not_alone}
 use Rattle.hg_core.proofs.Indices.{by_number, at_index, put_here, put_else}
@@ -39,7 +39,8 @@ use Rattle.hg_headline.specs.Counted.{every}
 use Rattle.hg_headline.proofs.Words.{true_false}
 use Rattle.hg_headline.proofs.Ties.{Ties, StandsIn, ties_other}
 use Rattle.hg_headline.proofs.Entries.{record_of, writes_above}
-use Rattle.hg_headline.proofs.Lines.{Right, AsCollected, above, inside_own, line_right}
+use Rattle.hg_headline.proofs.Lines.{Right, AsCollected, above, inside_own, line_right, ShowsRest}
+use Rattle.hg_headline.proofs.Lefts.{left_step}
 use Rattle.hg_headline.proofs.Whole.{follows_first, judged_less, replied_less, differs_from, said_says}
 
 abbrev pub one_if : Bool → ℕ
@@ -107,10 +108,23 @@ pub first_undone : (test : ℕ → Bool) (rids : List Rid) (l : List LogEntry) �
 first_undone test [] l = refl
 first_undone test (r ∷ rids) l = first_undone test rids l
 
+first_looks : (test : ℕ → Bool) (buckets : ℕ) (t : TableId) (low high : ℕ) (part : ℕ → List (ℕ × List Value)) (n : ℕ) (l : List LogEntry) → first_by test (looks buckets t low high part n ++ l) ≡ first_by test l
+first_looks test buckets t low high part zero l = refl
+first_looks test buckets t low high part (suc n) l = first_looks test buckets t low high part n l
+
+first_fetch : (test : ℕ → Bool) (buckets : ℕ) (rest : Option Rest) (part : ℕ → List (ℕ × List Value)) (looked : ℕ) (a : Answer) (l : List LogEntry) → first_by test (fetch_entries buckets rest part looked a ++ l) ≡ first_by test l
+first_fetch test buckets (Some rest) part looked (Rows rows) l = first_looks test buckets rest.table rest.low rest.high part looked l
+first_fetch test buckets (Some rest) part looked _ l = refl
+first_fetch test buckets None part looked a l = refl
+
 -- the entries of another statement have no write
 pub first_plain : (test : ℕ → Bool) (buckets : ℕ) (u : Unprinted) (s : Statement) (a : Answer) (l : List LogEntry) → is_access s ≡ false → (first_by test (own_entries buckets u s a ++ l) ≡ first_by test l) × (stored_by s a ≡ None)
 first_plain test buckets u (Begin scope) (Begun n) l e = (refl, refl)
 first_plain test buckets u (Begin scope) _ l e = (refl, refl)
+first_plain test buckets u (CursorOpen table low high) (Begun n) l e = (refl, refl)
+first_plain test buckets u (CursorOpen table low high) _ l e = (refl, refl)
+first_plain test buckets u (Fetch n) a l e = (first_fetch test buckets u.rest u.part u.looked a l, refl)
+first_plain test buckets u CursorClose a l e = (refl, refl)
 first_plain test buckets u CommitIt (Committed n) l e = (refl, refl)
 first_plain test buckets u CommitIt _ l e = (refl, refl)
 first_plain test buckets u Rollback a l e = (first_undone test u.undone l, refl)
@@ -215,20 +229,20 @@ sum_with n j d f g (inr p) none there here =
     nothing_more a b c e z = omega (arith, e, z)
 
 pub lines_counted : (mode : Mode) (buckets sessions : ℕ) (h k : History) (all_logs : ℕ → List LogEntry) (all : List Said) (test : ℕ → ℕ → Bool) (P : (ℕ → List LogEntry) → Record → Line → Type 0) → ((r : Rid) → bucket_of buckets r < buckets) → ((logs : ℕ → List LogEntry) (r : Record) (line : Line) → P logs r line → AsCollected mode r.session r.statement line.reply.answer) →
-    (rs : List Record) (lines : List Line) (logs final : ℕ → List LogEntry) (earlier : List Said) → ((j : ℕ) → Ties j earlier (logs j)) → Each (CountsFor sessions) rs → Follows buckets P logs rs lines final → ((j : ℕ) → Judged h (final j)) → ((j : ℕ) → AreReplied buckets h all_logs j (final j)) →
+    (rs : List Record) (lines : List Line) (logs final : ℕ → List LogEntry) (earlier : List Said) → ((j : ℕ) → Ties j earlier (logs j)) → (left : ℕ → Option Rest) → ((j : ℕ) → ShowsRest j earlier (left j)) → Each (CountsFor sessions) rs → Follows buckets P logs left rs lines final → ((j : ℕ) → Judged h (final j)) → ((j : ℕ) → AreReplied buckets h all_logs j (final j)) →
     length (filter (passes test) (first_writes_from earlier (said_from earlier rs lines))) + sum_to sessions (λ j. first_by (test j) (logs j)) ≡ sum_to sessions (λ j. first_by (test j) (final j))
-lines_counted mode buckets sessions h k all_logs all test P places gc [] [] logs final earlier t w f d g = let same = sum_same sessions (λ j. first_by (test j) (final j)) (λ j. first_by (test j) (logs j)) (λ j le. ap (first_by (test j)) (sym (f j))) in omega (arith, same)
-lines_counted mode buckets sessions h k all_logs all test P places gc [] (line ∷ lines) logs final earlier t w f d g = absurd f
-lines_counted mode buckets sessions h k all_logs all test P places gc (r ∷ rs) [] logs final earlier t w f d g = absurd f
-lines_counted mode buckets sessions h k all_logs all test P places gc (r ∷ rs) (line ∷ lines) logs final earlier t w f d g =
+lines_counted mode buckets sessions h k all_logs all test P places gc [] [] logs final earlier t left shown w f d g = let same = sum_same sessions (λ j. first_by (test j) (final j)) (λ j. first_by (test j) (logs j)) (λ j le. ap (first_by (test j)) (sym (f j))) in omega (arith, same)
+lines_counted mode buckets sessions h k all_logs all test P places gc [] (line ∷ lines) logs final earlier t left shown w f d g = absurd f
+lines_counted mode buckets sessions h k all_logs all test P places gc (r ∷ rs) [] logs final earlier t left shown w f d g = absurd f
+lines_counted mode buckets sessions h k all_logs all test P places gc (r ∷ rs) (line ∷ lines) logs final earlier t left shown w f d g =
     let now : Said = said earlier r line.reply in
     let l : List LogEntry = logs r.session in
     let after : List LogEntry = log_after buckets f.1.0 r.statement line.reply l in
     let next : ℕ → List LogEntry = put logs r.session after in
-    let judged : Judged h after = subst (Judged h) (put_here logs r.session after) (follows_first (λ j l. Judged h l) (judged_less h) buckets P rs lines next final f.1.2 d r.session) in
-    let replied : AreReplied buckets h all_logs r.session after = subst (AreReplied buckets h all_logs r.session) (put_here logs r.session after) (follows_first (AreReplied buckets h all_logs) (replied_less buckets h all_logs) buckets P rs lines next final f.1.2 g r.session) in
+    let judged : Judged h after = subst (Judged h) (put_here logs r.session after) (follows_first (λ j l. Judged h l) (judged_less h) buckets P rs lines next final (put left r.session (rest_after r.statement line.reply.answer (left r.session))) f.1.2 d r.session) in
+    let replied : AreReplied buckets h all_logs r.session after = subst (AreReplied buckets h all_logs r.session) (put_here logs r.session after) (follows_first (AreReplied buckets h all_logs) (replied_less buckets h all_logs) buckets P rs lines next final (put left r.session (rest_after r.statement line.reply.answer (left r.session))) f.1.2 g r.session) in
     let right : Right h all_logs mode k all earlier now r.session after =
-    line_right mode buckets h k all_logs all earlier f.1.0 l r.place r.session r.statement line.reply places (t r.session) f.1.1 (gc logs r line f.0) judged replied in
+    line_right mode buckets h k all_logs all earlier f.1.0 l r.place r.session r.statement line.reply places (t r.session) f.1.1 (gc logs r line f.0) judged replied (left r.session) (shown r.session) f.1.3 in
     let says = said_says (last_of r.session earlier) r line.reply r.statement in
     let own : List Write = own_before earlier now in
     let more : ℕ = first_more (test now.session) now.transaction own (stored now) in
@@ -238,6 +252,6 @@ lines_counted mode buckets sessions h k all_logs all test P places gc (r ∷ rs)
     let grown : sum_to sessions (λ j. first_by (test j) (next j)) ≡ sum_to sessions (λ j. first_by (test j) (logs j)) + more =
     sum_with sessions r.session more (λ j. first_by (test j) (logs j)) (λ j. first_by (test j) (next j)) w.0 (λ e. ap (first_more (test now.session) now.transaction own) ((λ i. stored_by (says.1 i) (says.2 i).answer) ∙ no_write r.statement line.reply.answer e)) (λ j z. ap (first_by (test j)) (put_else logs r.session j after z)) here in
     let rest = lines_counted mode buckets sessions h k all_logs all test P places gc rs lines next final (now ∷ earlier)
-    (by_number r.session (λ i b. Ties i (now ∷ earlier) (if b then after else logs i)) right.ties (λ i e. ties_other i earlier now (logs i) (differs_from now.session r.session i says.0 e) (t i))) w.1 f.1.2 d g in
+    (by_number r.session (λ i b. Ties i (now ∷ earlier) (if b then after else logs i)) right.ties (λ i e. ties_other i earlier now (logs i) (differs_from now.session r.session i says.0 e) (t i))) (put left r.session (rest_after r.statement line.reply.answer (left r.session))) (left_step earlier r line.reply left shown) w.1 f.1.2 d g in
     let step = filter_step (passes test) now own (stored now) (first_writes_from (now ∷ earlier) (said_from (now ∷ earlier) rs lines)) (test now.session) refl in
     omega (arith, step, grown, rest)

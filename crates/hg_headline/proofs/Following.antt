@@ -6,7 +6,7 @@ use Rattle.std.specs.Option.{option_or}
 use Rattle.hg_base.specs.declared.scope.Scope.{Scope}
 use Rattle.hg_base.specs.declared.report.Kind.{Kind}
 use Rattle.hg_base.specs.declared.statement.Statement.{Statement}
-use Rattle.hg_base.specs.declared.statement.Statement.TheVariants.{Begin, Get, Put, Del, Scan, Commit as CommitIt, Rollback, Gc}
+use Rattle.hg_base.specs.declared.statement.Statement.TheVariants.{Begin, Get, Put, Del, Scan, Commit as CommitIt, Rollback, Gc, CursorOpen, Fetch, CursorClose}
 use Rattle.hg_base.specs.declared.statement.Record.{Record}
 use Rattle.hg_base.specs.declared.line.Answer.{Answer}
 use Rattle.hg_base.specs.declared.line.Answer.TheVariants.{Begun, Committed, Ended, Undone, Swept, Beside}
@@ -14,14 +14,15 @@ use Rattle.hg_base.specs.declared.line.Reply.{Reply}
 use Rattle.hg_base.specs.declared.line.Line.{Line}
 use Rattle.hg_base.specs.Lists.{Each, greatest, present}
 use Rattle.hg_base.specs.History.{History}
-use Rattle.hg_base.specs.Replies.{IsBegun, IsCommitted, IsUndone, is_written}
+use Rattle.hg_base.specs.Replies.{IsBegun, IsCommitted, IsUndone, is_written, IsEnded}
 use Rattle.hg_base.specs.Transcript.{committed_by, stored_by, only, table_of}
 use Rattle.hg_base.proofs.ListFacts.{each_snoc, each_keeps, if_some_keeps}
+use Rattle.hg_base.specs.declared.rid.TableId.{TableId}
 use Rattle.hg_core.specs.declared.log.LogEntry.{LogEntry}
 use Rattle.hg_core.specs.declared.log.LogEntry.TheVariants.{Began, Saw, Refused, Outside, Wrote, Undid, Published, Over}
 use Rattle.hg_core.specs.Logs.{current, own_writes, UpTo}
 use Rattle.hg_core.specs.Events.{put}
-use Rattle.hg_core.specs.Reading.{Unprinted, Fits, FitsAnswer, IsGcAnswer, own_entries, is_access, is_alone, log_with, log_after}
+use Rattle.hg_core.specs.Reading.{Unprinted, Fits, FitsAnswer, IsGcAnswer, own_entries, is_access, is_alone, log_with, log_after, IsFetchAnswer, HasRest, left_after}
 use Rattle.hg_core.proofs.Answering.{not_alone}
 use Rattle.hg_core.proofs.Indices.{put_here, put_else, at_index}
 use Rattle.hg_headline.specs.Timely.{snapshot_in, mark_in, newer_in, commit_in, reads_in, IsTimely}
@@ -30,7 +31,7 @@ use Rattle.hg_headline.specs.Logged.{Logged}
 use Rattle.hg_headline.specs.Replayed.{HasReplayed}
 use Rattle.hg_headline.specs.Following.{AreUpTo, IsOver, IsFollowing, IsFreshIn, top_after}
 use Rattle.hg_headline.proofs.Words.{none_of_no, each_cons}
-use Rattle.hg_headline.proofs.Adds.{adds_access, access_answer, access_commits, access_snapshot, access_newer}
+use Rattle.hg_headline.proofs.Adds.{adds_access, access_answer, access_commits, access_snapshot, access_newer, adds_fetch, fetch_answer}
 use Rattle.hg_headline.proofs.Entries.{close_known}
 use Rattle.hg_headline.proofs.Lines.{bare}
 use Rattle.hg_headline.proofs.Commits.{greatest_within}
@@ -103,6 +104,26 @@ pub begin_printed : (buckets : ℕ) (u : Unprinted) (l : List LogEntry) (scope :
 begin_printed buckets u l scope at (Begun m) number n no_at no_number f k = record { snapshot = k.0; newer = tt; commit = none_commits n (Begin scope) (Begun m) number refl (subst (λ o. IfSome o (λ c. c ≤ n)) (sym no_number) tt) }
 begin_printed buckets u l scope at _ number n no_at no_number f k = absurd f
 
+pub open_printed : (buckets : ℕ) (u : Unprinted) (l : List LogEntry) (table : TableId) (low high : ℕ) (at : Option ℕ) (a : Answer) (number : Option ℕ) (n : ℕ) → at ≡ None → number ≡ None → IsBegun a → UpTo n (own_entries buckets u (CursorOpen table low high) a ++ l) → ArePrinted n (CursorOpen table low high) (reply_with at a number)
+open_printed buckets u l table low high at (Begun m) number n no_at no_number f k = record { snapshot = k.0; newer = tt; commit = none_commits n (CursorOpen table low high) (Begun m) number refl (subst (λ o. IfSome o (λ c. c ≤ n)) (sym no_number) tt) }
+open_printed buckets u l table low high at _ number n no_at no_number f k = absurd f
+
+pub fetch_printed : (buckets : ℕ) (u : Unprinted) (l : List LogEntry) (n : ℕ) (at : Option ℕ) (a : Answer) (number : Option ℕ) (m : ℕ) → at ≡ None → number ≡ None → IsFetchAnswer buckets n u.rest u.part u.looked a → UpTo m (own_entries buckets u (Fetch n) a ++ l) → ArePrinted m (Fetch n) (reply_with at a number)
+fetch_printed buckets u l n at a number m no_at no_number f k =
+    let adds = (adds_fetch buckets n u.rest u.part u.looked a l f).known m k in record {
+      snapshot = subst (λ o. IfSome o (λ i. i ≤ m)) (sym (access_snapshot a at (fetch_answer buckets n u.rest u.part u.looked a f) ∙ no_at)) tt;
+      newer = of_head (λ i. i ≤ m) (newer_in (reply_with at a number)) (access_newer m a adds.1);
+      commit = none_commits m (Fetch n) a number refl (subst (λ o. IfSome o (λ i. i ≤ m)) (sym no_number) tt);
+    }
+
+pub close_printed : (at : Option ℕ) (a : Answer) (number : Option ℕ) (n : ℕ) → at ≡ None → number ≡ None → IsEnded a → ArePrinted n CursorClose (reply_with at a number)
+close_printed at Ended number n no_at no_number f = record {
+  snapshot = subst (λ o. IfSome o (λ m. m ≤ n)) (sym no_at) tt;
+  newer = tt;
+  commit = subst (λ o. IfSome (option_or o None) (λ m. m ≤ n)) (sym no_number) tt;
+}
+close_printed at _ number n no_at no_number f = absurd f
+
 pub commit_printed : (buckets : ℕ) (u : Unprinted) (l : List LogEntry) (wrote : Bool) (at : Option ℕ) (a : Answer) (number : Option ℕ) (n : ℕ) → at ≡ None → number ≡ None → IsCommitted wrote a → UpTo n (own_entries buckets u CommitIt a ++ l) → ArePrinted n CommitIt (reply_with at a number)
 commit_printed buckets u l wrote at (Committed c) number n no_at no_number f k = record {
   snapshot = subst (λ o. IfSome o (λ m. m ≤ n)) (sym no_at) tt;
@@ -149,6 +170,15 @@ printed_known buckets u l (Scan t low high) reply n f k = access_printed buckets
 printed_known buckets u l (Begin scope) reply n f k =
     let none = bare buckets u l (Begin scope) reply refl f in
     begin_printed buckets u l scope reply.at reply.answer reply.number n none.0 none.1 f.answer (inside_entries buckets u l (Begin scope) reply n refl k)
+printed_known buckets u l (CursorOpen table low high) reply n f k =
+    let none = bare buckets u l (CursorOpen table low high) reply refl f in
+    open_printed buckets u l table low high reply.at reply.answer reply.number n none.0 none.1 f.answer (inside_entries buckets u l (CursorOpen table low high) reply n refl k)
+printed_known buckets u l (Fetch m) reply n f k =
+    let none = bare buckets u l (Fetch m) reply refl f in
+    fetch_printed buckets u l m reply.at reply.answer reply.number n none.0 none.1 f.answer (inside_entries buckets u l (Fetch m) reply n refl k)
+printed_known buckets u l CursorClose reply n f k =
+    let none = bare buckets u l CursorClose reply refl f in
+    close_printed reply.at reply.answer reply.number n none.0 none.1 f.answer
 printed_known buckets u l CommitIt reply n f k =
     let none = bare buckets u l CommitIt reply refl f in
     commit_printed buckets u l (is_written (own_writes l)) reply.at reply.answer reply.number n none.0 none.1 f.answer (inside_entries buckets u l CommitIt reply n refl k)
@@ -229,12 +259,12 @@ fresh_timely logs seen later top s reply known f =
 -- session has gone on.
 pub following_more : (buckets sessions : ℕ) (logs : ℕ → List LogEntry) (seen later top : ℕ) (rs : List Record) (lines : List Line) (r : Record) (line : Line) (u : Unprinted) → IsFollowing buckets sessions logs seen top rs lines →
     1 ≤ r.session → r.session ≤ sessions → line.session ≡ r.session → line.place ≡ r.place →
-    Fits buckets u (logs r.session) r.statement line.reply → IsMetAnswer sessions logs r.statement line.reply.answer → IsFreshIn logs seen later r.statement line.reply →
+    Fits buckets u (logs r.session) r.statement line.reply → HasRest r.statement u.rest (left_after (λ j. None) rs lines r.session) → IsMetAnswer sessions logs r.statement line.reply.answer → IsFreshIn logs seen later r.statement line.reply →
     IsFollowing buckets sessions (put logs r.session (log_after buckets u r.statement line.reply (logs r.session))) later (top_after top r.statement line.reply) (rs ++ r ∷ []) (lines ++ line ∷ [])
-following_more buckets sessions logs seen later top rs lines r line u g some most session place fits met fresh = record {
+following_more buckets sessions logs seen later top rs lines r line u g some most session place fits left met fresh = record {
   within = each_snoc (λ (r : Record). (1 ≤ r.session) × (r.session ≤ sessions)) rs r g.within (some, most);
   shape = shape_snoc rs lines r line g.shape (line_of r line some session place);
-  follows = follows_snoc buckets (IsMet sessions) (λ j. []) logs rs lines r line u g.follows met fits;
+  follows = follows_snoc buckets (IsMet sessions) (λ j. []) logs (λ j. None) rs lines r line u g.follows met fits left;
   rises = rises_snoc 0 top (top_after top r.statement line.reply) rs lines r line g.rises (fresh_timely logs seen later top r.statement line.reply g.known fresh);
   known = λ n k.
       let before : IsOver logs seen n = record { entries = up_to_before buckets logs r.session u r.statement line.reply n k.entries; groups = below n fresh.grows k.groups } in

@@ -12,6 +12,8 @@ pub mod Right
 pub mod Lines
 pub mod Reports
 pub mod Whole
+pub mod Lefts
+pub mod Telling
 pub mod Orderly
 pub mod Numbers
 pub mod OpenSnapshots

@@ -7,33 +7,38 @@ use Rattle.hg_base.specs.declared.scope.Scope.{Scope}
 use Rattle.hg_base.specs.declared.scope.Snapshot.{Snapshot}
 use Rattle.hg_base.specs.declared.report.Kind.{Kind}
 use Rattle.hg_base.specs.declared.statement.Statement.{Statement}
-use Rattle.hg_base.specs.declared.statement.Statement.TheVariants.{Begin, Get, Put, Del, Scan, Commit as CommitIt, Rollback, Gc}
+use Rattle.hg_base.specs.declared.statement.Statement.TheVariants.{Begin, Get, Put, Del, Scan, Commit as CommitIt, Rollback, Gc, CursorOpen, Fetch, CursorClose}
 use Rattle.hg_base.specs.declared.line.Answer.{Answer}
 use Rattle.hg_base.specs.declared.line.Answer.TheVariants.{Begun, Stored, Committed, Ended, Undone}
 use Rattle.hg_base.specs.declared.line.Reply.{Reply}
 use Rattle.hg_base.specs.Lists.{Each}
 use Rattle.hg_base.specs.Script.{Mode}
-use Rattle.hg_base.specs.History.{History}
-use Rattle.hg_base.specs.Transcript.{Said, last_of, open_of, next_after, stored_in, only, table_of, standing, said, said_after, stored_by, committed, committed_by}
+use Rattle.hg_base.specs.History.{History, seen}
+use Rattle.hg_base.specs.Transcript.{Said, last_of, open_of, next_after, stored_in, only, table_of, standing, said, said_after, stored_by, committed, committed_by, Rest, rest_in}
 use Rattle.hg_base.specs.Transcript.{own_writes as own_before}
-use Rattle.hg_base.specs.Replies.{IsAnswer, IsReply, IsBegun, IsCommitted, IsUndone, IsCollected, is_written}
+use Rattle.hg_base.specs.Replies.{IsAnswer, IsReply, IsBegun, IsCommitted, IsUndone, IsCollected, is_written, IsEnded, IsFetched}
 use Rattle.hg_base.specs.Conflicts.{ShowsConflict, OnReplay, target}
 use Rattle.hg_base.specs.Freshness.{snapshot_of, known}
+use Rattle.hg_base.specs.declared.rid.TableId.{TableId}
 use Rattle.hg_core.specs.declared.log.LogEntry.{LogEntry}
 use Rattle.hg_core.specs.declared.log.LogEntry.TheVariants.{Began, Saw, Refused, Outside, Wrote, Undid, Published, Over}
 use Rattle.hg_core.specs.Logs.{current, begans, own_writes, UpTo}
 use Rattle.hg_core.specs.Judged.{Judged}
 use Rattle.hg_core.specs.Contents.{bucket_of}
 use Rattle.hg_core.specs.Replies.{AreReplied}
-use Rattle.hg_core.specs.Reading.{Unprinted, own_entries, begin_entries, commit_entries, is_access, is_alone, close, log_with, log_after, FitsAnswer, FitsScope, IsGcAnswer, Fits}
+use Rattle.hg_core.specs.Reading.{Unprinted, own_entries, begin_entries, commit_entries, is_access, is_alone, close, log_with, log_after, FitsAnswer, FitsScope, IsGcAnswer, Fits, fetch_entries, IsFetchAnswer, FitsIn, HasRest}
 use Rattle.hg_core.proofs.Answering.{scope_alone, not_alone}
-use Rattle.hg_core.proofs.Right.{answer_right}
+use Rattle.hg_core.proofs.Right.{answer_right, fetch_right}
 use Rattle.hg_headline.specs.Timely.{commit_in}
 use Rattle.hg_headline.proofs.Words.{none_of_no, none_is_not_some, some_is_some}
 use Rattle.hg_headline.proofs.Ties.{Ties, StandsIn, ties_step, ties_beside}
-use Rattle.hg_headline.proofs.Adds.{adds_nothing, access_answer, access_snapshot, access_commits}
-use Rattle.hg_headline.proofs.Entries.{reply_of, record_of, writes_above, own_is, says_inside, stands_inside, says_outside, stands_outside, says_begin, stands_begin, says_end, stands_end, adds_undone, says_gc, gc_snapshot}
+use Rattle.hg_headline.proofs.Adds.{adds_nothing, access_answer, access_snapshot, access_commits, adds_fetch, fetch_answer}
+use Rattle.hg_headline.proofs.Entries.{reply_of, record_of, writes_above, own_is, says_inside, stands_inside, says_outside, stands_outside, says_begin, stands_begin, says_end, stands_end, adds_undone, says_gc, gc_snapshot, says_within, stands_within, says_open, stands_open}
 use Rattle.hg_headline.proofs.Right.{Reads, StillIn, conflict_right, seen_is}
+
+-- what the cursor of the session's open transaction has left is this
+abbrev pub ShowsRest : ℕ → List Said → Option Rest → Type 0
+ShowsRest j earlier left = (opened : Said) → open_of j earlier ≡ Some opened → left ≡ rest_in j opened.transaction earlier
 
 -- the snapshot of a line is at least what the session's lines before it print
 abbrev pub IsRising : List Said → Said → Type 0
@@ -122,8 +127,8 @@ access_line mode buckets h k logs all earlier u l place j s at a number places t
         at = fat;
         number = fnumber;
         snapshot = subst (λ n. n ≤ length k) (sym st.1.0) (subst (λ n. c.at ≤ n) t.count small);
-        answer = subst (λ sees. IsAnswer mode sees (is_written (own_before earlier now)) now s) (seen_is h k logs all earlier now (own_writes l) c.at t st.1.0 own)
-            (answer_right mode buckets h logs (is_written (own_before earlier now)) u j (own_writes l) s now l c places q st.1.1 e f declared g);
+        answer = subst (λ sees. IsAnswer mode sees (is_written (own_before earlier now)) (rest_in now.session now.transaction earlier) now s) (seen_is h k logs all earlier now (own_writes l) c.at t st.1.0 own)
+            (answer_right mode buckets h logs (is_written (own_before earlier now)) (rest_in now.session now.transaction earlier) u j (own_writes l) s now l c places q st.1.1 e f declared g);
       };
       conflict = λ t still. conflict_right mode buckets h k logs all earlier now u j s l c t refl st.1.0 own still q g;
       rising = rising_none earlier now (access_snapshot a at (access_answer buckets u (own_writes l) s a e f) ∙ none_of_no at fat);
@@ -151,8 +156,8 @@ access_line mode buckets h k logs all earlier u l place j s at a number places t
             at = refl;
             number = fnumber ∙ ap (λ b. b && is_some (stored_by s a)) e;
             snapshot = subst (λ m. n ≤ m) t.count began.0.within;
-            answer = subst (λ sees. IsAnswer mode sees (is_written (own_before earlier now)) now s) (seen_is h k logs all earlier now [] n t refl fresh)
-                (answer_right mode buckets h logs (is_written (own_before earlier now)) u j (own_writes l) s now l0 c places refl refl e f (scope_alone s a) replied);
+            answer = subst (λ sees. IsAnswer mode sees (is_written (own_before earlier now)) (rest_in now.session now.transaction earlier) now s) (seen_is h k logs all earlier now [] n t refl fresh)
+                (answer_right mode buckets h logs (is_written (own_before earlier now)) (rest_in now.session now.transaction earlier) u j (own_writes l) s now l0 c places refl refl e f (scope_alone s a) replied);
           };
           conflict = λ t still. conflict_right mode buckets h k logs all earlier now u j s l0 c t refl refl fresh still refl replied;
           rising = rising_some j earlier l now n ties refl (access_snapshot a (Some n) (access_answer buckets u (own_writes l) s a e f)) began.0.over;
@@ -180,6 +185,19 @@ begin_line mode h k logs all earlier l place j scope at (Begun n) number ties no
       commit = none_or number None no_number;
     }
 begin_line mode h k logs all earlier l place j scope at _ number ties no_at no_number f d = absurd f
+
+pub open_line : (mode : Mode) (h k : History) (logs : ℕ → List LogEntry) (all earlier : List Said) (l : List LogEntry) (place j : ℕ) (table : TableId) (low high : ℕ) (at : Option ℕ) (a : Answer) (number : Option ℕ) → Ties j earlier l → at ≡ None → number ≡ None → IsBegun a →
+    Judged h (begin_entries (only (Some table)) a ++ l) → Right h logs mode k all earlier (said_after (last_of j earlier) (record_of place j (CursorOpen table low high)) (reply_of at a number) (CursorOpen table low high)) j (begin_entries (only (Some table)) a ++ l)
+open_line mode h k logs all earlier l place j table low high at (Begun n) number ties no_at no_number f d =
+    let now : Said = said_after (last_of j earlier) (record_of place j (CursorOpen table low high)) (reply_of at (Begun n) number) (CursorOpen table low high) in
+    record {
+      ties = ties_step j earlier now l (Began n (only (Some table)) ∷ l) ties (says_open (last_of j earlier) l place j table low high at n number) (stands_open (last_of j earlier) l place j table low high at n number ties.next);
+      reply = λ t. record { at = ap is_some no_at; number = ap is_some no_number; snapshot = subst (λ m. n ≤ m) t.count d.0.within; answer = tt };
+      conflict = λ t still. tt;
+      rising = rising_some j earlier l now n ties refl refl d.0.over;
+      commit = none_or number None no_number;
+    }
+open_line mode h k logs all earlier l place j table low high at _ number ties no_at no_number f d = absurd f
 
 pub commit_judged : (h : History) (a : Answer) (l : List LogEntry) → Judged h (commit_entries a ++ l) → IsSome (current l) × Judged h l
 commit_judged h (Committed n) l d = (d.0.opened, d.1.1)
@@ -245,6 +263,55 @@ rollback_line mode h k logs all earlier u l place j at Undone number ties no_at 
     }
 rollback_line mode h k logs all earlier u l place j at _ number ties no_at no_number f d (Some opened) (Some c) q st is = absurd f
 
+pub close_line : (mode : Mode) (h k : History) (logs : ℕ → List LogEntry) (all earlier : List Said) (l : List LogEntry) (place j : ℕ) (at : Option ℕ) (a : Answer) (number : Option ℕ) → Ties j earlier l → at ≡ None → number ≡ None → IsEnded a → Judged h l →
+    (o : Option Said) (c : Option Snapshot) → current l ≡ c → StandsIn o c (begans l) → IsSome c →
+    Right h logs mode k all earlier (standing o (next_after (last_of j earlier)) (record_of place j CursorClose) (reply_of at a number)) j (Over ∷ l)
+close_line mode h k logs all earlier l place j at a number ties no_at no_number f d None None q st is = absurd (let z : false ≡ true = is in cc)
+close_line mode h k logs all earlier l place j at a number ties no_at no_number f d (Some opened) None q st is = absurd st
+close_line mode h k logs all earlier l place j at a number ties no_at no_number f d None (Some c) q st is = absurd st
+close_line mode h k logs all earlier l place j at Ended number ties no_at no_number f d (Some opened) (Some c) q st is =
+    let now : Said = standing (Some opened) (next_after (last_of j earlier)) (record_of place j CursorClose) (reply_of at Ended number) in
+    record {
+      ties = ties_step j earlier now l (Over ∷ l) ties
+          (says_end opened (next_after (last_of j earlier)) l l c place j CursorClose at Ended number None refl no_at refl refl (adds_nothing l Stored tt) q st)
+          (stands_end opened (next_after (last_of j earlier)) l l c place j CursorClose (reply_of at Ended number) None refl (adds_nothing l Stored tt) q st);
+      reply = λ t. record { at = ap is_some no_at; number = ap is_some no_number; snapshot = inside_small h k l c opened.at t.count st.1.0 d q; answer = tt };
+      conflict = λ t still. tt;
+      rising = rising_none earlier now no_at;
+      commit = none_or number (committed now) no_number;
+    }
+close_line mode h k logs all earlier l place j at _ number ties no_at no_number f d (Some opened) (Some c) q st is = absurd f
+
+-- the rows of a fetch are those of what its cursor has left
+pub fetch_line : (mode : Mode) (buckets : ℕ) (h k : History) (logs : ℕ → List LogEntry) (all earlier : List Said) (u : Unprinted) (l : List LogEntry) (place j n : ℕ) (at : Option ℕ) (a : Answer) (number : Option ℕ) → Ties j earlier l → at ≡ None → number ≡ None → IsFetchAnswer buckets n u.rest u.part u.looked a →
+    Judged h (fetch_entries buckets u.rest u.part u.looked a ++ l) → AreReplied buckets h logs j (fetch_entries buckets u.rest u.part u.looked a ++ l) → (left : Option Rest) → ShowsRest j earlier left → u.rest ≡ left →
+    (o : Option Said) (c : Option Snapshot) → open_of j earlier ≡ o → current l ≡ c → StandsIn o c (begans l) → FitsIn c (Fetch n) →
+    Right h logs mode k all earlier (standing o (next_after (last_of j earlier)) (record_of place j (Fetch n)) (reply_of at a number)) j (fetch_entries buckets u.rest u.part u.looked a ++ l)
+fetch_line mode buckets h k logs all earlier u l place j n at a number ties no_at no_number f d g left shown rest o None p q st inside = absurd (let z : false ≡ true = inside in cc)
+fetch_line mode buckets h k logs all earlier u l place j n at a number ties no_at no_number f d g left shown rest None (Some c) p q st inside = absurd st
+fetch_line mode buckets h k logs all earlier u l place j n at a number ties no_at no_number f d g left shown rest (Some opened) (Some c) p q st inside =
+    let now : Said = standing (Some opened) (next_after (last_of j earlier)) (record_of place j (Fetch n)) (reply_of at a number) in
+    let own : own_before earlier now ≡ own_writes l = inside_own j earlier l c now ties refl st.0 q in
+    let small : c.at ≤ length h = judged_snapshot h l c (append_judged h (fetch_entries buckets u.rest u.part u.looked a) l d) q in
+    let adds = adds_fetch buckets n u.rest u.part u.looked a l f in
+    let kind = fetch_answer buckets n u.rest u.part u.looked a f in
+    let there : u.rest ≡ rest_in j opened.transaction earlier = rest ∙ shown opened p in
+    record {
+      ties = ties_step j earlier now l (fetch_entries buckets u.rest u.part u.looked a ++ l) ties
+          (says_within l (fetch_entries buckets u.rest u.part u.looked a ++ l) opened (next_after (last_of j earlier)) (record_of place j (Fetch n)) at a number adds kind refl no_at no_number st.0)
+          (stands_within l (fetch_entries buckets u.rest u.part u.looked a ++ l) c opened (next_after (last_of j earlier)) (record_of place j (Fetch n)) at a number adds refl q st);
+      reply = λ t. record {
+        at = ap is_some no_at;
+        number = ap is_some no_number;
+        snapshot = subst (λ m. m ≤ length k) (sym st.1.0) (subst (λ m. c.at ≤ m) t.count small);
+        answer = subst (λ sees. IsFetched sees n (rest_in j opened.transaction earlier) a) (seen_is h k logs all earlier now (own_writes l) c.at t st.1.0 own)
+            (subst (λ r. IsFetched (seen h (own_writes l) c.at) n r a) there (fetch_right buckets h logs j n u.rest u.part u.looked a l c q f g));
+      };
+      conflict = λ t still. tt;
+      rising = rising_none earlier now (access_snapshot a at kind ∙ no_at);
+      commit = none_or number None no_number;
+    }
+
 pub gc_line : (mode : Mode) (h k : History) (logs : ℕ → List LogEntry) (all earlier : List Said) (l : List LogEntry) (place j : ℕ) (kind : Kind) (at : Option ℕ) (a : Answer) (number : Option ℕ) → Ties j earlier l → at ≡ None → number ≡ None → IsGcAnswer a → IsCollected mode j a →
     Right h logs mode k all earlier (said_after (last_of j earlier) (record_of place j (Gc kind)) (reply_of at a number) (Gc kind)) j l
 gc_line mode h k logs all earlier l place j kind at a number ties no_at no_number is f =
@@ -263,29 +330,45 @@ pub plain_after : (buckets : ℕ) (u : Unprinted) (s : Statement) (reply : Reply
 plain_after buckets u s reply l e = sym (ap (λ b. log_with b buckets u s reply l) (not_alone (current l) s e))
 
 pub line_right : (mode : Mode) (buckets : ℕ) (h k : History) (logs : ℕ → List LogEntry) (all earlier : List Said) (u : Unprinted) (l : List LogEntry) (place j : ℕ) (s : Statement) (reply : Reply) → ((r : Rid) → bucket_of buckets r < buckets) → Ties j earlier l → Fits buckets u l s reply → AsCollected mode j s reply.answer →
-    Judged h (log_after buckets u s reply l) → AreReplied buckets h logs j (log_after buckets u s reply l) → Right h logs mode k all earlier (said earlier (record_of place j s) reply) j (log_after buckets u s reply l)
-line_right mode buckets h k logs all earlier u l place j (Get r) reply places ties f gc d g = access_line mode buckets h k logs all earlier u l place j (Get r) reply.at reply.answer reply.number places ties refl f.answer (open_of j earlier) (current l) refl refl ties.standing f.at f.number f.scope d g
-line_right mode buckets h k logs all earlier u l place j (Put r row) reply places ties f gc d g = access_line mode buckets h k logs all earlier u l place j (Put r row) reply.at reply.answer reply.number places ties refl f.answer (open_of j earlier) (current l) refl refl ties.standing f.at f.number f.scope d g
-line_right mode buckets h k logs all earlier u l place j (Del r) reply places ties f gc d g = access_line mode buckets h k logs all earlier u l place j (Del r) reply.at reply.answer reply.number places ties refl f.answer (open_of j earlier) (current l) refl refl ties.standing f.at f.number f.scope d g
-line_right mode buckets h k logs all earlier u l place j (Scan table low high) reply places ties f gc d g = access_line mode buckets h k logs all earlier u l place j (Scan table low high) reply.at reply.answer reply.number places ties refl f.answer (open_of j earlier) (current l) refl refl ties.standing f.at f.number f.scope d g
-line_right mode buckets h k logs all earlier u l place j (Begin scope) reply places ties f gc d g =
+    Judged h (log_after buckets u s reply l) → AreReplied buckets h logs j (log_after buckets u s reply l) → (left : Option Rest) → ShowsRest j earlier left → HasRest s u.rest left → Right h logs mode k all earlier (said earlier (record_of place j s) reply) j (log_after buckets u s reply l)
+line_right mode buckets h k logs all earlier u l place j (Get r) reply places ties f gc d g left shown rest = access_line mode buckets h k logs all earlier u l place j (Get r) reply.at reply.answer reply.number places ties refl f.answer (open_of j earlier) (current l) refl refl ties.standing f.at f.number f.scope d g
+line_right mode buckets h k logs all earlier u l place j (Put r row) reply places ties f gc d g left shown rest = access_line mode buckets h k logs all earlier u l place j (Put r row) reply.at reply.answer reply.number places ties refl f.answer (open_of j earlier) (current l) refl refl ties.standing f.at f.number f.scope d g
+line_right mode buckets h k logs all earlier u l place j (Del r) reply places ties f gc d g left shown rest = access_line mode buckets h k logs all earlier u l place j (Del r) reply.at reply.answer reply.number places ties refl f.answer (open_of j earlier) (current l) refl refl ties.standing f.at f.number f.scope d g
+line_right mode buckets h k logs all earlier u l place j (Scan table low high) reply places ties f gc d g left shown rest = access_line mode buckets h k logs all earlier u l place j (Scan table low high) reply.at reply.answer reply.number places ties refl f.answer (open_of j earlier) (current l) refl refl ties.standing f.at f.number f.scope d g
+line_right mode buckets h k logs all earlier u l place j (Begin scope) reply places ties f gc d g left shown rest =
     let no = bare buckets u l (Begin scope) reply refl f in
     let e = plain_after buckets u (Begin scope) reply l refl in
     subst (Right h logs mode k all earlier (said earlier (record_of place j (Begin scope)) reply) j) e
     (begin_line mode h k logs all earlier l place j scope reply.at reply.answer reply.number ties no.0 no.1 f.answer (subst (Judged h) (sym e) d))
-line_right mode buckets h k logs all earlier u l place j CommitIt reply places ties f gc d g =
+line_right mode buckets h k logs all earlier u l place j (CursorOpen table low high) reply places ties f gc d g left shown rest =
+    let no = bare buckets u l (CursorOpen table low high) reply refl f in
+    let e = plain_after buckets u (CursorOpen table low high) reply l refl in
+    subst (Right h logs mode k all earlier (said earlier (record_of place j (CursorOpen table low high)) reply) j) e
+    (open_line mode h k logs all earlier l place j table low high reply.at reply.answer reply.number ties no.0 no.1 f.answer (subst (Judged h) (sym e) d))
+line_right mode buckets h k logs all earlier u l place j (Fetch n) reply places ties f gc d g left shown rest =
+    let no = bare buckets u l (Fetch n) reply refl f in
+    let e = plain_after buckets u (Fetch n) reply l refl in
+    subst (Right h logs mode k all earlier (said earlier (record_of place j (Fetch n)) reply) j) e
+    (fetch_line mode buckets h k logs all earlier u l place j n reply.at reply.answer reply.number ties no.0 no.1 f.answer (subst (Judged h) (sym e) d) (subst (AreReplied buckets h logs j) (sym e) g) left shown rest (open_of j earlier) (current l) refl refl ties.standing f.inside)
+line_right mode buckets h k logs all earlier u l place j CursorClose reply places ties f gc d g left shown rest =
+    let no = bare buckets u l CursorClose reply refl f in
+    let e = plain_after buckets u CursorClose reply l refl in
+    let was = undone_judged h [] l (subst (Judged h) (sym e) d) in
+    subst (Right h logs mode k all earlier (said earlier (record_of place j CursorClose) reply) j) e
+    (close_line mode h k logs all earlier l place j reply.at reply.answer reply.number ties no.0 no.1 f.answer was.1 (open_of j earlier) (current l) refl ties.standing was.0)
+line_right mode buckets h k logs all earlier u l place j CommitIt reply places ties f gc d g left shown rest =
     let no = bare buckets u l CommitIt reply refl f in
     let e = plain_after buckets u CommitIt reply l refl in
     let was = commit_judged h reply.answer l (subst (Judged h) (sym e) d) in
     subst (Right h logs mode k all earlier (said earlier (record_of place j CommitIt) reply) j) e
     (commit_line mode h k logs all earlier l place j reply.at reply.answer reply.number ties no.0 no.1 f.answer was.1 (open_of j earlier) (current l) refl ties.standing was.0)
-line_right mode buckets h k logs all earlier u l place j Rollback reply places ties f gc d g =
+line_right mode buckets h k logs all earlier u l place j Rollback reply places ties f gc d g left shown rest =
     let no = bare buckets u l Rollback reply refl f in
     let e = plain_after buckets u Rollback reply l refl in
     let was = undone_judged h u.undone l (subst (Judged h) (sym e) d) in
     subst (Right h logs mode k all earlier (said earlier (record_of place j Rollback) reply) j) e
     (rollback_line mode h k logs all earlier u l place j reply.at reply.answer reply.number ties no.0 no.1 f.answer.0 was.1 (open_of j earlier) (current l) refl ties.standing was.0)
-line_right mode buckets h k logs all earlier u l place j (Gc kind) reply places ties f gc d g =
+line_right mode buckets h k logs all earlier u l place j (Gc kind) reply places ties f gc d g left shown rest =
     let no = bare buckets u l (Gc kind) reply refl f in
     subst (Right h logs mode k all earlier (said earlier (record_of place j (Gc kind)) reply) j) (plain_after buckets u (Gc kind) reply l refl)
     (gc_line mode h k logs all earlier l place j kind reply.at reply.answer reply.number ties no.0 no.1 f.answer gc)

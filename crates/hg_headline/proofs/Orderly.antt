@@ -5,7 +5,7 @@ use Rattle.std.specs.List.{list_any}
 use Rattle.std.proofs.lemmas.Bool.Decides.{Decides-eqb, Decides-ltb}
 use Rattle.hg_base.specs.declared.statement.Record.{Record}
 use Rattle.hg_base.specs.declared.statement.Statement.{Statement}
-use Rattle.hg_base.specs.declared.statement.Statement.TheVariants.{Begin, Gc}
+use Rattle.hg_base.specs.declared.statement.Statement.TheVariants.{Begin, Gc, CursorOpen}
 use Rattle.hg_base.specs.declared.line.Reply.{Reply}
 use Rattle.hg_base.specs.declared.line.Line.{Line}
 use Rattle.hg_base.specs.Lists.{Each, EachAfter}
@@ -132,6 +132,7 @@ orderly_stands earlier r reply (Some opened) f o = orderly_in r.session earlier 
 
 pub orderly_own : (earlier : List Said) (place j : ℕ) (reply : Reply) (s : Statement) → Orderly j earlier → Orderly j (said earlier (record { place = place; session = j; statement = s }) reply ∷ earlier)
 orderly_own earlier place j reply (Begin scope) o = orderly_next j earlier (said earlier (record { place = place; session = j; statement = Begin scope }) reply) (same_number j) refl o
+orderly_own earlier place j reply (CursorOpen table low high) o = orderly_next j earlier (said earlier (record { place = place; session = j; statement = CursorOpen table low high }) reply) (same_number j) refl o
 orderly_own earlier place j reply (Gc kind) o = orderly_beside j earlier (said earlier (record { place = place; session = j; statement = Gc kind }) reply) (same_number j) refl refl o
 orderly_own earlier place j reply s o = orderly_stands earlier (record { place = place; session = j; statement = s }) reply (open_of j earlier) refl o
 

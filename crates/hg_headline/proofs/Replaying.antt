@@ -40,7 +40,9 @@ use Rattle.hg_headline.proofs.Entries.{own_is}
 use Rattle.hg_headline.proofs.Reports.{report_in, no_report}
 use Rattle.hg_headline.proofs.Right.{StillIn}
 use Rattle.hg_headline.proofs.Lines.{AsCollected}
-use Rattle.hg_headline.proofs.Whole.{IsTold, AtLine, IsKnown, said_says, lines_told, told_right, matches_all}
+use Rattle.hg_headline.proofs.Whole.{IsTold, AtLine, IsKnown, said_says, told_right, matches_all}
+use Rattle.hg_headline.proofs.Telling.{lines_told}
+use Rattle.hg_headline.proofs.Lefts.{left_nothing}
 use Rattle.hg_headline.proofs.Orderly.{Orderly, orderly_nothing, orderly_all}
 use Rattle.hg_headline.proofs.Numbers.{IsOrdered, AllPrinted, below_nothing, lines_ordered, of_reads, each_up, now_over, printed_before, is_greatest, all_printed}
 use Rattle.hg_headline.proofs.OpenSnapshots.{IsLive, Begins, begins_less, live_is_open, live_ascends, live_each, map_twice, each_unmap, was_live}
@@ -184,7 +186,7 @@ replay_sound buckets sessions top h logs script lines r =
     let all : List Said = said_from [] script.records lines in
     let k : History = history_of all in
     let told = lines_told replay buckets h k logs all (IsMet sessions) (Begins logs) (begins_less logs) (places_of buckets r.logged.some) (λ ls q line m. met_collected sessions q.session ls q.statement line.reply.answer m) script.records lines (λ j. []) logs []
-    (λ j. ties_nothing j) r.follows r.logged.judged r.logged.replied (λ j d n e. e) in
+    (λ j. ties_nothing j) (λ j. None) (λ j. left_nothing j) r.follows r.logged.judged r.logged.replied (λ j d n e. e) in
     let both = each_after_first (IsTold replay h k logs all) (AtLine buckets (IsMet sessions) (Begins logs)) [] all told.0 in
     let m : Matches h (commits all) = matches_all buckets h logs all r.logged told.1 in
     let ordered : EachAfter (IsOrdered top) [] all = lines_ordered script.records lines 0 top [] (below_nothing 0) r.rises (told_commits h k logs all [] all both.0) in

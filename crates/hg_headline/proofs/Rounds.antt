@@ -18,7 +18,7 @@ use Rattle.hg_base.specs.Lists.{Each, EachAfter, Ascends, numbers_from, greatest
 use Rattle.hg_base.specs.Script.{Script, run}
 use Rattle.hg_base.specs.History.{History}
 use Rattle.hg_base.specs.Reports.{told_of, sweep_of}
-use Rattle.hg_base.specs.Transcript.{Said, said, said_from, last_of, of_session, sessions_of, rounds_of, in_order, history_of}
+use Rattle.hg_base.specs.Transcript.{Said, said, said_from, last_of, of_session, sessions_of, rounds_of, in_order, history_of, Rest, rest_after}
 use Rattle.hg_base.specs.Shape.{same_kind, report_of, HasShape}
 use Rattle.hg_base.specs.Conflicts.{target}
 use Rattle.hg_base.specs.Freshness.{mark_of, is_declared}
@@ -33,7 +33,9 @@ use Rattle.hg_headline.specs.Gathered.{began_at, WasLive, IsGathered}
 use Rattle.hg_headline.specs.Ran.{WasMet, IsPassReport, NotFalling, AreReports, report_lines, run_lines, HasRun}
 use Rattle.hg_headline.proofs.Words.{append_assoc, each_pairs}
 use Rattle.hg_headline.proofs.Ties.{ties_nothing}
-use Rattle.hg_headline.proofs.Whole.{IsTold, AtLine, IsKnown, said_says, lines_told, told_right}
+use Rattle.hg_headline.proofs.Whole.{IsTold, AtLine, IsKnown, said_says, told_right}
+use Rattle.hg_headline.proofs.Telling.{lines_told}
+use Rattle.hg_headline.proofs.Lefts.{left_nothing}
 use Rattle.hg_headline.proofs.OpenSnapshots.{each_unmap}
 use Rattle.hg_headline.proofs.Reports.{no_report}
 use Rattle.hg_headline.proofs.Replaying.{each_after_first}
@@ -78,19 +80,19 @@ no_mark kind now earlier e h = go (report_of now.reply) e
     go None k = h
     go (Some sweep) k = absurd (let z : Some sweep ≡ None = k in cc)
 
-pub session_known : (rounds buckets : ℕ) (h : History) (logs : ℕ → List LogEntry) (l m : List LogEntry) (rs more : List Record) (lines later : List Line) (earlier : List Said) → Tells buckets LeavesLine l rs lines m → NoMarks earlier →
+pub session_known : (rounds buckets : ℕ) (h : History) (logs : ℕ → List LogEntry) (l m : List LogEntry) (rs more : List Record) (lines later : List Line) (earlier : List Said) (left : Option Rest) → Tells buckets LeavesLine l left rs lines m → NoMarks earlier →
     ((es : List Said) → NoMarks es → EachAfter (IsKnown (run rounds) h logs) es (said_from es more later)) → EachAfter (IsKnown (run rounds) h logs) earlier (said_from earlier (rs ++ more) (lines ++ later))
-session_known rounds buckets h logs l m [] more [] later earlier t none f = f earlier none
-session_known rounds buckets h logs l m [] more (line ∷ lines) later earlier t none f = absurd t
-session_known rounds buckets h logs l m (r ∷ rs) more [] later earlier t none f = absurd t
-session_known rounds buckets h logs l m (r ∷ rs) more (line ∷ lines) later earlier t none f =
+session_known rounds buckets h logs l m [] more [] later earlier left t none f = f earlier none
+session_known rounds buckets h logs l m [] more (line ∷ lines) later earlier left t none f = absurd t
+session_known rounds buckets h logs l m (r ∷ rs) more [] later earlier left t none f = absurd t
+session_known rounds buckets h logs l m (r ∷ rs) more (line ∷ lines) later earlier left t none f =
     let now : Said = said earlier r line.reply in
     let no : report_of now.reply ≡ None = ap report_of (said_says (last_of r.session earlier) r line.reply r.statement).2 ∙ no_report buckets t.1.0 (own_writes l) r.statement line.reply.answer t.0 t.1.1.answer in (
       record { exact = tt; still = if_any (target now.statement) _ (λ r. tt); report = if_none (report_of now.reply) (IsGathered h logs earlier) no },
-      session_known rounds buckets h logs (log_after buckets t.1.0 r.statement line.reply l) m rs more lines later (now ∷ earlier) t.1.2 (λ kind. no_mark kind now earlier no (none kind)) f,
+      session_known rounds buckets h logs (log_after buckets t.1.0 r.statement line.reply l) m rs more lines later (now ∷ earlier) (rest_after r.statement line.reply.answer left) t.1.2 (λ kind. no_mark kind now earlier no (none kind)) f,
     )
 
-pub sessions_known : (rounds buckets : ℕ) (h : History) (logs : ℕ → List LogEntry) (records : List Record) (lines : ℕ → List Line) (more : List Record) (later : List Line) → ((j : ℕ) → Tells buckets LeavesLine [] (of_session j records) (lines j) (logs j)) →
+pub sessions_known : (rounds buckets : ℕ) (h : History) (logs : ℕ → List LogEntry) (records : List Record) (lines : ℕ → List Line) (more : List Record) (later : List Line) → ((j : ℕ) → Tells buckets LeavesLine [] None (of_session j records) (lines j) (logs j)) →
     ((es : List Said) → NoMarks es → EachAfter (IsKnown (run rounds) h logs) es (said_from es more later)) → (n many : ℕ) (earlier : List Said) → NoMarks earlier →
     EachAfter (IsKnown (run rounds) h logs) earlier (said_from earlier (flat_map (λ j. of_session j records) (numbers_from n many) ++ more) (flat_map lines (numbers_from n many) ++ later))
 sessions_known rounds buckets h logs records lines more later t f n zero earlier none = f earlier none
@@ -99,7 +101,7 @@ sessions_known rounds buckets h logs records lines more later t f n (suc many) e
     let rest_l : List Line = flat_map lines (numbers_from (suc n) many) in
     subst (λ rs. EachAfter (IsKnown (run rounds) h logs) earlier (said_from earlier rs ((lines n ++ rest_l) ++ later))) (sym (append_assoc (of_session n records) rest_r more))
     (subst (λ ls. EachAfter (IsKnown (run rounds) h logs) earlier (said_from earlier (of_session n records ++ (rest_r ++ more)) ls)) (sym (append_assoc (lines n) rest_l later))
-    (session_known rounds buckets h logs [] (logs n) (of_session n records) (rest_r ++ more) (lines n) (rest_l ++ later) earlier (t n) none
+    (session_known rounds buckets h logs [] (logs n) (of_session n records) (rest_r ++ more) (lines n) (rest_l ++ later) earlier None (t n) none
     (λ es k. sessions_known rounds buckets h logs records lines more later t f (suc n) many es k)))
 
 -- ---- what a report tells
@@ -213,7 +215,7 @@ run_sound buckets h logs rounds script lines group table interval ran =
     let all : List Said = said_from [] asked printed in
     let e : parted rounds records ≡ asked = sym (in_order_is rounds records) in
     let told = lines_told (run rounds) buckets h (history_of all) logs all (RunsGc rounds) (λ j l. ⊤) (λ j x l q. tt) (places_of buckets ran.logged.some) (λ ls q line m. m) asked printed (λ j. []) logs []
-    (λ j. ties_nothing j) (run_follows buckets h logs rounds records lines group table interval ran) ran.logged.judged ran.logged.replied (λ j. tt) in
+    (λ j. ties_nothing j) (λ j. None) (λ j. left_nothing j) (run_follows buckets h logs rounds records lines group table interval ran) ran.logged.judged ran.logged.replied (λ j. tt) in
     let both = each_after_first (IsTold (run rounds) h (history_of all) logs all) (AtLine buckets (RunsGc rounds) (λ j l. ⊤)) [] all told.0 in
     record {
       shape = subst (λ rs. HasShape rs printed) e (run_shape buckets h logs rounds records lines group table interval ran);

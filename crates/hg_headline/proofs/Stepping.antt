@@ -16,14 +16,14 @@ use Rattle.hg_base.specs.declared.line.Reply.{Reply}
 use Rattle.hg_base.specs.declared.line.Line.{Line}
 use Rattle.hg_base.specs.Lists.{Each}
 use Rattle.hg_base.specs.History.{Write, Commit, History, LosesNothing, same_rid, image_in, is_among, writes}
-use Rattle.hg_base.specs.Transcript.{only, table_of, stored_by, committed_by, last_images}
+use Rattle.hg_base.specs.Transcript.{only, table_of, stored_by, committed_by, last_images, Rest}
 use Rattle.hg_base.specs.Replies.{is_written}
 use Rattle.hg_base.proofs.RidOrder.{same_back as same_rid_turned}
 use Rattle.hg_core.specs.declared.log.LogEntry.{LogEntry}
 use Rattle.hg_core.specs.declared.log.LogEntry.TheVariants.{Began, Undid, Published, Over}
 use Rattle.hg_core.specs.Logs.{current, begans, own_writes, is_plain, open_in, number_in, commit_in}
 use Rattle.hg_core.specs.Events.{put}
-use Rattle.hg_core.specs.Reading.{Unprinted, own_entries, is_access, is_alone, close, log_with, log_after, UndoesAll, FitsAnswer, FitsScope}
+use Rattle.hg_core.specs.Reading.{Unprinted, own_entries, is_access, is_alone, close, log_with, log_after, UndoesAll, FitsAnswer, FitsScope, FitsIn, HasRest, left_after}
 use Rattle.hg_core.proofs.Groups.{length_more}
 use Rattle.hg_core.proofs.Indices.{put_here, put_else}
 use Rattle.hg_core.proofs.NewGroup.{image_open}
@@ -104,6 +104,21 @@ IsSmall top _ = ⊤
 pub newer_small : (h : History) (at n : ℕ) → at < n → n ≤ length h → (0 < n) × (n ≤ length h)
 newer_small h at n a b = (omega (arith, a), b)
 
+-- a read or a write is no fetch
+access_in : (o : Option Snapshot) (s : Statement) → IsTrue (is_access s) → FitsIn o s
+access_in o (Get r) e = tt
+access_in o (Put r row) e = tt
+access_in o (Del r) e = tt
+access_in o (Scan t low high) e = tt
+access_in o _ e = absurd (let z : false ≡ true = e in cc)
+
+access_rest : (s : Statement) (rest left : Option Rest) → IsTrue (is_access s) → HasRest s rest left
+access_rest (Get r) rest left e = tt
+access_rest (Put r row) rest left e = tt
+access_rest (Del r) rest left e = tt
+access_rest (Scan t low high) rest left e = tt
+access_rest _ rest left e = absurd (let z : false ≡ true = e in cc)
+
 pub fits_small : (buckets : ℕ) (u : Unprinted) (own : List Write) (h : History) (logs : ℕ → List LogEntry) (j : ℕ) (c : Snapshot) (mine : List Write) (s : Statement) (a : Answer) → FitsAnswer buckets u own s a → MayAnswer h logs j c mine s a → IsSmall (length h) a
 fits_small buckets u own h logs j c mine (Put r row) (Newer n) f m = newer_small h c.at n m.1.1.over m.1.1.within
 fits_small buckets u own h logs j c mine (Put r row) (Begun n) f m = absurd f
@@ -144,7 +159,8 @@ replayed_inside buckets sessions h logs rs lines r a c g asked opened plain m =
     record {
       more = put logs r.session log;
       replayed = replayed_more buckets sessions h h logs (length h) (length h) rs lines r (line_for r (inside a)) left.unprinted g asked.some asked.most refl refl (answered_met sessions h logs r.session c (own_writes l) r.statement a m)
-          (record { at = sym in_it; number = sym (ap (λ b. b && is_some (stored_by r.statement a)) in_it); answer = left.fits; scope = for_open (current l) c (λ snapshot. FitsScope snapshot.scope r.statement a) opened left.scope })
+          (record { at = sym in_it; number = sym (ap (λ b. b && is_some (stored_by r.statement a)) in_it); answer = left.fits; scope = for_open (current l) c (λ snapshot. FitsScope snapshot.scope r.statement a) opened left.scope; inside = access_in (current l) r.statement access })
+          (access_rest r.statement left.unprinted.rest (left_after (λ j. None) rs lines r.session) access)
           (timely_inside (length h) r.statement a (access_commits r.statement a access) (fits_small buckets left.unprinted (own_writes l) h logs r.session c (own_writes l) r.statement a left.fits m))
           (omega arith) (subst (λ x. Logged buckets h (put logs r.session x)) after left.goes.logged);
       gone = gone_put logs r.session log (Some c) (begans l) (cons_option (stored_by r.statement a) (own_writes l)) (ap current (sym after) ∙ left.goes.opened) (ap begans (sym after) ∙ adds.count) (ap own_writes (sym after) ∙ adds.own) (ap is_plain (sym after) ∙ left.plain);
@@ -237,7 +253,8 @@ replayed_alone buckets sessions h logs rs lines r a g asked none stored m =
     record {
       more = put logs j (log_after buckets u s (alone (length h) a None) l);
       replayed = replayed_more buckets sessions h h logs (length h) (length h) rs lines r (line_for r (alone (length h) a None)) u g asked.some asked.most refl refl (answered_met sessions h logs j (own_snapshot h s) [] s a m)
-          (record { at = sym is; number = sym (ap (λ b. b && is_some (stored_by s a)) is ∙ ap is_some stored); answer = it.left.fits; scope = if_none (current l) (λ snapshot. FitsScope snapshot.scope s a) none })
+          (record { at = sym is; number = sym (ap (λ b. b && is_some (stored_by s a)) is ∙ ap is_some stored); answer = it.left.fits; scope = if_none (current l) (λ snapshot. FitsScope snapshot.scope s a) none; inside = access_in (current l) s it.access })
+          (access_rest s u.rest (left_after (λ j. None) rs lines j) it.access)
           (timely_alone (length h) (length h) s a None (access_commits s a it.access) (fits_small buckets u (own_writes l) h logs j (own_snapshot h s) [] s a it.left.fits m) (omega arith) tt)
           (omega arith) (subst (λ x. Logged buckets h (put logs j x)) after ended);
       gone = gone_put logs j (log_after buckets u s (alone (length h) a None) l) None (suc (begans l)) [] (ap current (sym after)) (ap begans (sym after) ∙ it.adds.count) (ap own_writes (sym after)) (ap is_plain (sym after));
@@ -288,7 +305,8 @@ replayed_commits buckets sessions h logs rs lines r a w g asked none stored m =
     record {
       more = put logs j (log_after buckets u s (alone (length h) a (Some n)) l);
       replayed = replayed_more buckets sessions h more logs (length h) (length more) rs lines r (line_for r (alone (length h) a (Some n))) u g asked.some asked.most refl refl (answered_met sessions h logs j (own_snapshot h s) [] s a m)
-          (record { at = sym is; number = sym (ap (λ b. b && is_some (stored_by s a)) is ∙ ap is_some stored); answer = it.left.fits; scope = if_none (current l) (λ snapshot. FitsScope snapshot.scope s a) none })
+          (record { at = sym is; number = sym (ap (λ b. b && is_some (stored_by s a)) is ∙ ap is_some stored); answer = it.left.fits; scope = if_none (current l) (λ snapshot. FitsScope snapshot.scope s a) none; inside = access_in (current l) s it.access })
+          (access_rest s u.rest (left_after (λ j. None) rs lines j) it.access)
           (timely_alone (length h) (length more) s a (Some n) (access_commits s a it.access) (fits_small buckets u (own_writes l) h logs j (own_snapshot h s) [] s a it.left.fits m) (omega (arith, grown)) (omega arith, omega (arith, grown)))
           (omega arith) (subst (λ x. Logged buckets more (put logs j x)) after ended);
       gone = gone_put logs j (log_after buckets u s (alone (length h) a (Some n)) l) None (suc (begans l)) [] (ap current (sym after)) (ap begans (sym after) ∙ it.adds.count) (ap own_writes (sym after)) (ap is_plain (sym after));
@@ -311,7 +329,8 @@ replayed_begin buckets sessions h logs rs lines place j scope g some most none =
     record {
       more = put logs j (log_after buckets nothing_more (Begin scope) reply l);
       replayed = replayed_more buckets sessions h h logs (length h) (length h) rs lines r (line_for r reply) nothing_more g some most refl refl tt
-          (record { at = sym is; number = sym (ap (λ b. b && false) is); answer = tt; scope = if_any (current l) (λ snapshot. ⊤) (λ snapshot. tt) })
+          (record { at = sym is; number = sym (ap (λ b. b && false) is); answer = tt; scope = if_any (current l) (λ snapshot. ⊤) (λ snapshot. tt); inside = tt })
+          tt
           (record { grows = omega arith; reads = (omega arith, tt); snapshot = omega arith; mark = tt; newer = tt; commit = tt })
           (omega arith) (subst (λ x. Logged buckets h (put logs j x)) after began);
       gone = gone_put logs j (log_after buckets nothing_more (Begin scope) reply l) (Some (record { at = length h; scope = scope })) (suc (begans l)) [] (ap current (sym after)) (ap begans (sym after)) (ap own_writes (sym after)) (ap is_plain (sym after));
@@ -357,7 +376,7 @@ pub replayed_undone : (buckets sessions : ℕ) (h : History) (logs : ℕ → Lis
 replayed_undone buckets sessions h logs rs lines place j c undone g some most opened plain all =
     let r : Record = record { place = place; session = j; statement = Rollback } in
     let l : List LogEntry = logs j in
-    let u : Unprinted = record { found = []; part = λ b. []; undone = undone } in
+    let u : Unprinted = record { found = []; part = λ b. []; undone = undone; rest = None; looked = 0 } in
     let last : List LogEntry = map Undid undone ++ l in
     let is : is_alone (current l) Rollback ≡ false = in_transaction (current l) c Rollback opened in
     let after : Over ∷ last ≡ log_after buckets u Rollback (inside Undone) l = sym (ap (λ b. log_with b buckets u Rollback (inside Undone) l) is) in
@@ -366,7 +385,8 @@ replayed_undone buckets sessions h logs rs lines place j c undone g some most op
     record {
       more = put logs j (log_after buckets u Rollback (inside Undone) l);
       replayed = replayed_more buckets sessions h h logs (length h) (length h) rs lines r (line_for r (inside Undone)) u g some most refl refl tt
-          (record { at = sym is; number = sym (ap (λ b. b && false) is); answer = (tt, all); scope = if_any (current l) (λ snapshot. ⊤) (λ snapshot. tt) })
+          (record { at = sym is; number = sym (ap (λ b. b && false) is); answer = (tt, all); scope = if_any (current l) (λ snapshot. ⊤) (λ snapshot. tt); inside = tt })
+          tt
           (record { grows = omega arith; reads = tt; snapshot = tt; mark = tt; newer = tt; commit = tt })
           (omega arith) (subst (λ x. Logged buckets h (put logs j x)) after ended);
       gone = gone_put logs j (log_after buckets u Rollback (inside Undone) l) None (begans l) [] (ap current (sym after)) (ap begans (sym after) ∙ (adds_undone undone l).count) (ap own_writes (sym after)) (ap is_plain (sym after));

@@ -7,7 +7,7 @@ use Rattle.hg_base.specs.declared.rid.TableId.{TableId}
 use Rattle.hg_base.specs.declared.scope.Scope.{Scope}
 use Rattle.hg_base.specs.declared.statement.Record.{Record}
 use Rattle.hg_base.specs.declared.statement.Statement.{Statement}
-use Rattle.hg_base.specs.declared.statement.Statement.TheVariants.{Begin, Get, Put, Del, Scan, Commit as CommitIt, Rollback, Gc}
+use Rattle.hg_base.specs.declared.statement.Statement.TheVariants.{Begin, Get, Put, Del, Scan, Commit as CommitIt, Rollback, Gc, CursorOpen, Fetch, CursorClose}
 use Rattle.hg_base.specs.declared.line.Answer.{Answer}
 use Rattle.hg_base.specs.declared.line.Answer.TheVariants.{Begun, Stored, Found, Nothing, Gone, Rows, Committed, Newer, OpenBy, Undeclared}
 use Rattle.hg_base.specs.declared.line.Reply.{Reply}
@@ -15,7 +15,7 @@ use Rattle.hg_base.specs.declared.line.Line.{Line}
 use Rattle.hg_base.specs.declared.value.Value.{Value}
 use Rattle.hg_base.specs.Lists.{Each}
 use Rattle.hg_base.specs.History.{Write, History, same_rid, image_in, is_among, NoneTwice}
-use Rattle.hg_base.specs.Transcript.{only, table_of}
+use Rattle.hg_base.specs.Transcript.{only, table_of, Rest, rest_after}
 use Rattle.hg_base.specs.Replies.{IsBegun}
 use Rattle.hg_base.proofs.HistoryFacts.{same_rid_itself}
 use Rattle.hg_base.proofs.ListFacts.{each_keeps}
@@ -26,7 +26,7 @@ use Rattle.hg_core.specs.Contents.{has_own}
 use Rattle.hg_core.specs.Judged.{Judged}
 use Rattle.hg_core.specs.Replies.{AreReplied}
 use Rattle.hg_core.specs.Events.{put}
-use Rattle.hg_core.specs.Reading.{Unprinted, saws, own_entries, begin_entries, commit_entries, is_access, is_alone, close, log_with, log_after, UndoesAll, FitsAnswer, Fits, Follows}
+use Rattle.hg_core.specs.Reading.{Unprinted, saws, own_entries, begin_entries, commit_entries, is_access, is_alone, close, log_with, log_after, UndoesAll, FitsAnswer, Fits, Follows, looks, fetch_entries}
 use Rattle.hg_core.proofs.Indices.{by_number, put_here}
 use Rattle.hg_core.proofs.NewGroup.{image_open}
 use Rattle.hg_headline.specs.Counted.{Closes}
@@ -81,6 +81,15 @@ quiet_saws buckets t low high part (suc n) = go (has_own buckets t low high n) (
     go : (x : Bool) → IsQuiet (saws buckets t low high part n) → IsQuiet (if x then Saw t low high n (part n) ∷ saws buckets t low high part n else saws buckets t low high part n)
     go true rest = rest
     go false rest = rest
+
+quiet_looks : (buckets : ℕ) (t : TableId) (low high : ℕ) (part : ℕ → List (ℕ × List Value)) (n : ℕ) → IsQuiet (looks buckets t low high part n)
+quiet_looks buckets t low high part zero = tt
+quiet_looks buckets t low high part (suc n) = quiet_looks buckets t low high part n
+
+quiet_fetch : (buckets : ℕ) (rest : Option Rest) (part : ℕ → List (ℕ × List Value)) (looked : ℕ) (a : Answer) → IsQuiet (fetch_entries buckets rest part looked a)
+quiet_fetch buckets (Some rest) part looked (Rows rows) = quiet_looks buckets rest.table rest.low rest.high part looked
+quiet_fetch buckets (Some rest) part looked _ = tt
+quiet_fetch buckets None part looked a = tt
 
 quiet_access : (buckets : ℕ) (u : Unprinted) (own : List Write) (s : Statement) (a : Answer) → FitsAnswer buckets u own s a → is_access s ≡ true → IsQuiet (own_entries buckets u s a)
 quiet_access buckets u own (Get r) (Found row) f e = tt
@@ -159,22 +168,28 @@ line_tidy buckets h logs j u (Put r row) reply l f k d g = access_tidy buckets h
 line_tidy buckets h logs j u (Del r) reply l f k d g = access_tidy buckets h logs j u (own_writes l) (Del r) reply l (is_alone (current l) (Del r)) refl f.answer k d g
 line_tidy buckets h logs j u (Scan t low high) reply l f k d g = access_tidy buckets h logs j u (own_writes l) (Scan t low high) reply l (is_alone (current l) (Scan t low high)) refl f.answer k d g
 line_tidy buckets h logs j u (Begin scope) reply l f k d g = let e = plain_after buckets u (Begin scope) reply l refl in subst IsTidyBetween e (begin_tidy h scope reply.answer l f.answer k (subst (Judged h) (sym e) d))
+line_tidy buckets h logs j u (CursorOpen table low high) reply l f k d g = let e = plain_after buckets u (CursorOpen table low high) reply l refl in subst IsTidyBetween e (begin_tidy h (only (Some table)) reply.answer l f.answer k (subst (Judged h) (sym e) d))
+line_tidy buckets h logs j u (Fetch n) reply l f k d g =
+    let e = plain_after buckets u (Fetch n) reply l refl in
+    let quiet = quiet_fetch buckets u.rest u.part u.looked reply.answer in
+    subst IsTidyBetween e (tidy_quiet buckets h logs j (fetch_entries buckets u.rest u.part u.looked reply.answer) l quiet (subst (Judged h) (sym e) d) (subst (AreReplied buckets h logs j) (sym e) g) k.0, plain_quiet (fetch_entries buckets u.rest u.part u.looked reply.answer) l quiet ∙ k.1)
+line_tidy buckets h logs j u CursorClose reply l f k d g = let e = plain_after buckets u CursorClose reply l refl in subst IsTidyBetween e (tidy_close h None l (subst (Judged h) (sym e) d) k.0, refl)
 line_tidy buckets h logs j u CommitIt reply l f k d g = let e = plain_after buckets u CommitIt reply l refl in subst IsTidyBetween e (commit_tidy h reply.answer l k (subst (Judged h) (sym e) d))
 line_tidy buckets h logs j u Rollback reply l f k d g = let e = plain_after buckets u Rollback reply l refl in subst IsTidyBetween e (tidy_rollback u.undone l k.1 f.answer.1 k.0, refl)
 line_tidy buckets h logs j u (Gc kind) reply l f k d g = let e = plain_after buckets u (Gc kind) reply l refl in subst IsTidyBetween e k
 
 -- ---- all lines
 
-pub follows_tidy : (buckets : ℕ) (h : History) (all_logs : ℕ → List LogEntry) (P : (ℕ → List LogEntry) → Record → Line → Type 0) (rs : List Record) (lines : List Line) (logs final : ℕ → List LogEntry) → Follows buckets P logs rs lines final → ((j : ℕ) → Judged h (final j)) → ((j : ℕ) → AreReplied buckets h all_logs j (final j)) → ((j : ℕ) → IsTidyBetween (logs j)) → (j : ℕ) → IsTidyBetween (final j)
-follows_tidy buckets h all_logs P [] [] logs final f d g k j = subst IsTidyBetween (sym (f j)) (k j)
-follows_tidy buckets h all_logs P [] (line ∷ lines) logs final f d g k j = absurd f
-follows_tidy buckets h all_logs P (r ∷ rs) [] logs final f d g k j = absurd f
-follows_tidy buckets h all_logs P (r ∷ rs) (line ∷ lines) logs final f d g k j =
+pub follows_tidy : (buckets : ℕ) (h : History) (all_logs : ℕ → List LogEntry) (P : (ℕ → List LogEntry) → Record → Line → Type 0) (rs : List Record) (lines : List Line) (logs final : ℕ → List LogEntry) (left : ℕ → Option Rest) → Follows buckets P logs left rs lines final → ((j : ℕ) → Judged h (final j)) → ((j : ℕ) → AreReplied buckets h all_logs j (final j)) → ((j : ℕ) → IsTidyBetween (logs j)) → (j : ℕ) → IsTidyBetween (final j)
+follows_tidy buckets h all_logs P [] [] logs final left f d g k j = subst IsTidyBetween (sym (f j)) (k j)
+follows_tidy buckets h all_logs P [] (line ∷ lines) logs final left f d g k j = absurd f
+follows_tidy buckets h all_logs P (r ∷ rs) [] logs final left f d g k j = absurd f
+follows_tidy buckets h all_logs P (r ∷ rs) (line ∷ lines) logs final left f d g k j =
     let after : List LogEntry = log_after buckets f.1.0 r.statement line.reply (logs r.session) in
     let next : ℕ → List LogEntry = put logs r.session after in
-    let judged : Judged h after = subst (Judged h) (put_here logs r.session after) (follows_first (λ j l. Judged h l) (judged_less h) buckets P rs lines next final f.1.2 d r.session) in
-    let replied : AreReplied buckets h all_logs r.session after = subst (AreReplied buckets h all_logs r.session) (put_here logs r.session after) (follows_first (AreReplied buckets h all_logs) (replied_less buckets h all_logs) buckets P rs lines next final f.1.2 g r.session) in
-    follows_tidy buckets h all_logs P rs lines next final f.1.2 d g
+    let judged : Judged h after = subst (Judged h) (put_here logs r.session after) (follows_first (λ j l. Judged h l) (judged_less h) buckets P rs lines next final (put left r.session (rest_after r.statement line.reply.answer (left r.session))) f.1.2 d r.session) in
+    let replied : AreReplied buckets h all_logs r.session after = subst (AreReplied buckets h all_logs r.session) (put_here logs r.session after) (follows_first (AreReplied buckets h all_logs) (replied_less buckets h all_logs) buckets P rs lines next final (put left r.session (rest_after r.statement line.reply.answer (left r.session))) f.1.2 g r.session) in
+    follows_tidy buckets h all_logs P rs lines next final (put left r.session (rest_after r.statement line.reply.answer (left r.session))) f.1.2 d g
     (by_number r.session (λ i b. IsTidyBetween (if b then after else logs i)) (line_tidy buckets h all_logs r.session f.1.0 r.statement line.reply (logs r.session) f.1.1 (k r.session) judged replied) (λ i e. k i)) j
 
 -- ---- as they are closed

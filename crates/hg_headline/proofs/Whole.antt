@@ -3,19 +3,18 @@ use Rattle.std.proofs.Common.{◌≡◌, ℕ, ◌<◌, ◌≤◌, List, [], ◌�
 use Rattle.std.specs.Prelude.{◌==◌, filter, filter_map, if◌then◌else◌, nat_le, IfSome, IsSome}
 use Rattle.std.specs.List.{list_any}
 use Rattle.std.proofs.lemmas.Bool.Decides.{nat_tests}
-use Rattle.hg_base.specs.declared.rid.Rid.{Rid}
 use Rattle.hg_base.specs.declared.image.Image.{Image}
 use Rattle.hg_base.specs.declared.report.Told.{Told}
 use Rattle.hg_base.specs.declared.report.Sweep.{Sweep}
 use Rattle.hg_base.specs.declared.statement.Record.{Record}
 use Rattle.hg_base.specs.declared.statement.Statement.{Statement}
-use Rattle.hg_base.specs.declared.statement.Statement.TheVariants.{Begin, Gc}
+use Rattle.hg_base.specs.declared.statement.Statement.TheVariants.{Begin, CursorOpen, Gc}
 use Rattle.hg_base.specs.declared.line.Reply.{Reply}
 use Rattle.hg_base.specs.declared.line.Line.{Line}
 use Rattle.hg_base.specs.Lists.{Each, EachAfter, onto}
 use Rattle.hg_base.specs.Script.{Mode}
 use Rattle.hg_base.specs.History.{History, Commit, last_image, image_in}
-use Rattle.hg_base.specs.Transcript.{Said, last_of, open_after, next_after, standing, said, said_after, said_from, committed, commits, history_of, stored_in}
+use Rattle.hg_base.specs.Transcript.{Said, open_after, next_after, standing, said_after, committed, commits, history_of, stored_in}
 use Rattle.hg_base.specs.Transcript.{numbers_in as printed_numbers}
 use Rattle.hg_base.specs.Shape.{report_of}
 use Rattle.hg_base.specs.Replies.{IsReply}
@@ -25,20 +24,20 @@ use Rattle.hg_base.specs.Sound.{AreRight, IsRight}
 use Rattle.hg_base.proofs.ListFacts.{each_keeps, if_some_keeps, match_keeps}
 use Rattle.hg_core.specs.declared.log.LogEntry.{LogEntry}
 use Rattle.hg_core.specs.Logs.{current}
-use Rattle.hg_core.specs.Contents.{bucket_of}
 use Rattle.hg_core.specs.Judged.{Judged}
 use Rattle.hg_core.specs.Replies.{AreReplied}
 use Rattle.hg_core.specs.Events.{put}
 use Rattle.hg_core.specs.Reading.{Unprinted, own_entries, close, log_with, log_after, is_alone, Fits, Follows}
-use Rattle.hg_core.proofs.Indices.{by_number, put_here}
+use Rattle.hg_core.proofs.Indices.{by_number}
+use Rattle.hg_base.specs.Transcript.{Rest, rest_after}
 use Rattle.hg_headline.specs.Logged.{Logged}
 use Rattle.hg_headline.specs.Gathered.{WasLive, IsGathered}
 use Rattle.hg_headline.specs.Timely.{commit_in}
 use Rattle.hg_headline.proofs.Words.{and_true, any_same, any_of_onto, each_onto}
 use Rattle.hg_headline.proofs.Same.{SameGroups, history_same, kept_same, writes_same, length_same}
-use Rattle.hg_headline.proofs.Ties.{Ties, commits_onto, shows_begun, ties_other, pick}
+use Rattle.hg_headline.proofs.Ties.{Ties, commits_onto, shows_begun, pick}
 use Rattle.hg_headline.proofs.Right.{Reads}
-use Rattle.hg_headline.proofs.Lines.{Right, IsRising, IsStill, AsCollected, line_right}
+use Rattle.hg_headline.proofs.Lines.{IsRising, IsStill}
 use Rattle.hg_headline.proofs.Commits.{Matches, same_printed, numbers_within, stored_onto, printed_onto, image_of_onto}
 
 -- ---- a beginning of a log
@@ -56,15 +55,15 @@ log_first Q less j false buckets u s reply l q = append_first Q less j (own_entr
 log_first Q less j true buckets u s reply l q = less j _ l (append_first Q less j (own_entries buckets u s reply.answer) _ (append_first Q less j (close reply.number) _ q))
 
 -- what holds of the last logs holds of the first ones
-pub follows_first : (Q : ℕ → List LogEntry → Type 0) → OfBeginnings Q → (buckets : ℕ) (P : (ℕ → List LogEntry) → Record → Line → Type 0) (rs : List Record) (lines : List Line) (logs final : ℕ → List LogEntry) → Follows buckets P logs rs lines final → ((j : ℕ) → Q j (final j)) → (j : ℕ) → Q j (logs j)
-follows_first Q less buckets P [] [] logs final f q j = subst (Q j) (f j) (q j)
-follows_first Q less buckets P [] (line ∷ lines) logs final f q j = absurd f
-follows_first Q less buckets P (r ∷ rs) [] logs final f q j = absurd f
-follows_first Q less buckets P (r ∷ rs) (line ∷ lines) logs final f q j =
+pub follows_first : (Q : ℕ → List LogEntry → Type 0) → OfBeginnings Q → (buckets : ℕ) (P : (ℕ → List LogEntry) → Record → Line → Type 0) (rs : List Record) (lines : List Line) (logs final : ℕ → List LogEntry) (left : ℕ → Option Rest) → Follows buckets P logs left rs lines final → ((j : ℕ) → Q j (final j)) → (j : ℕ) → Q j (logs j)
+follows_first Q less buckets P [] [] logs final left f q j = subst (Q j) (f j) (q j)
+follows_first Q less buckets P [] (line ∷ lines) logs final left f q j = absurd f
+follows_first Q less buckets P (r ∷ rs) [] logs final left f q j = absurd f
+follows_first Q less buckets P (r ∷ rs) (line ∷ lines) logs final left f q j =
     let after : List LogEntry = log_after buckets f.1.0 r.statement line.reply (logs r.session) in
     by_number r.session (λ i b. Q i (if b then after else logs i) → Q i (logs i))
     (λ k. log_first Q less r.session (is_alone (current (logs r.session)) r.statement) buckets f.1.0 r.statement line.reply (logs r.session) k) (λ i e k. k) j
-    (follows_first Q less buckets P rs lines (put logs r.session after) final f.1.2 q j)
+    (follows_first Q less buckets P rs lines (put logs r.session after) final (put left r.session (rest_after r.statement line.reply.answer (left r.session))) f.1.2 q j)
 
 pub judged_less : (h : History) → OfBeginnings (λ j l. Judged h l)
 judged_less h j e l d = d.1
@@ -81,6 +80,7 @@ stands_says (Some opened) n r reply = (refl, refl, refl)
 -- a line has its record's session and statement, and its reply
 pub said_says : (last : Option Said) (r : Record) (reply : Reply) (s : Statement) → ((said_after last r reply s).session ≡ r.session) × ((said_after last r reply s).statement ≡ r.statement) × ((said_after last r reply s).reply ≡ reply)
 said_says last r reply (Begin scope) = (refl, refl, refl)
+said_says last r reply (CursorOpen table low high) = (refl, refl, refl)
 said_says last r reply (Gc kind) = (refl, refl, refl)
 said_says last r reply _ = stands_says (open_after last) (next_after last) r reply
 
@@ -105,25 +105,6 @@ pub record AtLine (buckets : ℕ) (P : (ℕ → List LogEntry) → Record → Li
   pub unprinted : Unprinted
   pub fits : Fits buckets unprinted (logs asked.session) asked.statement line.reply
   pub says : (now.session ≡ asked.session) × (now.statement ≡ asked.statement) × (now.reply ≡ line.reply)
-
-pub lines_told : (mode : Mode) (buckets : ℕ) (h k : History) (all_logs : ℕ → List LogEntry) (all : List Said) (P : (ℕ → List LogEntry) → Record → Line → Type 0) (Q : ℕ → List LogEntry → Type 0) → OfBeginnings Q → ((r : Rid) → bucket_of buckets r < buckets) → ((logs : ℕ → List LogEntry) (r : Record) (line : Line) → P logs r line → AsCollected mode r.session r.statement line.reply.answer) →
-    (rs : List Record) (lines : List Line) (logs final : ℕ → List LogEntry) (earlier : List Said) → ((j : ℕ) → Ties j earlier (logs j)) → Follows buckets P logs rs lines final → ((j : ℕ) → Judged h (final j)) → ((j : ℕ) → AreReplied buckets h all_logs j (final j)) → ((j : ℕ) → Q j (final j)) →
-    EachAfter (λ es now. IsTold mode h k all_logs all es now × AtLine buckets P Q es now) earlier (said_from earlier rs lines) × ((j : ℕ) → Ties j (onto (said_from earlier rs lines) earlier) (final j))
-lines_told mode buckets h k all_logs all P Q less places gc [] [] logs final earlier t f d g q = (tt, λ j. subst (Ties j earlier) (sym (f j)) (t j))
-lines_told mode buckets h k all_logs all P Q less places gc [] (line ∷ lines) logs final earlier t f d g q = absurd f
-lines_told mode buckets h k all_logs all P Q less places gc (r ∷ rs) [] logs final earlier t f d g q = absurd f
-lines_told mode buckets h k all_logs all P Q less places gc (r ∷ rs) (line ∷ lines) logs final earlier t f d g q =
-    let now : Said = said earlier r line.reply in
-    let after : List LogEntry = log_after buckets f.1.0 r.statement line.reply (logs r.session) in
-    let next : ℕ → List LogEntry = put logs r.session after in
-    let judged : Judged h after = subst (Judged h) (put_here logs r.session after) (follows_first (λ j l. Judged h l) (judged_less h) buckets P rs lines next final f.1.2 d r.session) in
-    let replied : AreReplied buckets h all_logs r.session after = subst (AreReplied buckets h all_logs r.session) (put_here logs r.session after) (follows_first (AreReplied buckets h all_logs) (replied_less buckets h all_logs) buckets P rs lines next final f.1.2 g r.session) in
-    let right : Right h all_logs mode k all earlier now r.session after =
-    line_right mode buckets h k all_logs all earlier f.1.0 (logs r.session) r.place r.session r.statement line.reply places (t r.session) f.1.1 (gc logs r line f.0) judged replied in
-    let says = said_says (last_of r.session earlier) r line.reply r.statement in
-    let more = lines_told mode buckets h k all_logs all P Q less places gc rs lines next final (now ∷ earlier)
-    (by_number r.session (λ i b. Ties i (now ∷ earlier) (if b then after else logs i)) right.ties (λ i e. ties_other i earlier now (logs i) (differs_from now.session r.session i says.0 e) (t i))) f.1.2 d g q in
-    (((record { reply = right.reply; conflict = right.conflict; rising = right.rising; commit = right.commit }, record { logs = logs; asked = r; line = line; ties = t; met = f.0; holds = follows_first Q less buckets P (r ∷ rs) (line ∷ lines) logs final f q; unprinted = f.1.0; fits = f.1.1; says = says }), more.0), more.1)
 
 -- ---- what all lines show
 

@@ -108,7 +108,8 @@ met =
     let live : live_in 2 l.logs ≡ [] = λ i. cons_option (option_map (λ snapshot. (1, snapshot.at)) (l.one i)) (cons_option (option_map (λ snapshot. (2, snapshot.at)) (l.two i)) []) in
     let more = replayed_more 1 2 history history l.logs 1 1 _ _ (asked 6 1 (Gc kinds.Interval)) (record { session = 1; place = 6; reply = reply }) nothing_more l.replayed (omega arith) (omega arith) refl refl
     (record { same = refl; horizon = refl; held = sym live; moved = tt })
-    (record { at = sym is; number = sym (ap (λ b. b && false) is); answer = tt; scope = if_any (current (l.logs 1)) (λ snapshot. ⊤) (λ snapshot. tt) })
+    (record { at = sym is; number = sym (ap (λ b. b && false) is); answer = tt; scope = if_any (current (l.logs 1)) (λ snapshot. ⊤) (λ snapshot. tt); inside = tt })
+    tt
     (record { grows = omega arith; reads = (omega arith, tt); snapshot = tt; mark = omega arith; newer = tt; commit = tt })
     (omega arith) (subst (Logged 1 history) (sym same) l.replayed.logged) in
     record {
@@ -155,6 +156,6 @@ ran =
 
     tells : (more : ℕ → List LogEntry) (u : Unprinted) → Fits 1 u [] (Put five (Number (pos 7) ∷ [])) (record { at = Some 0; answer = Stored; number = Some 1 })
         → ((j : ℕ) → more j ≡ put none 1 (log_after 1 u (Put five (Number (pos 7) ∷ [])) (record { at = Some 0; answer = Stored; number = Some 1 }) []) j)
-        → (j : ℕ) (b : Bool) → (1 == j) ≡ b → Tells 1 (λ r line. LeavesGc r.statement line.reply.answer) [] (cond b (asked 1 1 (Put five (Number (pos 7) ∷ [])) ∷ []) []) (if b then line 1 1 (Some 0) Stored (Some 1) ∷ [] else []) (more j)
-    tells more u fits e j true q = let one : 1 ≡ j = grind (arith, nat_tests) in (tt, (u, fits, ap more (sym one) ∙ e 1))
+        → (j : ℕ) (b : Bool) → (1 == j) ≡ b → Tells 1 (λ r line. LeavesGc r.statement line.reply.answer) [] None (cond b (asked 1 1 (Put five (Number (pos 7) ∷ [])) ∷ []) []) (if b then line 1 1 (Some 0) Stored (Some 1) ∷ [] else []) (more j)
+    tells more u fits e j true q = let one : 1 ≡ j = grind (arith, nat_tests) in (tt, (u, fits, ap more (sym one) ∙ e 1, tt))
     tells more u fits e j false q = let out : (j == 1) ≡ false = grind (arith, nat_tests) in e j ∙ ap (λ b. if b then log_after 1 u (Put five (Number (pos 7) ∷ [])) (record { at = Some 0; answer = Stored; number = Some 1 }) [] else []) out

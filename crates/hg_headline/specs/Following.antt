@@ -1,5 +1,5 @@
 -- What a replay knows after each record from the logs of its sessions alone: the history is known only at its end.
-use Rattle.std.specs.Prelude.{◌≡◌, ℕ, suc, ◌+◌, ◌<◌, ◌≤◌, List, [], ◌∷◌, length, if◌then◌else◌, sum_by, IfSome, IsFalse, ⊤}
+use Rattle.std.specs.Prelude.{◌≡◌, ℕ, suc, ◌+◌, ◌<◌, ◌≤◌, List, [], ◌∷◌, length, if◌then◌else◌, sum_by, None, IfSome, IsFalse, ⊤}
 use Rattle.std.specs.List.{cons_option}
 use Rattle.std.specs.Option.{option_map_or}
 use Rattle.hg_base.specs.declared.writer.Writer.{Writer}
@@ -42,7 +42,7 @@ pub record IsOver (logs : ℕ → List LogEntry) (seen : ℕ) (n : ℕ) : Type 0
 pub record IsFollowing (buckets : ℕ) (sessions : ℕ) (logs : ℕ → List LogEntry) (seen : ℕ) (top : ℕ) (records : List Record) (lines : List Line) : Type 0 where
   pub within : Each (λ (r : Record). (1 ≤ r.session) × (r.session ≤ sessions)) records
   pub shape : HasShape records lines
-  pub follows : Follows buckets (IsMet sessions) (λ j. []) records lines logs
+  pub follows : Follows buckets (IsMet sessions) (λ j. []) (λ j. None) records lines logs
   pub rises : Rises 0 records lines top
   pub known : (n : ℕ) → IsOver logs seen n → top ≤ n
 

@@ -68,7 +68,7 @@ pub record HasRun (buckets : ℕ) (h : History) (logs : ℕ → List LogEntry) (
   pub logged : Logged buckets h logs
   pub numbered : Each (λ (r : Record). 1 ≤ r.session) records
   pub shape : (j : ℕ) → HasShape (of_session j records) (lines j)
-  pub tells : (j : ℕ) → Tells buckets (λ r line. LeavesGc r.statement line.reply.answer) [] (of_session j records) (lines j) (logs j)
+  pub tells : (j : ℕ) → Tells buckets (λ r line. LeavesGc r.statement line.reply.answer) [] None (of_session j records) (lines j) (logs j)
   pub of_group : AreReports h logs kinds.Group rounds group
   pub of_table : AreReports h logs kinds.Table rounds table
   pub of_interval : AreReports h logs kinds.Interval rounds interval

@@ -1,5 +1,5 @@
 -- What a replay knows after each record, and so at the end.
-use Rattle.std.specs.Prelude.{ℕ, ◌≤◌, List, [], length}
+use Rattle.std.specs.Prelude.{ℕ, ◌≤◌, List, [], length, None}
 use Rattle.hg_base.specs.declared.statement.Record.{Record}
 use Rattle.hg_base.specs.declared.line.Line.{Line}
 use Rattle.hg_base.specs.Lists.{Each}
@@ -17,6 +17,6 @@ pub record HasReplayed (buckets : ℕ) (sessions : ℕ) (h : History) (logs : �
   pub logged : Logged buckets h logs
   pub within : Each (λ (r : Record). (1 ≤ r.session) × (r.session ≤ sessions)) records
   pub shape : HasShape records lines
-  pub follows : Follows buckets (IsMet sessions) (λ j. []) records lines logs
+  pub follows : Follows buckets (IsMet sessions) (λ j. []) (λ j. None) records lines logs
   pub rises : Rises 0 records lines top
   pub below : top ≤ length h

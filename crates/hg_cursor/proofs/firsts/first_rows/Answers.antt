@@ -2,9 +2,9 @@ use Rattle.std.proofs.Common.{◌≡◌, suc, ◌+◌, ◌<◌, length, false, E
 use Rattle.std.specs.Prelude.{nat_lt, nat_le, ◌&&◌}
 use Rattle.hg_rule.specs.Seats.{session_view}
 use Rattle.hg_store.specs.Stores.{store_buckets}
+use Rattle.hg_core.specs.Reading.{bucket_at}
 use Rattle.hg_cursor.specs.Cursors.{Fetches, FetchesRows}
 use Rattle.hg_cursor.proofs.Trips.{reads_on}
-use Rattle.hg_cursor.specs.Keys.{bucket_at}
 use Rattle.hg_cursor.proofs.Gathering.{IsGathered, none_gathered, one_gathered, stops}
 use Rattle.hg_cursor.proofs.Cutting.{cut}
 use Rattle.hg_cursor.proofs.Picking.{wanted, unwanted, fetched}

@@ -1,6 +1,6 @@
 use Rattle.std.proofs.Common.{ap, ◌∙◌, rules}
 use Rattle.std.proofs.lemmas.List.Sorted.{IsNonDecreasingBy-from_sort, answers_always}
-use Rattle.hg_cursor.specs.Firsts.{passed}
+use Rattle.hg_base.specs.Transcript.{passed}
 use Rattle.hg_cursor.proofs.Rows.{key_of}
 use Rattle.hg_cursor.proofs.firsts.keep_first.Goals as goal
 

@@ -2,7 +2,7 @@ use Rattle.std.proofs.Common.{◌≡◌, ◌-◌, ◌≤◌, false, sym, ap, ◌
 use Rattle.std.specs.Prelude.{length, nat_lt, if◌then◌else◌, slice_get, Some}
 use Rattle.std.proofs.lemmas.Bool.Decides.{nat_tests}
 use Rattle.std.proofs.lemmas.Option.{slice_get_within}
-use Rattle.hg_cursor.specs.Firsts.{last_key}
+use Rattle.hg_base.specs.Transcript.{last_key}
 use Rattle.hg_cursor.proofs.Cutting.{last_got}
 use Rattle.hg_cursor.proofs.firsts.last_passed.Goals as goal
 

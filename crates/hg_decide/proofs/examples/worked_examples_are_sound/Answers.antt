@@ -1,6 +1,6 @@
 use Rattle.std.proofs.Common.{refl}
 use Rattle.hg_base.specs.Script.{replay}
-use Rattle.hg_decide.specs.Examples.{empty, own_write, absent_key, two_puts, absent_deletion, scan_ends, undeclared, open_write, middle_of_a_chain, group_pass, equal_to_a_successor, moved, not_long, kept_deletion, kept_deletion_longer}
+use Rattle.hg_decide.specs.Examples.{empty, own_write, absent_key, two_puts, absent_deletion, scan_ends, undeclared, open_write, middle_of_a_chain, group_pass, equal_to_a_successor, moved, not_long, kept_deletion, kept_deletion_longer, cursor}
 use Rattle.hg_decide.proofs.Decide.{so}
 use Rattle.hg_decide.proofs.Decided.{decide_sound}
 use Rattle.hg_decide.proofs.examples.worked_examples_are_sound.Goals as goal
@@ -49,3 +49,6 @@ returns-clause-kept_deletion c = so (decide_sound replay kept_deletion.script ke
 
 pub returns-clause-kept_deletion_longer : goal.returns-clause-kept_deletion_longer
 returns-clause-kept_deletion_longer c = so (decide_sound replay kept_deletion_longer.script kept_deletion_longer.printed) refl
+
+pub returns-clause-cursor : goal.returns-clause-cursor
+returns-clause-cursor c = so (decide_sound replay cursor.script cursor.printed) refl

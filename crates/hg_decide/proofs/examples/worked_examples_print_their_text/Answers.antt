@@ -61,3 +61,7 @@ returns-clause-kept_deletion c = refl
 pub returns-clause-kept_deletion_longer : goal.returns-clause-kept_deletion_longer
 unfolding digits
 returns-clause-kept_deletion_longer c = refl
+
+pub returns-clause-cursor : goal.returns-clause-cursor
+unfolding digits
+returns-clause-cursor c = refl
