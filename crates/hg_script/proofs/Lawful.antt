@@ -28,7 +28,7 @@ use Rattle.hg_script.specs.declared.values.Values.TheVariants.{No, Over, Bad, Ar
 use Rattle.hg_script.specs.declared.word.Word.{Word}
 use Rattle.hg_script.specs.declared.word.Word.TheVariants as word
 use Rattle.hg_script.specs.declared.draft.Ask.{Ask}
-use Rattle.hg_script.specs.declared.draft.Ask.TheVariants.{Begin, Get, Put, Del, Scan, Commit, Rollback, Gc}
+use Rattle.hg_script.specs.declared.draft.Ask.TheVariants.{Begin, Get, Put, Del, Scan, CursorOpen, Fetch, CursorClose, Commit, Rollback, Gc}
 use Rattle.hg_script.specs.declared.draft.Draft.{Draft}
 use Rattle.hg_script.specs.declared.draft.Draft.TheVariants.{Version, Table, Session}
 use Rattle.hg_script.specs.Number.{is_between, natural_of, value_of}
@@ -38,8 +38,9 @@ use Rattle.hg_script.specs.Number.{integer_of}
 use Rattle.hg_script.specs.Numbered.{records_before}
 use Rattle.hg_script.proofs.Numbered.{few_before}
 use Rattle.hg_script.specs.Fields.{Field, Fields, is_version, nth, statement_word, word_of}
+use Rattle.hg_script.specs.declared.rules.TheConstants.{MOST_FETCHED}
 use Rattle.hg_script.specs.Draft.{before, columns_by, counted, draft_of, first_table, is_fresh, is_letter, kind_by, kind_named, kinds_at, lettered, numbers_in, row_in, scope_named, table_named, values_by}
-use Rattle.hg_script.specs.Rules.{count_of, count_breaks, number_breaks, range_breaks, name_breaks, columns_breaks, is_bad_values, is_no_columns, is_over_columns, value_breaks, ask_order_breaks, is_open, order_breaks}
+use Rattle.hg_script.specs.Rules.{count_of, count_breaks, number_breaks, range_breaks, name_breaks, columns_breaks, is_bad_values, is_no_columns, is_over_columns, value_breaks, ask_order_breaks, is_open, is_reading, order_breaks}
 use Rattle.hg_script.specs.Meaning.{draft_code, first_code, kinds_in, nothing, or_next, refusal_from, refusal_of, row_of, script_from, script_of, statement_of, with_draft, with_row, code_table, first_broken}
 use Rattle.hg_script.specs.Lawful.{AreInOrder, FitsTables, HasNumbers, HasWidths, IsLawful, IsStatement, IsTable, MayStand}
 
@@ -59,22 +60,27 @@ ascends-one (a ∷ []) r h k = (k.0, tt)
 ascends-one (a ∷ b ∷ rs) r h k = (h.0, ascends-one (b ∷ rs) r h.1 k.1)
 
 -- one more record that may stand after those before it
-in-order-one : (before rs : List Record) (r : Record) → AreInOrder before rs → MayStand (is_open r.session (before ++ rs)) r.statement → AreInOrder before (rs ++ r ∷ [])
-in-order-one before [] r h may = (subst (λ ls. MayStand (is_open r.session ls) r.statement) (append_nil before) may, tt)
-in-order-one before (q ∷ qs) r h may = (h.0, in-order-one (before ++ q ∷ []) qs r h.1 (subst (λ ls. MayStand (is_open r.session ls) r.statement) (sym (append_assoc before (q ∷ []) qs)) may))
+in-order-one : (before rs : List Record) (r : Record) → AreInOrder before rs → MayStand (is_open r.session (before ++ rs)) (is_reading r.session (before ++ rs)) r.statement → AreInOrder before (rs ++ r ∷ [])
+in-order-one before [] r h may = (subst (λ ls. MayStand (is_open r.session ls) (is_reading r.session ls) r.statement) (append_nil before) may, tt)
+in-order-one before (q ∷ qs) r h may = (h.0, in-order-one (before ++ q ∷ []) qs r h.1 (subst (λ ls. MayStand (is_open r.session ls) (is_reading r.session ls) r.statement) (sym (append_assoc before (q ∷ []) qs)) may))
 
 -- what no rule of order refuses may stand
-may-stand : (within : Bool) (ask : Ask) → ask_order_breaks within ask ≡ false → MayStand within (statement_of ask)
-may-stand within (Begin scope) e = e
-may-stand within (Get table key) e = tt
-may-stand within (Put table key values) e = tt
-may-stand within (Del table key) e = tt
-may-stand within (Scan table low high) e = tt
-may-stand true Commit e = refl
-may-stand false Commit e = absurd (let bad : ⊥ = cc e in bad)
-may-stand true Rollback e = refl
-may-stand false Rollback e = absurd (let bad : ⊥ = cc e in bad)
-may-stand within (Gc kind) e = tt
+may-stand : (within reads : Bool) (ask : Ask) → ask_order_breaks within reads ask ≡ false → MayStand within reads (statement_of ask)
+may-stand within reads (Begin scope) e = e
+may-stand within reads (Get table key) e = e
+may-stand within reads (Put table key values) e = e
+may-stand within reads (Del table key) e = e
+may-stand within reads (Scan table low high) e = e
+may-stand within reads (CursorOpen table low high) e = e
+may-stand within true (Fetch most) e = refl
+may-stand within false (Fetch most) e = absurd (let bad : ⊥ = cc e in bad)
+may-stand within true CursorClose e = refl
+may-stand within false CursorClose e = absurd (let bad : ⊥ = cc e in bad)
+may-stand true reads Commit e = refl
+may-stand false reads Commit e = absurd (let bad : ⊥ = cc e in bad)
+may-stand true reads Rollback e = refl
+may-stand false reads Rollback e = absurd (let bad : ⊥ = cc e in bad)
+may-stand within reads (Gc kind) e = tt
 
 -- ---- the tests, as facts
 
@@ -216,7 +222,7 @@ abbrev pub with-statement : ℕ → Script → ℕ → Statement → Script
 with-statement place s session st = record s { records = s.records ++ (record { place = place; session = session; statement = st }) ∷ [] }
 
 pub statement-more : (place : ℕ) (s : Script) (session : ℕ) (st : Statement) → Grown place s → place ≤ MOST_RECORDS → Lies 1 MOST_SESSIONS session → FitsTables s.tables st
-    → HasWidths st → MayStand (is_open session s.records) st → Grown (place + 1) (with-statement place s session st)
+    → HasWidths st → MayStand (is_open session s.records) (is_reading session s.records) st → Grown (place + 1) (with-statement place s session st)
 statement-more place s session st g room in_range fits widths may =
     let added : Record = record { place = place; session = session; statement = st } in
     let many : length (s.records ++ added ∷ []) ≡ length s.records + 1 = length-append s.records (added ∷ []) in record {
@@ -267,10 +273,10 @@ has-room n h = grind (arith, nat_tests, h)
 within-most : (place : ℕ) → nat_lt MOST_RECORDS place ≡ false → place ≤ MOST_RECORDS
 within-most place h = grind (arith, nat_tests, h)
 
-asked-more : (place : ℕ) (s : Script) (session : Natural) (ask : Ask) → Grown place s → place ≤ MOST_RECORDS → range_breaks (Session session ask) ≡ false → ask_order_breaks (is_open (value_of session) s.records) ask ≡ false
+asked-more : (place : ℕ) (s : Script) (session : Natural) (ask : Ask) → Grown place s → place ≤ MOST_RECORDS → range_breaks (Session session ask) ≡ false → ask_order_breaks (is_open (value_of session) s.records) (is_reading (value_of session) s.records) ask ≡ false
     → FitsTables s.tables (statement_of ask) → HasWidths (statement_of ask) → Grown (place + 1) (with-statement place s (value_of session) (statement_of ask))
 asked-more place s session ask g room range order fits widths =
-    statement-more place s (value_of session) (statement_of ask) g room (lies 1 MOST_SESSIONS session (or_parts _ _ range).0) fits widths (may-stand (is_open (value_of session) s.records) ask order)
+    statement-more place s (value_of session) (statement_of ask) g room (lies 1 MOST_SESSIONS session (or_parts _ _ range).0) fits widths (may-stand (is_open (value_of session) s.records) (is_reading (value_of session) s.records) ask order)
 
 declared-more : (place : ℕ) (s : Script) (name text : Field) → Grown place s → place ≤ MOST_RECORDS → nat_le 64 (length s.tables) ≡ false
     → Keeps s (Table (is_fresh s.tables name) (columns_by s.version text))
@@ -323,7 +329,8 @@ no-version : (text : Field) → statement_word text ≡ Some word.Version → �
 no-version text =
     other-word _ word.Begin _ (λ e. let no : ⊥ = cc e in no) (other-word _ word.Get _ (λ e. let no : ⊥ = cc e in no) (other-word _ word.Put _ (λ e. let no : ⊥ = cc e in no)
     (other-word _ word.Del _ (λ e. let no : ⊥ = cc e in no) (other-word _ word.Scan _ (λ e. let no : ⊥ = cc e in no) (other-word _ word.Commit _ (λ e. let no : ⊥ = cc e in no)
-    (other-word _ word.Rollback _ (λ e. let no : ⊥ = cc e in no) (other-word _ word.Gc None (λ e. let no : ⊥ = cc e in no) (λ e. let no : ⊥ = cc e in no))))))))
+    (other-word _ word.Rollback _ (λ e. let no : ⊥ = cc e in no) (other-word _ word.Gc _ (λ e. let no : ⊥ = cc e in no) (other-word _ word.Open _ (λ e. let no : ⊥ = cc e in no)
+    (other-word _ word.Fetch _ (λ e. let no : ⊥ = cc e in no) (other-word _ word.Close None (λ e. let no : ⊥ = cc e in no) (λ e. let no : ⊥ = cc e in no)))))))))))
 
 pub first-place : (place : ℕ) (r : Fields) → word_of place r ≡ Some word.Version → place ≡ 1
 first-place place r e = cases (is_version place r)
@@ -342,6 +349,9 @@ version-alone version tables word.Scan r d e = absurd (let no : ⊥ = cc e in no
 version-alone version tables word.Commit r d e = absurd (let no : ⊥ = cc e in no)
 version-alone version tables word.Rollback r d e = absurd (let no : ⊥ = cc e in no)
 version-alone version tables word.Gc r d e = absurd (let no : ⊥ = cc e in no)
+version-alone version tables word.Open r d e = absurd (let no : ⊥ = cc e in no)
+version-alone version tables word.Fetch r d e = absurd (let no : ⊥ = cc e in no)
+version-alone version tables word.Close r d e = absurd (let no : ⊥ = cc e in no)
 
 -- and nothing stands before it
 pub record IsFirst (place : ℕ) (s : Script) : Type 0 where
@@ -385,6 +395,13 @@ by-word place s r word.Scan g count first k =
 by-word place s r word.Commit g count first k = asked-more place s (natural_of (nth r 0)) Commit g (room place _ count) k.range k.order tt tt
 by-word place s r word.Rollback g count first k = asked-more place s (natural_of (nth r 0)) Rollback g (room place _ count) k.range k.order tt tt
 by-word place s r word.Gc g count first k = asked-more place s (natural_of (nth r 0)) (Gc (kind_named (nth r 2))) g (room place _ count) k.range k.order tt tt
+by-word place s r word.Open g count first k =
+    asked-more place s (natural_of (nth r 0)) (CursorOpen (table_named s.tables (nth r 2)) (natural_of (nth r 3)) (natural_of (nth r 4))) g (room place _ count) k.range k.order
+    (among s.tables (nth r 2) k.name) (natural-fits (nth r 3), natural-fits (nth r 4))
+by-word place s r word.Fetch g count first k =
+    let lie = lies 1 MOST_FETCHED (natural_of (nth r 2)) (or_parts _ _ k.range).1 in
+    asked-more place s (natural_of (nth r 0)) (Fetch (natural_of (nth r 2))) g (room place _ count) k.range k.order tt (lie.some, lie.most)
+by-word place s r word.Close g count first k = asked-more place s (natural_of (nth r 0)) CursorClose g (room place _ count) k.range k.order tt tt
 
 by-words : (place : ℕ) (s : Script) (r : Fields) (w : Option Word) → Grown place s → count_breaks place s.tables w ≡ false → (w ≡ Some word.Version → place ≡ 1)
     → first_broken (drop 1 (code_table place s r w (option_map (λ word. draft_of s.version s.tables word r) w))) ≡ None

@@ -17,6 +17,7 @@ pub mod Made
 -- Statements and values as they are stored.
 pub mod Links
 pub mod Packed
+pub mod Opening
 pub mod Numbered
 -- A reader reaches every record.
 pub mod Walk

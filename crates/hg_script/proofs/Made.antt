@@ -1,5 +1,5 @@
 -- A script that is made keeps the rules, statement by statement.
-use Rattle.std.proofs.Common.{◌≡◌, ◌∙◌, ◌+◌, ◌*◌, ◌/◌, ◌%◌, ◌<◌, ◌^◌, ℕ, zero, suc, pos, Bool, true, false, List, [], ◌∷◌, ◌++◌, length, map, fold, if◌then◌else◌, inl, refl, sym, ap, subst, arith, length-append, append_assoc, nat_le}
+use Rattle.std.proofs.Common.{◌≡◌, ◌∙◌, ◌+◌, ◌*◌, ◌/◌, ◌%◌, ◌<◌, ◌^◌, ◌==◌, ℕ, zero, suc, pos, Bool, true, false, List, [], ◌∷◌, ◌++◌, length, map, fold, if◌then◌else◌, inl, refl, sym, ap, subst, arith, length-append, append_assoc, nat_le}
 use Rattle.std.proofs.lemmas.Nat.{mod_below}
 use Rattle.std.proofs.Math.Nat.{mod-add-mod}
 use Rattle.std.specs.List.{IsDistinct}
@@ -18,7 +18,8 @@ use Rattle.hg_script.specs.declared.choice.Choice.TheVariants.{Begin, BeginC, Ge
 use Rattle.hg_script.specs.Generator.{AreMade, IsMade, below, chosen, chosen_in, draws_of, drawn, inside, made_tables, next_state, outside, record_after, state_after, state_behind, statement_at, statement_by, table_drawn}
 use Rattle.hg_script.specs.Numbered.{many_before, records_before}
 use Rattle.hg_script.specs.Lawful.{FitsTables, HasNumbers, HasWidths, MayStand}
-use Rattle.hg_script.specs.Rules.{is_open}
+use Rattle.hg_script.specs.Rules.{is_open, is_reading, reading, reading_by}
+use Rattle.hg_script.proofs.Open.{fold-one as reads-one}
 
 -- ---- draws
 
@@ -99,9 +100,28 @@ chosen-has : (P : Choice → Type 0) (rows : List (ℕ × Choice)) (r : ℕ) →
 chosen-has P [] r gc h = gc
 chosen-has P ((last, choice) ∷ more) r gc h = if-either P (nat_le r last) choice (chosen_in more r) h.0 (chosen-has P more r gc h.1)
 
-may : (x : ℕ) (within : Bool) → MayStand within (statement_at x within)
-may x true = chosen-has (λ c. MayStand true (statement_by x c)) inside (drawn 1 16 x) tt (tt, (tt, (tt, (tt, (refl, (refl, (tt, tt)))))))
-may x false = chosen-has (λ c. MayStand false (statement_by x c)) outside (drawn 1 16 x) tt (refl, (refl, (tt, (tt, (tt, (tt, (tt, tt)))))))
+may : (x : ℕ) (within : Bool) → MayStand within false (statement_at x within)
+may x true = chosen-has (λ c. MayStand true false (statement_by x c)) inside (drawn 1 16 x) tt (refl, (refl, (refl, (refl, (refl, (refl, (tt, tt)))))))
+may x false = chosen-has (λ c. MayStand false false (statement_by x c)) outside (drawn 1 16 x) tt (refl, (refl, (refl, (refl, (refl, (refl, (tt, tt)))))))
+
+-- no cursor is opened
+reads-nothing : (x : ℕ) (c : Choice) → reading false (statement_by x c) ≡ false
+reads-nothing x Begin = refl
+reads-nothing x BeginC = refl
+reads-nothing x Get = refl
+reads-nothing x Put = refl
+reads-nothing x Del = refl
+reads-nothing x Scan = refl
+reads-nothing x Commit = refl
+reads-nothing x Rollback = refl
+reads-nothing x Gc = refl
+
+if-same : (b : Bool) (x : Bool) → x ≡ false → (if b then x else false) ≡ false
+if-same true x h = h
+if-same false x h = refl
+
+reads-none : (j : ℕ) (rs : List Record) (r : Record) → is_reading j rs ≡ false → reading false r.statement ≡ false → is_reading j (rs ++ r ∷ []) ≡ false
+reads-none j rs r h k = reads-one (reading_by j) false rs r ∙ ap (λ b. reading_by j b r) h ∙ if-same (r.session == j) (reading false r.statement) k
 
 -- ---- the script
 
@@ -124,6 +144,7 @@ pub record Making (seed i x : ℕ) (s : Script) : Type 0 where
   pub each : AreMade seed [] s.records
   pub state : x ≡ state_behind seed s.records
   pub grown : Grown (i + 4) s
+  pub calm : (j : ℕ) → is_reading j s.records ≡ false
 
 pub making-more : (seed i x : ℕ) (s : Script) → Making seed i x s → i < 16000
     → Making seed (i + 1) (state_after (draws_of (statement_at x (is_open (i % 8 + 1) s.records))) x) (with-statement (records_before s + length s.records + 1) s (i % 8 + 1) (statement_at x (is_open (i % 8 + 1) s.records)))
@@ -136,7 +157,7 @@ making-more seed i x s m more =
     let lies : Lies 1 MOST_SESSIONS session = record { some = omega arith; most = omega (arith, mod_below i 8 (omega arith)) } in
     let c = chosen (is_open session s.records) (drawn 1 16 x) in
     let fitting : FitsTables s.tables st = subst (λ ts. FitsTables ts st) (sym m.tables) (fits x c) in
-    let grown = statement-more (i + 4) s session st m.grown (omega (arith, more)) lies fitting (widths x c) (may x (is_open session s.records)) in
+    let grown = statement-more (i + 4) s session st m.grown (omega (arith, more)) lies fitting (widths x c) (subst (λ b. MayStand (is_open session s.records) b st) (sym (m.calm session)) (may x (is_open session s.records))) in
     let order : i + 4 + 1 ≡ i + 1 + 4 = omega arith in record {
       version = m.version;
       tables = m.tables;
@@ -144,6 +165,7 @@ making-more seed i x s m more =
       each = made-one seed [] s.records added m.each (same-record seed place i x s.records here m.many m.state);
       state = sym (fold-one (λ x r. state_after (draws_of r.statement) x) seed s.records added ∙ ap (state_after (draws_of st)) (sym m.state));
       grown = subst (λ p. Grown (i + 1 + 4) (with-statement p s session st)) (sym here) (subst (λ q. Grown q (with-statement (i + 4) s session st)) order grown);
+      calm = λ j. reads-none j s.records added (m.calm j) (reads-nothing x c);
     }
 
 -- the tables alone
@@ -170,6 +192,7 @@ making-none seed = record {
     many = omega arith;
     before = tt;
   };
+  calm = λ j. refl;
 }
 
 -- ---- there is one

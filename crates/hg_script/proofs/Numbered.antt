@@ -1,6 +1,7 @@
 -- Statements as records, by counted places.
-use Rattle.std.proofs.Common.{◌≡◌, ◌<◌, ◌≤◌, ◌==◌, ◌+◌, ◌∙◌, ℕ, zero, suc, List, [], ◌∷◌, ◌++◌, length, map, get_or, refl, ap, arith}
+use Rattle.std.proofs.Common.{◌≡◌, ◌<◌, ◌≤◌, ◌==◌, ◌+◌, ◌∙◌, ℕ, zero, suc, List, [], ◌∷◌, ◌++◌, length, map, get_or, Option, refl, ap, arith}
 use Rattle.std.proofs.lemmas.Bool.{cond_both}
+use Rattle.hg_base.specs.declared.rid.TableId.{TableId}
 use Rattle.hg_base.specs.declared.statement.Record.{Record}
 use Rattle.hg_base.specs.declared.statement.Statement.{Statement}
 use Rattle.hg_script.specs.Asked.{asked_by, said_by}
@@ -43,8 +44,8 @@ none_numbered place other [] h = refl
 none_numbered place other (x ∷ xs) h = absurd (let no : ⊥ = cc h in no)
 
 -- what is asked at i, whatever its place
-pub numbered_asks : (place : ℕ) (xs : List (ℕ × Statement)) (i : ℕ) (d : Record) (e : ℕ × Statement) → i < length xs
-    → said_by (get_or (numbered place xs) i d) ≡ ((get_or xs i e).0, asked_by (get_or xs i e).1)
-numbered_asks place [] i d e less = absurd (omega (arith, less))
-numbered_asks place (x ∷ xs) zero d e less = refl
-numbered_asks place (x ∷ xs) (suc i) d e less = numbered_asks (place + 1) xs i d e (omega (arith, less))
+pub numbered_asks : (place : ℕ) (xs : List (ℕ × Statement)) (i : ℕ) (d : Record) (e : ℕ × Statement) (cursor : Option TableId) → i < length xs
+    → said_by cursor (get_or (numbered place xs) i d) ≡ ((get_or xs i e).0, asked_by cursor (get_or xs i e).1)
+numbered_asks place [] i d e cursor less = absurd (omega (arith, less))
+numbered_asks place (x ∷ xs) zero d e cursor less = refl
+numbered_asks place (x ∷ xs) (suc i) d e cursor less = numbered_asks (place + 1) xs i d e cursor (omega (arith, less))

@@ -1,11 +1,12 @@
 -- Statements whose values stand in one list.
-use Rattle.std.proofs.Common.{◌≡◌, ◌≤◌, ◌<◌, ◌+◌, ◌∙◌, ℕ, zero, suc, ℤ, false, List, [], ◌∷◌, ◌++◌, length, length-drop, map, take, drop, max, fold, get_or, refl, ap, arith, length-append}
+use Rattle.std.proofs.Common.{◌≡◌, ◌≤◌, ◌<◌, ◌+◌, ◌∙◌, ℕ, zero, suc, ℤ, false, List, [], ◌∷◌, ◌++◌, length, length-drop, map, take, drop, max, fold, get_or, Option, None, refl, ap, arith, length-append}
 use Rattle.std.specs.List.{list_any}
 use Rattle.std.proofs.Math.ListN.{get_or-append}
 use Rattle.std.proofs.Math.Seq.{get_or-append_seam, take-append-le, drop-append-le, drop-append_seam}
 use Rattle.std.proofs.lemmas.List.{length-map, map-append, take_all}
 use Rattle.hg_base.specs.Lists.{Each, greatest}
 use Rattle.hg_base.specs.declared.rid.Rid.{Rid}
+use Rattle.hg_base.specs.declared.rid.TableId.{TableId}
 use Rattle.hg_base.specs.declared.value.Value.{Value}
 use Rattle.hg_base.specs.declared.value.Value.TheVariants.{Number}
 use Rattle.hg_base.specs.Values.{is_text, number_of}
@@ -15,7 +16,7 @@ use Rattle.hg_base.proofs.ListFacts.{cases, each_keeps}
 use Rattle.hg_base.proofs.Numbers.{numbers_alone}
 use Rattle.hg_script.specs.declared.statements.Entry.{Entry}
 use Rattle.hg_script.specs.declared.statements.Packed.{Packed}
-use Rattle.hg_script.specs.declared.statements.Packed.TheVariants.{Begin, Get, Put, PutRow, Del, Scan, Commit, Rollback, Gc}
+use Rattle.hg_script.specs.declared.statements.Packed.TheVariants.{Begin, Get, Put, PutRow, Del, Scan, CursorOpen, Fetch, CursorClose, Commit, Rollback, Gc}
 use Rattle.hg_script.specs.Links.{led, sessions_in}
 use Rattle.hg_script.specs.Packed.{HasRow, HasSession, IsWithin, added, added_rows, packed_as, statement_in, unpacked}
 
@@ -30,20 +31,23 @@ pub numbers_back : (ns : List ℤ) → map number_of (map Number ns) ≡ ns
 numbers_back [] = refl
 numbers_back (n ∷ ns) = ap (λ rest. n ∷ rest) (numbers_back ns)
 
-put_back : (ns : List ℤ) (rows : List (List Value)) (rid : Rid) (row : List Value) → statement_in (ns ++ added (say.Put rid row)) (rows ++ added_rows (say.Put rid row)) (packed_as (length ns) (length rows) (say.Put rid row)) ≡ say.Put rid row
+put_back : (ns : List ℤ) (rows : List (List Value)) (rid : Rid) (row : List Value) → statement_in (ns ++ added (say.Put rid row)) (rows ++ added_rows (say.Put rid row)) (packed_as None (length ns) (length rows) (say.Put rid row)) ≡ say.Put rid row
 put_back ns rows rid row = cases (list_any is_text row)
     (λ e. rw e (ap (say.Put rid) (get_or-append_seam rows row [] [])))
     (λ e. rw e (rw (drop-append_seam ns (map number_of row), take_all (length row) (map number_of row) (omega (arith, length-map row number_of))) (ap (say.Put rid) (numbers_alone row e))))
 
-pub comes_back : (ns : List ℤ) (rows : List (List Value)) (s : Statement) → statement_in (ns ++ added s) (rows ++ added_rows s) (packed_as (length ns) (length rows) s) ≡ s
-comes_back ns rows (say.Begin scope) = refl
-comes_back ns rows (say.Get rid) = refl
-comes_back ns rows (say.Put rid row) = put_back ns rows rid row
-comes_back ns rows (say.Del rid) = refl
-comes_back ns rows (say.Scan table low high) = refl
-comes_back ns rows say.Commit = refl
-comes_back ns rows say.Rollback = refl
-comes_back ns rows (say.Gc kind) = refl
+pub comes_back : (cursor : Option TableId) (ns : List ℤ) (rows : List (List Value)) (s : Statement) → statement_in (ns ++ added s) (rows ++ added_rows s) (packed_as cursor (length ns) (length rows) s) ≡ s
+comes_back cursor ns rows (say.Begin scope) = refl
+comes_back cursor ns rows (say.Get rid) = refl
+comes_back cursor ns rows (say.Put rid row) = put_back ns rows rid row
+comes_back cursor ns rows (say.Del rid) = refl
+comes_back cursor ns rows (say.Scan table low high) = refl
+comes_back cursor ns rows (say.CursorOpen table low high) = refl
+comes_back cursor ns rows (say.Fetch n) = refl
+comes_back cursor ns rows say.CursorClose = refl
+comes_back cursor ns rows say.Commit = refl
+comes_back cursor ns rows say.Rollback = refl
+comes_back cursor ns rows (say.Gc kind) = refl
 
 row_stays : (ns more : List ℤ) (first count : ℕ) → first + count ≤ length ns → take count (drop first (ns ++ more)) ≡ take count (drop first ns)
 row_stays ns more first count within = rw (drop-append-le first ns more (omega (arith, within))) (take-append-le count (drop first ns) more (omega (arith, within, length-drop first ns)))
@@ -55,6 +59,9 @@ stays ns more rows others (Put rid span) h = ap (λ xs. say.Put rid (map Number 
 stays ns more rows others (PutRow rid i) h = ap (say.Put rid) (get_or-append rows others [] i h)
 stays ns more rows others (Del rid) h = refl
 stays ns more rows others (Scan table low high) h = refl
+stays ns more rows others (CursorOpen table low high) h = refl
+stays ns more rows others (Fetch n cursor) h = refl
+stays ns more rows others CursorClose h = refl
 stays ns more rows others Commit h = refl
 stays ns more rows others Rollback h = refl
 stays ns more rows others (Gc kind) h = refl
@@ -66,6 +73,9 @@ more_room n m k l (Put rid span) le less h = (h.0, h.1, omega (arith, le, h.2))
 more_room n m k l (PutRow rid i) le less h = omega (arith, less, h)
 more_room n m k l (Del rid) le less h = tt
 more_room n m k l (Scan table low high) le less h = tt
+more_room n m k l (CursorOpen table low high) le less h = tt
+more_room n m k l (Fetch most cursor) le less h = tt
+more_room n m k l CursorClose le less h = tt
 more_room n m k l Commit le less h = tt
 more_room n m k l Rollback le less h = tt
 more_room n m k l (Gc kind) le less h = tt
@@ -77,11 +87,11 @@ all_stay ns more rows others [] h = refl
 all_stay ns more rows others (e ∷ es) h = rw (stays ns more rows others e.packed h.0, all_stay ns more rows others es h.1) refl
 
 -- one statement more
-pub one_more : (ns : List ℤ) (rows : List (List Value)) (es : List Entry) (session next : ℕ) (s : Statement) → Each (IsWithin (length ns) (length rows)) es
-    → map (unpacked (ns ++ added s) (rows ++ added_rows s)) (es ++ (record { session = session; next = next; packed = packed_as (length ns) (length rows) s }) ∷ []) ≡ map (unpacked ns rows) es ++ (session, s) ∷ []
-one_more ns rows es session next s h =
-    let e : Entry = record { session = session; next = next; packed = packed_as (length ns) (length rows) s } in
-    map-append (unpacked (ns ++ added s) (rows ++ added_rows s)) es (e ∷ []) ∙ rw (all_stay ns (added s) rows (added_rows s) es h, comes_back ns rows s) refl
+pub one_more : (cursor : Option TableId) (ns : List ℤ) (rows : List (List Value)) (es : List Entry) (session next : ℕ) (s : Statement) → Each (IsWithin (length ns) (length rows)) es
+    → map (unpacked (ns ++ added s) (rows ++ added_rows s)) (es ++ (record { session = session; next = next; packed = packed_as cursor (length ns) (length rows) s }) ∷ []) ≡ map (unpacked ns rows) es ++ (session, s) ∷ []
+one_more cursor ns rows es session next s h =
+    let e : Entry = record { session = session; next = next; packed = packed_as cursor (length ns) (length rows) s } in
+    map-append (unpacked (ns ++ added s) (rows ++ added_rows s)) es (e ∷ []) ∙ rw (all_stay ns (added s) rows (added_rows s) es h, comes_back cursor ns rows s) refl
 
 pub within_more : (ns more : List ℤ) (rows others : List (List Value)) (es : List Entry) → Each (IsWithin (length ns) (length rows)) es → Each (IsWithin (length (ns ++ more)) (length (rows ++ others))) es
 within_more ns more rows others es h =
@@ -118,3 +128,9 @@ pub unpacked_session : (ns : List ℤ) (rows : List (List Value)) (es : List Ent
 unpacked_session ns rows [] i said e less = absurd (omega (arith, less))
 unpacked_session ns rows (x ∷ es) zero said e less = refl
 unpacked_session ns rows (x ∷ es) (suc i) said e less = unpacked_session ns rows es i said e (omega (arith, less))
+
+-- the statement at i
+pub unpacked_at : (ns : List ℤ) (rows : List (List Value)) (es : List Entry) (i : ℕ) (said : ℕ × Statement) (e : Entry) → i < length es → get_or (map (unpacked ns rows) es) i said ≡ unpacked ns rows (get_or es i e)
+unpacked_at ns rows [] i said e less = absurd (omega (arith, less))
+unpacked_at ns rows (x ∷ es) zero said e less = refl
+unpacked_at ns rows (x ∷ es) (suc i) said e less = unpacked_at ns rows es i said e (omega (arith, less))

@@ -25,7 +25,7 @@ use Rattle.hg_script.specs.declared.values.Values.{Values}
 use Rattle.hg_script.specs.declared.values.Values.TheVariants.{No, Over, Bad, Are}
 use Rattle.hg_script.specs.declared.word.Word.{Word}
 use Rattle.hg_script.specs.declared.word.Word.TheVariants as word
-use Rattle.hg_script.specs.declared.draft.Ask.TheVariants.{Begin, Get, Put, Del, Scan, Commit, Rollback, Gc}
+use Rattle.hg_script.specs.declared.draft.Ask.TheVariants.{Begin, Get, Put, Del, Scan, CursorOpen, Fetch, CursorClose, Commit, Rollback, Gc}
 use Rattle.hg_script.specs.declared.draft.Draft.{Draft}
 use Rattle.hg_script.specs.declared.draft.Draft.TheVariants.{Version, Table, Session}
 use Rattle.hg_script.specs.Number.{is_digit, natural_of, integer_of}
@@ -173,3 +173,6 @@ draft_of version tables word.Scan r = Session (natural_of (nth r 0)) (Scan (tabl
 draft_of version tables word.Commit r = Session (natural_of (nth r 0)) Commit
 draft_of version tables word.Rollback r = Session (natural_of (nth r 0)) Rollback
 draft_of version tables word.Gc r = Session (natural_of (nth r 0)) (Gc (kind_named (nth r 2)))
+draft_of version tables word.Open r = Session (natural_of (nth r 0)) (CursorOpen (table_named tables (nth r 2)) (natural_of (nth r 3)) (natural_of (nth r 4)))
+draft_of version tables word.Fetch r = Session (natural_of (nth r 0)) (Fetch (natural_of (nth r 2)))
+draft_of version tables word.Close r = Session (natural_of (nth r 0)) CursorClose

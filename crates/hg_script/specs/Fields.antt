@@ -2,7 +2,7 @@
 use Rattle.std.specs.Prelude.{ℕ, ◌==◌, ◌&&◌, List, [], get_or, codes, bytes_eq, Option, Some, None, Bool, if◌then◌else◌}
 use Rattle.csv.specs.Reading.{default_config, records, strip_bom}
 use Rattle.hg_script.specs.declared.word.Word.{Word}
-use Rattle.hg_script.specs.declared.word.Word.TheVariants.{Version, Table, Begin, Get, Put, Del, Scan, Commit, Rollback, Gc}
+use Rattle.hg_script.specs.declared.word.Word.TheVariants.{Version, Table, Begin, Get, Put, Del, Scan, Commit, Rollback, Gc, Open, Fetch, Close}
 
 -- a field is its bytes
 abbrev pub Field : Type 0
@@ -30,7 +30,10 @@ statement_word word =
     else (if bytes_eq word (codes "commit") then Some Commit
     else (if bytes_eq word (codes "rollback") then Some Rollback
     else (if bytes_eq word (codes "gc") then Some Gc
-    else None)))))))
+    else (if bytes_eq word (codes "open") then Some Open
+    else (if bytes_eq word (codes "fetch") then Some Fetch
+    else (if bytes_eq word (codes "close") then Some Close
+    else None))))))))))
 
 -- whether the record at this place is the version's: the first record alone may be
 abbrev pub is_version : ℕ → Fields → Bool

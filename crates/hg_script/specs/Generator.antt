@@ -108,13 +108,16 @@ statement_by x Gc = say.Gc (kind_at (drawn 2 3 x))
 abbrev pub statement_at : ℕ → Bool → Statement
 statement_at x within = statement_by x (chosen within (drawn 1 16 x))
 
--- how many numbers are drawn for a statement
+-- how many numbers are drawn for a statement; no cursor is
 abbrev pub draws_of : Statement → ℕ
 draws_of (say.Begin scope) = 1
 draws_of (say.Get rid) = 3
 draws_of (say.Put rid row) = 3 + length row
 draws_of (say.Del rid) = 3
 draws_of (say.Scan table low high) = 3
+draws_of (say.CursorOpen table low high) = 0
+draws_of (say.Fetch n) = 0
+draws_of say.CursorClose = 0
 draws_of say.Commit = 1
 draws_of say.Rollback = 1
 draws_of (say.Gc kind) = 2

@@ -1,5 +1,5 @@
 -- What a script is that breaks no rule, in words of its own.
-use Rattle.std.specs.Prelude.{◌≡◌, ◌⊎◌, ◌+◌, ◌<◌, ◌≤◌, ◌^◌, List, [], ◌∷◌, ◌++◌, length, map, Bool, IsTrue, IsFalse, bytes_eq, ⊤}
+use Rattle.std.specs.Prelude.{◌≡◌, ◌⊎◌, ◌+◌, ◌<◌, ◌≤◌, ◌^◌, List, [], ◌∷◌, ◌++◌, ◌||◌, length, map, Bool, IsTrue, IsFalse, bytes_eq, ⊤}
 use Rattle.std.specs.List.{IsDistinct}
 use Rattle.hg_base.specs.declared.limits.TheConstants.{MOST_SESSIONS, MOST_TABLES, MOST_COLUMNS, MOST_RECORDS}
 use Rattle.hg_base.specs.declared.rid.TableId.{TableId}
@@ -13,9 +13,10 @@ use Rattle.hg_base.specs.Values.{FitsValue, kind_of}
 use Rattle.hg_base.specs.Lists.{Each, Ascends}
 use Rattle.hg_base.specs.Script.{Declaration, Script}
 use Rattle.hg_base.specs.Text.{Fits64, kinds_of}
+use Rattle.hg_script.specs.declared.rules.TheConstants.{MOST_FETCHED}
 use Rattle.hg_script.specs.Draft.{is_name}
 use Rattle.hg_script.specs.Numbered.{records_before}
-use Rattle.hg_script.specs.Rules.{is_open}
+use Rattle.hg_script.specs.Rules.{is_open, is_reading}
 
 -- a table by a name, of some columns
 pub record IsTable (d : Declaration) : Type 0 where
@@ -36,24 +37,32 @@ abbrev pub IsScope : List Declaration → Scope → Type 0
 IsScope tables All = ⊤
 IsScope tables (Declared mask) = (1 ≤ mask) × (mask < 2 ^ length tables)
 
--- A statement on tables that are declared, and a row of the kinds that its table has. A scan may have its ends in any order.
+-- A statement on tables that are declared, and a row of the kinds that its table has. A scan and a cursor may have their
+-- ends in any order.
 abbrev pub FitsTables : List Declaration → Statement → Type 0
 FitsTables tables (say.Begin scope) = IsScope tables scope
 FitsTables tables (say.Get r) = IsAmong tables r.table
 FitsTables tables (say.Put r row) = IsAmong tables r.table × (map kind_of row ≡ kinds_of tables r.table)
 FitsTables tables (say.Del r) = IsAmong tables r.table
 FitsTables tables (say.Scan table low high) = IsAmong tables table
+FitsTables tables (say.CursorOpen table low high) = IsAmong tables table
+FitsTables tables (say.Fetch n) = ⊤
+FitsTables tables say.CursorClose = ⊤
 FitsTables tables say.Commit = ⊤
 FitsTables tables say.Rollback = ⊤
 FitsTables tables (say.Gc kind) = ⊤
 
--- Keys and the ends of a scan are numbers of 64 bits, and values are such numbers with a sign, or texts of at most 64 bytes.
+-- Keys and the ends of a scan or a cursor are numbers of 64 bits, values are such numbers with a sign, or texts of at most 64 bytes,
+-- and some rows are fetched, at most 1,048,576.
 abbrev pub HasWidths : Statement → Type 0
 HasWidths (say.Begin scope) = ⊤
 HasWidths (say.Get r) = Fits64 r.key
 HasWidths (say.Put r row) = Fits64 r.key × Each FitsValue row
 HasWidths (say.Del r) = Fits64 r.key
 HasWidths (say.Scan table low high) = Fits64 low × Fits64 high
+HasWidths (say.CursorOpen table low high) = Fits64 low × Fits64 high
+HasWidths (say.Fetch n) = (1 ≤ n) × (n ≤ MOST_FETCHED)
+HasWidths say.CursorClose = ⊤
 HasWidths say.Commit = ⊤
 HasWidths say.Rollback = ⊤
 HasWidths (say.Gc kind) = ⊤
@@ -66,22 +75,26 @@ pub record IsStatement (tables : List Declaration) (r : Record) : Type 0 where
   pub fits : FitsTables tables r.statement
   pub widths : HasWidths r.statement
 
--- A statement may stand where its session's transaction is open, or where it is not: a `begin` where it is not, a `commit` or
--- `rollback` where it is, and the others anywhere.
-abbrev pub MayStand : Bool → Statement → Type 0
-MayStand within (say.Begin scope) = IsFalse within
-MayStand within (say.Get r) = ⊤
-MayStand within (say.Put r row) = ⊤
-MayStand within (say.Del r) = ⊤
-MayStand within (say.Scan table low high) = ⊤
-MayStand within say.Commit = IsTrue within
-MayStand within say.Rollback = IsTrue within
-MayStand within (say.Gc kind) = ⊤
+-- A statement may stand where its session's transaction is open, or its cursor, or neither: a `begin` or `open` where neither is, a
+-- `commit` or `rollback` where the transaction is, a `fetch` or `close` where the cursor is, a `gc` anywhere, and the others where
+-- the cursor is not.
+abbrev pub MayStand : Bool → Bool → Statement → Type 0
+MayStand within reads (say.Begin scope) = IsFalse (within || reads)
+MayStand within reads (say.Get r) = IsFalse reads
+MayStand within reads (say.Put r row) = IsFalse reads
+MayStand within reads (say.Del r) = IsFalse reads
+MayStand within reads (say.Scan table low high) = IsFalse reads
+MayStand within reads (say.CursorOpen table low high) = IsFalse (within || reads)
+MayStand within reads (say.Fetch n) = IsTrue reads
+MayStand within reads say.CursorClose = IsTrue reads
+MayStand within reads say.Commit = IsTrue within
+MayStand within reads say.Rollback = IsTrue within
+MayStand within reads (say.Gc kind) = ⊤
 
 -- each record may stand after those before it
 abbrev pub AreInOrder : List Record → List Record → Type 0
 AreInOrder before [] = ⊤
-AreInOrder before (r ∷ rs) = MayStand (is_open r.session before) r.statement × AreInOrder (before ++ r ∷ []) rs
+AreInOrder before (r ∷ rs) = MayStand (is_open r.session before) (is_reading r.session before) r.statement × AreInOrder (before ++ r ∷ []) rs
 
 -- One of two versions, of which the first has numbers alone, no more tables and no more records than there may be, tables by
 -- distinct names, and statements that fit them, in order, by ascending place.

@@ -15,3 +15,4 @@ pub mod Sessions
 pub mod Packed
 pub mod Numbered
 pub mod Links
+pub mod Cursors

@@ -21,7 +21,7 @@ use Rattle.hg_script.specs.declared.values.Values.{Values}
 use Rattle.hg_script.specs.declared.values.Values.TheVariants.{Are}
 use Rattle.hg_script.specs.declared.word.Word.{Word}
 use Rattle.hg_script.specs.declared.draft.Ask.{Ask}
-use Rattle.hg_script.specs.declared.draft.Ask.TheVariants.{Begin, Get, Put, Del, Scan, Commit, Rollback, Gc}
+use Rattle.hg_script.specs.declared.draft.Ask.TheVariants.{Begin, Get, Put, Del, Scan, CursorOpen, Fetch, CursorClose, Commit, Rollback, Gc}
 use Rattle.hg_script.specs.declared.draft.Draft.{Draft}
 use Rattle.hg_script.specs.declared.draft.Draft.TheVariants.{Version, Table, Session}
 use Rattle.hg_script.specs.Number.{value_of}
@@ -88,6 +88,9 @@ statement_of (Get table key) = say.Get (rid_of table key)
 statement_of (Put table key values) = say.Put (rid_of table key) (row_of values)
 statement_of (Del table key) = say.Del (rid_of table key)
 statement_of (Scan table low high) = say.Scan (unwrap_or table first_table) (value_of low) (value_of high)
+statement_of (CursorOpen table low high) = say.CursorOpen (unwrap_or table first_table) (value_of low) (value_of high)
+statement_of (Fetch most) = say.Fetch (value_of most)
+statement_of CursorClose = say.CursorClose
 statement_of Commit = say.Commit
 statement_of Rollback = say.Rollback
 statement_of (Gc kind) = say.Gc (unwrap_or kind Group)

@@ -1,7 +1,8 @@
 -- Statements whose values stand in lists of all values: numbers, and rows with a text.
-use Rattle.std.specs.Prelude.{ℕ, ℤ, ◌+◌, ◌<◌, ◌≤◌, List, [], ◌∷◌, length, map, take, drop, get_or, if◌then◌else◌, ⊤}
+use Rattle.std.specs.Prelude.{ℕ, ℤ, ◌+◌, ◌<◌, ◌≤◌, List, [], ◌∷◌, length, map, take, drop, get_or, Option, if◌then◌else◌, ⊤}
 use Rattle.std.specs.List.{list_any}
 use Rattle.hg_base.specs.declared.limits.TheConstants.{MOST_COLUMNS, MOST_SESSIONS}
+use Rattle.hg_base.specs.declared.rid.TableId.{TableId}
 use Rattle.hg_base.specs.declared.statement.Statement.{Statement}
 use Rattle.hg_base.specs.declared.statement.Statement.TheVariants as say
 use Rattle.hg_base.specs.declared.value.Value.{Value}
@@ -9,7 +10,7 @@ use Rattle.hg_base.specs.declared.value.Value.TheVariants.{Number}
 use Rattle.hg_base.specs.Values.{is_text, number_of}
 use Rattle.hg_script.specs.declared.statements.Entry.{Entry}
 use Rattle.hg_script.specs.declared.statements.Packed.{Packed}
-use Rattle.hg_script.specs.declared.statements.Packed.TheVariants.{Begin, Get, Put, PutRow, Del, Scan, Commit, Rollback, Gc}
+use Rattle.hg_script.specs.declared.statements.Packed.TheVariants.{Begin, Get, Put, PutRow, Del, Scan, CursorOpen, Fetch, CursorClose, Commit, Rollback, Gc}
 
 -- the statement, where these are all numbers and all rows with a text
 abbrev pub statement_in : List ℤ → List (List Value) → Packed → Statement
@@ -19,6 +20,9 @@ statement_in numbers rows (Put rid span) = say.Put rid (map Number (take span.co
 statement_in numbers rows (PutRow rid i) = say.Put rid (get_or rows i [])
 statement_in numbers rows (Del rid) = say.Del rid
 statement_in numbers rows (Scan table low high) = say.Scan table low high
+statement_in numbers rows (CursorOpen table low high) = say.CursorOpen table low high
+statement_in numbers rows (Fetch n cursor) = say.Fetch n
+statement_in numbers rows CursorClose = say.CursorClose
 statement_in numbers rows Commit = say.Commit
 statement_in numbers rows Rollback = say.Rollback
 statement_in numbers rows (Gc kind) = say.Gc kind
@@ -39,16 +43,20 @@ IsWithin numbers rows e = HasRow numbers rows e.packed
 abbrev pub HasSession : Entry → Type 0
 HasSession e = e.session ≤ MOST_SESSIONS
 
--- the statement, whose values stand behind so many numbers or so many rows
-abbrev pub packed_as : ℕ → ℕ → Statement → Packed
-packed_as numbers rows (say.Begin scope) = Begin scope
-packed_as numbers rows (say.Get rid) = Get rid
-packed_as numbers rows (say.Put rid row) = if list_any is_text row then PutRow rid rows else Put rid (record { first = numbers; count = length row })
-packed_as numbers rows (say.Del rid) = Del rid
-packed_as numbers rows (say.Scan table low high) = Scan table low high
-packed_as numbers rows say.Commit = Commit
-packed_as numbers rows say.Rollback = Rollback
-packed_as numbers rows (say.Gc kind) = Gc kind
+-- The statement, whose values stand behind so many numbers or so many rows. The cursor that its session opened last is on that
+-- table.
+abbrev pub packed_as : Option TableId → ℕ → ℕ → Statement → Packed
+packed_as cursor numbers rows (say.Begin scope) = Begin scope
+packed_as cursor numbers rows (say.Get rid) = Get rid
+packed_as cursor numbers rows (say.Put rid row) = if list_any is_text row then PutRow rid rows else Put rid (record { first = numbers; count = length row })
+packed_as cursor numbers rows (say.Del rid) = Del rid
+packed_as cursor numbers rows (say.Scan table low high) = Scan table low high
+packed_as cursor numbers rows (say.CursorOpen table low high) = CursorOpen table low high
+packed_as cursor numbers rows (say.Fetch n) = Fetch n cursor
+packed_as cursor numbers rows say.CursorClose = CursorClose
+packed_as cursor numbers rows say.Commit = Commit
+packed_as cursor numbers rows say.Rollback = Rollback
+packed_as cursor numbers rows (say.Gc kind) = Gc kind
 
 -- the numbers of a statement whose row has no text
 abbrev pub added : Statement → List ℤ

@@ -12,9 +12,10 @@ use Rattle.hg_script.specs.declared.values.Values.TheVariants.{No, Over, Bad, Ar
 use Rattle.hg_script.specs.declared.word.Word.{Word}
 use Rattle.hg_script.specs.declared.word.Word.TheVariants as word
 use Rattle.hg_script.specs.declared.draft.Ask.{Ask}
-use Rattle.hg_script.specs.declared.draft.Ask.TheVariants.{Begin, Get, Put, Del, Scan, Commit, Rollback, Gc}
+use Rattle.hg_script.specs.declared.draft.Ask.TheVariants.{Begin, Get, Put, Del, Scan, CursorOpen, Fetch, CursorClose, Commit, Rollback, Gc}
 use Rattle.hg_script.specs.declared.draft.Draft.{Draft}
 use Rattle.hg_script.specs.declared.draft.Draft.TheVariants.{Version, Table, Session}
+use Rattle.hg_script.specs.declared.rules.TheConstants.{MOST_FETCHED}
 use Rattle.hg_script.specs.Draft.{kinds_at}
 use Rattle.hg_script.specs.Number.{is_no, is_over, is_between, value_of}
 
@@ -40,6 +41,9 @@ fields_breaks word.Scan n = not (n == 5)
 fields_breaks word.Commit n = not (n == 2)
 fields_breaks word.Rollback n = not (n == 2)
 fields_breaks word.Gc n = not (n == 3)
+fields_breaks word.Open n = not (n == 5)
+fields_breaks word.Fetch n = not (n == 3)
+fields_breaks word.Close n = not (n == 2)
 
 -- ---- Number: a field that is not written as a number
 
@@ -57,6 +61,9 @@ ask_number_breaks (Get table key) = is_no key
 ask_number_breaks (Put table key values) = is_no key || is_no_values values
 ask_number_breaks (Del table key) = is_no key
 ask_number_breaks (Scan table low high) = is_no low || is_no high
+ask_number_breaks (CursorOpen table low high) = is_no low || is_no high
+ask_number_breaks (Fetch most) = is_no most
+ask_number_breaks CursorClose = false
 ask_number_breaks Commit = false
 ask_number_breaks Rollback = false
 ask_number_breaks (Gc kind) = false
@@ -82,6 +89,9 @@ ask_range_breaks (Get table key) = is_over key
 ask_range_breaks (Put table key values) = is_over key || is_over_values values
 ask_range_breaks (Del table key) = is_over key
 ask_range_breaks (Scan table low high) = is_over low || is_over high
+ask_range_breaks (CursorOpen table low high) = is_over low || is_over high
+ask_range_breaks (Fetch most) = not (is_between 1 MOST_FETCHED most)
+ask_range_breaks CursorClose = false
 ask_range_breaks Commit = false
 ask_range_breaks Rollback = false
 ask_range_breaks (Gc kind) = false
@@ -99,6 +109,9 @@ ask_name_breaks (Get table key) = not (is_some table)
 ask_name_breaks (Put table key values) = not (is_some table)
 ask_name_breaks (Del table key) = not (is_some table)
 ask_name_breaks (Scan table low high) = not (is_some table)
+ask_name_breaks (CursorOpen table low high) = not (is_some table)
+ask_name_breaks (Fetch most) = false
+ask_name_breaks CursorClose = false
 ask_name_breaks Commit = false
 ask_name_breaks Rollback = false
 ask_name_breaks (Gc kind) = not (is_some kind)
@@ -155,14 +168,35 @@ opened_by j before r = if r.session == j then opened before r.statement else bef
 abbrev pub is_open : ℕ → List Record → Bool
 is_open j records = fold (opened_by j) false records
 
--- where the session's transaction is open, or not; a get, put, del or scan outside is a transaction of its own
-abbrev pub ask_order_breaks : Bool → Ask → Bool
-ask_order_breaks within (Begin scope) = within
-ask_order_breaks within Commit = not within
-ask_order_breaks within Rollback = not within
-ask_order_breaks within _ = false
+-- whether the session's cursor is open after a statement
+abbrev pub reading : Bool → Statement → Bool
+reading before (say.CursorOpen table low high) = true
+reading before say.CursorClose = false
+reading before _ = before
+
+abbrev pub reading_by : ℕ → Bool → Record → Bool
+reading_by j before r = if r.session == j then reading before r.statement else before
+
+-- whether the session's last `open` is not followed by its `close`
+abbrev pub is_reading : ℕ → List Record → Bool
+is_reading j records = fold (reading_by j) false records
+
+-- Where the session's transaction is open, or its cursor, or neither. A get, put, del or scan outside of both is a transaction of
+-- its own.
+abbrev pub ask_order_breaks : Bool → Bool → Ask → Bool
+ask_order_breaks within reads (Begin scope) = within || reads
+ask_order_breaks within reads (Get table key) = reads
+ask_order_breaks within reads (Put table key values) = reads
+ask_order_breaks within reads (Del table key) = reads
+ask_order_breaks within reads (Scan table low high) = reads
+ask_order_breaks within reads (CursorOpen table low high) = within || reads
+ask_order_breaks within reads (Fetch most) = not reads
+ask_order_breaks within reads CursorClose = not reads
+ask_order_breaks within reads Commit = not within
+ask_order_breaks within reads Rollback = not within
+ask_order_breaks within reads (Gc kind) = false
 
 abbrev pub order_breaks : List Record → Draft → Bool
 order_breaks records (Version version) = false
 order_breaks records (Table fresh cols) = nat_lt 0 (length records)
-order_breaks records (Session session ask) = ask_order_breaks (is_open (value_of session) records) ask
+order_breaks records (Session session ask) = ask_order_breaks (is_open (value_of session) records) (is_reading (value_of session) records) ask

@@ -2,8 +2,12 @@
 use Rattle.std.specs.Prelude.{◌≡◌, ℕ, ◌≤◌, List, get_or, Bool, false}
 use Rattle.hg_base.specs.declared.limits.TheConstants.{MOST_SESSIONS}
 use Rattle.hg_base.specs.declared.statement.Record.{Record}
-use Rattle.hg_script.specs.Rules.{is_open}
+use Rattle.hg_script.specs.Rules.{is_open, is_reading}
 
 -- for each session, whether its transaction is open
 abbrev pub KnowsOpen : List Bool → List Record → Type 0
 KnowsOpen flags records = (j : ℕ) → j ≤ MOST_SESSIONS → get_or flags j false ≡ is_open j records
+
+-- and whether its cursor is
+abbrev pub KnowsReading : List Bool → List Record → Type 0
+KnowsReading cursors records = (j : ℕ) → j ≤ MOST_SESSIONS → get_or cursors j false ≡ is_reading j records

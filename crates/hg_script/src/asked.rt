@@ -13,13 +13,17 @@ pub enum Asked {
     Put(TableId),
     Del(TableId),
     Scan(TableId),
+    CursorOpen(TableId),
+    /// Of the table that the session opened a cursor on last, if it did.
+    Fetch(Option<TableId>),
+    CursorClose,
     Commit,
     Rollback,
     Gc,
 }
 
 impl Asked {
-    /// The table that is named.
+    /// The table of a get, put, del or scan.
     pub fn table(self) -> Option<TableId>
         ensures { result ≡ table_asked self }
     {

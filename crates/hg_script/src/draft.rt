@@ -43,6 +43,15 @@ pub enum Ask {
         low: Natural,
         high: Natural,
     },
+    CursorOpen {
+        table: Option<TableId>,
+        low: Natural,
+        high: Natural,
+    },
+    Fetch {
+        most: Natural,
+    },
+    CursorClose,
     Commit,
     Rollback,
     Gc {
@@ -89,6 +98,13 @@ impl Ask {
                 low: low.value(),
                 high: high.value(),
             },
+            Ask::CursorOpen { table, low, high } => Statement::CursorOpen {
+                table: table.unwrap_or(FIRST_TABLE),
+                low: low.value(),
+                high: high.value(),
+            },
+            Ask::Fetch { most } => Statement::Fetch(most.value() as u32),
+            Ask::CursorClose => Statement::CursorClose,
             Ask::Commit => Statement::Commit,
             Ask::Rollback => Statement::Rollback,
             Ask::Gc { kind } => Statement::Gc(kind.unwrap_or(Kind::Group)),
@@ -143,6 +159,15 @@ impl Draft {
             Word::Gc => Ask::Gc {
                 kind: find_kind(field(row, 2)),
             },
+            Word::Open => Ask::CursorOpen {
+                table: tables.find(field(row, 2)),
+                low: read_natural(field(row, 3)),
+                high: read_natural(field(row, 4)),
+            },
+            Word::Fetch => Ask::Fetch {
+                most: read_natural(field(row, 2)),
+            },
+            Word::Close => Ask::CursorClose,
         };
         Ok(Draft::Session {
             session: read_natural(field(row, 0)),

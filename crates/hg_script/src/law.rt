@@ -1,13 +1,15 @@
 //! Laws of the definitions, as contracts of functions that do nothing.
 
-ghost use Rattle.std.specs.Prelude.{◌≡◌, ◌↔◌, ℕ, List, Some, decimal};
+ghost use Rattle.std.specs.Prelude.{◌≡◌, ◌↔◌, ℕ, List, [], ◌∷◌, Some, codes, decimal};
 ghost use Rattle.hg_base.specs.Script as base;
 ghost use Rattle.hg_base.specs.Transcript.{has};
 ghost use Rattle.hg_base.specs.declared.scope.Scope.TheVariants as scope;
 ghost use Rattle.hg_script.specs.Fields.{Field};
 ghost use Rattle.hg_script.specs.Draft.{is_named, set_named};
 ghost use Rattle.hg_script.specs.Generator.{IsMade};
+ghost use Rattle.hg_script.specs.Meaning.{refusal_of};
 ghost use Rattle.hg_script.specs.Number.{natural_of};
+ghost use Rattle.hg_script.specs.declared.code.Code.TheVariants.{Order, Range};
 ghost use Rattle.hg_script.specs.declared.number.Natural.TheVariants.{Is};
 
 use hg_base::TableId;
@@ -25,4 +27,15 @@ pub fn scopes_have_what_is_named(_table: TableId)
 /// A seed has one script.
 pub fn a_seed_has_one_script(_seed: u64)
     ensures { (s t : base.Script) → IsMade _seed s → IsMade _seed t → s ≡ t }
+{}
+
+/// Nothing else is asked where a cursor is open, no rows are fetched where none is, and a fetch asks for one row at least.
+pub fn cursors_are_in_order()
+    ensures get_within { refusal_of (
+        (codes "table" ∷ codes "t" ∷ codes "1" ∷ [])
+        ∷ (codes "1" ∷ codes "open" ∷ codes "t" ∷ codes "0" ∷ codes "9" ∷ [])
+        ∷ (codes "1" ∷ codes "get" ∷ codes "t" ∷ codes "1" ∷ [])
+        ∷ []) ≡ Some (3, Order) }
+    ensures fetch_outside { refusal_of ((codes "1" ∷ codes "fetch" ∷ codes "2" ∷ []) ∷ []) ≡ Some (1, Order) }
+    ensures fetch_of_none { refusal_of ((codes "1" ∷ codes "fetch" ∷ codes "0" ∷ []) ∷ []) ≡ Some (1, Range) }
 {}

@@ -14,6 +14,9 @@
 //!     2,rollback
 //!     1,gc,group       a round of the group collector; `table` and `interval` name the other two
 //!     3,get,t,5        outside of a transaction: a transaction of its own
+//!     4,open,t,0,9     opens a cursor over every row whose key is from 0 to 9, as the table is now
+//!     4,fetch,2        its next 2 rows
+//!     4,close
 //!
 //! That is version 1 of the format, whose columns hold numbers. In a script whose first record is `version,2` a column can also hold
 //! texts, of at most 64 bytes each, and a table record has a letter for each column:
@@ -34,15 +37,15 @@
 //! | `Count`   | the record after the 1,048,576th, and the 65th table record |
 //! | `Word`    | a session record without a word, or with a word other than those above; also a `version` that is not the first record |
 //! | `Fields`  | a number of fields that the record's word does not have |
-//! | `Number`  | a version, session, key or end of a scan that is not written as a decimal number; in version 1 also a value or a number of columns |
-//! | `Range`   | a version other than 2, a session not from 1 to 64, a key or end of 2^64 or more; in version 1 also columns not from 1 to 8, or a value outside of 64 bits with a sign; in version 2 also columns that are not 1 to 8 letters `n` or `t` |
+//! | `Number`  | a version, session, key, end of a scan or cursor, or number of rows that is not written as a decimal number; in version 1 also a value or a number of columns |
+//! | `Range`   | a version other than 2, a session not from 1 to 64, a key or end of 2^64 or more, a number of rows not from 1 to 1,048,576; in version 1 also columns not from 1 to 8, or a value outside of 64 bits with a sign; in version 2 also columns that are not 1 to 8 letters `n` or `t` |
 //! | `Name`    | a table declared twice, or whose name is not 1 to 32 letters, digits and `_`; a table that is not declared; a collector other than `group`, `table` and `interval` |
 //! | `Columns` | a put whose number of values is not its table's number of columns |
 //! | `Value`   | in version 2 a value of a number column that is not written as a number of 64 bits with a sign, or one of a text column of more than 64 bytes |
-//! | `Order`   | a table record after a session record, `begin` in a transaction, and `commit` or `rollback` outside of one |
+//! | `Order`   | a table record after a session record, `begin` or `open` in a transaction or with an open cursor, `commit` or `rollback` outside of a transaction, `fetch` or `close` without an open cursor, and a get, put, del, scan, commit or rollback with one |
 //!
 //! A number is `0`, or a digit from 1 to 9 and then digits; a value may be `-` and then such a number other than `0`. The ends of a
-//! scan may be in either order, and a `begin` may name a table twice.
+//! scan or a cursor may be in either order, and a `begin` may name a table twice.
 //!
 //! `specs/` defines the same for whole lists of records: `rows_of` is the list of records in the bytes, `refusal_of` the first one that
 //! breaks a rule, and `script_of` the script. The reader goes over the bytes once. Of each record it reads the word (`Word`) and then
@@ -57,6 +60,7 @@ mod asked;
 mod choice;
 mod code;
 mod columns;
+mod cursors;
 mod draft;
 mod draws;
 mod ends;
@@ -80,10 +84,13 @@ mod word;
 pub use asked::Asked;
 pub use code::Code;
 pub use generator::make_script;
-pub use law::{a_seed_has_one_script, numbers_are_decimal, scopes_have_what_is_named};
+pub use law::{
+    a_seed_has_one_script, cursors_are_in_order, numbers_are_decimal, scopes_have_what_is_named,
+};
 pub use number::{Integer, Natural, read_integer, read_natural};
 pub use reader::read_script;
 pub use record_list::RecordList;
 pub use refusal::ScriptRefusal;
+pub use rules::MOST_FETCHED;
 pub use script::Script;
 pub use table::Table;

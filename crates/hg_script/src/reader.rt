@@ -10,7 +10,7 @@ ghost use Rattle.hg_script.specs.Rules.{count_breaks, name_breaks, number_breaks
 ghost use Rattle.hg_script.specs.Meaning.{TellsCode, TellsRefusal, first_code, refusal_of, script_of, with_draft, with_row};
 ghost use Rattle.hg_script.specs.Lawful.{IsLawful};
 ghost use Rattle.hg_script.specs.Numbered.{records_before};
-ghost use Rattle.hg_script.specs.Sessions.{KnowsOpen};
+ghost use Rattle.hg_script.specs.Sessions.{KnowsOpen, KnowsReading};
 
 use crate::code::Code;
 use crate::draft::Draft;
@@ -35,6 +35,7 @@ fn add(
     row: &ByteRecord,
 ) -> Result<(), NoMemory>
     requires known { KnowsOpen sessions.old.flags script.old.records }
+    requires cursors { KnowsReading sessions.old.cursors script.old.records }
     requires room { length script.old.records < MOST_RECORDS }
     requires count { count_breaks place script.old.tables (Some word) ≡ false }
     requires word { word_of place (fields_of row.now) ≡ Some word }
@@ -48,6 +49,7 @@ fn add(
     ensures script { OnOk result (script.new ≡ with_draft place script.old (fields_of row.now) draft) }
     ensures next { OnOk result (place + 1 ≡ records_before script.new + length script.new.records + 1) }
     ensures known { OnOk result (KnowsOpen sessions.new.flags script.new.records) }
+    ensures cursors { OnOk result (KnowsReading sessions.new.cursors script.new.records) }
 {
     match draft {
         Draft::Version(version) => script.set_version(version.value() as u8),
@@ -75,10 +77,12 @@ fn take(
     row: &ByteRecord,
 ) -> Result<(), ScriptRefusal>
     requires known { KnowsOpen sessions.old.flags script.old.records }
+    requires cursors { KnowsReading sessions.old.cursors script.old.records }
     requires next { place ≡ records_before script.old + length script.old.records + 1 }
     ensures none { OnOk result (first_code place script.old (fields_of row.now) ≡ None) }
     ensures script { OnOk result (script.new ≡ with_row place script.old (fields_of row.now)) }
     ensures known { OnOk result (KnowsOpen sessions.new.flags script.new.records) }
+    ensures cursors { OnOk result (KnowsReading sessions.new.cursors script.new.records) }
     ensures most { OnOk result (place ≤ MOST_RECORDS) }
     ensures next { OnOk result (place + 1 ≡ records_before script.new + length script.new.records + 1) }
     ensures at { IfErr result (TellsCode place (first_code place script.old (fields_of row.now))) }

@@ -4,7 +4,7 @@ ghost use Rattle.std.specs.Prelude.{◌≡◌, IfNone, false};
 ghost use Rattle.hg_script.specs.Rules.{ask_columns_breaks, ask_name_breaks, ask_number_breaks, ask_order_breaks, ask_range_breaks, ask_value_breaks, columns_breaks, count_breaks, fields_breaks, name_breaks, number_breaks, order_breaks, range_breaks, value_breaks};
 ghost use Rattle.hg_script.specs.Draft as draft;
 ghost use Rattle.hg_script.specs.Meaning.{draft_code};
-ghost use Rattle.hg_script.specs.Sessions.{KnowsOpen};
+ghost use Rattle.hg_script.specs.Sessions.{KnowsOpen, KnowsReading};
 
 use crate::code::Code;
 use crate::draft::{Ask, Draft};
@@ -13,6 +13,9 @@ use crate::sessions::OpenSessions;
 use crate::table::Table;
 use crate::word::Word;
 use hg_base::{Column, MOST_RECORDS, MOST_SESSIONS, MOST_TABLES, TableId};
+
+/// A fetch asks for from 1 to this many rows.
+pub const MOST_FETCHED: u64 = 1_048_576;
 
 /// What stands for a table that is not declared, where no rule asks for one.
 pub(crate) const FIRST_TABLE: TableId = TableId(0);
@@ -37,6 +40,9 @@ pub(crate) fn breaks_fields(word: Word, count: usize) -> bool
         Word::Commit => count != 2,
         Word::Rollback => count != 2,
         Word::Gc => count != 3,
+        Word::Open => count != 5,
+        Word::Fetch => count != 3,
+        Word::Close => count != 2,
     }
 }
 
@@ -60,6 +66,9 @@ impl Ask {
             Ask::Put { key, values, .. } => key.is_no() || values.is_no(),
             Ask::Del { key, .. } => key.is_no(),
             Ask::Scan { low, high, .. } => low.is_no() || high.is_no(),
+            Ask::CursorOpen { low, high, .. } => low.is_no() || high.is_no(),
+            Ask::Fetch { most } => most.is_no(),
+            Ask::CursorClose => false,
             Ask::Commit => false,
             Ask::Rollback => false,
             Ask::Gc { .. } => false,
@@ -75,6 +84,9 @@ impl Ask {
             Ask::Put { key, values, .. } => key.is_over() || values.is_over(),
             Ask::Del { key, .. } => key.is_over(),
             Ask::Scan { low, high, .. } => low.is_over() || high.is_over(),
+            Ask::CursorOpen { low, high, .. } => low.is_over() || high.is_over(),
+            Ask::Fetch { most } => !most.is_between(1, MOST_FETCHED),
+            Ask::CursorClose => false,
             Ask::Commit => false,
             Ask::Rollback => false,
             Ask::Gc { .. } => false,
@@ -90,6 +102,9 @@ impl Ask {
             Ask::Put { table, .. } => !table.is_some(),
             Ask::Del { table, .. } => !table.is_some(),
             Ask::Scan { table, .. } => !table.is_some(),
+            Ask::CursorOpen { table, .. } => !table.is_some(),
+            Ask::Fetch { .. } => false,
+            Ask::CursorClose => false,
             Ask::Commit => false,
             Ask::Rollback => false,
             Ask::Gc { kind } => !kind.is_some(),
@@ -105,6 +120,9 @@ impl Ask {
             Ask::Put { table, values, .. } => { kinds_at(tables, *table).len() != values.count() }
             Ask::Del { .. } => false,
             Ask::Scan { .. } => false,
+            Ask::CursorOpen { .. } => false,
+            Ask::Fetch { .. } => false,
+            Ask::CursorClose => false,
             Ask::Commit => false,
             Ask::Rollback => false,
             Ask::Gc { .. } => false,
@@ -120,21 +138,27 @@ impl Ask {
             Ask::Put { values, .. } => values.is_bad(),
             Ask::Del { .. } => false,
             Ask::Scan { .. } => false,
+            Ask::CursorOpen { .. } => false,
+            Ask::Fetch { .. } => false,
+            Ask::CursorClose => false,
             Ask::Commit => false,
             Ask::Rollback => false,
             Ask::Gc { .. } => false,
         }
     }
 
-    fn breaks_order(&self, within: bool) -> bool
-        ensures { result ≡ ask_order_breaks within self.now }
+    fn breaks_order(&self, within: bool, reading: bool) -> bool
+        ensures { result ≡ ask_order_breaks within reading self.now }
     {
         match self {
-            Ask::Begin { .. } => within,
-            Ask::Get { .. } => false,
-            Ask::Put { .. } => false,
-            Ask::Del { .. } => false,
-            Ask::Scan { .. } => false,
+            Ask::Begin { .. } => within || reading,
+            Ask::Get { .. } => reading,
+            Ask::Put { .. } => reading,
+            Ask::Del { .. } => reading,
+            Ask::Scan { .. } => reading,
+            Ask::CursorOpen { .. } => within || reading,
+            Ask::Fetch { .. } => !reading,
+            Ask::CursorClose => !reading,
             Ask::Commit => !within,
             Ask::Rollback => !within,
             Ask::Gc { .. } => false,
@@ -197,13 +221,17 @@ impl Draft {
 
     fn breaks_order(&self, script: &Script, sessions: &OpenSessions) -> bool
         requires known { KnowsOpen sessions.now.flags script.now.records }
+        requires cursors { KnowsReading sessions.now.cursors script.now.records }
         requires range { range_breaks self.now ≡ false }
         ensures { result ≡ order_breaks script.now.records self.now }
     {
         match self {
             Draft::Version(_) => false,
             Draft::Table { .. } => script.record_count() > 0,
-            Draft::Session { session, ask } => ask.breaks_order(sessions.is_open(session.value())),
+            Draft::Session { session, ask } => {
+                let session = session.value();
+                ask.breaks_order(sessions.is_open(session), sessions.is_reading(session))
+            }
         }
     }
 
@@ -211,6 +239,7 @@ impl Draft {
     #[tactic(auto, unfolding(crate::specs::Meaning::draft_code))]
     pub(crate) fn code(&self, script: &Script, sessions: &OpenSessions) -> Option<Code>
         requires known { KnowsOpen sessions.now.flags script.now.records }
+        requires cursors { KnowsReading sessions.now.cursors script.now.records }
         ensures code { result ≡ draft_code script.now self.now }
         ensures number { IfNone result (number_breaks self.now ≡ false) }
         ensures range { IfNone result (range_breaks self.now ≡ false) }

@@ -2,6 +2,7 @@
 
 ghost use Rattle.std.specs.Prelude.{◌≡◌, ◌≤◌, ◌<◌, ◌+◌, ◌∷◌, ◌++◌, [], IfOk, None, OnOk, get_or, length, map, max};
 ghost use Rattle.hg_base.specs.Lists.{greatest};
+ghost use Rattle.hg_base.specs.Text.{cursor_before};
 ghost use Rattle.hg_base.specs.Transcript.{of_session};
 ghost use Rattle.hg_base.specs.declared.statement.Record.{Record};
 ghost use Rattle.hg_script.specs.Asked.{said_by};
@@ -107,7 +108,7 @@ impl Script {
     /// The session of the statement at i, and what it asks. This takes no memory.
     pub fn asked(&self, i: usize) -> (u32, Asked)
         requires { i < length self.now.records }
-        ensures { (d : Record) → result ≡ said_by (get_or self.now.records i d) }
+        ensures { (d : Record) → let r = get_or self.now.records i d in result ≡ said_by (cursor_before self.now.records r.session r.place) r }
     {
         self.statements.asked(i)
     }

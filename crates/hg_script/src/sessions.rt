@@ -1,23 +1,26 @@
-//! Which sessions are in a transaction.
+//! Which sessions are in a transaction, and which have a cursor.
 
 ghost use Rattle.std.specs.Prelude.{◌≡◌, ◌≤◌, ◌==◌, ℕ, [], false, get_or, if◌then◌else◌};
-ghost use Rattle.hg_script.specs.Sessions.{KnowsOpen};
-ghost use Rattle.hg_script.specs.Rules.{opened};
+ghost use Rattle.hg_script.specs.Sessions.{KnowsOpen, KnowsReading};
+ghost use Rattle.hg_script.specs.Rules.{opened, reading};
 
 use hg_base::{MOST_SESSIONS, Statement};
 
-/// For each session, by its number, whether its transaction is open.
+/// For each session, by its number, whether its transaction is open, and whether its cursor is.
 #[derive(Debug, Drop)]
 pub(crate) struct OpenSessions {
     flags: [bool; MOST_SESSIONS as usize + 1],
+    cursors: [bool; MOST_SESSIONS as usize + 1],
 }
 
 impl OpenSessions {
     pub(crate) fn new() -> OpenSessions
-        ensures { KnowsOpen result.flags [] }
+        ensures known { KnowsOpen result.flags [] }
+        ensures cursors { KnowsReading result.cursors [] }
     {
         OpenSessions {
             flags: [false; MOST_SESSIONS as usize + 1],
+            cursors: [false; MOST_SESSIONS as usize + 1],
         }
     }
 
@@ -28,10 +31,18 @@ impl OpenSessions {
         self.flags[session as usize]
     }
 
-    /// Notes what a statement does to its session's transaction.
+    pub(crate) fn is_reading(&self, session: u64) -> bool
+        requires { session ≤ MOST_SESSIONS }
+        ensures { result ≡ get_or self.now.cursors session false }
+    {
+        self.cursors[session as usize]
+    }
+
+    /// Notes what a statement does to its session's transaction and cursor.
     pub(crate) fn note(&mut self, session: u32, statement: &Statement)
         requires { session ≤ MOST_SESSIONS }
-        ensures { (j : ℕ) → get_or self.new.flags j false ≡ (if session == j then opened (get_or self.old.flags j false) statement.now else get_or self.old.flags j false) }
+        ensures flags { (j : ℕ) → get_or self.new.flags j false ≡ (if session == j then opened (get_or self.old.flags j false) statement.now else get_or self.old.flags j false) }
+        ensures cursors { (j : ℕ) → get_or self.new.cursors j false ≡ (if session == j then reading (get_or self.old.cursors j false) statement.now else get_or self.old.cursors j false) }
     {
         match statement {
             Statement::Begin(_) => self.flags[session as usize] = true,
@@ -41,6 +52,9 @@ impl OpenSessions {
             Statement::Put(_, _) => {}
             Statement::Del(_) => {}
             Statement::Scan { .. } => {}
+            Statement::CursorOpen { .. } => self.cursors[session as usize] = true,
+            Statement::Fetch(_) => {}
+            Statement::CursorClose => self.cursors[session as usize] = false,
             Statement::Gc(_) => {}
         }
     }

@@ -4,16 +4,20 @@
 //! 40 bytes, and 8 more for each number. In them it keeps where the next statement of its session stands. A row with a text
 //! stands as it is in a list of such rows.
 
-ghost use Rattle.std.specs.Prelude.{◌≡◌, ℕ, ℤ, List, ◌≤◌, ◌<◌, ◌+◌, ◌^◌, ◌∷◌, ◌++◌, [], IfOk, OnErr, OnOk, fold, get_or, length, map, max};
+ghost use Rattle.std.specs.Prelude.{◌≡◌, ℕ, ℤ, List, Option, None, ◌≤◌, ◌<◌, ◌+◌, ◌^◌, ◌∷◌, ◌++◌, [], IfOk, OnErr, OnOk, fold, get_or, length, map, max, take};
 ghost use Rattle.hg_base.specs.Lists.{greatest};
 ghost use Rattle.hg_base.specs.declared.statement.Statement.{Statement};
 ghost use Rattle.hg_base.specs.declared.statement.Statement.TheVariants as say;
 ghost use Rattle.hg_script.specs.Asked.{asked_by};
+ghost use Rattle.hg_base.specs.declared.rid.TableId as table;
+ghost use Rattle.hg_base.specs.Text.{opens};
+ghost use Rattle.hg_script.specs.Cursors.{HasCursor, cursor_in};
 ghost use Rattle.hg_script.specs.Links.{led, next_from};
 ghost use Rattle.hg_base.specs.declared.value.Value as value;
 ghost use Rattle.hg_script.specs.Packed.{HasRow, added, added_rows, packed_as, statement_in};
 
 use crate::asked::Asked;
+use crate::cursors::Cursors;
 use crate::ends::{Ends, NOWHERE};
 use hg_base::{
     Kind, MOST_COLUMNS, MOST_RECORDS, MOST_SESSIONS, NoMemory, Rid, Row, Scope, Statement, TableId,
@@ -39,6 +43,10 @@ pub(crate) enum Packed {
     PutRow(Rid, u32),
     Del(Rid),
     Scan { table: TableId, low: u64, high: u64 },
+    CursorOpen { table: TableId, low: u64, high: u64 },
+    /// With the table of its cursor.
+    Fetch(u32, Option<TableId>),
+    CursorClose,
     Commit,
     Rollback,
     Gc(Kind),
@@ -46,7 +54,7 @@ pub(crate) enum Packed {
 
 impl Packed {
     fn asked(self) -> Asked
-        ensures { (numbers : List ℤ) (rows : List (List value.Value)) → result ≡ asked_by (statement_in numbers rows self) }
+        ensures { (numbers : List ℤ) (rows : List (List value.Value)) (cursor : Option table.TableId) → HasCursor cursor self → result ≡ asked_by cursor (statement_in numbers rows self) }
     {
         match self {
             Packed::Begin(_) => Asked::Begin,
@@ -55,6 +63,9 @@ impl Packed {
             Packed::PutRow(rid, _) => Asked::Put(rid.table),
             Packed::Del(rid) => Asked::Del(rid.table),
             Packed::Scan { table, .. } => Asked::Scan(table),
+            Packed::CursorOpen { table, .. } => Asked::CursorOpen(table),
+            Packed::Fetch(_, cursor) => Asked::Fetch(cursor),
+            Packed::CursorClose => Asked::CursorClose,
             Packed::Commit => Asked::Commit,
             Packed::Rollback => Asked::Rollback,
             Packed::Gc(_) => Asked::Gc,
@@ -79,6 +90,7 @@ pub(crate) struct StatementList {
     numbers: Vec<i64>,
     rows: Vec<Row>,
     ends: Ends,
+    cursors: Cursors,
 }
 
 impl Model for StatementList {
@@ -86,6 +98,8 @@ impl Model for StatementList {
     ghost use Rattle.hg_base.specs.Lists.{Each};
     ghost use Rattle.hg_base.specs.declared.limits.TheConstants.{MOST_COLUMNS, MOST_RECORDS};
     ghost use Rattle.hg_base.specs.declared.statement.Statement.{Statement};
+    ghost use Rattle.std.specs.Prelude.{[]};
+    ghost use Rattle.hg_script.specs.Cursors.{AreCursored, KnowsCursors};
     ghost use Rattle.hg_script.specs.Links.{IsChained};
     ghost use Rattle.hg_script.specs.Packed.{HasSession, IsWithin, unpacked};
 
@@ -93,7 +107,7 @@ impl Model for StatementList {
 
     ghost view = { λ s. map (unpacked s.numbers.items s.rows.items) s.entries.items };
 
-    ghost invariant = { λ s. (length s.entries.items ≤ MOST_RECORDS) × (length s.numbers.items ≤ MOST_COLUMNS * length s.entries.items) × (length s.rows.items ≤ length s.entries.items) × Each (IsWithin (length s.numbers.items) (length s.rows.items)) s.entries.items × Each HasSession s.entries.items × IsChained s.ends s.entries.items };
+    ghost invariant = { λ s. (length s.entries.items ≤ MOST_RECORDS) × (length s.numbers.items ≤ MOST_COLUMNS * length s.entries.items) × (length s.rows.items ≤ length s.entries.items) × Each (IsWithin (length s.numbers.items) (length s.rows.items)) s.entries.items × Each HasSession s.entries.items × IsChained s.ends s.entries.items × AreCursored [] s.entries.items × KnowsCursors s.cursors.tables s.entries.items };
 }
 
 // Takes a put apart: its numbers go behind those that are there, or its row with a text behind those rows.
@@ -105,7 +119,7 @@ fn pack_put(
 ) -> Result<Packed, NoMemory>
     requires room { length numbers.old.items < 2 ^ 32 }
     requires few { length rows.old.items < 2 ^ 32 }
-    ensures packed { IfOk result (λ packed. packed ≡ packed_as (length numbers.old.items) (length rows.old.items) (say.Put rid row)) }
+    ensures packed { IfOk result (λ packed. packed ≡ packed_as None (length numbers.old.items) (length rows.old.items) (say.Put rid row)) }
     ensures numbers { OnOk result (numbers.new.items ≡ numbers.old.items ++ added (say.Put rid row)) }
     ensures rows { OnOk result (rows.new.items ≡ rows.old.items ++ added_rows (say.Put rid row)) }
     ensures within { IfOk result (HasRow (length numbers.new.items) (length rows.new.items)) }
@@ -125,15 +139,16 @@ fn pack_put(
     Ok(Packed::PutRow(rid, place))
 }
 
-// Takes the statement apart.
+// Takes the statement apart. The cursor that its session opened last is on that table.
 fn pack(
     numbers: &mut Vec<i64>,
     rows: &mut Vec<Row>,
+    cursor: Option<TableId>,
     statement: Statement,
 ) -> Result<Packed, NoMemory>
     requires room { length numbers.old.items < 2 ^ 32 }
     requires few { length rows.old.items < 2 ^ 32 }
-    ensures packed { IfOk result (λ packed. packed ≡ packed_as (length numbers.old.items) (length rows.old.items) statement) }
+    ensures packed { IfOk result (λ packed. packed ≡ packed_as cursor (length numbers.old.items) (length rows.old.items) statement) }
     ensures numbers { OnOk result (numbers.new.items ≡ numbers.old.items ++ added statement) }
     ensures rows { OnOk result (rows.new.items ≡ rows.old.items ++ added_rows statement) }
     ensures within { IfOk result (HasRow (length numbers.new.items) (length rows.new.items)) }
@@ -148,10 +163,23 @@ fn pack(
         Statement::Put(rid, row) => pack_put(numbers, rows, rid, row)?,
         Statement::Del(rid) => Packed::Del(rid),
         Statement::Scan { table, low, high } => Packed::Scan { table, low, high },
+        Statement::CursorOpen { table, low, high } => Packed::CursorOpen { table, low, high },
+        Statement::Fetch(most) => Packed::Fetch(most, cursor),
+        Statement::CursorClose => Packed::CursorClose,
         Statement::Commit => Packed::Commit,
         Statement::Rollback => Packed::Rollback,
         Statement::Gc(kind) => Packed::Gc(kind),
     })
+}
+
+// The table that a statement opens a cursor on.
+fn opens(statement: &Statement) -> Option<TableId>
+    ensures { result ≡ opens statement.now }
+{
+    match statement {
+        Statement::CursorOpen { table, .. } => Some(*table),
+        _ => None,
+    }
 }
 
 // The entry at l leads to the one at i.
@@ -180,6 +208,7 @@ impl StatementList {
             numbers: Vec::new(alloc),
             rows: Vec::new(alloc),
             ends: Ends::new(),
+            cursors: Cursors::new(),
         }
     }
 
@@ -196,7 +225,9 @@ impl StatementList {
         ensures err { OnErr result (self.new ≡ self.old) }
     {
         self.entries.reserve(1)?;
-        let packed = pack(&mut self.numbers, &mut self.rows, statement)?;
+        let cursor = self.cursors.of(session);
+        let opened = opens(&statement);
+        let packed = pack(&mut self.numbers, &mut self.rows, cursor, statement)?;
         let here = self.entries.len() as u32;
         self.entries.push(Entry {
             session,
@@ -204,6 +235,7 @@ impl StatementList {
             packed,
         })?;
         let last = self.ends.note(session, here);
+        self.cursors.note(session, opened);
         lead(&mut self.entries, last, here);
         Ok(())
     }
@@ -225,6 +257,9 @@ impl StatementList {
             Packed::PutRow(rid, i) => Statement::Put(rid, self.rows[i as usize].copy()?),
             Packed::Del(rid) => Statement::Del(rid),
             Packed::Scan { table, low, high } => Statement::Scan { table, low, high },
+            Packed::CursorOpen { table, low, high } => Statement::CursorOpen { table, low, high },
+            Packed::Fetch(most, _) => Statement::Fetch(most),
+            Packed::CursorClose => Statement::CursorClose,
             Packed::Commit => Statement::Commit,
             Packed::Rollback => Statement::Rollback,
             Packed::Gc(kind) => Statement::Gc(kind),
@@ -235,7 +270,7 @@ impl StatementList {
     /// The session at i, and what its statement asks.
     pub(crate) fn asked(&self, i: usize) -> (u32, Asked)
         requires { i < length self.now }
-        ensures { (d : ℕ × Statement) → let said = get_or self.now i d in result ≡ (said.0, asked_by said.1) }
+        ensures { (d : ℕ × Statement) → let said = get_or self.now i d in result ≡ (said.0, asked_by (cursor_in said.0 (take i self.now)) said.1) }
     {
         let entry = self.entries[i];
         (entry.session, entry.packed.asked())

@@ -19,6 +19,9 @@ pub enum Word {
     Commit,
     Rollback,
     Gc,
+    Open,
+    Fetch,
+    Close,
 }
 
 /// The field at this place, counted from 0, and no bytes where there is none.
@@ -50,6 +53,12 @@ fn read_statement_word(word: &[u8]) -> Option<Word>
         Some(Word::Rollback)
     } else if word == b"gc".as_slice() {
         Some(Word::Gc)
+    } else if word == b"open".as_slice() {
+        Some(Word::Open)
+    } else if word == b"fetch".as_slice() {
+        Some(Word::Fetch)
+    } else if word == b"close".as_slice() {
+        Some(Word::Close)
     } else {
         None
     }

@@ -12,7 +12,7 @@ use Rattle.hg_script.proofs.generator.make_script.Goals as goal
 pub loop-i-init : goal.loop-i-init
 loop-i-init c = record {
   making = rw (c.new-draws.ensures, c.in_ok-script.ensures) (making-none c.args.seed);
-  known = rw c.in_ok-script.ensures c.new-sessions.ensures;
+  known = rw c.in_ok-script.ensures c.new-sessions.ensures.known;
 }
 
 pub loop-i-preserved : goal.loop-i-preserved
@@ -26,5 +26,5 @@ loop-i-preserved c =
     let more = making-more c.args.seed c.loop-i.i c.loop-i.draws script inv.making (omega (arith, c.loop-i-test.true)) in
     let added : Record = record { place = records_before script + length script.records + 1; session = session; statement = c.in_ok-statement.statement } in record {
       making = rw (c.in_ok-add.ensures, c.in_ok-statement.ensures.state, asked) more;
-      known = rw c.in_ok-add.ensures (notes c.loop-i.sessions.flags c.note.new.self.flags script.records added inv.known c.note.ensures);
+      known = rw c.in_ok-add.ensures (notes c.loop-i.sessions.flags c.note.new.self.flags script.records added inv.known c.note.ensures.flags);
     }

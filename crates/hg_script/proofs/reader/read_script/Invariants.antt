@@ -4,7 +4,7 @@ use Rattle.csv.specs.declared.parser.State.TheVariants as st
 use Rattle.csv.specs.declared.reader.Trim.TheVariants as trim
 use Rattle.hg_script.specs.Meaning.{refusal_of, script_of}
 use Rattle.hg_script.specs.Numbered.{records_before}
-use Rattle.hg_script.specs.Sessions.{KnowsOpen}
+use Rattle.hg_script.specs.Sessions.{KnowsOpen, KnowsReading}
 use Rattle.hg_script.proofs.reader.read_script.Given as goal
 
 abbrev pub invariant-loop-place : goal.invariant-loop-place
@@ -19,4 +19,5 @@ invariant-loop-place l = record {
   most : l.place ≤ 1048577;
   next : l.place ≡ records_before l.script + length l.script.records + 1;
   known : KnowsOpen l.sessions.flags l.script.records;
+  cursors : KnowsReading l.sessions.cursors l.script.records;
 }

@@ -1,0 +1,39 @@
+-- On which table a session opened a cursor last.
+use Rattle.std.specs.Prelude.{◌≡◌, ◌==◌, ℕ, ◌≤◌, List, [], ◌∷◌, ◌++◌, get_or, Option, Some, None, if◌then◌else◌, ⊤}
+use Rattle.std.specs.Option.{option_or}
+use Rattle.hg_base.specs.declared.limits.TheConstants.{MOST_SESSIONS}
+use Rattle.hg_base.specs.declared.rid.TableId.{TableId}
+use Rattle.hg_base.specs.declared.statement.Statement.{Statement}
+use Rattle.hg_base.specs.Text.{opens}
+use Rattle.hg_script.specs.declared.statements.Entry.{Entry}
+use Rattle.hg_script.specs.declared.statements.Packed.{Packed}
+use Rattle.hg_script.specs.declared.statements.Packed.TheVariants.{CursorOpen, Fetch}
+
+-- among statements with their sessions
+abbrev pub cursor_in : ℕ → List (ℕ × Statement) → Option TableId
+cursor_in j [] = None
+cursor_in j (said ∷ more) = option_or (cursor_in j more) (if said.0 == j then opens said.1 else None)
+
+-- ---- as statements are stored
+
+abbrev pub table_opened : Packed → Option TableId
+table_opened (CursorOpen table low high) = Some table
+table_opened _ = None
+
+abbrev pub cursor_among : ℕ → List Entry → Option TableId
+cursor_among j [] = None
+cursor_among j (e ∷ es) = option_or (cursor_among j es) (if e.session == j then table_opened e.packed else None)
+
+-- a fetch has its cursor's table
+abbrev pub HasCursor : Option TableId → Packed → Type 0
+HasCursor cursor (Fetch n own) = own ≡ cursor
+HasCursor cursor _ = ⊤
+
+-- each fetch has the table of the last cursor before it
+abbrev pub AreCursored : List Entry → List Entry → Type 0
+AreCursored before [] = ⊤
+AreCursored before (e ∷ es) = HasCursor (cursor_among e.session before) e.packed × AreCursored (before ++ e ∷ []) es
+
+-- of each session
+abbrev pub KnowsCursors : List (Option TableId) → List Entry → Type 0
+KnowsCursors tables entries = (j : ℕ) → j ≤ MOST_SESSIONS → get_or tables j None ≡ cursor_among j entries
