@@ -12,7 +12,7 @@ use Rattle.hg_base.specs.declared.value.Column.{Column}
 use Rattle.hg_base.specs.declared.value.Column.TheVariants as columns
 use Rattle.hg_base.specs.declared.value.Value.{Value}
 use Rattle.hg_base.specs.Values.{FitsColumns, FitsValue, kind_of}
-use Rattle.hg_base.specs.declared.statement.Statement.TheVariants.{Begin, Get, Put, Del, Scan, Commit as CommitIt, Rollback, Gc}
+use Rattle.hg_base.specs.declared.statement.Statement.TheVariants.{Begin, Get, Put, Del, Scan, CursorOpen, Fetch, CursorClose, Commit as CommitIt, Rollback, Gc}
 use Rattle.hg_base.specs.declared.report.Told.{Told}
 use Rattle.hg_base.specs.declared.report.Sweep.{Sweep}
 use Rattle.hg_base.specs.declared.line.Answer.{Answer}
@@ -22,7 +22,7 @@ use Rattle.hg_base.specs.declared.line.Totals.{Totals}
 use Rattle.hg_base.specs.Lists.{Each}
 use Rattle.hg_base.specs.Script.{Declaration, Script}
 use Rattle.hg_base.specs.Transcript.{table_of}
-use Rattle.hg_base.specs.Text.{Field, Fits64, Fits32, FitsRow, FitsPut, FitsDel, FitsSweep, FitsAnswer, FitsReply, Fits, kinds_of, is_write}
+use Rattle.hg_base.specs.Text.{Field, Fits64, Fits32, FitsRow, FitsPut, FitsDel, FitsSweep, FitsAnswer, FitsReply, Fits, cursor_before, kinds_of, is_write}
 use Rattle.hg_script.specs.declared.number.Integer.{Integer}
 use Rattle.hg_script.specs.declared.number.Integer.TheVariants as signed
 use Rattle.hg_script.specs.Number.{integer_of}
@@ -89,8 +89,8 @@ IsBegun (Rows rows) = rows ≡ []
 IsBegun (Swept sweep) = sweep.held ≡ []
 IsBegun _ = ⊤
 
-abbrev IsGuess : List Declaration → Statement → Answer → Type 0
-IsGuess tables statement answer = FitsAnswer tables statement answer × IsBegun answer
+abbrev IsGuess : List Declaration → Option TableId → Statement → Answer → Type 0
+IsGuess tables cursor statement answer = FitsAnswer tables cursor statement answer × IsBegun answer
 
 sweep_fits : (fields : List Field) (i : ℕ) → FitsSweep (sweep_guess fields i)
 sweep_fits fields i = (number_fits fields (i + 2), number_fits fields (i + 3), number_fits fields (i + 4), tt)
@@ -106,30 +106,42 @@ refusal_fits table fields i = cond_both (says fields (i + 1) (codes "newer")) (N
     (λ f. ((session_fits fields (i + 2), number_fits fields (i + 3)), (session_fits fields (i + 2), number_fits fields (i + 3)), tt))
     (λ f. (refl, refl, tt)))
 
-found_fits : (tables : List Declaration) (r : Rid) (o : Option (List Value)) → IsRow (kinds_of tables r.table) o → IfSome (option_map Found o) (IsGuess tables (Get r))
-found_fits tables r None h = tt
-found_fits tables r (Some row) h = (h, tt)
+found_fits : (tables : List Declaration) (cursor : Option TableId) (r : Rid) (o : Option (List Value)) → IsRow (kinds_of tables r.table) o → IfSome (option_map Found o) (IsGuess tables cursor (Get r))
+found_fits tables cursor r None h = tt
+found_fits tables cursor r (Some row) h = (h, tt)
 
-answer_fits : (tables : List Declaration) (statement : Statement) (fields : List Field) (i : ℕ) → IfSome (answer_guess tables (asked_by statement) fields i) (IsGuess tables statement)
-answer_fits tables (Begin scope) fields i = (number_fits fields (i + 1), tt)
-answer_fits tables (Get r) fields i =
-    let P = λ (o : Option Answer). IfSome o (IsGuess tables (Get r)) in
-    cond_both (says fields i (codes "row")) _ _ P (λ e. found_fits tables r _ (row_fits fields (i + 1) (kinds_of tables r.table)))
+fetch_fits : (tables : List Declaration) (cursor : Option TableId) (n : ℕ) → IfSome (option_map (λ table. Rows []) cursor) (IsGuess tables cursor (Fetch n))
+fetch_fits tables None n = tt
+fetch_fits tables (Some table) n = ((omega arith, tt), refl)
+
+answer_fits : (tables : List Declaration) (cursor : Option TableId) (statement : Statement) (fields : List Field) (i : ℕ) → IfSome (answer_guess tables (asked_by cursor statement) fields i) (IsGuess tables cursor statement)
+answer_fits tables cursor (Begin scope) fields i = (number_fits fields (i + 1), tt)
+answer_fits tables cursor (Get r) fields i =
+    let P = λ (o : Option Answer). IfSome o (IsGuess tables cursor (Get r)) in
+    cond_both (says fields i (codes "row")) _ _ P (λ e. found_fits tables cursor r _ (row_fits fields (i + 1) (kinds_of tables r.table)))
     (λ e. cond_both (says fields i (codes "none")) (Some Nothing) (Some (Undeclared r.table)) P (λ f. (tt, tt)) (λ f. (refl, tt)))
-answer_fits tables (Put r row) fields i =
+answer_fits tables cursor (Put r row) fields i =
     let refused = refusal_fits r.table fields i in
-    cond_both (says fields i (codes "stored")) Stored (refusal_guess r.table fields i) (IsGuess tables (Put r row)) (λ e. (tt, tt)) (λ e. (refused.0, refused.2))
-answer_fits tables (Del r) fields i =
+    cond_both (says fields i (codes "stored")) Stored (refusal_guess r.table fields i) (IsGuess tables cursor (Put r row)) (λ e. (tt, tt)) (λ e. (refused.0, refused.2))
+answer_fits tables cursor (Del r) fields i =
     let refused = refusal_fits r.table fields i in
-    cond_both (says fields i (codes "gone")) Gone _ (IsGuess tables (Del r)) (λ e. (tt, tt))
-    (λ e. cond_both (says fields i (codes "none")) Nothing (refusal_guess r.table fields i) (IsGuess tables (Del r)) (λ f. (tt, tt)) (λ f. (refused.1, refused.2)))
-answer_fits tables (Scan table low high) fields i =
-    cond_both (says fields i (codes "rows")) (Rows []) (Undeclared table) (IsGuess tables (Scan table low high)) (λ e. ((omega arith, tt), refl)) (λ e. (refl, tt))
-answer_fits tables CommitIt fields i =
-    cond_both (says fields i (codes "committed")) (Committed (number_in fields (i + 1))) Ended (IsGuess tables CommitIt) (λ e. (number_fits fields (i + 1), tt)) (λ e. (tt, tt))
-answer_fits tables Rollback fields i = (tt, tt)
-answer_fits tables (Gc kind) fields i =
-    cond_both (says fields i (codes "beside")) Beside (Swept (sweep_guess fields i)) (IsGuess tables (Gc kind)) (λ e. (tt, tt)) (λ e. (sweep_fits fields i, refl))
+    cond_both (says fields i (codes "gone")) Gone _ (IsGuess tables cursor (Del r)) (λ e. (tt, tt))
+    (λ e. cond_both (says fields i (codes "none")) Nothing (refusal_guess r.table fields i) (IsGuess tables cursor (Del r)) (λ f. (tt, tt)) (λ f. (refused.1, refused.2)))
+answer_fits tables cursor (Scan table low high) fields i =
+    cond_both (says fields i (codes "rows")) (Rows []) (Undeclared table) (IsGuess tables cursor (Scan table low high)) (λ e. ((omega arith, tt), refl)) (λ e. (refl, tt))
+answer_fits tables cursor (CursorOpen table low high) fields i = (number_fits fields (i + 1), tt)
+answer_fits tables cursor (Fetch n) fields i = fetch_fits tables cursor n
+answer_fits tables cursor CursorClose fields i = (tt, tt)
+answer_fits tables cursor CommitIt fields i =
+    cond_both (says fields i (codes "committed")) (Committed (number_in fields (i + 1))) Ended (IsGuess tables cursor CommitIt) (λ e. (number_fits fields (i + 1), tt)) (λ e. (tt, tt))
+answer_fits tables cursor Rollback fields i = (tt, tt)
+answer_fits tables cursor (Gc kind) fields i =
+    cond_both (says fields i (codes "beside")) Beside (Swept (sweep_guess fields i)) (IsGuess tables cursor (Gc kind)) (λ e. (tt, tt)) (λ e. (sweep_fits fields i, refl))
+
+-- a fetch is answered no report
+pub fetch_no_sweep : (tables : List Declaration) (cursor : Option TableId) (n : ℕ) (sweep : Sweep) → FitsAnswer tables cursor (Fetch n) (Swept sweep) → ⊥
+fetch_no_sweep tables None n sweep h = h
+fetch_no_sweep tables (Some table) n sweep h = h
 
 -- ---- the first record of a line
 
@@ -149,43 +161,48 @@ number_fits_write : (answer : Answer) (fields : List Field) (i : ℕ) → IfSome
 number_fits_write answer fields i = cond_both (is_write answer && says fields (i + 1) (codes "committed")) (Some (number_in fields (i + 2))) None (λ (o : Option ℕ). IfSome o (λ c. Fits64 c × IsTrue (is_write answer)))
     (λ e. (number_fits fields (i + 2), (both _ _ e).0)) (λ e. tt)
 
-rows_fit_statement : (tables : List Declaration) (statement : Statement) (rows more : List (ℕ × List Value)) → FitsAnswer tables statement (Rows rows) → Fits64 (length more) → Each (FitsKey tables (the_table (asked_by statement))) more → FitsAnswer tables statement (Rows more)
-rows_fit_statement tables (Scan table low high) rows more h many each = (many, each)
-rows_fit_statement tables statement rows more h many each = absurd h
+fetch_more : (tables : List Declaration) (cursor : Option TableId) (n : ℕ) (rows more : List (ℕ × List Value)) → FitsAnswer tables cursor (Fetch n) (Rows rows) → Fits64 (length more) → Each (FitsKey tables (the_table (asked_by cursor (Fetch n)))) more → FitsAnswer tables cursor (Fetch n) (Rows more)
+fetch_more tables None n rows more h many each = absurd h
+fetch_more tables (Some table) n rows more h many each = (many, each)
+
+rows_fit_statement : (tables : List Declaration) (cursor : Option TableId) (statement : Statement) (rows more : List (ℕ × List Value)) → FitsAnswer tables cursor statement (Rows rows) → Fits64 (length more) → Each (FitsKey tables (the_table (asked_by cursor statement))) more → FitsAnswer tables cursor statement (Rows more)
+rows_fit_statement tables cursor (Scan table low high) rows more h many each = (many, each)
+rows_fit_statement tables cursor (Fetch n) rows more h many each = fetch_more tables cursor n rows more h many each
+rows_fit_statement tables cursor statement rows more h many each = absurd h
 
 module _ (script : Script) (session place : ℕ) (narrow_session : Fits32 session) (wide_place : Fits64 place) (some : (session == 0) ≡ false) (statement : Statement) (is : statement_at script.records session place ≡ Some statement) where
-  line_fits : (reply : Reply) → FitsReply script.tables statement reply → Fits script (record { session = session; place = place; reply = reply })
+  line_fits : (reply : Reply) → FitsReply script.tables (cursor_before script.records session place) statement reply → Fits script (record { session = session; place = place; reply = reply })
   line_fits reply h = record { session = narrow_session; place = wide_place; reply = rw (some, is) h }
 
   module _ (fields : List Field) (at : Option ℕ) (wide_at : IfSome at (λ s. Fits64 s × IsTrue (is_some (table_of statement)))) (i : ℕ) where
-    short_fits : (answer : Answer) → FitsAnswer script.tables statement answer → Fits script (record { session = session; place = place; reply = record { at = at; answer = answer; number = number_guess answer fields i } })
+    short_fits : (answer : Answer) → FitsAnswer script.tables (cursor_before script.records session place) statement answer → Fits script (record { session = session; place = place; reply = record { at = at; answer = answer; number = number_guess answer fields i } })
     short_fits answer h = line_fits _ (record { at = wide_at; answer = h; number = number_fits_write answer fields i })
 
-    scan_fits : (rows more : List (ℕ × List Value)) → FitsAnswer script.tables statement (Rows rows) → Fits64 (length more) → Each (FitsKey script.tables (the_table (asked_by statement))) more → FitsAnswer script.tables statement (Rows more)
-    scan_fits rows more h many each = rows_fit_statement script.tables statement rows more h many each
+    scan_fits : (rows more : List (ℕ × List Value)) → FitsAnswer script.tables (cursor_before script.records session place) statement (Rows rows) → Fits64 (length more) → Each (FitsKey script.tables (the_table (asked_by (cursor_before script.records session place) statement))) more → FitsAnswer script.tables (cursor_before script.records session place) statement (Rows more)
+    scan_fits rows more h many each = rows_fit_statement script.tables (cursor_before script.records session place) statement rows more h many each
 
-    head_fits : (answer : Answer) → IsGuess script.tables statement answer → FitsHead script (piece_of (asked_by statement) session place at fields i answer)
+    head_fits : (answer : Answer) → IsGuess script.tables (cursor_before script.records session place) statement answer → FitsHead script (piece_of (asked_by (cursor_before script.records session place) statement) session place at fields i answer)
     head_fits (Rows rows) h = λ more many each. line_fits _ (record { at = wide_at; answer = scan_fits rows more h.0 (rw many (number_fits fields (i + 1))) each; number = tt })
     head_fits (Swept sweep) h = (h.1, line_fits _ (record { at = tt; answer = h.0; number = tt }))
     head_fits answer h = (short_fits answer h.0, tt)
 
-    pub answered_fits : (o : Option Answer) → IfSome o (IsGuess script.tables statement) → IfSome (option_map (piece_of (asked_by statement) session place at fields i) o) (FitsHead script)
+    pub answered_fits : (o : Option Answer) → IfSome o (IsGuess script.tables (cursor_before script.records session place) statement) → IfSome (option_map (piece_of (asked_by (cursor_before script.records session place) statement) session place at fields i) o) (FitsHead script)
     answered_fits None h = tt
     answered_fits (Some answer) h = head_fits answer h
 
-at_fits : (statement : Statement) (fields : List Field) → IfSome (at_guess (asked_by statement) fields) (λ s. Fits64 s × IsTrue (is_some (table_of statement)))
-at_fits statement fields = cond_both (is_some (table_asked (asked_by statement)) && says fields 2 (codes "at")) (Some (number_in fields 3)) None (λ (o : Option ℕ). IfSome o (λ s. Fits64 s × IsTrue (is_some (table_of statement))))
-    (λ e. (number_fits fields 3, subst (λ (o : Option TableId). IsTrue (is_some o)) (same_table statement) (both _ _ e).0)) (λ e. tt)
+at_fits : (cursor : Option TableId) (statement : Statement) (fields : List Field) → IfSome (at_guess (asked_by cursor statement) fields) (λ s. Fits64 s × IsTrue (is_some (table_of statement)))
+at_fits cursor statement fields = cond_both (is_some (table_asked (asked_by cursor statement)) && says fields 2 (codes "at")) (Some (number_in fields 3)) None (λ (o : Option ℕ). IfSome o (λ s. Fits64 s × IsTrue (is_some (table_of statement))))
+    (λ e. (number_fits fields 3, subst (λ (o : Option TableId). IsTrue (is_some o)) (same_table cursor statement) (both _ _ e).0)) (λ e. tt)
 
 module _ (script : Script) (fields : List Field) where
   abbrev replied : ℕ → ℕ → Option Statement → Option Piece
-  replied session place o = option_and_then (λ asked. answered_guess script.tables asked session place (at_guess asked fields) fields) (option_map asked_by o)
+  replied session place o = option_and_then (λ asked. answered_guess script.tables asked session place (at_guess asked fields) fields) (option_map (asked_by (cursor_before script.records session place)) o)
 
   reply_fits : (session place : ℕ) → Fits32 session → Fits64 place → (session == 0) ≡ false → (o : Option Statement) → statement_at script.records session place ≡ o → IfSome (replied session place o) (FitsHead script)
   reply_fits session place h k some None is = tt
   reply_fits session place h k some (Some statement) is =
-      let at = at_guess (asked_by statement) fields in
-      answered_fits script session place h k some statement is fields at (at_fits statement fields) (answer_place at) (answer_guess script.tables (asked_by statement) fields (answer_place at)) (answer_fits script.tables statement fields (answer_place at))
+      let at = at_guess (asked_by (cursor_before script.records session place) statement) fields in
+      answered_fits script session place h k some statement is fields at (at_fits (cursor_before script.records session place) statement fields) (answer_place at) (answer_guess script.tables (asked_by (cursor_before script.records session place) statement) fields (answer_place at)) (answer_fits script.tables (cursor_before script.records session place) statement fields (answer_place at))
 
   report_fits : Fits script (sweep_line 0 (number_in fields 1) (sweep_guess fields 2))
   report_fits = record { session = omega arith; place = number_fits fields 1; reply = record { at = refl; answer = sweep_fits fields 2; number = refl } }

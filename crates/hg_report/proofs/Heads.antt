@@ -3,9 +3,8 @@ use Rattle.std.proofs.Common.{◌≡◌, ◌<◌, ◌+◌, ◌∙◌, ℕ, zero,
 use Rattle.std.specs.Prelude.{IsTrue, IfSome, codes, option_map}
 use Rattle.std.proofs.lemmas.Bool.{false≢true}
 use Rattle.hg_base.specs.declared.rid.TableId.{TableId}
-use Rattle.hg_base.specs.declared.scope.Scope.{Scope}
 use Rattle.hg_base.specs.declared.statement.Statement.{Statement}
-use Rattle.hg_base.specs.declared.statement.Statement.TheVariants.{Begin, Get, Put, Del, Scan, Commit as CommitIt, Rollback, Gc}
+use Rattle.hg_base.specs.declared.statement.Statement.TheVariants.{Begin, Get, Put, Del, Scan, CursorOpen, Fetch, CursorClose, Commit as CommitIt, Rollback, Gc}
 use Rattle.hg_base.specs.declared.report.Kind.{Kind}
 use Rattle.hg_base.specs.declared.report.Kind.TheVariants as kinds
 use Rattle.hg_base.specs.declared.report.Sweep.{Sweep}
@@ -14,9 +13,9 @@ use Rattle.hg_base.specs.declared.line.Answer.{Answer}
 use Rattle.hg_base.specs.declared.line.Answer.TheVariants.{Begun, Stored, Found, Nothing, Gone, Rows, Committed, Ended, Undone, Newer, OpenBy, Undeclared, Swept, Beside}
 use Rattle.hg_base.specs.declared.value.Value.{Value}
 use Rattle.hg_base.specs.Script.{Declaration}
-use Rattle.hg_base.specs.Text.{Field, Fits64, FitsRefusal, FitsBegin, FitsGet, FitsPut, FitsDel, FitsScan, FitsCommit, FitsRollback, FitsSweep, FitsGc, FitsAnswer, answer_fields, kind_word, told_as, kinds_of, value_field, is_write}
+use Rattle.hg_base.specs.Text.{Field, Fits64, FitsRefusal, FitsBegin, FitsGet, FitsPut, FitsDel, FitsScan, FitsFetch, FitsClose, FitsCommit, FitsRollback, FitsSweep, FitsGc, FitsAnswer, answer_fields, kind_word, told_as, kinds_of, value_field, is_write}
 use Rattle.hg_report.specs.Bytes.{field_bytes}
-use Rattle.hg_report.specs.Fields.{nth}
+use Rattle.hg_report.specs.Fields.{nth, number_in}
 use Rattle.hg_script.specs.Asked.{asked_by}
 use Rattle.hg_report.specs.Guess.{answer_guess, get_guess, put_guess, del_guess, scan_guess, commit_guess, gc_guess, refusal_guess, sweep_guess, kind_guess, number_guess}
 use Rattle.hg_report.proofs.ReadBack.{number_read, session_read, row_read}
@@ -86,9 +85,9 @@ module _ (tables : List Declaration) (fields : List Field) (i : ℕ) (tail : Lis
   refusal_read table (Undeclared other) are h = rw (are.later 1) (undeclared table other h)
   refusal_read table answer are h = absurd h
 
-  begin_read : (scope : Scope) (answer : Answer) → Answers answer → FitsBegin answer → answer_guess tables (asked_by (Begin scope)) fields i ≡ Some (emptied answer)
-  begin_read scope (Begun s) are h = ap (λ n. Some (Begun n)) (number_read fields (i + 1) s h (are.later 1))
-  begin_read scope answer are h = absurd h
+  begin_read : (answer : Answer) → Answers answer → FitsBegin answer → Some (Begun (number_in fields (i + 1))) ≡ Some (emptied answer)
+  begin_read (Begun s) are h = ap (λ n. Some (Begun n)) (number_read fields (i + 1) s h (are.later 1))
+  begin_read answer are h = absurd h
 
   row_field : (row : List Value) → Answers (Found row) → (k : ℕ) → k < length row → nth fields ((i + 1) + k) ≡ field_bytes (nth (map value_field row) k)
   row_field row are k h =
@@ -127,6 +126,15 @@ module _ (tables : List Declaration) (fields : List Field) (i : ℕ) (tail : Lis
   scan_read table (Undeclared other) are h = rw are.first (undeclared table other h)
   scan_read table answer are h = absurd h
 
+  fetch_read : (cursor : Option TableId) (answer : Answer) → FitsFetch tables cursor answer → option_map (λ table. Rows []) cursor ≡ Some (emptied answer)
+  fetch_read None answer h = absurd h
+  fetch_read (Some table) (Rows rows) h = refl
+  fetch_read (Some table) answer h = absurd h
+
+  close_read : (answer : Answer) → FitsClose answer → Ended ≡ emptied answer
+  close_read Ended h = refl
+  close_read answer h = absurd h
+
   commit_read : (answer : Answer) → Answers answer → FitsCommit answer → commit_guess fields i ≡ emptied answer
   unfolding field_bytes
   commit_read (Committed c) are h = rw are.first (ap Committed (number_read fields (i + 1) c h (are.later 1)))
@@ -143,15 +151,18 @@ module _ (tables : List Declaration) (fields : List Field) (i : ℕ) (tail : Lis
   gc_read (Swept sweep) are h = rw are.first (ap Swept (sweep_read sweep are h))
   gc_read answer are h = absurd h
 
-  pub answer_read : (statement : Statement) (answer : Answer) → Answers answer → HasColumns tables statement → FitsAnswer tables statement answer → answer_guess tables (asked_by statement) fields i ≡ Some (emptied answer)
-  answer_read (Begin scope) answer are few h = begin_read scope answer are h
-  answer_read (Get r) answer are few h = get_read r.table answer are few h
-  answer_read (Put r row) answer are few h = ap Some (put_read r.table answer are h)
-  answer_read (Del r) answer are few h = ap Some (del_read r.table answer are h)
-  answer_read (Scan table low high) answer are few h = ap Some (scan_read table answer are h)
-  answer_read CommitIt answer are few h = ap Some (commit_read answer are h)
-  answer_read Rollback answer are few h = ap Some (rollback_read answer h)
-  answer_read (Gc kind) answer are few h = ap Some (gc_read answer are h)
+  pub answer_read : (cursor : Option TableId) (statement : Statement) (answer : Answer) → Answers answer → HasColumns tables cursor statement → FitsAnswer tables cursor statement answer → answer_guess tables (asked_by cursor statement) fields i ≡ Some (emptied answer)
+  answer_read cursor (Begin scope) answer are few h = begin_read answer are h
+  answer_read cursor (Get r) answer are few h = get_read r.table answer are few.0 h
+  answer_read cursor (Put r row) answer are few h = ap Some (put_read r.table answer are h)
+  answer_read cursor (Del r) answer are few h = ap Some (del_read r.table answer are h)
+  answer_read cursor (Scan table low high) answer are few h = ap Some (scan_read table answer are h)
+  answer_read cursor (CursorOpen table low high) answer are few h = begin_read answer are h
+  answer_read cursor (Fetch n) answer are few h = fetch_read cursor answer h
+  answer_read cursor CursorClose answer are few h = ap Some (close_read answer h)
+  answer_read cursor CommitIt answer are few h = ap Some (commit_read answer are h)
+  answer_read cursor Rollback answer are few h = ap Some (rollback_read answer h)
+  answer_read cursor (Gc kind) answer are few h = ap Some (gc_read answer are h)
 
 -- the commit number behind a stored write
 pub number_behind : (tables : List Declaration) (fields : List Field) (i : ℕ) (answer : Answer) (number : Option ℕ) → Answers tables fields i (told_as (codes "committed") number) answer → IfSome number (λ c. Fits64 c × IsTrue (is_write answer))

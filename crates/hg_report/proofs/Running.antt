@@ -7,7 +7,7 @@ use Rattle.std.proofs.lemmas.Bool.Decides.{nat_tests}
 use Rattle.std.proofs.lemmas.List.{append-nil}
 use Rattle.hg_base.specs.declared.rid.TableId.{TableId}
 use Rattle.hg_base.specs.declared.statement.Statement.{Statement}
-use Rattle.hg_base.specs.declared.statement.Statement.TheVariants.{Scan, Gc}
+use Rattle.hg_base.specs.declared.statement.Statement.TheVariants.{Scan, Fetch, Gc}
 use Rattle.hg_base.specs.declared.report.Told.{Told}
 use Rattle.hg_base.specs.declared.report.Sweep.{Sweep}
 use Rattle.hg_base.specs.declared.line.Answer.{Answer}
@@ -19,7 +19,7 @@ use Rattle.hg_base.specs.declared.value.Value.{Value}
 use Rattle.hg_base.specs.Lists.{Each}
 use Rattle.hg_base.specs.Script.{Declaration, Script}
 use Rattle.hg_base.specs.Transcript.{table_of}
-use Rattle.hg_base.specs.Text.{Field, Fits64, Fits32, Fits, FitTotals, IsFit, FitsAnswer, FitsReply, FitsReport, FitsSweep, asked, kinds_of, answer_fields, held_fields, row_fields, told_as, value_field, line_records, total_fields, totals_records, text_records, is_write}
+use Rattle.hg_base.specs.Text.{Field, Fits64, Fits32, Fits, FitTotals, IsFit, FitsAnswer, FitsReply, FitsReport, FitsSweep, asked, cursor_before, kinds_of, answer_fields, held_fields, row_fields, told_as, value_field, line_records, total_fields, totals_records, text_records, is_write}
 use Rattle.hg_base.proofs.TextNumbers.{number_is_no_word}
 use Rattle.hg_base.proofs.TextReplies.{answer_begins, behind_at}
 use Rattle.hg_script.specs.Lawful.{IsLawful}
@@ -34,7 +34,7 @@ use Rattle.hg_script.specs.Asked.{asked_by, table_asked}
 use Rattle.hg_report.specs.Guess.{behind, total_word, answer_place, answered_guess, at_guess, first_guess, head_guess, reply_guess, row_guess, piece_of, statement_at, sweep_guess, the_table}
 use Rattle.hg_report.specs.Progress.{guess_after, sweep_line, lines_of, no_totals, totals_of, with_total, after, at_start, standing, IsNext, Runs}
 use Rattle.hg_report.proofs.Asking.{same_table}
-use Rattle.hg_report.proofs.Fitting.{IsFree, IsShort, FitsKey, FitsTold}
+use Rattle.hg_report.proofs.Fitting.{IsFree, IsShort, FitsKey, FitsTold, fetch_no_sweep}
 use Rattle.hg_report.proofs.Stands.{row_records}
 use Rattle.hg_report.proofs.ReadBack.{number_read, session_read, row_read}
 use Rattle.hg_report.proofs.Columns.{HasColumns, AreFew, columns_fit}
@@ -88,13 +88,19 @@ record ScanFacts (tables : List Declaration) (table : TableId) (rows : List (ℕ
   many : Fits64 (length rows)
   each : Each (FitsKey tables table) rows
 
-scan_facts : (tables : List Declaration) (statement : Statement) (rows : List (ℕ × List Value)) → FitsAnswer tables statement (Rows rows) → HasColumns tables statement → ScanFacts tables (the_table (asked_by statement)) rows
-scan_facts tables (Scan table low high) rows h few = record { few = few; many = h.0; each = h.1 }
-scan_facts tables statement rows h few = absurd h
+fetch_facts : (tables : List Declaration) (cursor : Option TableId) (n : ℕ) (rows : List (ℕ × List Value)) → FitsAnswer tables cursor (Fetch n) (Rows rows) → HasColumns tables cursor (Fetch n) → ScanFacts tables (the_table (asked_by cursor (Fetch n))) rows
+fetch_facts tables None n rows h few = absurd h
+fetch_facts tables (Some table) n rows h few = record { few = few.1; many = h.0; each = h.1 }
 
-sweep_facts : (tables : List Declaration) (statement : Statement) (sweep : Sweep) → FitsAnswer tables statement (Swept sweep) → FitsSweep sweep × (table_of statement ≡ None)
-sweep_facts tables (Gc kind) sweep h = (h, refl)
-sweep_facts tables statement sweep h = absurd h
+scan_facts : (tables : List Declaration) (cursor : Option TableId) (statement : Statement) (rows : List (ℕ × List Value)) → FitsAnswer tables cursor statement (Rows rows) → HasColumns tables cursor statement → ScanFacts tables (the_table (asked_by cursor statement)) rows
+scan_facts tables cursor (Scan table low high) rows h few = record { few = few.0; many = h.0; each = h.1 }
+scan_facts tables cursor (Fetch n) rows h few = fetch_facts tables cursor n rows h few
+scan_facts tables cursor statement rows h few = absurd h
+
+sweep_facts : (tables : List Declaration) (cursor : Option TableId) (statement : Statement) (sweep : Sweep) → FitsAnswer tables cursor statement (Swept sweep) → FitsSweep sweep × (table_of statement ≡ None)
+sweep_facts tables cursor (Gc kind) sweep h = (h, refl)
+sweep_facts tables cursor (Fetch n) sweep h = absurd (fetch_no_sweep tables cursor n sweep h)
+sweep_facts tables cursor statement sweep h = absurd h
 
 moved_read : (moved : Bool) → bytes_eq (field_bytes (if moved then codes "moved" else codes "unmoved")) (codes "moved") ≡ moved
 unfolding field_bytes
@@ -235,21 +241,21 @@ module _ (script : Script) where
       sweep_runs progress session place sweep guess h
   report_runs progress session place None answer None free zeroth wide a h n = absurd h
 
-  module _ (progress : Progress) (free : IsFree progress.last) (session place : ℕ) (small : Fits32 session) (wide : Fits64 place) (some : (session == 0) ≡ false) (statement : Statement) (is : statement_at script.records session place ≡ Some statement) (few : HasColumns script.tables statement) where
+  module _ (progress : Progress) (free : IsFree progress.last) (session place : ℕ) (small : Fits32 session) (wide : Fits64 place) (some : (session == 0) ≡ false) (statement : Statement) (is : statement_at script.records session place ≡ Some statement) (few : HasColumns script.tables (cursor_before script.records session place) statement) where
     abbrev line_of : Option ℕ → Answer → Option ℕ → Line
     line_of at answer number = record { session = session; place = place; reply = record { at = at; answer = answer; number = number } }
 
     abbrev IsAt : Option ℕ → Type 0
     IsAt at = IfSome at (λ s. Fits64 s × IsTrue (is_some (table_of statement)))
 
-    at_read : (at : Option ℕ) (answer : Answer) (number : Option ℕ) → IsAt at → at_guess (asked_by statement) (stood (line_of at answer number)) ≡ at
+    at_read : (at : Option ℕ) (answer : Answer) (number : Option ℕ) → IsAt at → at_guess (asked_by (cursor_before script.records session place) statement) (stood (line_of at answer number)) ≡ at
     unfolding field_bytes
     at_read None answer number h =
         let none = says_no (head_fields (line_of None answer number)) 2 97 _ refl (answer_begins script.tables answer (told_as (codes "committed") number)).0 in
-        cond-false _ _ _ (ap (λ b. is_some (table_asked (asked_by statement)) && b) none ∙ and_none (is_some (table_asked (asked_by statement))))
+        cond-false _ _ _ (ap (λ b. is_some (table_asked (asked_by (cursor_before script.records session place) statement)) && b) none ∙ and_none (is_some (table_asked (asked_by (cursor_before script.records session place) statement))))
     at_read (Some s) answer number h =
         let fields = stood (line_of (Some s) answer number) in
-        cond-true (is_some (table_asked (asked_by statement)) && true) _ _ (ap (λ b. b && true) (ap (λ (o : Option TableId). is_some o) (same_table statement) ∙ h.1)) ∙ ap Some (number_read fields 3 s h.0 refl)
+        cond-true (is_some (table_asked (asked_by (cursor_before script.records session place) statement)) && true) _ _ (ap (λ b. b && true) (ap (λ (o : Option TableId). is_some o) (same_table (cursor_before script.records session place) statement) ∙ h.1)) ∙ ap Some (number_read fields 3 s h.0 refl)
 
     answer_from : (at : Option ℕ) (answer : Answer) (number : Option ℕ) → Answers script.tables (stood (line_of at answer number)) (answer_place at) (told_as (codes "committed") number) answer
     answer_from None answer number =
@@ -259,8 +265,8 @@ module _ (script : Script) where
         let fields = answer_fields script.tables answer ++ told_as (codes "committed") number in
         record { first = field_stands fields 0; later = four_behind (decimal session) (decimal place) (codes "at") (decimal s) fields }
 
-    replied : (at : Option ℕ) (answer : Answer) (number : Option ℕ) → IsAt at → FitsAnswer script.tables statement answer
-        → guess_after script progress.last (stood (line_of at answer number)) ≡ Some (piece_of (asked_by statement) session place at (stood (line_of at answer number)) (answer_place at) (emptied answer))
+    replied : (at : Option ℕ) (answer : Answer) (number : Option ℕ) → IsAt at → FitsAnswer script.tables (cursor_before script.records session place) statement answer
+        → guess_after script progress.last (stood (line_of at answer number)) ≡ Some (piece_of (asked_by (cursor_before script.records session place) statement) session place at (stood (line_of at answer number)) (answer_place at) (emptied answer))
     replied at answer number h k =
         let line = line_of at answer number in
         let fields = stood line in
@@ -268,16 +274,16 @@ module _ (script : Script) where
         ∙ ap (λ s. if s == 0 then Some (piece.Sweep 0 (number_in fields 1) (sweep_guess fields 2)) else reply_guess script s (number_in fields 1) fields) (session_read fields 0 session small refl)
         ∙ cond-false (session == 0) _ _ some
         ∙ ap (λ p. reply_guess script session p fields) (number_read fields 1 place wide refl)
-        ∙ ap (λ o. option_and_then (λ asked. answered_guess script.tables asked session place (at_guess asked fields) fields) (option_map asked_by o)) is
-        ∙ ap (λ at. answered_guess script.tables (asked_by statement) session place at fields) (at_read at answer number h)
-        ∙ ap (λ o. option_map (piece_of (asked_by statement) session place at fields (answer_place at)) o)
-        (answer_read script.tables fields (answer_place at) (told_as (codes "committed") number) statement answer (answer_from at answer number) few k)
+        ∙ ap (λ o. option_and_then (λ asked. answered_guess script.tables asked session place (at_guess asked fields) fields) (option_map (asked_by (cursor_before script.records session place)) o)) is
+        ∙ ap (λ at. answered_guess script.tables (asked_by (cursor_before script.records session place) statement) session place at fields) (at_read at answer number h)
+        ∙ ap (λ o. option_map (piece_of (asked_by (cursor_before script.records session place) statement) session place at fields (answer_place at)) o)
+        (answer_read script.tables fields (answer_place at) (told_as (codes "committed") number) (cursor_before script.records session place) statement answer (answer_from at answer number) few k)
 
-    scan_line_runs : (at : Option ℕ) (rows : List (ℕ × List Value)) → IsAt at → FitsAnswer script.tables statement (Rows rows) → LineRuns progress (line_of at (Rows rows) None)
+    scan_line_runs : (at : Option ℕ) (rows : List (ℕ × List Value)) → IsAt at → FitsAnswer script.tables (cursor_before script.records session place) statement (Rows rows) → LineRuns progress (line_of at (Rows rows) None)
     scan_line_runs at rows h k =
         let fields = stood (line_of at (Rows rows) None) in
-        let table = the_table (asked_by statement) in
-        let facts = scan_facts script.tables statement rows k few in
+        let table = the_table (asked_by (cursor_before script.records session place) statement) in
+        let facts = scan_facts script.tables (cursor_before script.records session place) statement rows k few in
         let count : number_in fields (answer_place at + 1) ≡ length rows = number_read fields (answer_place at + 1) (length rows) facts.many ((answer_from at (Rows rows) None).later 1) in
         let guess : guess_after script progress.last fields ≡ Some (piece.Scan session place at table (length rows)) = replied at (Rows rows) None h k ∙ ap (λ n. Some (piece.Scan session place at table n)) count in
         let is = scan_head session place (length rows) at in
@@ -288,7 +294,7 @@ module _ (script : Script) where
           lines = refl;
         }
 
-    short_runs : (at : Option ℕ) (answer : Answer) (number : Option ℕ) → IsShort answer → IsAt at → FitsAnswer script.tables statement answer → IfSome number (λ c. Fits64 c × IsTrue (is_write answer)) → LineRuns progress (line_of at answer number)
+    short_runs : (at : Option ℕ) (answer : Answer) (number : Option ℕ) → IsShort answer → IsAt at → FitsAnswer script.tables (cursor_before script.records session place) statement answer → IfSome number (λ c. Fits64 c × IsTrue (is_write answer)) → LineRuns progress (line_of at answer number)
     short_runs at (Rows rows) number short h k m = absurd short
     short_runs at (Swept sweep) number short h k m = absurd short
     short_runs at answer number short h k m =
@@ -301,16 +307,16 @@ module _ (script : Script) where
           lines = append-nil (lines_of progress ++ line ∷ []);
         }
 
-    reply_runs : (at : Option ℕ) (answer : Answer) (number : Option ℕ) → IsAt at → FitsAnswer script.tables statement answer → IfSome number (λ c. Fits64 c × IsTrue (is_write answer)) → LineRuns progress (line_of at answer number)
+    reply_runs : (at : Option ℕ) (answer : Answer) (number : Option ℕ) → IsAt at → FitsAnswer script.tables (cursor_before script.records session place) statement answer → IfSome number (λ c. Fits64 c × IsTrue (is_write answer)) → LineRuns progress (line_of at answer number)
     reply_runs at (Rows rows) None h k m = scan_line_runs at rows h k
     reply_runs at (Rows rows) (Some c) h k m = absurd (false≢true m.1)
-    reply_runs None (Swept sweep) None h k m = sweep_runs progress session place sweep (replied None (Swept sweep) None h k) (sweep_facts script.tables statement sweep k).0
-    reply_runs (Some s) (Swept sweep) number h k m = absurd (false≢true (subst (λ (o : Option TableId). IsTrue (is_some o)) (sweep_facts script.tables statement sweep k).1 h.1))
+    reply_runs None (Swept sweep) None h k m = sweep_runs progress session place sweep (replied None (Swept sweep) None h k) (sweep_facts script.tables (cursor_before script.records session place) statement sweep k).0
+    reply_runs (Some s) (Swept sweep) number h k m = absurd (false≢true (subst (λ (o : Option TableId). IsTrue (is_some o)) (sweep_facts script.tables (cursor_before script.records session place) statement sweep k).1 h.1))
     reply_runs at (Swept sweep) (Some c) h k m = absurd (false≢true m.1)
     reply_runs at answer number h k m = short_runs at answer number tt h k m
 
-  asked_runs : (progress : Progress) (line : Line) → IsFree progress.last → Fits32 line.session → Fits64 line.place → (line.session == 0) ≡ false → (o : Option Statement) → asked script.records line ≡ o → IfSome o (HasColumns script.tables)
-      → MatchOption o ⊥ (λ statement. FitsReply script.tables statement line.reply) → LineRuns progress line
+  asked_runs : (progress : Progress) (line : Line) → IsFree progress.last → Fits32 line.session → Fits64 line.place → (line.session == 0) ≡ false → (o : Option Statement) → asked script.records line ≡ o → IfSome o (HasColumns script.tables (cursor_before script.records line.session line.place))
+      → MatchOption o ⊥ (λ statement. FitsReply script.tables (cursor_before script.records line.session line.place) statement line.reply) → LineRuns progress line
   asked_runs progress line free small wide some None is few h = absurd h
   asked_runs progress line free small wide some (Some statement) is few h = reply_runs progress free line.session line.place small wide some statement is few line.reply.at line.reply.answer line.reply.number h.at h.answer h.number
 

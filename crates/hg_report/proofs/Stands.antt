@@ -13,7 +13,7 @@ use Rattle.hg_base.specs.declared.value.Column.TheVariants as columns
 use Rattle.hg_base.specs.declared.value.Value.{Value}
 use Rattle.hg_base.specs.declared.value.Value.TheVariants.{Number, Text}
 use Rattle.hg_base.specs.Values.{FitsColumns}
-use Rattle.hg_base.specs.declared.statement.Statement.TheVariants.{Gc}
+use Rattle.hg_base.specs.declared.statement.Statement.TheVariants.{Fetch, Gc}
 use Rattle.hg_base.specs.declared.line.Reply.{Reply}
 use Rattle.hg_base.specs.declared.report.Told.{Told}
 use Rattle.hg_base.specs.declared.report.Sweep.{Sweep}
@@ -24,7 +24,7 @@ use Rattle.hg_base.specs.declared.line.Totals.{Totals}
 use Rattle.hg_base.specs.declared.line.Printed.{Printed}
 use Rattle.hg_base.specs.Lists.{Each}
 use Rattle.hg_base.specs.Script.{Declaration, Script}
-use Rattle.hg_base.specs.Text.{Field, Fits64, Fits, FitTotals, FitsAnswer, FitsReply, IsReport, asked, IsFit, answer_fields, held_fields, kinds_of, row_fields, more_fields, told_as, of_line, line_records, total_fields, totals_records, text_records}
+use Rattle.hg_base.specs.Text.{Field, Fits64, Fits, FitTotals, FitsAnswer, FitsReply, IsReport, asked, cursor_before, IsFit, answer_fields, held_fields, kinds_of, row_fields, more_fields, told_as, of_line, line_records, total_fields, totals_records, text_records}
 use Rattle.hg_report.specs.declared.piece.Piece.{Piece}
 use Rattle.hg_report.specs.declared.piece.Piece.TheVariants as piece
 use Rattle.hg_report.specs.declared.progress.Open.{Open}
@@ -32,7 +32,7 @@ use Rattle.hg_report.specs.declared.progress.Open.TheVariants as opens
 use Rattle.hg_report.specs.declared.progress.Progress.{Progress}
 use Rattle.hg_report.specs.Guess.{behind, piece_fields, total_word}
 use Rattle.hg_report.specs.Progress.{scan_line, sweep_line, open_lines, no_totals, totals_of, with_total, after, at_start, standing, IsNext, Runs}
-use Rattle.hg_report.proofs.Fitting.{IsFree, FitsKey, FitsTold, IsShort, FitsFirst, FitsNext, comes_first, comes_row, comes_held, comes_total, guess_fits}
+use Rattle.hg_report.proofs.Fitting.{IsFree, FitsKey, FitsTold, IsShort, FitsFirst, FitsNext, comes_first, comes_row, comes_held, comes_total, fetch_no_sweep, guess_fits}
 
 abbrev pub Records : Type 0
 Records = List (List Field)
@@ -105,9 +105,10 @@ with_told sweep told = record sweep { held = sweep.held ++ told ∷ [] }
 abbrev reply_of : Sweep → Reply
 reply_of sweep = record { at = None; answer = Swept sweep; number = None }
 
-held_answer : (tables : List Declaration) (statement : Statement) (sweep : Sweep) (told : Told) → FitsAnswer tables statement (Swept sweep) → FitsTold told → FitsAnswer tables statement (Swept (with_told sweep told))
-held_answer tables (Gc kind) sweep told h k = (h.0, h.1, h.2, each-append FitsTold sweep.held (told ∷ []) h.3 (k, tt))
-held_answer tables statement sweep told h k = absurd h
+held_answer : (tables : List Declaration) (cursor : Option TableId) (statement : Statement) (sweep : Sweep) (told : Told) → FitsAnswer tables cursor statement (Swept sweep) → FitsTold told → FitsAnswer tables cursor statement (Swept (with_told sweep told))
+held_answer tables cursor (Gc kind) sweep told h k = (h.0, h.1, h.2, each-append FitsTold sweep.held (told ∷ []) h.3 (k, tt))
+held_answer tables cursor (Fetch n) sweep told h k = absurd (fetch_no_sweep tables cursor n sweep h)
+held_answer tables cursor statement sweep told h k = absurd h
 
 -- a value of a column, and a row
 abbrev pub any_value : Column → Value
@@ -206,15 +207,15 @@ module _ (script : Script) where
   each_told : (held : List Told) (told : Told) → Each FitsTold held → FitsTold told → Each FitsTold (held ++ told ∷ [])
   each_told held told h k = each-append FitsTold held (told ∷ []) h (k, tt)
 
-  held_reply : (tables : List Declaration) (alone : Bool) (asked : Option Statement) (sweep : Sweep) (told : Told)
-      → MatchBool alone (IsReport (reply_of sweep)) (MatchOption asked ⊥ (λ statement. FitsReply tables statement (reply_of sweep))) → FitsTold told
-      → MatchBool alone (IsReport (reply_of (with_told sweep told))) (MatchOption asked ⊥ (λ statement. FitsReply tables statement (reply_of (with_told sweep told))))
-  held_reply tables true asked sweep told h k = record { at = refl; answer = (h.answer.0, h.answer.1, h.answer.2, each_told sweep.held told h.answer.3 k); number = refl }
-  held_reply tables false None sweep told h k = absurd h
-  held_reply tables false (Some statement) sweep told h k = record { at = tt; answer = held_answer tables statement sweep told h.answer k; number = tt }
+  held_reply : (tables : List Declaration) (alone : Bool) (cursor : Option TableId) (asked : Option Statement) (sweep : Sweep) (told : Told)
+      → MatchBool alone (IsReport (reply_of sweep)) (MatchOption asked ⊥ (λ statement. FitsReply tables cursor statement (reply_of sweep))) → FitsTold told
+      → MatchBool alone (IsReport (reply_of (with_told sweep told))) (MatchOption asked ⊥ (λ statement. FitsReply tables cursor statement (reply_of (with_told sweep told))))
+  held_reply tables true cursor asked sweep told h k = record { at = refl; answer = (h.answer.0, h.answer.1, h.answer.2, each_told sweep.held told h.answer.3 k); number = refl }
+  held_reply tables false cursor None sweep told h k = absurd h
+  held_reply tables false cursor (Some statement) sweep told h k = record { at = tt; answer = held_answer tables cursor statement sweep told h.answer k; number = tt }
 
   held_fits : (session place : ℕ) (sweep : Sweep) (told : Told) → Fits script (sweep_line session place sweep) → FitsTold told → Fits script (sweep_line session place (with_told sweep told))
-  held_fits session place sweep told h k = record { session = h.session; place = h.place; reply = held_reply script.tables (session == 0) (asked script.records (sweep_line session place sweep)) sweep told h.reply k }
+  held_fits session place sweep told h k = record { session = h.session; place = h.place; reply = held_reply script.tables (session == 0) (cursor_before script.records session place) (asked script.records (sweep_line session place sweep)) sweep told h.reply k }
 
   stepped_from : (lines : List Line) (state : Open) (records : Records) (next : Piece) → Each (Fits script) lines → FitsOpen script state → records ≡ written lines ++ open_records script.tables state → FitsNext script state next
       → Stands script (after (record { lines = lines; last = state }) next) (records ++ piece_fields script.tables next ∷ [])

@@ -11,9 +11,9 @@ use Rattle.hg_base.specs.declared.report.Sweep.{Sweep}
 use Rattle.hg_base.specs.declared.line.Answer.{Answer}
 use Rattle.hg_base.specs.declared.line.Answer.TheVariants.{Begun, Stored, Found, Nothing, Gone, Rows, Committed, Ended, Undone, Newer, OpenBy, Undeclared, Swept, Beside}
 use Rattle.hg_base.specs.Script.{Declaration, Script}
-use Rattle.hg_base.specs.Text.{Field, kinds_of, answer_fields, held_fields, row_fields, told_as, total_fields, is_write}
+use Rattle.hg_base.specs.Text.{Field, cursor_before, kinds_of, answer_fields, held_fields, row_fields, told_as, total_fields, is_write}
 use Rattle.hg_script.specs.declared.asked.Asked.{Asked}
-use Rattle.hg_script.specs.declared.asked.Asked.TheVariants.{Begin, Get, Put, Del, Scan, Commit as CommitIt, Rollback, Gc}
+use Rattle.hg_script.specs.declared.asked.Asked.TheVariants.{Begin, Get, Put, Del, Scan, CursorOpen, Fetch, CursorClose, Commit as CommitIt, Rollback, Gc}
 use Rattle.hg_script.specs.Asked.{asked_by, table_asked}
 use Rattle.hg_report.specs.declared.piece.Piece.{Piece}
 use Rattle.hg_report.specs.declared.piece.Piece.TheVariants as piece
@@ -55,7 +55,7 @@ refusal_guess table fields i =
     else if says fields (i + 1) (codes "open") then OpenBy (record { session = session_in fields (i + 2); transaction = number_in fields (i + 3) })
     else Undeclared table
 
--- by what the statement asks; the rows of a scan come later
+-- by what the statement asks; the rows of a scan or fetch come later
 abbrev pub get_guess : List Declaration → TableId → List Field → ℕ → Option Answer
 get_guess tables table fields i =
     if says fields i (codes "row") then option_map Found (row_in fields (i + 1) (kinds_of tables table))
@@ -82,6 +82,9 @@ answer_guess tables (Get table) fields i = get_guess tables table fields i
 answer_guess tables (Put table) fields i = Some (put_guess table fields i)
 answer_guess tables (Del table) fields i = Some (del_guess table fields i)
 answer_guess tables (Scan table) fields i = Some (scan_guess table fields i)
+answer_guess tables (CursorOpen table) fields i = Some (Begun (number_in fields (i + 1)))
+answer_guess tables (Fetch cursor) fields i = option_map (λ table. Rows []) cursor
+answer_guess tables CursorClose fields i = Some Ended
 answer_guess tables CommitIt fields i = Some (commit_guess fields i)
 answer_guess tables Rollback fields i = Some Undone
 answer_guess tables Gc fields i = Some (gc_guess fields i)
@@ -100,8 +103,9 @@ answer_place at = if is_some at then 4 else 2
 abbrev pub number_guess : Answer → List Field → ℕ → Option ℕ
 number_guess answer fields i = if is_write answer && says fields (i + 1) (codes "committed") then Some (number_in fields (i + 2)) else None
 
--- the table that is named, and the first where none is
+-- the table that is named, or that of the cursor, and the first where there is none
 abbrev pub the_table : Asked → TableId
+the_table (Fetch cursor) = unwrap_or cursor (record { 0 = 0 })
 the_table asked = unwrap_or (table_asked asked) (record { 0 = 0 })
 
 -- the piece that an answer is
@@ -121,7 +125,7 @@ statement_at records session place = option_map_or (λ r. Some r.statement) (fin
 
 -- and what it asks
 abbrev pub asked_at : List Record → ℕ → ℕ → Option Asked
-asked_at records session place = option_map asked_by (statement_at records session place)
+asked_at records session place = option_map (asked_by (cursor_before records session place)) (statement_at records session place)
 
 abbrev pub reply_guess : Script → ℕ → ℕ → List Field → Option Piece
 reply_guess script session place fields =

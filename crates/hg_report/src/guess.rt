@@ -159,6 +159,10 @@ fn answer_guess(
         Asked::Put(table) => Ok(Some(put_guess(table, row, i))),
         Asked::Del(table) => Ok(Some(del_guess(table, row, i))),
         Asked::Scan(table) => Ok(Some(scan_guess(alloc, table, row, i))),
+        Asked::CursorOpen(_) => Ok(Some(Answer::Begun(number_in(row, i + 1)))),
+        Asked::Fetch(Some(_)) => Ok(Some(Answer::Rows(RowList::from(Vec::new(alloc))))),
+        Asked::Fetch(None) => Ok(None),
+        Asked::CursorClose => Ok(Some(Answer::Ended)),
         Asked::Commit => Ok(Some(commit_guess(row, i))),
         Asked::Rollback => Ok(Some(Answer::Undone)),
         Asked::Gc => Ok(Some(gc_guess(alloc, row, i))),
@@ -178,7 +182,10 @@ fn at_guess(asked: Asked, row: &[&[u8]]) -> Option<u64>
 fn the_table(asked: Asked) -> TableId
     ensures { result ≡ the_table asked }
 {
-    asked.table().unwrap_or(TableId(0))
+    match asked {
+        Asked::Fetch(cursor) => cursor.unwrap_or(TableId(0)),
+        asked => asked.table().unwrap_or(TableId(0)),
+    }
 }
 
 fn is_write(answer: &Answer) -> bool
@@ -334,7 +341,7 @@ pub(crate) fn first_guess(
     head_guess(alloc, script, row)
 }
 
-/// A row of a scan.
+/// A row of a scan or a fetch.
 pub(crate) fn row_guess(
     alloc: Global,
     tables: &[Table],

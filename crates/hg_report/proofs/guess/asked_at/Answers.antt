@@ -2,6 +2,8 @@ use Rattle.std.proofs.Common.{◌≡◌, ◌<◌, ◌+◌, ◌∙◌, ℕ, lengt
 use Rattle.hg_base.specs.declared.statement.Record.{Record}
 use Rattle.hg_base.specs.declared.statement.Statement.TheVariants.{Commit}
 use Rattle.hg_base.specs.Script.{Script}
+use Rattle.hg_base.specs.Text.{cursor_before}
+use Rattle.hg_script.specs.Asked.{asked_by}
 use Rattle.hg_script.specs.Numbered.{AreNumbered, records_before}
 use Rattle.hg_report.proofs.Places.{GoOn, found, found_none, here, elsewhere}
 use Rattle.hg_report.proofs.guess.asked_at.Goals as goal
@@ -34,7 +36,10 @@ returns-then-by-session c =
     let it = found c.args.session c.args.place (records_before s + 1) s.records i nobody (go_on s h.places) h.found.0 (omega (arith, h.found.1)) in
     let place = stands s c.args.place i h.places h.found.0 h.found.1 in
     let said = c.asked-by.ensures nobody in
-    rw (it, here c.args.session c.args.place (at s i) place (sym (ap (λ p. p.0) said) ∙ c.if-by-session.true)) (ap (λ p. Some p.1) said)
+    let mine : (at s i).session ≡ c.args.session = sym (ap (λ p. p.0) said) ∙ c.if-by-session.true in
+    let cursor : cursor_before s.records (at s i).session (at s i).place ≡ cursor_before s.records c.args.session c.args.place =
+    ap (λ j. cursor_before s.records j (at s i).place) mine ∙ ap (cursor_before s.records c.args.session) place in
+    rw (it, here c.args.session c.args.place (at s i) place mine) (ap (λ p. Some p.1) said ∙ ap (λ o. Some (asked_by o (at s i).statement)) cursor)
 
 pub returns-else-by-session : goal.returns-else-by-session
 returns-else-by-session c =
