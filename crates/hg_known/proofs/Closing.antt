@@ -5,7 +5,7 @@ use Rattle.std.specs.List.{list_any}
 use Rattle.std.proofs.lemmas.Bool.{ltb-true}
 use Rattle.std.proofs.lemmas.Bool.Decides.{Decides-eqb, Decides-ltb}
 use Rattle.hg_base.specs.declared.statement.Statement.{Statement}
-use Rattle.hg_base.specs.declared.statement.Statement.TheVariants.{Begin, Get, Put, Del, Scan, Commit, Rollback, Gc}
+use Rattle.hg_base.specs.declared.statement.Statement.TheVariants.{Begin, Get, Put, Del, Scan, CursorOpen, Fetch, CursorClose, Commit, Rollback, Gc}
 use Rattle.hg_base.specs.declared.statement.Record.{Record}
 use Rattle.hg_base.specs.declared.line.Line.{Line}
 use Rattle.hg_base.specs.declared.rid.Rid.{Rid}
@@ -57,6 +57,9 @@ next_one (Some last) = omega arith
 
 pub after_follows : (last : Option Said) → IsCounted last → (r : Record) (reply : Reply) (asked : Statement) → r.statement ≡ asked → Follows last (said_after last r reply asked)
 after_follows last p r reply (Begin scope) e = inr (next_one last, begin_follows last)
+after_follows last p r reply (CursorOpen table low high) e = inr (next_one last, begin_follows last)
+after_follows last p r reply (Fetch n) e = standing_follows last p r reply
+after_follows last p r reply CursorClose e = standing_follows last p r reply
 after_follows last p r reply (Gc kind) e = inl (refl, ap is_end e)
 after_follows last p r reply (Get rid) e = standing_follows last p r reply
 after_follows last p r reply (Put rid row) e = standing_follows last p r reply
@@ -71,7 +74,10 @@ standing_session (Some opened) next r reply = refl
 
 pub after_session : (last : Option Said) (r : Record) (reply : Reply) (asked : Statement) → (said_after last r reply asked).session ≡ r.session
 after_session last r reply (Begin scope) = refl
+after_session last r reply (CursorOpen table low high) = refl
 after_session last r reply (Gc kind) = refl
+after_session last r reply (Fetch n) = standing_session (open_after last) (next_after last) r reply
+after_session last r reply CursorClose = standing_session (open_after last) (next_after last) r reply
 after_session last r reply (Get rid) = standing_session (open_after last) (next_after last) r reply
 after_session last r reply (Put rid row) = standing_session (open_after last) (next_after last) r reply
 after_session last r reply (Del rid) = standing_session (open_after last) (next_after last) r reply

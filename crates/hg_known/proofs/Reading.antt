@@ -3,16 +3,16 @@ use Rattle.std.proofs.Common.{◌≡◌, ℕ, zero, suc, ◌<◌, ◌≤◌, Lis
 use Rattle.std.specs.Prelude.{◌==◌, ◌&&◌, cond, option_map, nat_lt, map, IfSome}
 use Rattle.std.specs.BTreeMap.{BTreeMap, is_at, get}
 use Rattle.std.specs.Ordering.{nat_cmp}
-use Rattle.hg_base.specs.Lists.{onto}
+use Rattle.hg_base.specs.Lists.{Each, onto}
 use Rattle.hg_base.specs.Transcript.{Said, last_of, next_after, open_after, said, said_after, said_from, standing}
 use Rattle.hg_base.specs.declared.statement.Record.{Record}
 use Rattle.hg_base.specs.declared.statement.Statement.{Statement}
-use Rattle.hg_base.specs.declared.statement.Statement.TheVariants.{Begin, Get, Put, Del, Scan, Commit, Rollback, Gc}
+use Rattle.hg_base.specs.declared.statement.Statement.TheVariants.{Begin, Get, Put, Del, Scan, CursorOpen, Fetch, CursorClose, Commit, Rollback, Gc}
 use Rattle.hg_base.specs.declared.line.Line.{Line}
 use Rattle.hg_base.specs.declared.line.Reply.{Reply}
 use Rattle.hg_base.proofs.RidOrder.{alike_numbers}
 use Rattle.hg_known.specs.declared.said.Last.{Last}
-use Rattle.hg_known.specs.Lines.{left_by, number_of, AreLasts}
+use Rattle.hg_known.specs.Lines.{left_by, number_of, AreLasts, OpensKnown}
 
 -- a number has another entry, and no other changes
 abbrev pub Puts : {X : Type 0} → BTreeMap ℕ X → BTreeMap ℕ X → ℕ → X → Type 0
@@ -41,6 +41,11 @@ reach_far n m (Some l) most h = omega (arith, most, h)
 
 -- ---- line by line
 
+pub known_at : (records : List Record) (k : ℕ) (d : Record) → k < length records → Each (λ r. OpensKnown r.statement) records → OpensKnown (get_or records k d).statement
+known_at [] k d less h = absurd (omega (arith, less))
+known_at (r ∷ rs) zero d less h = h.0
+known_at (r ∷ rs) (suc k) d less h = known_at rs k d (omega (arith, less)) h.1
+
 pub onto_push : {X : Type 0} (xs earlier : List X) (x : X) → onto (xs ++ x ∷ []) earlier ≡ x ∷ onto xs earlier
 onto_push [] earlier x = refl
 onto_push (y ∷ ys) earlier x = onto_push ys (y ∷ earlier) x
@@ -67,7 +72,10 @@ standing_reply (Some opened) x r reply = refl
 
 pub after_reply : (last : Option Said) (r : Record) (reply : Reply) (asked : Statement) → (said_after last r reply asked).reply ≡ reply
 after_reply last r reply (Begin scope) = refl
+after_reply last r reply (CursorOpen table low high) = refl
 after_reply last r reply (Gc kind) = refl
+after_reply last r reply (Fetch n) = standing_reply (open_after last) (next_after last) r reply
+after_reply last r reply CursorClose = standing_reply (open_after last) (next_after last) r reply
 after_reply last r reply (Get rid) = standing_reply (open_after last) (next_after last) r reply
 after_reply last r reply (Put rid row) = standing_reply (open_after last) (next_after last) r reply
 after_reply last r reply (Del rid) = standing_reply (open_after last) (next_after last) r reply

@@ -11,7 +11,7 @@ use Rattle.std.proofs.lemmas.List.Filters.{length-filter_both}
 use Rattle.std.proofs.lemmas.Bool.Decides.{Decides-eqb, nat_tests}
 use Rattle.std.specs.BTreeMap.{get, is_at}
 use Rattle.hg_base.specs.declared.statement.Statement.{Statement}
-use Rattle.hg_base.specs.declared.statement.Statement.TheVariants.{Begin, Get, Put, Del, Scan, Commit, Rollback, Gc}
+use Rattle.hg_base.specs.declared.statement.Statement.TheVariants.{Begin, Get, Put, Del, Scan, CursorOpen, Fetch, CursorClose, Commit, Rollback, Gc}
 use Rattle.hg_base.specs.Lists.{onto}
 use Rattle.hg_base.specs.Transcript.{Said, is_of, is_end, ends, committed, committed_by, stored, own_writes}
 use Rattle.hg_base.specs.History.{Write, image_in}
@@ -43,6 +43,9 @@ committed_ends s e = go s.alone s.statement refl refl
     by (Put rid row) f = refl
     by (Del rid) f = refl
     by (Scan table low high) f = refl
+    by (CursorOpen table low high) f = refl
+    by (Fetch n) f = refl
+    by CursorClose f = refl
     by Rollback f = refl
     by (Gc kind) f = refl
 

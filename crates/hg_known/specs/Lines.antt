@@ -1,7 +1,10 @@
 -- Lines as the audit keeps them.
-use Rattle.std.specs.Prelude.{◌≡◌, ℕ, ◌≤◌, List, Option, Some, None, option_map, IfSome, if◌then◌else◌}
+use Rattle.std.specs.Prelude.{◌≡◌, ℕ, ◌<◌, ◌≤◌, List, Option, Some, None, option_map, IfSome, if◌then◌else◌, ⊤}
 use Rattle.std.specs.BTreeMap.{BTreeMap, get}
 use Rattle.std.specs.Ordering.{nat_cmp}
+use Rattle.hg_base.specs.declared.limits.TheConstants.{MOST_TABLES}
+use Rattle.hg_base.specs.declared.statement.Statement.{Statement}
+use Rattle.hg_base.specs.declared.statement.Statement.TheVariants.{CursorOpen}
 use Rattle.hg_base.specs.Transcript.{Said, only, table_of, ends, last_of}
 use Rattle.hg_known.specs.declared.said.Said as kept
 use Rattle.hg_known.specs.declared.said.Last.{Last}
@@ -33,3 +36,8 @@ abbrev pub open_left : ℕ → Option Last → Option (ℕ × ℕ)
 open_left j None = None
 open_left j (Some (Over x)) = None
 open_left j (Some (Open x at scope)) = Some (j, at)
+
+-- a cursor is one on a table that there may be
+abbrev pub OpensKnown : Statement → Type 0
+OpensKnown (CursorOpen table low high) = table.0 < MOST_TABLES
+OpensKnown statement = ⊤

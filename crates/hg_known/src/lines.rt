@@ -1,11 +1,11 @@
 //! The lines of a text beside the records that they answer.
 
 ghost use Rattle.std.specs.Prelude.{◌≡◌, ℕ, ◌+◌, ◌<◌, ◌^◌, [], List, get_or, length, IfOk, OnOk};
-ghost use Rattle.hg_base.specs.Lists.{EachAfter};
+ghost use Rattle.hg_base.specs.Lists.{Each, EachAfter};
 ghost use Rattle.hg_base.specs.Transcript as script;
 ghost use Rattle.hg_base.specs.Transcript.{said_from};
 ghost use Rattle.hg_known.specs.Ended.{IsOpen};
-ghost use Rattle.hg_known.specs.Lines.{said_of};
+ghost use Rattle.hg_known.specs.Lines.{said_of, OpensKnown};
 
 use crate::said::{Last, Said, read_line};
 use crate::sequence::Sequence;
@@ -24,19 +24,22 @@ pub struct Lines<'a> {
 
 impl<'a> Model for Lines<'a> {
     ghost use Rattle.std.specs.Prelude.{◌≡◌, ◌<◌, ◌^◌, [], List, length};
+    ghost use Rattle.hg_base.specs.Lists.{Each};
     ghost use Rattle.hg_base.specs.Transcript.{Said, said_from};
+    ghost use Rattle.hg_known.specs.Lines.{OpensKnown};
 
     ghost Value = { List Said };
 
     ghost view = { λ l. said_from [] l.sequence.now l.lines.now };
 
-    ghost invariant = { λ l. (length l.sequence.now ≡ length l.lines.now) × (length l.lines.now < 2 ^ 62) };
+    ghost invariant = { λ l. (length l.sequence.now ≡ length l.lines.now) × (length l.lines.now < 2 ^ 62) × Each (λ r. OpensKnown r.statement) l.sequence.now };
 }
 
 impl<'a> Lines<'a> {
     pub fn new(sequence: &'a Sequence<'a>, lines: &'a [Line]) -> Lines<'a>
         requires same { length sequence.now ≡ length lines.now }
         requires few { length lines.now < 2 ^ 62 }
+        requires known { Each (λ r. OpensKnown r.statement) sequence.now }
         ensures said { result ≡ said_from [] sequence.entry.now lines.entry.now }
         ensures open { EachAfter IsOpen [] result }
     {

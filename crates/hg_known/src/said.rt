@@ -5,7 +5,7 @@ ghost use Rattle.std.specs.BTreeMap.{IsUnchanged, get};
 ghost use Rattle.std.specs.Ordering.{nat_cmp};
 ghost use Rattle.hg_base.specs.Transcript as script;
 ghost use Rattle.hg_base.specs.Transcript.{said_after};
-ghost use Rattle.hg_known.specs.Lines.{said_of, number_of, left_by, AreLasts, ReachTo};
+ghost use Rattle.hg_known.specs.Lines.{said_of, number_of, left_by, AreLasts, OpensKnown, ReachTo};
 
 use hg_base::{Answer, NoMemory, Record, Reply, Scope, Statement};
 use std::collections::BTreeMap;
@@ -58,7 +58,10 @@ fn begun(reply: &Reply) -> u64
 pub fn is_end(statement: &Statement) -> bool
     ensures { result ≡ script.is_end statement.now }
 {
-    matches!(statement, Statement::Commit | Statement::Rollback)
+    matches!(
+        statement,
+        Statement::Commit | Statement::Rollback | Statement::CursorClose
+    )
 }
 
 /// Whether a line ends its transaction.
@@ -70,7 +73,8 @@ pub fn ends(said: &Said) -> bool
 
 // The line of a record, behind the session's last.
 fn stand<'a>(last: Option<Last>, asked: Record, reply: &'a Reply) -> Said<'a>
-    requires { IfSome last (λ l. number_of l + 1 < 2 ^ 64) }
+    requires room { IfSome last (λ l. number_of l + 1 < 2 ^ 64) }
+    requires known { OpensKnown asked.statement }
     ensures said { (o : Option script.Said) → option_map left_by o ≡ last → said_of result ≡ said_after o asked reply.entry.now asked.statement }
     ensures reach { IfSome last (λ l. result.transaction ≤ number_of l + 1) }
     ensures first { last ≡ None → result.transaction ≤ 1 }
@@ -94,6 +98,12 @@ fn stand<'a>(last: Option<Last>, asked: Record, reply: &'a Reply) -> Said<'a>
             transaction: next,
             at: begun(reply),
             scope,
+            ..bare
+        },
+        Statement::CursorOpen { table, .. } => Said {
+            transaction: next,
+            at: begun(reply),
+            scope: Scope::only(table),
             ..bare
         },
         Statement::Gc(_) => bare,
@@ -151,7 +161,8 @@ pub fn read_line<'a>(
     asked: Record,
     reply: &'a Reply,
 ) -> Result<Said<'a>, NoMemory>
-    requires { ReachTo (2 ^ 63) lasts.old }
+    requires reach { ReachTo (2 ^ 63) lasts.old }
+    requires known { OpensKnown asked.statement }
     ensures said { IfOk result (λ now. (earlier : List script.Said) → AreLasts lasts.old earlier → said_of now ≡ script.said earlier asked reply.entry.now) }
     ensures lasts { IfOk result (λ now. (earlier : List script.Said) → AreLasts lasts.old earlier → AreLasts lasts.new (said_of now ∷ earlier)) }
     ensures reach { OnOk result ((n : ℕ) → ReachTo n lasts.old → ReachTo (n + 1) lasts.new) }

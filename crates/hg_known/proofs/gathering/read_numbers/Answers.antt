@@ -1,7 +1,7 @@
-use Rattle.std.proofs.Common.{◌≡◌, ◌<◌, length, sym, subst, arith, rules}
+use Rattle.std.proofs.Common.{◌<◌, length, sym, subst, arith, rules}
 use Rattle.hg_known.specs.Ended.{AreNumbers}
 use Rattle.hg_known.specs.Lines.{said_of}
-use Rattle.hg_known.proofs.Walking.{earlier_at, earlier_next, at_reader, reader_next}
+use Rattle.hg_known.proofs.Walking.{earlier_at, earlier_next, at_reader}
 use Rattle.hg_known.proofs.gathering.read_numbers.Goals as goal
 
 pub loop-preserved : goal.loop-preserved

@@ -2,8 +2,9 @@ use Rattle.std.proofs.Common.{◌≡◌, ◌<◌, ◌≤◌, ◌^◌, ◌∙◌,
 use Rattle.std.proofs.lemmas.List.{get_or_default}
 use Rattle.hg_base.specs.Lists.{onto}
 use Rattle.hg_base.specs.Transcript.{said}
-use Rattle.hg_known.specs.Lines.{said_of, AreLasts}
-use Rattle.hg_known.proofs.Reading.{all_read, reach_far, read_at, reply_at}
+use Rattle.hg_base.specs.declared.statement.Record.{Record}
+use Rattle.hg_known.specs.Lines.{said_of, AreLasts, OpensKnown}
+use Rattle.hg_known.proofs.Reading.{all_read, known_at, reach_far, read_at, reply_at}
 use Rattle.hg_known.proofs.Walking.{AtLine, at_line, earlier_at, earlier_next}
 use Rattle.hg_known.proofs.lines.Reader.read.Goals as goal
 
@@ -16,8 +17,8 @@ record-requires c =
     let its : length xs ≡ length c.args.self.now.1 = λ i. length (c.self.view_is i).1 in
     omega (arith, many, here, its, c.requires, c.all.invariant.0)
 
-pub read_line-requires : goal.read_line-requires
-read_line-requires c =
+pub read_line-requires-clause-reach : goal.read_line-requires-clause-reach
+read_line-requires-clause-reach c =
     let ls = c.all.inside in
     let xs = c.self.inside.all.now in
     let k = c.self.inside.at in
@@ -26,6 +27,17 @@ read_line-requires c =
     let its : length xs ≡ length c.args.self.now.1 = λ i. length (c.self.view_is i).1 in
     let most : k ≤ 2 ^ 63 = omega (arith, many, here, its, c.requires, c.all.invariant.1) in
     λ j. reach_far k (2 ^ 63) _ most (c.self.invariant.1 j)
+
+pub read_line-requires-clause-known : goal.read_line-requires-clause-known
+read_line-requires-clause-known c =
+    let ls = c.all.inside in
+    let xs = c.self.inside.all.now in
+    let k = c.self.inside.at in
+    let many : length xs ≡ length ls.lines.now = sym (ap length c.all.view_is) ∙ all_read [] ls.sequence.now ls.lines.now c.all.invariant.0 in
+    let here : k ≡ c.args.self.now.0 = λ i. (c.self.view_is i).0 in
+    let its : length xs ≡ length c.args.self.now.1 = λ i. length (c.self.view_is i).1 in
+    let long : k < length ls.sequence.now = omega (arith, many, here, its, c.requires, c.all.invariant.0) in
+    subst (λ (r : Record). OpensKnown r.statement) (sym c.in_ok-record.ensures) (known_at ls.sequence.now k c.in_ok-record.record long c.all.invariant.2)
 
 pub overflow_add-self : goal.overflow_add-self
 overflow_add-self c =
