@@ -22,8 +22,8 @@ use Rattle.hg_base.proofs.TextNumbers.{number_of, value_of}
 use Rattle.hg_base.proofs.TextFits.{named}
 
 -- the number in field i, and whether field i is the word
-abbrev pub number_in : ℕ → List Field → ℕ
-number_in i fields = number_of (get_or fields i [])
+abbrev pub natural_in : ℕ → List Field → ℕ
+natural_in i fields = number_of (get_or fields i [])
 
 abbrev pub says : ℕ → List Field → Field → Bool
 says i fields word = bytes_eq (get_or fields i []) word
@@ -37,7 +37,7 @@ begins_held [] = false
 begins_held (fields ∷ more) = is_held fields
 
 abbrev pub told_in : List Field → Told
-told_in fields = record { session = number_in 3 fields; number = number_in 4 fields; moved = says 5 fields (codes "moved") }
+told_in fields = record { session = natural_in 3 fields; number = natural_in 4 fields; moved = says 5 fields (codes "moved") }
 
 -- the held snapshots that stand first, and what stands after them
 abbrev pub held_in : List (List Field) → List Told
@@ -59,7 +59,7 @@ values_in (kind ∷ kinds) [] = []
 values_in (kind ∷ kinds) (field ∷ fields) = value_in kind field ∷ values_in kinds fields
 
 abbrev pub row_in : List Column → List Field → ℕ × List Value
-row_in kinds fields = (number_in 3 fields, values_in kinds (drop 4 fields))
+row_in kinds fields = (natural_in 3 fields, values_in kinds (drop 4 fields))
 
 abbrev pub kind_in : Field → Kind
 kind_in word = if bytes_eq word (codes "group") then kinds.Group else if bytes_eq word (codes "table") then kinds.Table else kinds.Interval
@@ -67,23 +67,23 @@ kind_in word = if bytes_eq word (codes "group") then kinds.Group else if bytes_e
 -- a refusal of a statement of that table
 abbrev pub refusal_in : TableId → List Field → Answer
 refusal_in table fields =
-    if says 1 fields (codes "newer") then Newer (number_in 2 fields)
-    else if says 1 fields (codes "open") then OpenBy (record { session = number_in 2 fields; transaction = number_in 3 fields })
+    if says 1 fields (codes "newer") then Newer (natural_in 2 fields)
+    else if says 1 fields (codes "open") then OpenBy (record { session = natural_in 2 fields; transaction = natural_in 3 fields })
     else Undeclared table
 
 abbrev pub sweep_in : List Field → List (List Field) → Answer
-sweep_in fields more = Swept (record { kind = kind_in (get_or fields 1 []); mark = number_in 2 fields; horizon = number_in 3 fields; removed = number_in 4 fields; held = held_in more })
+sweep_in fields more = Swept (record { kind = kind_in (get_or fields 1 []); mark = natural_in 2 fields; horizon = natural_in 3 fields; removed = natural_in 4 fields; held = held_in more })
 
 -- the answer that begins with the first field, where `more` are the records after it
 abbrev pub answer_in : List Declaration → TableId → List Field → List (List Field) → Answer
 answer_in tables table fields more =
-    if says 0 fields (codes "begun") then Begun (number_in 1 fields)
+    if says 0 fields (codes "begun") then Begun (natural_in 1 fields)
     else if says 0 fields (codes "stored") then Stored
     else if says 0 fields (codes "row") then Found (values_in (kinds_of tables table) (drop 1 fields))
     else if says 0 fields (codes "none") then Nothing
     else if says 0 fields (codes "gone") then Gone
-    else if says 0 fields (codes "rows") then Rows (map (row_in (kinds_of tables table)) (take (number_in 1 fields) more))
-    else if says 0 fields (codes "committed") then Committed (number_in 1 fields)
+    else if says 0 fields (codes "rows") then Rows (map (row_in (kinds_of tables table)) (take (natural_in 1 fields) more))
+    else if says 0 fields (codes "committed") then Committed (natural_in 1 fields)
     else if says 0 fields (codes "ended") then Ended
     else if says 0 fields (codes "undone") then Undone
     else if says 0 fields (codes "refused") then refusal_in table fields
@@ -93,21 +93,21 @@ answer_in tables table fields more =
 -- the records after those of the reply
 abbrev pub after_reply : List Field → List (List Field) → List (List Field)
 after_reply fields more =
-    if says 0 fields (codes "rows") then drop (number_in 1 fields) more
+    if says 0 fields (codes "rows") then drop (natural_in 1 fields) more
     else if says 0 fields (codes "swept") then after_held more
     else more
 
 -- the commit number behind a stored write
 abbrev pub number_behind : List Field → Option ℕ
 number_behind [] = None
-number_behind (word ∷ fields) = Some (number_in 0 fields)
+number_behind (word ∷ fields) = Some (natural_in 0 fields)
 
 abbrev pub commit_in : List Field → Option ℕ
 commit_in fields = if says 0 fields (codes "stored") || says 0 fields (codes "gone") then number_behind (drop 1 fields) else None
 
 -- the snapshot that stands first, and what stands after it
 abbrev pub at_in : List Field → Option ℕ
-at_in fields = if says 0 fields (codes "at") then Some (number_in 1 fields) else None
+at_in fields = if says 0 fields (codes "at") then Some (natural_in 1 fields) else None
 
 abbrev pub after_at : List Field → List Field
 after_at fields = if says 0 fields (codes "at") then drop 2 fields else fields
@@ -126,14 +126,14 @@ line_at tables records session place fields more = record { session = session; p
 -- the first line, and the records after it
 abbrev pub line_in : List Declaration → List Record → List (List Field) → Line
 line_in tables records [] = blank 0 0
-line_in tables records (fields ∷ more) = line_at tables records (number_in 0 fields) (number_in 1 fields) (drop 2 fields) more
+line_in tables records (fields ∷ more) = line_at tables records (natural_in 0 fields) (natural_in 1 fields) (drop 2 fields) more
 
 abbrev pub after_line : List (List Field) → List (List Field)
 after_line [] = []
 after_line (fields ∷ more) = after_reply (after_at (drop 2 fields)) more
 
 abbrev pub total_in : ℕ → List (List Field) → ℕ
-total_in i records = number_in 2 (get_or records i [])
+total_in i records = natural_in 2 (get_or records i [])
 
 abbrev pub totals_in : List (List Field) → Totals
 totals_in records = record { made = total_in 0 records; undone = total_in 1 records; group = total_in 2 records; table = total_in 3 records; interval = total_in 4 records; left = total_in 5 records }

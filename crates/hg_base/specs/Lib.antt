@@ -20,5 +20,5 @@ pub mod Reports
 pub mod Faults
 pub mod Memory
 pub mod Packed
-pub mod Held
+pub mod Storage
 pub mod Standard

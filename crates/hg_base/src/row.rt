@@ -3,7 +3,7 @@
 ghost use Rattle.std.specs.Prelude.{◌≡◌, ◌≤◌, ◌<◌, ◌++◌, ◌∷◌, [], List, length, map, get_or, IfOk, IfNone, IfSome, IsOk, IsTrue, OnOk, OnErr, Decides, false, true};
 ghost use Rattle.std.specs.List.{list_any};
 ghost use Rattle.hg_base.specs.declared.value.Value.TheVariants.{Number};
-ghost use Rattle.hg_base.specs.Held.{IsHeld, held_bytes, held_numbers, is_packed};
+ghost use Rattle.hg_base.specs.Storage.{IsStored, stored_bytes, stored_numbers, is_packed};
 ghost use Rattle.hg_base.specs.Packed.{IsPacked};
 ghost use Rattle.hg_base.specs.Values.{is_text, number_of};
 
@@ -17,7 +17,7 @@ use std::mem::size_of;
 
 /// The values of a row: numbers alone as such, and else packed. Up to two numbers and 23 bytes are in no block of the heap.
 #[derive(Debug, Drop)]
-pub(crate) enum Held {
+pub(crate) enum Storage {
     One([i64; 1]),
     Two([i64; 2]),
     Many(Vec<i64>),
@@ -25,17 +25,17 @@ pub(crate) enum Held {
     Long(Vec<u8>),
 }
 
-impl Held {
+impl Storage {
     // The numbers, and none of packed values.
     fn numbers(&self) -> &[i64]
-        ensures { result.now ≡ held_numbers self.now }
+        ensures { result.now ≡ stored_numbers self.now }
     {
         match self {
-            Held::One(numbers) => numbers,
-            Held::Two(numbers) => numbers,
-            Held::Many(numbers) => numbers,
-            Held::Short(_) => &[],
-            Held::Long(_) => &[],
+            Storage::One(numbers) => numbers,
+            Storage::Two(numbers) => numbers,
+            Storage::Many(numbers) => numbers,
+            Storage::Short(_) => &[],
+            Storage::Long(_) => &[],
         }
     }
 
@@ -43,39 +43,39 @@ impl Held {
         ensures { result ≡ is_packed self.now }
     {
         match self {
-            Held::One(_) => false,
-            Held::Two(_) => false,
-            Held::Many(_) => false,
-            Held::Short(_) => true,
-            Held::Long(_) => true,
+            Storage::One(_) => false,
+            Storage::Two(_) => false,
+            Storage::Many(_) => false,
+            Storage::Short(_) => true,
+            Storage::Long(_) => true,
         }
     }
 
     // The bytes of packed values, and none of numbers.
     fn bytes(&self) -> &[u8]
-        requires { IsHeld self.now }
-        ensures { result.now ≡ held_bytes self.now }
+        requires { IsStored self.now }
+        ensures { result.now ≡ stored_bytes self.now }
     {
         match self {
-            Held::One(_) => &[],
-            Held::Two(_) => &[],
-            Held::Many(_) => &[],
-            Held::Short(bytes) => bytes.as_bytes(),
-            Held::Long(bytes) => bytes,
+            Storage::One(_) => &[],
+            Storage::Two(_) => &[],
+            Storage::Many(_) => &[],
+            Storage::Short(bytes) => bytes.as_bytes(),
+            Storage::Long(bytes) => bytes,
         }
     }
 
     // Packed values, in the row itself where there is room for them.
-    fn from_bytes(packed: Vec<u8>) -> Held
+    fn from_bytes(packed: Vec<u8>) -> Storage
         requires { IsPacked packed.items }
-        ensures held { IsHeld result }
-        ensures bytes { held_bytes result ≡ packed.items }
+        ensures stored { IsStored result }
+        ensures bytes { stored_bytes result ≡ packed.items }
         ensures packed { is_packed result ≡ true }
     {
         if packed.len() > ROOM {
-            return Held::Long(packed);
+            return Storage::Long(packed);
         }
-        Held::Short(Inline::from_slice(&packed))
+        Storage::Short(Inline::from_slice(&packed))
     }
 }
 
@@ -83,7 +83,7 @@ impl Held {
 /// 23, lie in the row itself. All else takes one block of the heap.
 #[derive(Debug, Drop)]
 pub struct Row {
-    held: Held,
+    storage: Storage,
 }
 
 const _: () = prove!(size_of::<Row>() == 32);
@@ -91,13 +91,13 @@ const _: () = prove!(size_of::<Row>() == 32);
 impl Model for Row {
     ghost use Rattle.std.specs.Prelude.{List, ◌≤◌, length};
     ghost use Rattle.hg_base.specs.declared.value.Value as value;
-    ghost use Rattle.hg_base.specs.Held.{IsHeld, held_values};
+    ghost use Rattle.hg_base.specs.Storage.{IsStored, stored_values};
 
     ghost Value = { List value.Value };
 
-    ghost view = { λ a. held_values a.held };
+    ghost view = { λ a. stored_values a.storage };
 
-    ghost invariant = { λ a. (1 ≤ length (held_values a.held)) × (length (held_values a.held) ≤ 8) × IsHeld a.held };
+    ghost invariant = { λ a. (1 ≤ length (stored_values a.storage)) × (length (stored_values a.storage) ≤ 8) × IsStored a.storage };
 }
 
 fn have_text(values: &[Value]) -> bool
@@ -133,12 +133,12 @@ impl Row {
         ensures same { IfOk result (λ row. row ≡ map Number numbers.now) }
         ensures short { length numbers.now ≤ 2 → IsOk result }
     {
-        let held = match numbers.len() {
-            1 => Held::One([numbers[0]]),
-            2 => Held::Two([numbers[0], numbers[1]]),
-            _ => Held::Many(numbers.to_vec(alloc)?),
+        let storage = match numbers.len() {
+            1 => Storage::One([numbers[0]]),
+            2 => Storage::Two([numbers[0], numbers[1]]),
+            _ => Storage::Many(numbers.to_vec(alloc)?),
         };
-        Ok(Row { held })
+        Ok(Row { storage })
     }
 
     /// The row of these values.
@@ -149,8 +149,8 @@ impl Row {
         ensures same { IfOk result (λ row. row ≡ values.now) }
     {
         if have_text(values) {
-            let held = Held::from_bytes(pack(alloc, values)?);
-            return Ok(Row { held });
+            let storage = Storage::from_bytes(pack(alloc, values)?);
+            return Ok(Row { storage });
         }
         Row::from_slice(alloc, &numbers_of(alloc, values)?)
     }
@@ -160,10 +160,10 @@ impl Row {
         ensures some { 1 ≤ length self.now }
         ensures most { length self.now ≤ 8 }
     {
-        if self.held.is_packed() {
-            return packed_len(self.held.bytes());
+        if self.storage.is_packed() {
+            return packed_len(self.storage.bytes());
         }
-        self.held.numbers().len()
+        self.storage.numbers().len()
     }
 
     /// The values, where all are numbers.
@@ -171,10 +171,10 @@ impl Row {
         ensures some { IfSome result (λ numbers. self.now ≡ map Number numbers.now) }
         ensures none { IfNone result (IsTrue (list_any is_text self.now)) }
     {
-        if self.held.is_packed() {
+        if self.storage.is_packed() {
             return None;
         }
-        Some(self.held.numbers())
+        Some(self.storage.numbers())
     }
 
     /// The value of a column, counted from 0.
@@ -182,10 +182,10 @@ impl Row {
         requires { i < length self.now }
         ensures { result ≡ get_or self.now i result }
     {
-        if self.held.is_packed() {
-            return packed_value(self.held.bytes(), i);
+        if self.storage.is_packed() {
+            return packed_value(self.storage.bytes(), i);
         }
-        Value::Number(self.held.numbers()[i])
+        Value::Number(self.storage.numbers()[i])
     }
 
     /// Whether these are the same values.
@@ -193,9 +193,9 @@ impl Row {
     pub fn same(&self, other: &Row) -> bool
         ensures { Decides result (self.now ≡ other.now) }
     {
-        match (self.held.is_packed(), other.held.is_packed()) {
-            (true, true) => are_same_bytes(self.held.bytes(), other.held.bytes()),
-            (false, false) => are_same_numbers(self.held.numbers(), other.held.numbers()),
+        match (self.storage.is_packed(), other.storage.is_packed()) {
+            (true, true) => are_same_bytes(self.storage.bytes(), other.storage.bytes()),
+            (false, false) => are_same_numbers(self.storage.numbers(), other.storage.numbers()),
             (true, false) => false,
             (false, true) => false,
         }
@@ -206,14 +206,14 @@ impl Row {
         ensures same { IfOk result (λ row. row ≡ self.now) }
         ensures short { length self.now ≤ 2 → list_any is_text self.now ≡ false → IsOk result }
     {
-        let held = match &self.held {
-            Held::One(numbers) => Held::One(*numbers),
-            Held::Two(numbers) => Held::Two(*numbers),
-            Held::Many(numbers) => Held::Many(numbers.to_vec(*numbers.allocator())?),
-            Held::Short(bytes) => Held::Short(bytes.copy()),
-            Held::Long(bytes) => Held::Long(bytes.to_vec(*bytes.allocator())?),
+        let storage = match &self.storage {
+            Storage::One(numbers) => Storage::One(*numbers),
+            Storage::Two(numbers) => Storage::Two(*numbers),
+            Storage::Many(numbers) => Storage::Many(numbers.to_vec(*numbers.allocator())?),
+            Storage::Short(bytes) => Storage::Short(bytes.copy()),
+            Storage::Long(bytes) => Storage::Long(bytes.to_vec(*bytes.allocator())?),
         };
-        Ok(Row { held })
+        Ok(Row { storage })
     }
 }
 

@@ -11,7 +11,7 @@ use Rattle.hg_base.specs.Transcript.{last_images}
 use Rattle.hg_base.proofs.HistoryFacts.{same_rid_equal, same_rid_itself}
 use Rattle.hg_base.proofs.Growth.{each_group_snoc as group_more}
 use Rattle.hg_core.specs.declared.log.LogEntry.{LogEntry}
-use Rattle.hg_core.specs.Logs.{current, number_in, is_plain, own_writes, open_in, commit_in, new_group, is_in, UpTo}
+use Rattle.hg_core.specs.Logs.{current, snapshot_number, is_plain, own_writes, open_in, commit_in, new_group, is_in, UpTo}
 use Rattle.hg_core.specs.Contents.{is_stamped, has_stamped}
 use Rattle.hg_core.proofs.NewGroup.{image_open, first_in, rest_in}
 use Rattle.hg_core.proofs.Replies.{current_within}
@@ -141,7 +141,7 @@ writes_some r log p s = go (own_writes log) (image_open r log p)
     go [] e = absurd (not_none (open_in r log) (sym e) s)
     go (w ∷ ws) e = omega arith
 
-snapshot_within : (n : ℕ) (o : Option Snapshot) → IfSome o (λ snapshot. snapshot.at ≤ n) → number_in o ≤ n
+snapshot_within : (n : ℕ) (o : Option Snapshot) → IfSome o (λ snapshot. snapshot.at ≤ n) → snapshot_number o ≤ n
 snapshot_within n None h = omega arith
 snapshot_within n (Some snapshot) h = h
 
@@ -150,7 +150,7 @@ commits_are top log [] up p some = tt
 commits_are top log (j ∷ js) up p some = (
   record {
     some = (let r = some j (first_in j js) in writes_some r.0 (log j) p.0 r.1);
-    before = (let le : number_in (current (log j)) ≤ top = snapshot_within top (current (log j)) (current_within top (log j) (up j)) in omega arith);
+    before = (let le : snapshot_number (current (log j)) ≤ top = snapshot_within top (current (log j)) (current_within top (log j) (up j)) in omega arith);
   },
   commits_are top log js up p.1 (λ k m. some k (rest_in k j js m)),
 )

@@ -18,7 +18,7 @@ use Rattle.hg_core.specs.declared.ask.Ask.TheVariants as asks
 use Rattle.hg_core.specs.declared.log.LogEntry.{LogEntry}
 use Rattle.hg_core.specs.declared.log.LogEntry.TheVariants.{Saw, Refused, Outside}
 use Rattle.hg_core.specs.declared.phase.Phase.TheVariants.{Live}
-use Rattle.hg_core.specs.Logs.{current, number_in, begans, wrotes, begun_in, is_plain, own_writes, open_in, open_writes}
+use Rattle.hg_core.specs.Logs.{current, snapshot_number, begans, wrotes, begun_in, is_plain, own_writes, open_in, open_writes}
 use Rattle.hg_core.specs.Phases.{snapshot_in}
 use Rattle.hg_core.specs.declared.version.Version.{Version}
 use Rattle.hg_core.specs.Versions.{newest_at, unpublished}
@@ -141,7 +141,7 @@ look_kept s j (asks.Outside table) b rows h (at, scope, may) = look_more s j (Ou
   where
     reads : current (s.log j) ≡ Some (record { at = at; scope = scope })
     reads = h.logs_answer.reads j ∙ ap snapshot_in may.live
-look_kept s j (asks.Write r) b rows h (at, scope, may) = subst (λ n. IsSteady (record s { log = put s.log j (with_refusal r (refusal s.mark w n vs) (s.log j)) })) (sym (ap number_in reads)) (by_owner (unpublished s.mark vs) refl)
+look_kept s j (asks.Write r) b rows h (at, scope, may) = subst (λ n. IsSteady (record s { log = put s.log j (with_refusal r (refusal s.mark w n vs) (s.log j)) })) (sym (ap snapshot_number reads)) (by_owner (unpublished s.mark vs) refl)
   where
     w : Writer
     w = writer_of (begun_in s.log) j

@@ -14,7 +14,7 @@ use Rattle.hg_core.specs.declared.log.LogEntry.{LogEntry}
 use Rattle.hg_core.specs.declared.log.LogEntry.TheVariants.{Began, Saw, Refused, Outside, Wrote, Undid, Published, Over}
 use Rattle.hg_core.specs.declared.phase.Phase.{Phase}
 use Rattle.hg_core.specs.declared.phase.Phase.TheVariants.{Idle, Declared, Probed, Entered, Fixed, Live}
-use Rattle.hg_core.specs.Logs.{current, number_in, is_plain, own_writes, open_in, open_writes, new_group}
+use Rattle.hg_core.specs.Logs.{current, snapshot_number, is_plain, own_writes, open_in, open_writes, new_group}
 use Rattle.hg_core.specs.Phases.{snapshot_in}
 use Rattle.hg_core.specs.Covered.{MayCommit, OpenWritesMayCommit}
 
@@ -81,7 +81,7 @@ pub some_is : {X : Type 0} (o : Option X) → IsSome o → (x : X) × (o ≡ Som
 some_is None s = cc
 some_is (Some x) s = (x, refl)
 
-at_snapshot : (h : History) (r : Rid) (p : Phase) → MayCommit h r p → Each (λ (w : ℕ × Image). w.0 ≤ number_in (snapshot_in p)) (writes h r)
+at_snapshot : (h : History) (r : Rid) (p : Phase) → MayCommit h r p → Each (λ (w : ℕ × Image). w.0 ≤ snapshot_number (snapshot_in p)) (writes h r)
 at_snapshot h r Idle m = absurd m
 at_snapshot h r (Declared scope) m = absurd m
 at_snapshot h r (Probed scope f) m = absurd m
@@ -92,9 +92,9 @@ at_snapshot h r (Live at scope) m = m.1
 pub group_loses_nothing : (h : History) (phase : ℕ → Phase) (log : ℕ → List LogEntry) (js : List ℕ) → ((j : ℕ) → current (log j) ≡ snapshot_in (phase j)) → OpenWritesMayCommit h phase (open_writes log) → Each (λ j. IsTrue (is_plain (log j))) js → Each (LosesNothing h) (new_group log js)
 group_loses_nothing h phase log [] reads may plain = tt
 group_loses_nothing h phase log (j ∷ js) reads may plain = (
-  each_last (λ w. Each (λ (other : ℕ × Image). other.0 ≤ number_in (current (log j))) (writes h w.rid)) (own_writes (log j)) (each_keeps _ _ (λ (w : Write) s. one w s) (own_writes (log j)) (own_open (log j) plain.0)),
+  each_last (λ w. Each (λ (other : ℕ × Image). other.0 ≤ snapshot_number (current (log j))) (writes h w.rid)) (own_writes (log j)) (each_keeps _ _ (λ (w : Write) s. one w s) (own_writes (log j)) (own_open (log j) plain.0)),
   group_loses_nothing h phase log js reads may plain.1,
 )
   where
-    one : (w : Write) → IsSome (open_in w.rid (log j)) → Each (λ (other : ℕ × Image). other.0 ≤ number_in (current (log j))) (writes h w.rid)
-    one w s = let o = some_is (open_in w.rid (log j)) s in subst (λ n. Each (λ (other : ℕ × Image). other.0 ≤ number_in n) (writes h w.rid)) (sym (reads j)) (at_snapshot h w.rid (phase j) (may j w.rid o.0 o.1))
+    one : (w : Write) → IsSome (open_in w.rid (log j)) → Each (λ (other : ℕ × Image). other.0 ≤ snapshot_number (current (log j))) (writes h w.rid)
+    one w s = let o = some_is (open_in w.rid (log j)) s in subst (λ n. Each (λ (other : ℕ × Image). other.0 ≤ snapshot_number n) (writes h w.rid)) (sym (reads j)) (at_snapshot h w.rid (phase j) (may j w.rid o.0 o.1))

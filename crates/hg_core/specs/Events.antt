@@ -15,7 +15,7 @@ use Rattle.hg_core.specs.declared.phase.Phase.TheVariants.{Idle, Declared, Probe
 use Rattle.hg_core.specs.declared.log.LogEntry.{LogEntry}
 use Rattle.hg_core.specs.declared.log.LogEntry.TheVariants.{Began, Saw, Refused, Outside, Wrote, Undid, Over}
 use Rattle.hg_core.specs.Words.{IsBelow, mask_of}
-use Rattle.hg_core.specs.Logs.{current, number_in, begans, wrotes, is_plain, open_in, begun_in, is_in, new_group, published_logs}
+use Rattle.hg_core.specs.Logs.{current, snapshot_number, begans, wrotes, is_plain, open_in, begun_in, is_in, new_group, published_logs}
 use Rattle.hg_core.specs.Phases.{IsSession, declared_in, snapshot_in}
 use Rattle.hg_core.specs.Passes.{PassRecord, found, IsWhole}
 use Rattle.hg_core.specs.Versions.{newest_at, installed, undone, stamped, IsFreeFor, IsOpenBy}
@@ -100,7 +100,7 @@ with_refusal r (Some answer) log = Refused r answer ∷ log
 -- the log of session j after a look, in bucket b and with the rows that it finds there where it is a read
 abbrev pub looked : CoreState → ℕ → Ask → ℕ → List (ℕ × List Value) → List LogEntry
 looked s j (Read table low high) b rows = Saw table low high b rows ∷ s.log j
-looked s j (asks.Write r) b rows = with_refusal r (refusal s.mark (writer_of (begun_in s.log) j) (number_in (current (s.log j))) (versions s.buckets s.bucket r)) (s.log j)
+looked s j (asks.Write r) b rows = with_refusal r (refusal s.mark (writer_of (begun_in s.log) j) (snapshot_number (current (s.log j))) (versions s.buckets s.bucket r)) (s.log j)
 looked s j (asks.Outside table) b rows = Outside table ∷ s.log j
 
 -- a bucket's counters after so many versions more were made, one was taken back, or so many were removed by a kind

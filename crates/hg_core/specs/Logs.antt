@@ -78,13 +78,13 @@ abbrev pub begun_in : (ℕ → List LogEntry) → ℕ → ℕ
 begun_in log j = begans (log j)
 
 -- the number of a snapshot, and 0 where there is none
-abbrev pub number_in : Option Snapshot → ℕ
-number_in None = 0
-number_in (Some snapshot) = snapshot.at
+abbrev pub snapshot_number : Option Snapshot → ℕ
+snapshot_number None = 0
+snapshot_number (Some snapshot) = snapshot.at
 
 -- the transaction of session j that is not over, as a commit: each record that it writes, with the image of its last write
 abbrev pub commit_in : ℕ → List LogEntry → Commit
-commit_in j log = record { session = j; transaction = begans log; at = number_in (current log); images = last_images (own_writes log) }
+commit_in j log = record { session = j; transaction = begans log; at = snapshot_number (current log); images = last_images (own_writes log) }
 
 -- the commits of session j that its log has with the number n, oldest first
 abbrev pub published : ℕ → ℕ → List LogEntry → List Commit

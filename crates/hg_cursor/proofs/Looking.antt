@@ -17,7 +17,7 @@ use Rattle.hg_rule.specs.declared.view.SessionPart.{SessionPart}
 use Rattle.hg_rule.specs.declared.view.Part.{Part}
 use Rattle.hg_rule.specs.declared.view.Sight.{Sight}
 use Rattle.hg_rule.specs.declared.view.View.{View}
-use Rattle.hg_rule.specs.Views.{number_in, after_first}
+use Rattle.hg_rule.specs.Views.{part_number, after_first}
 use Rattle.hg_rule.specs.Holding.{bucket, writer, snapshot}
 use Rattle.hg_rule.specs.Writes.{log_asked, Looks}
 use Rattle.hg_cursor.specs.Keys.{Rows, IsOwnKey, AreOwn, HasVersion, read_of}
@@ -58,7 +58,7 @@ if_ok (Err e) f a = a
 module _ (count j b m : ℕ) (part : SessionPart) (old : List Sight) (table : TableId) (low high : ℕ) (u w : View) (h : Beside j part b old u) (k : Looks u (Read table low high) m w) where
   pub saw_rows : log_asked u (Read table low high) m k.rows ≡ Saw table low high b k.rows ∷ part.log
   saw_rows =
-      let n = ap (λ (ps : List Part). number_in (after_first ps)) h.parts in
+      let n = ap (λ (ps : List Part). part_number (after_first ps)) h.parts in
       let s = first_session u j part _ h.parts in
       λ i. Saw table low high (n i) k.rows ∷ (s i).log
 

@@ -16,7 +16,7 @@ use Rattle.hg_rule.specs.declared.view.Sight.TheVariants.{Heard}
 use Rattle.hg_rule.specs.declared.view.View.{View}
 use Rattle.hg_rule.specs.declared.view.Sizes.{Sizes}
 use Rattle.hg_rule.specs.Facts.{StartsWith, IsAmong}
-use Rattle.hg_rule.specs.Views.{number, number_in, session, session_there, others, first_in, after_first, seeing, HasSession, HasOnlySession}
+use Rattle.hg_rule.specs.Views.{number, part_number, session, session_there, others, first_in, after_first, seeing, HasSession, HasOnlySession}
 use Rattle.hg_rule.specs.Steps.{loaded_in}
 use Rattle.hg_rule.specs.Holding.{beyond, writer, snapshot}
 use Rattle.hg_rule.specs.Writes.{with_log, log_asked, Looks}
@@ -43,7 +43,7 @@ only_session v only = only ∙ (λ i. OfSession (number v) (session v) ∷ sym (
 
 -- what the first part is
 pub first_number : (v : View) (j : ℕ) (part : SessionPart) (os : List Part) → v.parts ≡ OfSession j part ∷ os → number v ≡ j
-first_number v j part os e = ap number_in e
+first_number v j part os e = ap part_number e
 
 pub first_session : (v : View) (j : ℕ) (part : SessionPart) (os : List Part) → v.parts ≡ OfSession j part ∷ os → session v ≡ part
 first_session v j part os e = ap (λ (ps : List Part). session_there (first_in ps)) e

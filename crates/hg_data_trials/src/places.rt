@@ -27,16 +27,16 @@ enum Call {
     Sweep(u64, u64, u64),
 }
 
-fn number_in(word: Option<&str>) -> u64 {
+fn word_number(word: Option<&str>) -> u64 {
     word.and_then(|digits| digits.parse().ok()).unwrap_or(0)
 }
 
 fn call_of(text: &str) -> Option<Call> {
     let mut words = text.split(':');
     let word = words.next()?;
-    let first = number_in(words.next());
-    let second = number_in(words.next());
-    let third = number_in(words.next());
+    let first = word_number(words.next());
+    let second = word_number(words.next());
+    let third = word_number(words.next());
     if word == "put" {
         Some(Call::Put)
     } else if word == "undo" {

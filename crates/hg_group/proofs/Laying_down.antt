@@ -12,7 +12,7 @@ use Rattle.hg_rule.specs.declared.view.Sight.TheVariants.{Saw, Heard}
 use Rattle.hg_rule.specs.declared.view.Event.TheVariants.{HandBack}
 use Rattle.hg_rule.specs.declared.view.View.{View}
 use Rattle.hg_rule.specs.Facts.{IsAmong, groups, new_session}
-use Rattle.hg_rule.specs.Views.{number, number_in, session, since, others, seeing}
+use Rattle.hg_rule.specs.Views.{number, part_number, session, since, others, seeing}
 use Rattle.hg_rule.specs.Holding.{beyond}
 use Rattle.hg_rule.specs.Writes.{with_published}
 use Rattle.hg_rule.specs.Handing.{Members, lent, who, numbered, group_of, next_lent, lent_alone, hands_back}
@@ -139,7 +139,7 @@ module _ (sessions : ℕ) (v : View) (txs : List OpenTx) (n place : ℕ) (g : Ha
     events =
         let js = sessions_of (take i txs) in
         let j = (get_or txs i d).writer.session in
-        ap (λ (y : View). y.events) is ∙ ((λ q. s.events q ++ HandBack (number_in (next_is.0 q)) ∷ []) ∙ (append_assoc v.events (backs js) (HandBack j ∷ []) ∙ ap (λ l. v.events ++ l) (sym (map-append (λ k. HandBack k) js (j ∷ [])) ∙ ap backs (sym (map-append (λ (tx : OpenTx). tx.writer.session) (take i txs) (get_or txs i d ∷ [])) ∙ ap sessions_of (sym (take_more txs i d l))))));
+        ap (λ (y : View). y.events) is ∙ ((λ q. s.events q ++ HandBack (part_number (next_is.0 q)) ∷ []) ∙ (append_assoc v.events (backs js) (HandBack j ∷ []) ∙ ap (λ l. v.events ++ l) (sym (map-append (λ k. HandBack k) js (j ∷ [])) ∙ ap backs (sym (map-append (λ (tx : OpenTx). tx.writer.session) (take i txs) (get_or txs i d ∷ [])) ∙ ap sessions_of (sym (take_more txs i d l))))));
   }
 
   pub laid_one : (t : BoardId) (x : Laid) (receipt : Receipt) → x.outcome ≡ Committed receipt → IsTxOf t x.seat → seat_number x.seat ≡ (get_or txs i d).writer.session → tx_view x.seat ≡ lent_alone (get_or txs i d).writer.session (next_lent w) w → receipt.number ≡ n → receipt.place ≡ place + i → IsLaid t (get_or txs i d).writer.session x

@@ -16,7 +16,7 @@ use crate::records::{join_records, make_room};
 use crate::refusing::lay_back;
 use crate::stamping::stamp_batch;
 use hg_lock::Fits;
-use hg_queue::{LinePass, OpenTx, Queue};
+use hg_queue::{QueuePass, OpenTx, Queue};
 use hg_rule::{Board, CommitSeat, SessionPass};
 use hg_store::Store;
 use std::collections::VecDeque;
@@ -36,7 +36,7 @@ pub struct Founding {
 #[derive(Drop)]
 pub struct Batches {
     pub(crate) seat: CommitSeat,
-    pub(crate) line: LinePass,
+    pub(crate) line: QueuePass,
     pub(crate) popped: Vec<OpenTx>,
     pub(crate) laid: Vec<Option<Laid>>,
     pub(crate) contexts: VecDeque<GroupContext>,

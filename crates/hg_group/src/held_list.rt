@@ -8,7 +8,7 @@ use crate::context::GroupContext;
 use crate::group_list::GroupList;
 use crate::laid::Laid;
 use hg_lock::{Loan, Locks};
-use hg_queue::{LinePass, OpenTx};
+use hg_queue::{QueuePass, OpenTx};
 use hg_rule::CommitSeat;
 use std::collections::VecDeque;
 use std::snapshot::Snapshot;
@@ -18,7 +18,7 @@ use std::sync::Wait;
 pub struct HeldList<'a> {
     pub(crate) locks: &'a Locks<Batches>,
     pub(crate) loan: Loan<Batches, Snapshot<Founding>>,
-    pub(crate) line: LinePass,
+    pub(crate) line: QueuePass,
     pub(crate) popped: Vec<OpenTx>,
     pub(crate) laid: Vec<Option<Laid>>,
     pub(crate) contexts: VecDeque<GroupContext>,

@@ -12,7 +12,7 @@ use crate::batch::Founding;
 use crate::laid::Laid;
 use crate::pusher::Pusher;
 use hg_base::NoMemory;
-use hg_queue::{LinePass, Queue};
+use hg_queue::{QueuePass, Queue};
 use std::alloc::Global;
 use std::snapshot::Snapshot;
 
@@ -32,7 +32,7 @@ pub(crate) fn empty_places(alloc: Global, sessions: u32) -> Result<Vec<Option<La
 pub(crate) fn make_pushers(
     alloc: Global,
     queue: &Queue,
-    line: &mut LinePass,
+    line: &mut QueuePass,
     founding: &Snapshot<Founding>,
     sessions: u32,
 ) -> Result<Vec<Pusher>, NoMemory>

@@ -2,13 +2,13 @@
 
 use crate::batch::Founding;
 use hg_lock::Fits;
-use hg_queue::LinePass;
+use hg_queue::QueuePass;
 use std::snapshot::Snapshot;
 
 /// A session's pass of the queue.
 #[derive(Drop)]
 pub struct Pusher {
-    pub(crate) line: LinePass,
+    pub(crate) line: QueuePass,
 }
 
 impl Fits for Pusher {

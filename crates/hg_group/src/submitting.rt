@@ -7,7 +7,7 @@ ghost use Rattle.hg_queue.specs.Handing.{IsOpenTxOf, MayCommit};
 ghost use Rattle.hg_queue.specs.Queues.{IsPassOf, known};
 ghost use Rattle.hg_group.specs.Submitting.{HasSubmitted, IsBackAgain, ends_with};
 
-use hg_queue::{Handed, LinePass, OpenTx, Queue};
+use hg_queue::{Handed, QueuePass, OpenTx, Queue};
 use hg_rule::{Board, SessionPass};
 use std::sync::Wait;
 
@@ -17,7 +17,7 @@ pub(crate) fn submit<R: Wait>(
     rt: &R,
     board: &Board,
     queue: &Queue,
-    line: &mut LinePass,
+    line: &mut QueuePass,
     tx: OpenTx,
     pass: &mut SessionPass,
 ) -> Result<u64, OpenTx>

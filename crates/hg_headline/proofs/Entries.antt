@@ -24,7 +24,7 @@ use Rattle.hg_base.proofs.ListFacts.{append_nil}
 use Rattle.hg_base.specs.declared.rid.TableId.{TableId}
 use Rattle.hg_core.specs.declared.log.LogEntry.{LogEntry}
 use Rattle.hg_core.specs.declared.log.LogEntry.TheVariants.{Began, Saw, Refused, Outside, Wrote, Undid, Published, Over}
-use Rattle.hg_core.specs.Logs.{current, begans, own_writes, number_in, commit_in, published, UpTo}
+use Rattle.hg_core.specs.Logs.{current, begans, own_writes, snapshot_number, commit_in, published, UpTo}
 use Rattle.hg_core.specs.Replies.{writes_in, numbers_in}
 use Rattle.hg_core.specs.Reading.{Unprinted, own_entries, is_access, close, FitsAnswer, IsGcAnswer}
 use Rattle.hg_headline.specs.Gathered.{began_at}
@@ -131,7 +131,7 @@ says_close j now l l1 o c mine ends_by tr cur at own numbers known begun made = 
   begun = λ d told e h. begun d told e (sym (close_begun o d told.number l1) ∙ h);
   published = λ n.
       close_made o n j l1 ∙ ap (λ cs. cs ++ made_at n o (commit_in j l1)) (made n)
-      ∙ (λ i. published n j l ++ made_at n (sym ends_by i) (record { session = sym mine i; transaction = sym tr i; at = (ap number_in cur ∙ sym at) i; images = last_images ((own_is l1 c cur ∙ ap (λ m. writes_in m l1) (sym tr) ∙ sym (close_writes o now.transaction l1)) i) }));
+      ∙ (λ i. published n j l ++ made_at n (sym ends_by i) (record { session = sym mine i; transaction = sym tr i; at = (ap snapshot_number cur ∙ sym at) i; images = last_images ((own_is l1 c cur ∙ ap (λ m. writes_in m l1) (sym tr) ∙ sym (close_writes o now.transaction l1)) i) }));
 }
 
 -- ---- a get, put, del or scan in a transaction

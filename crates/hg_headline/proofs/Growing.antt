@@ -10,7 +10,7 @@ use Rattle.hg_base.proofs.ListFacts.{cases, append_nil}
 use Rattle.hg_base.proofs.Growth.{each_group_snoc as group_more}
 use Rattle.hg_core.specs.declared.log.LogEntry.{LogEntry}
 use Rattle.hg_core.specs.declared.log.LogEntry.TheVariants.{Began, Saw, Refused, Outside, Wrote, Undid, Published, Over}
-use Rattle.hg_core.specs.Logs.{current, number_in, own_writes, commit_in, published, is_in, new_group, published_logs, UpTo, AnswerUpTo}
+use Rattle.hg_core.specs.Logs.{current, snapshot_number, own_writes, commit_in, published, is_in, new_group, published_logs, UpTo, AnswerUpTo}
 use Rattle.hg_core.specs.Judged.{IsPublish, Judge, Judged, of_session}
 use Rattle.hg_core.specs.Replies.{IsReplied}
 use Rattle.hg_core.specs.Events.{put}
@@ -144,7 +144,7 @@ written_some [] e = absurd (let k : false ≡ true = e in cc)
 written_some (w ∷ ws) e = omega arith
 
 -- one transaction that wrote, as a group
-pub group_of_one : (h : History) (j : ℕ) (log : List LogEntry) → is_written (own_writes log) ≡ true → number_in (current log) ≤ length h → IsGroup (suc (length h)) (commit_in j log ∷ [])
+pub group_of_one : (h : History) (j : ℕ) (log : List LogEntry) → is_written (own_writes log) ≡ true → snapshot_number (current log) ≤ length h → IsGroup (suc (length h)) (commit_in j log ∷ [])
 group_of_one h j log wrote at = record {
   some = omega arith;
   commits = (record { some = written_some (own_writes log) wrote; before = omega (arith, at) }, tt);
@@ -162,7 +162,7 @@ published_one logs j n = λ i k. by_number j (λ k b. (if is_in (j ∷ []) k the
     there k z = let e : (j == k) ≡ false = grind (arith, nat_tests) in ap (λ b. if b || false then Published n ∷ logs k else logs k) e
 
 -- one session publishes
-pub logged_commit : (buckets : ℕ) (h : History) (logs : ℕ → List LogEntry) (j : ℕ) → Logged buckets h logs → IsPublish (logs j) → is_written (own_writes (logs j)) ≡ true → number_in (current (logs j)) ≤ length h → LosesNothing h (commit_in j (logs j)) →
+pub logged_commit : (buckets : ℕ) (h : History) (logs : ℕ → List LogEntry) (j : ℕ) → Logged buckets h logs → IsPublish (logs j) → is_written (own_writes (logs j)) ≡ true → snapshot_number (current (logs j)) ≤ length h → LosesNothing h (commit_in j (logs j)) →
     Logged buckets (h ++ (commit_in j (logs j) ∷ []) ∷ []) (put logs j (Published (suc (length h)) ∷ logs j))
 logged_commit buckets h logs j g publish wrote at loses =
     subst (Logged buckets (h ++ (commit_in j (logs j) ∷ []) ∷ [])) (published_one logs j (suc (length h)))

@@ -21,7 +21,7 @@ use Rattle.hg_base.specs.Replies.{is_written}
 use Rattle.hg_base.proofs.RidOrder.{same_back as same_rid_turned}
 use Rattle.hg_core.specs.declared.log.LogEntry.{LogEntry}
 use Rattle.hg_core.specs.declared.log.LogEntry.TheVariants.{Began, Undid, Published, Over}
-use Rattle.hg_core.specs.Logs.{current, begans, own_writes, is_plain, open_in, number_in, commit_in}
+use Rattle.hg_core.specs.Logs.{current, begans, own_writes, is_plain, open_in, snapshot_number, commit_in}
 use Rattle.hg_core.specs.Events.{put}
 use Rattle.hg_core.specs.Reading.{Unprinted, own_entries, is_access, is_alone, close, log_with, log_after, UndoesAll, FitsAnswer, FitsScope, FitsIn, HasRest, left_after}
 use Rattle.hg_core.proofs.Groups.{length_more}
@@ -288,15 +288,15 @@ replayed_commits buckets sessions h logs rs lines r a w g asked none stored m =
     let last : List LogEntry = own_entries buckets u s a ++ (Began (length h) (only (table_of s)) ∷ l) in
     let after : Over ∷ Published n ∷ last ≡ log_after buckets u s (alone (length h) a (Some n)) l = alone_after buckets u s a (Some n) h l none it.access in
     let own : own_writes last ≡ w ∷ [] = it.adds.own ∙ ap (λ o. cons_option o []) stored in
-    let at : number_in (current last) ≡ length h = ap number_in it.left.goes.opened in
+    let at : snapshot_number (current last) ≡ length h = ap snapshot_number it.left.goes.opened in
     let here : put logs j last j ≡ last = put_here logs j last in
     let commit : commit_in j last ≡ own_commit j (begans l) (length h) w = λ i. record { session = j; transaction = it.adds.count i; at = at i; images = last_images (own i) } in
     let more : History = h ++ (own_commit j (begans l) (length h) w ∷ []) ∷ [] in
     let grown : length more ≡ n = length_more h (own_commit j (begans l) (length h) w ∷ []) in
     let published : Logged buckets (h ++ (commit_in j (put logs j last j) ∷ []) ∷ []) (put (put logs j last) j (Published n ∷ put logs j last j)) =
     logged_commit buckets h (put logs j last) j it.left.goes.logged (subst IsPublish (sym here) (record { opened = is_open (current last) (own_snapshot h s) it.left.goes.opened; plain = it.left.plain }))
-    (ap is_written (ap own_writes here ∙ own)) (equal_within (number_in (current (put logs j last j))) (length h) (ap (λ x. number_in (current x)) here ∙ at))
-    (loses_nothing h (commit_in j (put logs j last j)) (ap (λ x. number_in (current x)) here ∙ at)) in
+    (ap is_written (ap own_writes here ∙ own)) (equal_within (snapshot_number (current (put logs j last j))) (length h) (ap (λ x. snapshot_number (current x)) here ∙ at))
+    (loses_nothing h (commit_in j (put logs j last j)) (ap (λ x. snapshot_number (current x)) here ∙ at)) in
     let in_it : Logged buckets more (put logs j (Published n ∷ last)) =
     subst (λ ls. Logged buckets more ls) (ap (λ x. put (put logs j last) j (Published n ∷ x)) here ∙ put_twice logs j last (Published n ∷ last))
     (subst (λ x. Logged buckets (h ++ (x ∷ []) ∷ []) (put (put logs j last) j (Published n ∷ put logs j last j))) (ap (commit_in j) here ∙ commit) published) in

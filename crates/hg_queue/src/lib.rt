@@ -28,7 +28,7 @@ mod rid_list;
 
 pub use handed::Handed;
 pub use known::{BoardId, Known};
-pub use line::{InOrder, LinePass};
+pub use line::{InOrder, QueuePass};
 pub use open_tx::OpenTx;
 pub use queue::Queue;
 pub use rid_list::RidList;

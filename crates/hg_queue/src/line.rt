@@ -20,6 +20,6 @@ pub(crate) type Line = RuledSegQueue<Handed, Known, InOrder>;
 
 /// The right to push, or to pop. It has no bytes.
 #[derive(Drop)]
-pub struct LinePass {
+pub struct QueuePass {
     pub(crate) pass: SegPass<Handed, Known>,
 }

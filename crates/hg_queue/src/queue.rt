@@ -6,7 +6,7 @@ ghost use Rattle.hg_queue.specs.Handing.{IsHandedOf};
 ghost use Rattle.hg_queue.specs.Lines.{leader, pusher, MayPush, MayPop, pushed, popped};
 
 use crate::handed::Handed;
-use crate::line::{Line, LinePass};
+use crate::line::{Line, QueuePass};
 use crate::picks::Boarded;
 use crate::plays::{Opening, Popping, Pushing, Twin};
 use hg_base::NoMemory;
@@ -26,17 +26,17 @@ impl Queue {
     fn new_as<A: Boarded>(
         alloc: Global,
         _seat: &CommitSeat,
-    ) -> Result<(Queue, LinePass, LinePass), NoMemory>
+    ) -> Result<(Queue, QueuePass, QueuePass), NoMemory>
         ensures passes { IfOk result (λ q. IsPassOf q.0 q.1 × IsPassOf q.0 q.2) }
         ensures known { IfOk result (λ q. (known q.1 ≡ leader A.board) × (known q.2 ≡ pusher A.board)) }
     {
         let (line, mut pass) = Line::with_rule(alloc)?;
         let other = line.another::<Opening<A>>(&mut pass);
-        Ok((Queue { line }, LinePass { pass }, LinePass { pass: other }))
+        Ok((Queue { line }, QueuePass { pass }, QueuePass { pass: other }))
     }
 
     /// An empty queue of the seat's board, with the pass that pops and one that pushes.
-    pub fn new(alloc: Global, seat: &CommitSeat) -> Result<(Queue, LinePass, LinePass), NoMemory>
+    pub fn new(alloc: Global, seat: &CommitSeat) -> Result<(Queue, QueuePass, QueuePass), NoMemory>
         ensures passes { IfOk result (λ q. IsPassOf q.0 q.1 × IsPassOf q.0 q.2) }
         ensures known { IfOk result (λ q. (known q.1 ≡ leader (commit_seat seat.now).table_id) × (known q.2 ≡ pusher (commit_seat seat.now).table_id)) }
     {
@@ -44,18 +44,18 @@ impl Queue {
     }
 
     /// Another pass that pushes, which knows the same.
-    pub fn twin(&self, pass: &mut LinePass) -> LinePass
+    pub fn twin(&self, pass: &mut QueuePass) -> QueuePass
         requires own { IsPassOf self.now pass.old }
         requires pushes { MayPush (known pass.old) }
         ensures own { IsPassOf self.now pass.new × IsPassOf self.now result }
         ensures same { (known pass.new ≡ known pass.old) × (known result ≡ known pass.old) }
     {
         let twin = self.line.another::<Twin>(&mut pass.pass);
-        LinePass { pass: twin }
+        QueuePass { pass: twin }
     }
 
     /// The transaction joins at the back, and is the last that the pass knows of. A refusal, for want of memory, hands it back.
-    pub fn push<R: Wait>(&self, rt: &R, pass: &mut LinePass, handed: Handed) -> Result<(), Handed>
+    pub fn push<R: Wait>(&self, rt: &R, pass: &mut QueuePass, handed: Handed) -> Result<(), Handed>
         requires own { IsPassOf self.now pass.old }
         requires pushes { MayPush (known pass.old) }
         requires handed { IsHandedOf (known pass.old).board.id handed }
@@ -68,7 +68,7 @@ impl Queue {
 
     /// Takes the transaction at the front, and its pair is then the last that the pass knows of. With None the pass knows what it
     /// knew before: no clause says that the queue was empty.
-    pub fn pop<R: Wait>(&self, rt: &R, pass: &mut LinePass) -> Option<Handed>
+    pub fn pop<R: Wait>(&self, rt: &R, pass: &mut QueuePass) -> Option<Handed>
         requires own { IsPassOf self.now pass.old }
         requires pops { MayPop (known pass.old) }
         ensures popped { IfSome result (λ x. popped (known pass.old) x (known pass.new)) }

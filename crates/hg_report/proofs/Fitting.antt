@@ -32,21 +32,21 @@ use Rattle.hg_report.specs.declared.piece.Piece.{Piece}
 use Rattle.hg_report.specs.declared.piece.Piece.TheVariants as piece
 use Rattle.hg_report.specs.declared.progress.Open.{Open}
 use Rattle.hg_report.specs.declared.progress.Open.TheVariants as opens
-use Rattle.hg_report.specs.Fields.{nth, says, number_in, session_in, narrow, integer_value, text_in, value_in, values_in, row_in}
+use Rattle.hg_report.specs.Fields.{nth, says, natural_at, session_in, narrow, integer_value, text_in, value_in, values_in, row_in}
 use Rattle.hg_report.specs.Guess.{answer_guess, answer_place, answered_guess, at_guess, first_guess, head_guess, held_guess, number_guess, piece_of, refusal_guess, row_guess, statement_at, sweep_guess, the_table}
 use Rattle.hg_report.specs.Progress.{guess_after, scan_line, sweep_line}
 use Rattle.hg_report.proofs.Asking.{same_table}
 
 -- ---- the numbers of fields have their widths
 
-pub number_fits : (fields : List Field) (i : ℕ) → Fits64 (number_in fields i)
+pub number_fits : (fields : List Field) (i : ℕ) → Fits64 (natural_at fields i)
 number_fits fields i = natural-fits (nth fields i)
 
 narrow_fits : (k : ℕ) → narrow k < 2 ^ 32
 narrow_fits k = cond_both (nat_lt k (2 ^ 32)) k 0 (λ x. x < 2 ^ 32) (λ e. ltb-true _ _ e) (λ e. omega arith)
 
 pub session_fits : (fields : List Field) (i : ℕ) → Fits32 (session_in fields i)
-session_fits fields i = narrow_fits (number_in fields i)
+session_fits fields i = narrow_fits (natural_at fields i)
 
 wide : (x : Integer) → IsNarrow x → mag (integer_value x) < 2 ^ 63
 wide signed.No h = omega arith
@@ -100,9 +100,9 @@ abbrev IsRefusal : TableId → Answer → Type 0
 IsRefusal table answer = FitsPut table answer × FitsDel table answer × IsBegun answer
 
 refusal_fits : (table : TableId) (fields : List Field) (i : ℕ) → IsRefusal table (refusal_guess table fields i)
-refusal_fits table fields i = cond_both (says fields (i + 1) (codes "newer")) (Newer (number_in fields (i + 2))) _ (IsRefusal table)
+refusal_fits table fields i = cond_both (says fields (i + 1) (codes "newer")) (Newer (natural_at fields (i + 2))) _ (IsRefusal table)
     (λ e. (number_fits fields (i + 2), number_fits fields (i + 2), tt))
-    (λ e. cond_both (says fields (i + 1) (codes "open")) (OpenBy (record { session = session_in fields (i + 2); transaction = number_in fields (i + 3) })) (Undeclared table) (IsRefusal table)
+    (λ e. cond_both (says fields (i + 1) (codes "open")) (OpenBy (record { session = session_in fields (i + 2); transaction = natural_at fields (i + 3) })) (Undeclared table) (IsRefusal table)
     (λ f. ((session_fits fields (i + 2), number_fits fields (i + 3)), (session_fits fields (i + 2), number_fits fields (i + 3)), tt))
     (λ f. (refl, refl, tt)))
 
@@ -133,7 +133,7 @@ answer_fits tables cursor (CursorOpen table low high) fields i = (number_fits fi
 answer_fits tables cursor (Fetch n) fields i = fetch_fits tables cursor n
 answer_fits tables cursor CursorClose fields i = (tt, tt)
 answer_fits tables cursor CommitIt fields i =
-    cond_both (says fields i (codes "committed")) (Committed (number_in fields (i + 1))) Ended (IsGuess tables cursor CommitIt) (λ e. (number_fits fields (i + 1), tt)) (λ e. (tt, tt))
+    cond_both (says fields i (codes "committed")) (Committed (natural_at fields (i + 1))) Ended (IsGuess tables cursor CommitIt) (λ e. (number_fits fields (i + 1), tt)) (λ e. (tt, tt))
 answer_fits tables cursor Rollback fields i = (tt, tt)
 answer_fits tables cursor (Gc kind) fields i =
     cond_both (says fields i (codes "beside")) Beside (Swept (sweep_guess fields i)) (IsGuess tables cursor (Gc kind)) (λ e. (tt, tt)) (λ e. (sweep_fits fields i, refl))
@@ -158,7 +158,7 @@ FitsHead script (piece.Sweep session place sweep) = (sweep.held ≡ []) × Fits 
 FitsHead script _ = ⊥
 
 number_fits_write : (answer : Answer) (fields : List Field) (i : ℕ) → IfSome (number_guess answer fields i) (λ c. Fits64 c × IsTrue (is_write answer))
-number_fits_write answer fields i = cond_both (is_write answer && says fields (i + 1) (codes "committed")) (Some (number_in fields (i + 2))) None (λ (o : Option ℕ). IfSome o (λ c. Fits64 c × IsTrue (is_write answer)))
+number_fits_write answer fields i = cond_both (is_write answer && says fields (i + 1) (codes "committed")) (Some (natural_at fields (i + 2))) None (λ (o : Option ℕ). IfSome o (λ c. Fits64 c × IsTrue (is_write answer)))
     (λ e. (number_fits fields (i + 2), (both _ _ e).0)) (λ e. tt)
 
 fetch_more : (tables : List Declaration) (cursor : Option TableId) (n : ℕ) (rows more : List (ℕ × List Value)) → FitsAnswer tables cursor (Fetch n) (Rows rows) → Fits64 (length more) → Each (FitsKey tables (the_table (asked_by cursor (Fetch n)))) more → FitsAnswer tables cursor (Fetch n) (Rows more)
@@ -191,7 +191,7 @@ module _ (script : Script) (session place : ℕ) (narrow_session : Fits32 sessio
     answered_fits (Some answer) h = head_fits answer h
 
 at_fits : (cursor : Option TableId) (statement : Statement) (fields : List Field) → IfSome (at_guess (asked_by cursor statement) fields) (λ s. Fits64 s × IsTrue (is_some (table_of statement)))
-at_fits cursor statement fields = cond_both (is_some (table_asked (asked_by cursor statement)) && says fields 2 (codes "at")) (Some (number_in fields 3)) None (λ (o : Option ℕ). IfSome o (λ s. Fits64 s × IsTrue (is_some (table_of statement))))
+at_fits cursor statement fields = cond_both (is_some (table_asked (asked_by cursor statement)) && says fields 2 (codes "at")) (Some (natural_at fields 3)) None (λ (o : Option ℕ). IfSome o (λ s. Fits64 s × IsTrue (is_some (table_of statement))))
     (λ e. (number_fits fields 3, subst (λ (o : Option TableId). IsTrue (is_some o)) (same_table cursor statement) (both _ _ e).0)) (λ e. tt)
 
 module _ (script : Script) (fields : List Field) where
@@ -204,13 +204,13 @@ module _ (script : Script) (fields : List Field) where
       let at = at_guess (asked_by (cursor_before script.records session place) statement) fields in
       answered_fits script session place h k some statement is fields at (at_fits (cursor_before script.records session place) statement fields) (answer_place at) (answer_guess script.tables (asked_by (cursor_before script.records session place) statement) fields (answer_place at)) (answer_fits script.tables (cursor_before script.records session place) statement fields (answer_place at))
 
-  report_fits : Fits script (sweep_line 0 (number_in fields 1) (sweep_guess fields 2))
+  report_fits : Fits script (sweep_line 0 (natural_at fields 1) (sweep_guess fields 2))
   report_fits = record { session = omega arith; place = number_fits fields 1; reply = record { at = refl; answer = sweep_fits fields 2; number = refl } }
 
   pub head_is_fit : IfSome (head_guess script fields) (FitsHead script)
-  head_is_fit = cond_both (session_in fields 0 == 0) (Some (piece.Sweep 0 (number_in fields 1) (sweep_guess fields 2))) _ (λ (o : Option Piece). IfSome o (FitsHead script))
+  head_is_fit = cond_both (session_in fields 0 == 0) (Some (piece.Sweep 0 (natural_at fields 1) (sweep_guess fields 2))) _ (λ (o : Option Piece). IfSome o (FitsHead script))
       (λ e. (refl, report_fits))
-      (λ e. reply_fits (session_in fields 0) (number_in fields 1) (session_fits fields 0) (number_fits fields 1) e _ refl)
+      (λ e. reply_fits (session_in fields 0) (natural_at fields 1) (session_fits fields 0) (number_fits fields 1) e _ refl)
 
 -- ---- the next record
 
@@ -241,13 +241,13 @@ module _ (script : Script) (fields : List Field) where
   first_of_head state free (Some next) h = comes_first state next free h
 
   first_fits : (state : Open) → IsFree state → IfSome (first_guess script fields) (FitsNext script state)
-  first_fits state free = cond_both (says fields 0 (codes "total")) (Some (piece.Total 0 (number_in fields 2))) (head_guess script fields) (λ (o : Option Piece). IfSome o (FitsNext script state))
+  first_fits state free = cond_both (says fields 0 (codes "total")) (Some (piece.Total 0 (natural_at fields 2))) (head_guess script fields) (λ (o : Option Piece). IfSome o (FitsNext script state))
       (λ e. comes_first state _ free (refl, number_fits fields 2)) (λ e. first_of_head state free _ (head_is_fit script fields))
 
   row_guess_fits : (session place : ℕ) (at : Option ℕ) (table : TableId) (left : ℕ) (rows : List (ℕ × List Value)) → 0 < left → (o : Option (List Value)) → IsRow (kinds_of script.tables table) o
-      → IfSome (option_map (λ values. piece.Row session place (number_in fields 3) values) o) (FitsNext script (opens.Scan session place at table left rows))
+      → IfSome (option_map (λ values. piece.Row session place (natural_at fields 3) values) o) (FitsNext script (opens.Scan session place at table left rows))
   row_guess_fits session place at table left rows some None h = tt
-  row_guess_fits session place at table left rows some (Some values) h = comes_row session place at table left rows (number_in fields 3) values some (number_fits fields 3, h)
+  row_guess_fits session place at table left rows some (Some values) h = comes_row session place at table left rows (natural_at fields 3) values some (number_fits fields 3, h)
 
   pub guess_fits : (state : Open) → IfSome (guess_after script state fields) (FitsNext script state)
   guess_fits opens.Nothing = first_fits opens.Nothing tt
@@ -256,5 +256,5 @@ module _ (script : Script) (fields : List Field) where
       (λ e. first_fits (opens.Scan session place at table left rows) (grind (arith, nat_tests, e)))
   guess_fits (opens.Sweep session place sweep) = cond_both (says fields 2 (codes "held")) (Some (held_guess session place fields)) (first_guess script fields) (λ (o : Option Piece). IfSome o (FitsNext script (opens.Sweep session place sweep)))
       (λ e. comes_held session place sweep _ (session_fits fields 3, number_fits fields 4)) (λ e. first_fits (opens.Sweep session place sweep) tt)
-  guess_fits (opens.Totals index totals) = cond_both (nat_lt index 6) (Some (piece.Total index (number_in fields 2))) None (λ (o : Option Piece). IfSome o (FitsNext script (opens.Totals index totals)))
-      (λ e. comes_total index totals (number_in fields 2) (ltb-true index 6 e) (number_fits fields 2)) (λ e. tt)
+  guess_fits (opens.Totals index totals) = cond_both (nat_lt index 6) (Some (piece.Total index (natural_at fields 2))) None (λ (o : Option Piece). IfSome o (FitsNext script (opens.Totals index totals)))
+      (λ e. comes_total index totals (natural_at fields 2) (ltb-true index 6 e) (number_fits fields 2)) (λ e. tt)

@@ -15,7 +15,7 @@ use Rattle.hg_base.specs.declared.value.Value.{Value}
 use Rattle.hg_base.specs.Script.{Declaration}
 use Rattle.hg_base.specs.Text.{Field, Fits64, FitsRefusal, FitsBegin, FitsGet, FitsPut, FitsDel, FitsScan, FitsFetch, FitsClose, FitsCommit, FitsRollback, FitsSweep, FitsGc, FitsAnswer, answer_fields, kind_word, told_as, kinds_of, value_field, is_write}
 use Rattle.hg_report.specs.Bytes.{field_bytes}
-use Rattle.hg_report.specs.Fields.{nth, number_in}
+use Rattle.hg_report.specs.Fields.{nth, natural_at}
 use Rattle.hg_script.specs.Asked.{asked_by}
 use Rattle.hg_report.specs.Guess.{answer_guess, get_guess, put_guess, del_guess, scan_guess, commit_guess, gc_guess, refusal_guess, sweep_guess, kind_guess, number_guess}
 use Rattle.hg_report.proofs.ReadBack.{number_read, session_read, row_read}
@@ -85,7 +85,7 @@ module _ (tables : List Declaration) (fields : List Field) (i : ℕ) (tail : Lis
   refusal_read table (Undeclared other) are h = rw (are.later 1) (undeclared table other h)
   refusal_read table answer are h = absurd h
 
-  begin_read : (answer : Answer) → Answers answer → FitsBegin answer → Some (Begun (number_in fields (i + 1))) ≡ Some (emptied answer)
+  begin_read : (answer : Answer) → Answers answer → FitsBegin answer → Some (Begun (natural_at fields (i + 1))) ≡ Some (emptied answer)
   begin_read (Begun s) are h = ap (λ n. Some (Begun n)) (number_read fields (i + 1) s h (are.later 1))
   begin_read answer are h = absurd h
 

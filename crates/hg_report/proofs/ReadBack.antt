@@ -18,7 +18,7 @@ use Rattle.hg_script.specs.declared.number.Natural.TheVariants as n
 use Rattle.hg_script.specs.Number.{natural_of, value_of, integer_of}
 use Rattle.hg_script.proofs.Decimal.{back}
 use Rattle.hg_report.specs.Bytes.{field_bytes}
-use Rattle.hg_report.specs.Fields.{nth, number_in, session_in, narrow, integer_value, value_in, values_in, row_in}
+use Rattle.hg_report.specs.Fields.{nth, natural_at, session_in, narrow, integer_value, value_in, values_in, row_in}
 use Rattle.hg_report.proofs.Columns.{AreFew}
 use Rattle.hg_report.proofs.Plain.{number_bytes, value_bytes}
 use Rattle.hg_report.proofs.Unquoted.{text_back}
@@ -28,7 +28,7 @@ use Rattle.hg_report.proofs.Unquoted.{text_back}
 natural_read : (k : ℕ) → k < 2 ^ 64 → natural_of (decimal k) ≡ n.Is k
 natural_read k h = back (decimal k) k h refl
 
-pub number_read : (fields : List Field) (i k : ℕ) → k < 2 ^ 64 → nth fields i ≡ field_bytes (decimal k) → number_in fields i ≡ k
+pub number_read : (fields : List Field) (i k : ℕ) → k < 2 ^ 64 → nth fields i ≡ field_bytes (decimal k) → natural_at fields i ≡ k
 number_read fields i k h e = ap (λ text. value_of (natural_of text)) (e ∙ number_bytes k) ∙ ap value_of (natural_read k h)
 
 narrow_same : (k : ℕ) → k < 2 ^ 32 → narrow k ≡ k

@@ -29,7 +29,7 @@ use Rattle.hg_report.specs.declared.piece.Piece.TheVariants as piece
 use Rattle.hg_report.specs.declared.progress.Open.{Open}
 use Rattle.hg_report.specs.declared.progress.Open.TheVariants as opens
 use Rattle.hg_report.specs.declared.progress.Progress.{Progress}
-use Rattle.hg_report.specs.Fields.{nth, says, number_in, session_in}
+use Rattle.hg_report.specs.Fields.{nth, says, natural_at, session_in}
 use Rattle.hg_script.specs.Asked.{asked_by, table_asked}
 use Rattle.hg_report.specs.Guess.{behind, total_word, answer_place, answered_guess, at_guess, first_guess, head_guess, reply_guess, row_guess, piece_of, statement_at, sweep_guess, the_table}
 use Rattle.hg_report.specs.Progress.{guess_after, sweep_line, lines_of, no_totals, totals_of, with_total, after, at_start, standing, IsNext, Runs}
@@ -156,7 +156,7 @@ module _ (script : Script) where
   row_guessed session place table p few h =
       let stood = standing (behind session place (row_fields p)) in
       let values = row_read stood 4 (kinds_of script.tables table) p.1 h.1 few (λ k less. four_behind _ _ _ _ (map value_field p.1) k) in
-      ap (λ o. option_map (λ row. piece.Row session place (number_in stood 3) row) o) values ∙ ap (λ k. Some (piece.Row session place k p.1)) (number_read stood 3 p.0 h.0 refl)
+      ap (λ o. option_map (λ row. piece.Row session place (natural_at stood 3) row) o) values ∙ ap (λ k. Some (piece.Row session place k p.1)) (number_read stood 3 p.0 h.0 refl)
 
   rows_run : (lines : List Line) (session place : ℕ) (at : Option ℕ) (table : TableId) (done rows : List (ℕ × List Value)) → AreFew (kinds_of script.tables table) → Each (FitsKey script.tables table) rows
       → Runs script (scanning lines session place at table (length rows) done) (row_records session place rows) (scanning lines session place at table 0 (done ++ rows))
@@ -182,7 +182,7 @@ module _ (script : Script) where
   held_run lines session place sweep done [] h = ap (reporting lines session place sweep) (append-nil done)
   held_run lines session place sweep done (told ∷ others) h =
       let fields = standing (behind session place (held_fields told)) in
-      let told_same = same_told (session_in fields 3) told.session (number_in fields 4) told.number (says fields 5 (codes "moved")) told.moved (session_read fields 3 told.session h.0.0 refl) (number_read fields 4 told.number h.0.1 refl) (moved_read told.moved) in
+      let told_same = same_told (session_in fields 3) told.session (natural_at fields 4) told.number (says fields 5 (codes "moved")) told.moved (session_read fields 3 told.session h.0.0 refl) (number_read fields 4 told.number h.0.1 refl) (moved_read told.moved) in
       let guess : guess_after script (opens.Sweep session place (record sweep { held = done })) fields ≡ Some (piece.Held session place told) = ap (λ t. Some (piece.Held session place t)) told_same in
       let rest = held_run lines session place sweep (done ++ told ∷ []) others h.1 in (
         piece.Held session place told,
@@ -235,7 +235,7 @@ module _ (script : Script) where
       let guess : guess_after script progress.last fields ≡ Some (piece.Sweep session place (record sweep { held = [] })) =
       head_guess_of progress (sweep_line session place sweep) free small
       ∙ cond-true (session_in fields 0 == 0) _ _ (ap (λ s. s == 0) read)
-      ∙ ap (λ s. Some (piece.Sweep s (number_in fields 1) (sweep_guess fields 2))) (sym none)
+      ∙ ap (λ s. Some (piece.Sweep s (natural_at fields 1) (sweep_guess fields 2))) (sym none)
       ∙ ap (λ p. Some (piece.Sweep session p (sweep_guess fields 2))) (number_read fields 1 place wide refl)
       ∙ ap (λ sweep. Some (piece.Sweep session place sweep)) (sweep_read script.tables fields 2 [] sweep are h) in
       sweep_runs progress session place sweep guess h
@@ -271,7 +271,7 @@ module _ (script : Script) where
         let line = line_of at answer number in
         let fields = stood line in
         head_guess_of progress line free small
-        ∙ ap (λ s. if s == 0 then Some (piece.Sweep 0 (number_in fields 1) (sweep_guess fields 2)) else reply_guess script s (number_in fields 1) fields) (session_read fields 0 session small refl)
+        ∙ ap (λ s. if s == 0 then Some (piece.Sweep 0 (natural_at fields 1) (sweep_guess fields 2)) else reply_guess script s (natural_at fields 1) fields) (session_read fields 0 session small refl)
         ∙ cond-false (session == 0) _ _ some
         ∙ ap (λ p. reply_guess script session p fields) (number_read fields 1 place wide refl)
         ∙ ap (λ o. option_and_then (λ asked. answered_guess script.tables asked session place (at_guess asked fields) fields) (option_map (asked_by (cursor_before script.records session place)) o)) is
@@ -284,7 +284,7 @@ module _ (script : Script) where
         let fields = stood (line_of at (Rows rows) None) in
         let table = the_table (asked_by (cursor_before script.records session place) statement) in
         let facts = scan_facts script.tables (cursor_before script.records session place) statement rows k few in
-        let count : number_in fields (answer_place at + 1) ≡ length rows = number_read fields (answer_place at + 1) (length rows) facts.many ((answer_from at (Rows rows) None).later 1) in
+        let count : natural_at fields (answer_place at + 1) ≡ length rows = number_read fields (answer_place at + 1) (length rows) facts.many ((answer_from at (Rows rows) None).later 1) in
         let guess : guess_after script progress.last fields ≡ Some (piece.Scan session place at table (length rows)) = replied at (Rows rows) None h k ∙ ap (λ n. Some (piece.Scan session place at table n)) count in
         let is = scan_head session place (length rows) at in
         record {

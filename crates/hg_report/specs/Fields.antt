@@ -33,15 +33,15 @@ abbrev pub says : List Field → ℕ → Field → Bool
 says fields i word = bytes_eq (nth fields i) word
 
 -- the number that the field is, and 0 where it is none
-abbrev pub number_in : List Field → ℕ → ℕ
-number_in fields i = value_of (natural_of (nth fields i))
+abbrev pub natural_at : List Field → ℕ → ℕ
+natural_at fields i = value_of (natural_of (nth fields i))
 
 abbrev pub narrow : ℕ → ℕ
 narrow n = if nat_lt n (2 ^ 32) then n else 0
 
 -- the session that the field is
 abbrev pub session_in : List Field → ℕ → ℕ
-session_in fields i = narrow (number_in fields i)
+session_in fields i = narrow (natural_at fields i)
 
 abbrev pub integer_value : Integer → ℤ
 integer_value (signed.Is value) = value

@@ -17,7 +17,7 @@ use Rattle.hg_script.specs.declared.asked.Asked.TheVariants.{Begin, Get, Put, De
 use Rattle.hg_script.specs.Asked.{asked_by, table_asked}
 use Rattle.hg_report.specs.declared.piece.Piece.{Piece}
 use Rattle.hg_report.specs.declared.piece.Piece.TheVariants as piece
-use Rattle.hg_report.specs.Fields.{says, number_in, session_in, row_in}
+use Rattle.hg_report.specs.Fields.{says, natural_at, session_in, row_in}
 
 -- ---- a piece of a text is one record
 
@@ -47,12 +47,12 @@ kind_guess fields i = if says fields i (codes "group") then kinds.Group else if 
 
 -- a report with no held snapshot yet
 abbrev pub sweep_guess : List Field → ℕ → Sweep
-sweep_guess fields i = record { kind = kind_guess fields (i + 1); mark = number_in fields (i + 2); horizon = number_in fields (i + 3); removed = number_in fields (i + 4); held = [] }
+sweep_guess fields i = record { kind = kind_guess fields (i + 1); mark = natural_at fields (i + 2); horizon = natural_at fields (i + 3); removed = natural_at fields (i + 4); held = [] }
 
 abbrev pub refusal_guess : TableId → List Field → ℕ → Answer
 refusal_guess table fields i =
-    if says fields (i + 1) (codes "newer") then Newer (number_in fields (i + 2))
-    else if says fields (i + 1) (codes "open") then OpenBy (record { session = session_in fields (i + 2); transaction = number_in fields (i + 3) })
+    if says fields (i + 1) (codes "newer") then Newer (natural_at fields (i + 2))
+    else if says fields (i + 1) (codes "open") then OpenBy (record { session = session_in fields (i + 2); transaction = natural_at fields (i + 3) })
     else Undeclared table
 
 -- by what the statement asks; the rows of a scan or fetch come later
@@ -71,18 +71,18 @@ abbrev pub scan_guess : TableId → List Field → ℕ → Answer
 scan_guess table fields i = if says fields i (codes "rows") then Rows [] else Undeclared table
 
 abbrev pub commit_guess : List Field → ℕ → Answer
-commit_guess fields i = if says fields i (codes "committed") then Committed (number_in fields (i + 1)) else Ended
+commit_guess fields i = if says fields i (codes "committed") then Committed (natural_at fields (i + 1)) else Ended
 
 abbrev pub gc_guess : List Field → ℕ → Answer
 gc_guess fields i = if says fields i (codes "beside") then Beside else Swept (sweep_guess fields i)
 
 abbrev pub answer_guess : List Declaration → Asked → List Field → ℕ → Option Answer
-answer_guess tables Begin fields i = Some (Begun (number_in fields (i + 1)))
+answer_guess tables Begin fields i = Some (Begun (natural_at fields (i + 1)))
 answer_guess tables (Get table) fields i = get_guess tables table fields i
 answer_guess tables (Put table) fields i = Some (put_guess table fields i)
 answer_guess tables (Del table) fields i = Some (del_guess table fields i)
 answer_guess tables (Scan table) fields i = Some (scan_guess table fields i)
-answer_guess tables (CursorOpen table) fields i = Some (Begun (number_in fields (i + 1)))
+answer_guess tables (CursorOpen table) fields i = Some (Begun (natural_at fields (i + 1)))
 answer_guess tables (Fetch cursor) fields i = option_map (λ table. Rows []) cursor
 answer_guess tables CursorClose fields i = Some Ended
 answer_guess tables CommitIt fields i = Some (commit_guess fields i)
@@ -93,7 +93,7 @@ answer_guess tables Gc fields i = Some (gc_guess fields i)
 
 -- the snapshot of a statement on a table
 abbrev pub at_guess : Asked → List Field → Option ℕ
-at_guess asked fields = if is_some (table_asked asked) && says fields 2 (codes "at") then Some (number_in fields 3) else None
+at_guess asked fields = if is_some (table_asked asked) && says fields 2 (codes "at") then Some (natural_at fields 3) else None
 
 -- where the answer begins
 abbrev pub answer_place : Option ℕ → ℕ
@@ -101,7 +101,7 @@ answer_place at = if is_some at then 4 else 2
 
 -- the commit number behind a stored write
 abbrev pub number_guess : Answer → List Field → ℕ → Option ℕ
-number_guess answer fields i = if is_write answer && says fields (i + 1) (codes "committed") then Some (number_in fields (i + 2)) else None
+number_guess answer fields i = if is_write answer && says fields (i + 1) (codes "committed") then Some (natural_at fields (i + 2)) else None
 
 -- the table that is named, or that of the cursor, and the first where there is none
 abbrev pub the_table : Asked → TableId
@@ -110,7 +110,7 @@ the_table asked = unwrap_or (table_asked asked) (record { 0 = 0 })
 
 -- the piece that an answer is
 abbrev pub piece_of : Asked → ℕ → ℕ → Option ℕ → List Field → ℕ → Answer → Piece
-piece_of asked session place at fields i (Rows rows) = piece.Scan session place at (the_table asked) (number_in fields (i + 1))
+piece_of asked session place at fields i (Rows rows) = piece.Scan session place at (the_table asked) (natural_at fields (i + 1))
 piece_of asked session place at fields i (Swept sweep) = piece.Sweep session place sweep
 piece_of asked session place at fields i answer =
     piece.Line (record { session = session; place = place; reply = record { at = at; answer = answer; number = number_guess answer fields i } })
@@ -134,16 +134,16 @@ reply_guess script session place fields =
 -- a report of a run where the session is 0, and else a reply
 abbrev pub head_guess : Script → List Field → Option Piece
 head_guess script fields =
-    if session_in fields 0 == 0 then Some (piece.Sweep 0 (number_in fields 1) (sweep_guess fields 2))
-    else reply_guess script (session_in fields 0) (number_in fields 1) fields
+    if session_in fields 0 == 0 then Some (piece.Sweep 0 (natural_at fields 1) (sweep_guess fields 2))
+    else reply_guess script (session_in fields 0) (natural_at fields 1) fields
 
 -- the first of the totals, or a line
 abbrev pub first_guess : Script → List Field → Option Piece
-first_guess script fields = if says fields 0 (codes "total") then Some (piece.Total 0 (number_in fields 2)) else head_guess script fields
+first_guess script fields = if says fields 0 (codes "total") then Some (piece.Total 0 (natural_at fields 2)) else head_guess script fields
 
 -- the rows and held snapshots of a line of that session and place
 abbrev pub row_guess : List Declaration → ℕ → ℕ → TableId → List Field → Option Piece
-row_guess tables session place table fields = option_map (λ row. piece.Row session place (number_in fields 3) row) (row_in fields 4 (kinds_of tables table))
+row_guess tables session place table fields = option_map (λ row. piece.Row session place (natural_at fields 3) row) (row_in fields 4 (kinds_of tables table))
 
 abbrev pub held_guess : ℕ → ℕ → List Field → Piece
-held_guess session place fields = piece.Held session place (record { session = session_in fields 3; number = number_in fields 4; moved = says fields 5 (codes "moved") })
+held_guess session place fields = piece.Held session place (record { session = session_in fields 3; number = natural_at fields 4; moved = says fields 5 (codes "moved") })

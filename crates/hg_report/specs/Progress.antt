@@ -14,7 +14,7 @@ use Rattle.hg_report.specs.declared.progress.Open.{Open}
 use Rattle.hg_report.specs.declared.progress.Open.TheVariants as opens
 use Rattle.hg_report.specs.declared.progress.Progress.{Progress}
 use Rattle.hg_report.specs.Bytes.{field_bytes, record_bytes}
-use Rattle.hg_report.specs.Fields.{says, number_in}
+use Rattle.hg_report.specs.Fields.{says, natural_at}
 use Rattle.hg_report.specs.Guess.{piece_fields, first_guess, row_guess, held_guess}
 
 -- ---- the guess of the next record
@@ -23,7 +23,7 @@ abbrev pub guess_after : Script → Open → List Field → Option Piece
 guess_after script opens.Nothing fields = first_guess script fields
 guess_after script (opens.Scan session place at table left rows) fields = if nat_lt 0 left then row_guess script.tables session place table fields else first_guess script fields
 guess_after script (opens.Sweep session place sweep) fields = if says fields 2 (codes "held") then Some (held_guess session place fields) else first_guess script fields
-guess_after script (opens.Totals index totals) fields = if nat_lt index 6 then Some (piece.Total index (number_in fields 2)) else None
+guess_after script (opens.Totals index totals) fields = if nat_lt index 6 then Some (piece.Total index (natural_at fields 2)) else None
 
 -- ---- what a piece adds
 

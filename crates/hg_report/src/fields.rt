@@ -1,7 +1,7 @@
 //! The fields of a record as they stand, with their quotes, and what they say, each read whether it is written well or not.
 
 ghost use Rattle.std.specs.Prelude.{◌≡◌, ◌==◌, [], OnOk, false, if◌then◌else◌, not};
-ghost use Rattle.hg_report.specs.Fields.{fields_of, narrow, nth, number_in, parted, says, session_in};
+ghost use Rattle.hg_report.specs.Fields.{fields_of, narrow, nth, natural_at, parted, says, session_in};
 
 use hg_base::NoMemory;
 use hg_script::read_natural;
@@ -57,8 +57,8 @@ pub(crate) fn says(row: &[&[u8]], i: usize, word: &[u8]) -> bool
 }
 
 /// The number that the field is, and 0 where it is none.
-pub(crate) fn number_in(row: &[&[u8]], i: usize) -> u64
-    ensures { result ≡ number_in (fields_of row.now) i }
+pub(crate) fn natural_at(row: &[&[u8]], i: usize) -> u64
+    ensures { result ≡ natural_at (fields_of row.now) i }
 {
     read_natural(field(row, i)).value()
 }
@@ -73,5 +73,5 @@ fn narrow(n: u64) -> u32
 pub(crate) fn session_in(row: &[&[u8]], i: usize) -> u32
     ensures { result ≡ session_in (fields_of row.now) i }
 {
-    narrow(number_in(row, i))
+    narrow(natural_at(row, i))
 }

@@ -6,7 +6,7 @@ ghost use Rattle.hg_script.specs.Numbered.{AreNumbered, records_before};
 ghost use Rattle.hg_report.specs.Fields.{fields_of};
 ghost use Rattle.hg_report.specs.Guess.{answer_guess, answer_place, answered_guess, asked_at, at_guess, commit_guess, del_guess, first_guess, gc_guess, get_guess, head_guess, held_guess, kind_guess, number_guess, piece_of, put_guess, refusal_guess, reply_guess, row_guess, scan_guess, sweep_guess, the_table};
 
-use crate::fields::{number_in, says, session_in};
+use crate::fields::{natural_at, says, session_in};
 use crate::piece::Piece;
 use crate::values::row_in;
 use hg_base::{
@@ -42,9 +42,9 @@ fn sweep_guess(alloc: Global, row: &[&[u8]], i: usize) -> Sweep
 {
     Sweep {
         kind: kind_guess(row, i + 1),
-        mark: number_in(row, i + 2),
-        horizon: number_in(row, i + 3),
-        removed: number_in(row, i + 4),
+        mark: natural_at(row, i + 2),
+        horizon: natural_at(row, i + 3),
+        removed: natural_at(row, i + 4),
         held: ToldList::from(Vec::new(alloc)),
     }
 }
@@ -54,11 +54,11 @@ fn refusal_guess(table: TableId, row: &[&[u8]], i: usize) -> Answer
     ensures { result ≡ refusal_guess table (fields_of row.now) i }
 {
     if says(row, i + 1, b"newer") {
-        Answer::Newer(number_in(row, i + 2))
+        Answer::Newer(natural_at(row, i + 2))
     } else if says(row, i + 1, b"open") {
         Answer::OpenBy(Writer {
             session: session_in(row, i + 2),
-            transaction: number_in(row, i + 3),
+            transaction: natural_at(row, i + 3),
         })
     } else {
         Answer::Undeclared(table)
@@ -126,7 +126,7 @@ fn commit_guess(row: &[&[u8]], i: usize) -> Answer
     ensures { result ≡ commit_guess (fields_of row.now) i }
 {
     if says(row, i, b"committed") {
-        Answer::Committed(number_in(row, i + 1))
+        Answer::Committed(natural_at(row, i + 1))
     } else {
         Answer::Ended
     }
@@ -154,12 +154,12 @@ fn answer_guess(
     ensures { IfOk result (λ o. o ≡ answer_guess tables.now asked (fields_of row.now) i) }
 {
     match asked {
-        Asked::Begin => Ok(Some(Answer::Begun(number_in(row, i + 1)))),
+        Asked::Begin => Ok(Some(Answer::Begun(natural_at(row, i + 1)))),
         Asked::Get(table) => get_guess(alloc, tables, table, row, i),
         Asked::Put(table) => Ok(Some(put_guess(table, row, i))),
         Asked::Del(table) => Ok(Some(del_guess(table, row, i))),
         Asked::Scan(table) => Ok(Some(scan_guess(alloc, table, row, i))),
-        Asked::CursorOpen(_) => Ok(Some(Answer::Begun(number_in(row, i + 1)))),
+        Asked::CursorOpen(_) => Ok(Some(Answer::Begun(natural_at(row, i + 1)))),
         Asked::Fetch(Some(_)) => Ok(Some(Answer::Rows(RowList::from(Vec::new(alloc))))),
         Asked::Fetch(None) => Ok(None),
         Asked::CursorClose => Ok(Some(Answer::Ended)),
@@ -173,7 +173,7 @@ fn at_guess(asked: Asked, row: &[&[u8]]) -> Option<u64>
     ensures { result ≡ at_guess asked (fields_of row.now) }
 {
     if asked.table().is_some() && says(row, 2, b"at") {
-        Some(number_in(row, 3))
+        Some(natural_at(row, 3))
     } else {
         None
     }
@@ -203,7 +203,7 @@ fn number_guess(answer: &Answer, row: &[&[u8]], i: usize) -> Option<u64>
     ensures { result ≡ number_guess answer.now (fields_of row.now) i }
 {
     if is_write(answer) && says(row, i + 1, b"committed") {
-        Some(number_in(row, i + 2))
+        Some(natural_at(row, i + 2))
     } else {
         None
     }
@@ -235,7 +235,7 @@ fn piece_of(
             place,
             at,
             table: the_table(asked),
-            left: number_in(row, i + 1),
+            left: natural_at(row, i + 1),
         },
         Answer::Swept(sweep) => Piece::Sweep {
             session,
@@ -313,7 +313,7 @@ fn head_guess(alloc: Global, script: &Script, row: &[&[u8]]) -> Result<Option<Pi
     ensures { IfOk result (λ o. o ≡ head_guess script.now (fields_of row.now)) }
 {
     let session = session_in(row, 0);
-    let place = number_in(row, 1);
+    let place = natural_at(row, 1);
     if session == 0 {
         return Ok(Some(Piece::Sweep {
             session: 0,
@@ -335,7 +335,7 @@ pub(crate) fn first_guess(
     if says(row, 0, b"total") {
         return Ok(Some(Piece::Total {
             index: 0,
-            number: number_in(row, 2),
+            number: natural_at(row, 2),
         }));
     }
     head_guess(alloc, script, row)
@@ -356,7 +356,7 @@ pub(crate) fn row_guess(
         Some(values) => Ok(Some(Piece::Row {
             session,
             place,
-            key: number_in(row, 3),
+            key: natural_at(row, 3),
             row: values,
         })),
         None => Ok(None),
@@ -372,7 +372,7 @@ pub(crate) fn held_guess(session: u32, place: u64, row: &[&[u8]]) -> Piece
         place,
         told: Told {
             session: session_in(row, 3),
-            number: number_in(row, 4),
+            number: natural_at(row, 4),
             moved: says(row, 5, b"moved"),
         },
     }

@@ -6,7 +6,7 @@ ghost use Rattle.hg_report.specs.Progress.{after, at_start, guess_after, lines_o
 ghost use Rattle.hg_report.specs.declared.progress.Open.TheVariants as opens;
 ghost use Rattle.hg_report.specs.declared.piece.Piece.TheVariants as pieces;
 
-use crate::fields::{number_in, says};
+use crate::fields::{natural_at, says};
 use crate::guess::{first_guess, held_guess, row_guess};
 use crate::piece::Piece;
 use hg_base::{
@@ -151,7 +151,7 @@ impl Open {
                 if *index < 6 {
                     Ok(Some(Piece::Total {
                         index: *index,
-                        number: number_in(row, 2),
+                        number: natural_at(row, 2),
                     }))
                 } else {
                     Ok(None)

@@ -11,7 +11,7 @@ use Rattle.hg_rule.specs.declared.view.Part.{Part}
 use Rattle.hg_rule.specs.declared.view.Part.TheVariants.{OfSession, OfBucket, OfCommit, OfPass, Away}
 use Rattle.hg_rule.specs.declared.view.View.{View}
 use Rattle.hg_rule.specs.declared.view.Sizes.{Sizes}
-use Rattle.hg_rule.specs.Views.{number, number_in, session, session_there, since, since_there, pass, first_in, after_first, others, HasSession, HasPass, HasAway}
+use Rattle.hg_rule.specs.Views.{number, part_number, session, session_there, since, since_there, pass, first_in, after_first, others, HasSession, HasPass, HasAway}
 use Rattle.hg_rule.specs.Moves.{put_in, joined}
 use Rattle.hg_rule.specs.Holding.{beyond, bucket}
 use Rattle.hg_rule.specs.Places.{arrive_first, depart, departing, with_bucket, without_bucket}
@@ -22,7 +22,7 @@ use Rattle.hg_rule.specs.Seats.{session_view, session_rest, IsSeatOf, IsSessionO
 -- v's session comes first in a view of these parts
 has_session : (v : View) (j : ℕ) (s : SessionPart) (os : List Part) → v.parts ≡ OfSession j s ∷ os → HasSession v × (number v ≡ j) × (session v ≡ s)
 has_session v j s os e =
-    let n : number v ≡ j = ap number_in e in
+    let n : number v ≡ j = ap part_number e in
     let p : session v ≡ s = ap (λ (ps : List Part). session_there (first_in ps)) e in
     let o : others v ≡ os = ap after_first e in
     (e ∙ (λ i. OfSession (sym n i) (sym p i) ∷ sym o i), n, p)
@@ -41,7 +41,7 @@ still_session t z p q os own seat rest e =
 -- ---- with a bucket, and without
 
 pub session_arrives : (v w u : View) (b : ℕ) (part : BucketPart) → HasSession v → w.parts ≡ OfBucket b part ∷ [] → u ≡ with_bucket v w → u.parts ≡ OfSession (number v) (session v) ∷ OfBucket b part ∷ others v
-session_arrives v w u b part is only e = ap (λ (x : View). x.parts) e ∙ (λ i. put_in (arrive_first (number_in (only i)) (is i)) (only i))
+session_arrives v w u b part is only e = ap (λ (x : View). x.parts) e ∙ (λ i. put_in (arrive_first (part_number (only i)) (is i)) (only i))
 
 pub session_departs : (v u : View) → HasSession v → u ≡ without_bucket v → u.parts ≡ OfSession (number v) (session v) ∷ beyond v
 session_departs v u is e = ap (λ (x : View). x.parts) e ∙ (λ i. depart (bucket v).content (first_in (is i)) ∷ beyond v)
@@ -58,7 +58,7 @@ pass_joins v w u part is only e = ap (λ (x : View). x.parts) e ∙ (λ i. put_i
 
 has_away : (v : View) (j n : ℕ) (s : SessionPart) (os : List Part) → v.parts ≡ Away j s n ∷ os → HasAway v × (number v ≡ j) × (session v ≡ s) × (since v ≡ n)
 has_away v j n s os e =
-    let a : number v ≡ j = ap number_in e in
+    let a : number v ≡ j = ap part_number e in
     let p : session v ≡ s = ap (λ (ps : List Part). session_there (first_in ps)) e in
     let m : since v ≡ n = ap (λ (ps : List Part). since_there (first_in ps)) e in
     let o : others v ≡ os = ap after_first e in

@@ -10,7 +10,7 @@ use Rattle.hg_core.specs.declared.phase.Phase.{Phase}
 use Rattle.hg_core.specs.declared.phase.Phase.TheVariants.{Idle, Declared, Probed, Entered, Fixed, Live}
 use Rattle.hg_core.specs.declared.log.LogEntry.{LogEntry}
 use Rattle.hg_core.specs.declared.version.Version.{Version}
-use Rattle.hg_core.specs.Logs.{current, begans, begun_in, number_in}
+use Rattle.hg_core.specs.Logs.{current, begans, begun_in, snapshot_number}
 use Rattle.hg_core.specs.Phases.{declared_in, snapshot_in}
 use Rattle.hg_core.specs.Contents.{Content, bucket_of, look, store, versions, stored, has_stamped}
 use Rattle.hg_core.specs.OpenWrites.{writer_of}
@@ -109,5 +109,5 @@ pub writer_is : (c : CoreState) (v : View) → c.log (number v) ≡ (session v).
 writer_is c v log = λ i. record { session = number v; transaction = begans (log i) }
 
 -- and its snapshot
-pub snapshot_is : (c : CoreState) (v : View) → IsSteady c → c.phase (number v) ≡ (session v).phase → IsSome (snapshot_in (session v).phase) → number_in (current (c.log (number v))) ≡ snapshot v
-snapshot_is c v h phase live = ap number_in (h.logs_answer.reads (number v) ∙ ap snapshot_in (phase ∙ live_is (session v).phase live))
+pub snapshot_is : (c : CoreState) (v : View) → IsSteady c → c.phase (number v) ≡ (session v).phase → IsSome (snapshot_in (session v).phase) → snapshot_number (current (c.log (number v))) ≡ snapshot v
+snapshot_is c v h phase live = ap snapshot_number (h.logs_answer.reads (number v) ∙ ap snapshot_in (phase ∙ live_is (session v).phase live))

@@ -27,7 +27,7 @@ use Rattle.hg_rule.specs.declared.view.Sizes.{Sizes}
 use Rattle.hg_rule.specs.Keys.{Key, bucket_key, pass_key, key_of, has, one, count, tally, share_of, shares, expected}
 use Rattle.hg_rule.specs.Facts.{Shown, Known}
 use Rattle.hg_rule.specs.Rules.{Rule}
-use Rattle.hg_rule.specs.Views.{seeing, first_in, others, number_in}
+use Rattle.hg_rule.specs.Views.{seeing, first_in, others, part_number}
 use Rattle.hg_rule.specs.Moves.{put_in, joined, spent}
 use Rattle.hg_rule.specs.Holding.{bucket, bucket_number, beyond, commit}
 use Rattle.hg_rule.specs.Places.{HasFirst, arriving, arrive, arrive_first, with_bucket, departing, depart, without_bucket, IsThere, HoldsBucket, bucket_alone, without_commit, commit_alone, HoldsCommit}
@@ -142,8 +142,8 @@ pub arrives : (z : Sizes) (id : ℕ) (v : View) (other : ℕ) (w : View) (b : �
 arrives z id v other w b part only t r at apart at2 =
     let at3 : get_elem? t.views other ≡ some w = sym (set_else t.views id other (with_bucket v w) apart) ∙ at2 in
     let low : 0 < expected z r.state.passes (bucket_key b) = there z t r other w (bucket_key b) at3 (has_part (OfBucket b part) [] w.parts only) in
-    let number : number_in w.parts ≡ b = ap number_in only in
-    let r1 = arrived z t id v (number_in w.parts) v.parts at refl r (subst (λ n. 0 < expected z r.state.passes (bucket_key n)) (sym number) low) in
+    let number : part_number w.parts ≡ b = ap part_number only in
+    let r1 = arrived z t id v (part_number w.parts) v.parts at refl r (subst (λ n. 0 < expected z r.state.passes (bucket_key n)) (sym number) low) in
     let views : List View = set t.views id mid in
     let at1 : get_elem? views id ≡ some mid = set_here t.views id mid (in_range 0 t.views id v at) in
     let at4 : get_elem? (set views id (with_bucket v w)) other ≡ some w = ap (λ (l : List View). get_elem? l other) (set_twice t.views id mid (with_bucket v w)) ∙ at2 in
@@ -151,7 +151,7 @@ arrives z id v other w b part only t r at apart at2 =
     (joins z id mid other w (record { words = t.words; homes = t.homes; views = views }) r1 at1 apart at4)
   where
     mid : View
-    mid = seeing (arrive_first (number_in w.parts) v.parts) v.sights v.events
+    mid = seeing (arrive_first (part_number w.parts) v.parts) v.sights v.events
 
 pub departs : (z : Sizes) (id : ℕ) (v : View) (b : ℕ) → HoldsBucket b v → Splits (Rule z) id v (without_bucket v) (bucket_alone v)
 departs z id v b holds t r at =
@@ -167,7 +167,7 @@ departs z id v b holds t r at =
     is = holds.0 ∙ ap (λ (l : List Part). first_in v.parts ∷ l) holds.1.0
 
     number : b ≡ bucket_number v
-    number = sym (ap number_in holds.1.0)
+    number = sym (ap part_number holds.1.0)
 
     alone : View
     alone = seeing (OfBucket b (bucket v) ∷ []) v.sights []
@@ -208,9 +208,9 @@ holds_bucket v w u b part first only e = subst (HoldsBucket b) (sym e) (go v.par
     here (Away j s n) b = tt
     here (Lent j s) b = tt
 
-    go : (ps qs : List Part) → ps ≡ first_in v.parts ∷ others v → qs ≡ OfBucket b part ∷ [] → HoldsBucket b (seeing (put_in (arrive_first (number_in qs) ps) qs) (v.sights ++ w.sights) v.events)
-    go ps qs is is' = subst (λ (ps : List Part). HoldsBucket b (seeing (put_in (arrive_first (number_in qs) ps) qs) (v.sights ++ w.sights) v.events)) (sym is)
-        (subst (λ (qs : List Part). HoldsBucket b (seeing (put_in (arrive_first (number_in qs) (first_in v.parts ∷ others v)) qs) (v.sights ++ w.sights) v.events)) (sym is') (refl, (refl, here (first_in v.parts) b)))
+    go : (ps qs : List Part) → ps ≡ first_in v.parts ∷ others v → qs ≡ OfBucket b part ∷ [] → HoldsBucket b (seeing (put_in (arrive_first (part_number qs) ps) qs) (v.sights ++ w.sights) v.events)
+    go ps qs is is' = subst (λ (ps : List Part). HoldsBucket b (seeing (put_in (arrive_first (part_number qs) ps) qs) (v.sights ++ w.sights) v.events)) (sym is)
+        (subst (λ (qs : List Part). HoldsBucket b (seeing (put_in (arrive_first (part_number qs) (first_in v.parts ∷ others v)) qs) (v.sights ++ w.sights) v.events)) (sym is') (refl, (refl, here (first_in v.parts) b)))
 
 pub holds_commit : (v w u : View) (part : CommitPart) → HasFirst v → w.parts ≡ OfCommit part ∷ [] → u ≡ joined v w → HoldsCommit u
 holds_commit v w u part first only e = subst HoldsCommit (sym e) (go v.parts w.parts first only)

@@ -18,7 +18,7 @@ use Rattle.hg_rule.specs.declared.view.Sight.TheVariants.{Saw, Heard}
 use Rattle.hg_rule.specs.declared.view.Event.TheVariants.{Stamp, HandOver, HandBack, Publish}
 use Rattle.hg_rule.specs.declared.view.View.{View}
 use Rattle.hg_rule.specs.Facts.{groups, new_session, IsLeft}
-use Rattle.hg_rule.specs.Views.{number, number_in, session, session_there, since, first_in, others, seeing, then_has}
+use Rattle.hg_rule.specs.Views.{number, part_number, session, session_there, since, first_in, others, seeing, then_has}
 use Rattle.hg_rule.specs.Moves.{but_second}
 use Rattle.hg_rule.specs.Steps.{IsHistoryAt, Seated, loaded_in}
 use Rattle.hg_rule.specs.Holding.{bucket_number, bucket, beyond, farther, commit, commit_behind}
@@ -122,7 +122,7 @@ received v w = seeing (v.parts ++ w.parts) (v.sights ++ w.sights) v.events
 
 -- v without the part behind its first, which is handed back
 abbrev pub hands_back : View → View
-hands_back v = seeing (but_second v.parts) v.sights (v.events ++ HandBack (number_in (others v)) ∷ [])
+hands_back v = seeing (but_second v.parts) v.sights (v.events ++ HandBack (part_number (others v)) ∷ [])
 
 -- The part is as it was, or its transaction was published under a number over n, the mark at which it was handed over.
 pub record IsBack (n : ℕ) (was now : SessionPart) : Type 0 where

@@ -12,7 +12,7 @@ use Rattle.hg_rule.specs.declared.view.CommitPart.{CommitPart}
 use Rattle.hg_rule.specs.declared.view.Part.{Part}
 use Rattle.hg_rule.specs.declared.view.Part.TheVariants.{OfBucket, OfCommit}
 use Rattle.hg_rule.specs.declared.view.View.{View}
-use Rattle.hg_rule.specs.Views.{number, number_in, session, bucket_there, commit_there, first_in, after_first, others}
+use Rattle.hg_rule.specs.Views.{number, part_number, session, bucket_there, commit_there, first_in, after_first, others}
 use Rattle.hg_rule.specs.Steps.{loaded_in}
 
 -- what stands behind the part that was joined last
@@ -24,7 +24,7 @@ farther v = after_first (beyond v)
 
 -- the bucket that was joined last, and its number
 abbrev pub bucket_number : View → ℕ
-bucket_number v = number_in (others v)
+bucket_number v = part_number (others v)
 
 abbrev pub bucket : View → BucketPart
 bucket v = bucket_there (first_in (others v))

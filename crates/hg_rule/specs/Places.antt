@@ -8,7 +8,7 @@ use Rattle.hg_rule.specs.declared.view.Part.{Part}
 use Rattle.hg_rule.specs.declared.view.Part.TheVariants.{OfSession, OfBucket, OfCommit, OfPass, Away, Lent}
 use Rattle.hg_rule.specs.declared.view.Sight.TheVariants.{Saw, Took}
 use Rattle.hg_rule.specs.declared.view.View.{View}
-use Rattle.hg_rule.specs.Views.{number_in, first_in, others, seeing}
+use Rattle.hg_rule.specs.Views.{part_number, first_in, others, seeing}
 use Rattle.hg_rule.specs.Moves.{put_in}
 use Rattle.hg_rule.specs.Holding.{beyond, bucket_number, bucket, commit}
 
@@ -36,7 +36,7 @@ arrive_first b (p ∷ parts) = arrive b p ∷ parts
 
 -- v with the part of the bucket's seat w behind its own
 abbrev pub with_bucket : View → View → View
-with_bucket v w = seeing (put_in (arrive_first (number_in w.parts) v.parts) w.parts) (v.sights ++ w.sights) v.events
+with_bucket v w = seeing (put_in (arrive_first (part_number w.parts) v.parts) w.parts) (v.sights ++ w.sights) v.events
 
 -- its visit is over, with what it gives back
 abbrev pub departing : Content → PassPart → PassPart

@@ -12,14 +12,14 @@ use Rattle.hg_rule.specs.declared.view.View.{View}
 use Rattle.hg_rule.specs.Facts.{new_session, new_bucket, new_commit, new_pass}
 
 -- the first part of a list, by its kind
-abbrev pub number_in : List Part → ℕ
-number_in [] = 0
-number_in (OfSession j s ∷ parts) = j
-number_in (OfBucket b c ∷ parts) = b
-number_in (OfCommit h ∷ parts) = 0
-number_in (OfPass p r ∷ parts) = p
-number_in (Away j s n ∷ parts) = j
-number_in (Lent j s ∷ parts) = j
+abbrev pub part_number : List Part → ℕ
+part_number [] = 0
+part_number (OfSession j s ∷ parts) = j
+part_number (OfBucket b c ∷ parts) = b
+part_number (OfCommit h ∷ parts) = 0
+part_number (OfPass p r ∷ parts) = p
+part_number (Away j s n ∷ parts) = j
+part_number (Lent j s ∷ parts) = j
 
 abbrev pub session_there : Part → SessionPart
 session_there (OfSession j s) = s
@@ -72,7 +72,7 @@ after_first (p ∷ parts) = parts
 
 -- the view's own: its number, its session's or pass's part, and the other parts, the last joined first
 abbrev pub number : View → ℕ
-number v = number_in v.parts
+number v = part_number v.parts
 
 abbrev pub session : View → SessionPart
 session v = session_there (first_in v.parts)

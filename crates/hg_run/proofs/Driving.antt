@@ -24,7 +24,7 @@ use Rattle.hg_rule.specs.declared.view.Part.TheVariants.{OfPass}
 use Rattle.hg_rule.specs.declared.view.Sizes.{Sizes}
 use Rattle.hg_rule.specs.declared.view.View.{View}
 use Rattle.hg_rule.specs.Seats.{BoardId, pass_view, IsPassOf}
-use Rattle.hg_rule.specs.Views.{number_in, pass, pass_there, first_in, after_first}
+use Rattle.hg_rule.specs.Views.{part_number, pass, pass_there, first_in, after_first}
 use Rattle.hg_session.specs.Passing.{IsAlonePass}
 use Rattle.hg_session.specs.Replies.{inside}
 use Rattle.hg_run.specs.declared.collecting.Collectors.{Collectors}
@@ -67,7 +67,7 @@ alone_rounds t p kind z long sweeps c d h own rounds = let k = go (pass_view c) 
     )
 
     after_round : (v w : View) (sweep : Sweep) → HasSwept kind z.sessions v sweep w → v.parts ≡ OfPass p (pass v) ∷ [] → (w.parts ≡ OfPass p (pass w) ∷ []) × ((pass w).share ≡ (pass v).share)
-    after_round v w sweep s only = (s.parts ∙ (λ i. OfPass (ap number_in only i) (pass w) ∷ ap after_first only i), s.share)
+    after_round v w sweep s only = (s.parts ∙ (λ i. OfPass (ap part_number only i) (pass w) ∷ ap after_first only i), s.share)
 
     go : (v w : View) (sweeps : List Sweep) → AreRounds (IsRoundBy kind z long) v sweeps w → v.parts ≡ OfPass p (pass v) ∷ [] → (w.parts ≡ OfPass p (pass w) ∷ []) × ((pass w).share ≡ (pass v).share)
     go v w [] m only = after_met v w m only

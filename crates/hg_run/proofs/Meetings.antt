@@ -12,7 +12,7 @@ use Rattle.hg_rule.specs.declared.view.View.{View}
 use Rattle.hg_rule.specs.Agreed.{AgreesWith, PartAgrees}
 use Rattle.hg_rule.specs.Facts.{IsAmong}
 use Rattle.hg_rule.specs.Moves.{meeting}
-use Rattle.hg_rule.specs.Views.{number, number_in, session, pass, pass_there, first_in, after_first, others}
+use Rattle.hg_rule.specs.Views.{number, part_number, session, pass, pass_there, first_in, after_first, others}
 use Rattle.hg_rule.specs.Seats.{BoardId, pass_view, IsPassOf}
 use Rattle.hg_core.specs.Counters.{removed_all}
 use Rattle.hg_session.specs.declared.session.Session.{Session}
@@ -64,7 +64,7 @@ alone_swept t p kind sessions sweep c d h own s = record {
 }
   where
     number_first : number (pass_view c) ≡ p
-    number_first = ap number_in h.only
+    number_first = ap part_number h.only
 
     others_none : others (pass_view c) ≡ []
     others_none = ap after_first h.only

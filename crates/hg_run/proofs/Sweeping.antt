@@ -23,7 +23,7 @@ use Rattle.hg_rule.specs.declared.view.View.{View}
 use Rattle.hg_rule.specs.Agreed.{RecordAgrees}
 use Rattle.hg_rule.specs.Facts.{IsAmong, heard}
 use Rattle.hg_rule.specs.Rounds.{round_record, round_told}
-use Rattle.hg_rule.specs.Views.{number_in, session, session_there, first_in, pass, pass_there}
+use Rattle.hg_rule.specs.Views.{part_number, session, session_there, first_in, pass, pass_there}
 use Rattle.hg_tracker.specs.Entries.{down_from}
 use Rattle.hg_headline.specs.Met.{IsMetReport}
 use Rattle.hg_core.proofs.Answering.{not_alone}
@@ -141,7 +141,7 @@ ready_one e v v1 i left old mid h r = record {
 }
   where
     here : (d : Session) → IsPlaced e i (get_or mid i d)
-    here d = record { own = h.own d; number_is = ap number_in (h.met d).parts ∙ (r.placed d i r.within).number_is }
+    here d = record { own = h.own d; number_is = ap part_number (h.met d).parts ∙ (r.placed d i r.within).number_is }
 
     less : (d : Session) → left (suc i) ≤ left_of (get_or mid i d)
     less d = let a = r.left_is d i r.within in let b = (h.met d).left in omega (arith, a, b)
@@ -152,7 +152,7 @@ ready_all e w i left mid new h r = record {
   within = (let e = h.many in let w = r.within in omega (arith, e, w));
   placed = λ d k within.
       let below : k < length mid = (let e = h.many in omega (arith, e, within)) in
-      record { own = h.own d k below; number_is = ap number_in (h.met d k below).parts ∙ (r.placed d k below).number_is };
+      record { own = h.own d k below; number_is = ap part_number (h.met d k below).parts ∙ (r.placed d k below).number_is };
   left_is = λ d k within.
       let below : k < length mid = (let e = h.many in omega (arith, e, within)) in
       let a = r.left_is d k below in let b = (h.met d k below).left in omega (arith, a, b);

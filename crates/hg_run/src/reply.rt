@@ -1,7 +1,7 @@
 //! What a session's call answered, as a reply.
 
 ghost use Rattle.std.specs.Prelude.{◌≡◌, Some, IfOk};
-ghost use Rattle.hg_session.specs.Gains.{number_in};
+ghost use Rattle.hg_session.specs.Gains.{receipt_number};
 ghost use Rattle.hg_session.specs.Replies as session;
 
 use hg_base::{Answer, NoMemory, Reply, Row, Writer};
@@ -130,7 +130,7 @@ pub(crate) fn del_reply(
 }
 
 pub(crate) fn commit_reply(ended: Ended) -> Reply
-    ensures { result ≡ session.inside (session.commit_answer (number_in ended.receipt)) }
+    ensures { result ≡ session.inside (session.commit_answer (receipt_number ended.receipt)) }
 {
     match ended.receipt {
         Some(receipt) => inside(Answer::Committed(receipt.number)),

@@ -14,7 +14,7 @@ use Rattle.hg_script.specs.declared.values.Values.{Values}
 use Rattle.hg_script.specs.declared.values.Values.TheVariants.{No, Over, Bad, Are}
 use Rattle.hg_script.specs.Number.{integer_of}
 use Rattle.hg_script.specs.Fields.{Field, Fields, nth}
-use Rattle.hg_script.specs.Draft.{and_then, before, number_in, numbers_in, row_in, typed_in, value_in}
+use Rattle.hg_script.specs.Draft.{and_then, before, number_value, numbers_in, row_in, typed_in, value_in}
 use Rattle.hg_script.specs.Typed.{holds_numbers, or_bad}
 use Rattle.hg_script.proofs.Rows.{rest-at}
 
@@ -44,7 +44,7 @@ abbrev given : Values → Option (List Value)
 given (Are row) = Some row
 given _ = None
 
-one-number : (x : Integer) (rest : Values) → and_then (number_in x) (given rest) ≡ given (before x rest)
+one-number : (x : Integer) (rest : Values) → and_then (number_value x) (given rest) ≡ given (before x rest)
 one-number signed.No rest = refl
 one-number signed.Over No = refl
 one-number signed.Over Over = refl
@@ -60,7 +60,7 @@ row-of-numbers [] [] all many = refl
 row-of-numbers [] (f ∷ fs) all many = absurd (omega (arith, many))
 row-of-numbers (k ∷ ks) [] all many = absurd (omega (arith, many))
 row-of-numbers (column.Number ∷ ks) (f ∷ fs) all many =
-    ap (and_then (number_in (integer_of f))) (row-of-numbers ks fs all (omega (arith, many))) ∙ one-number (integer_of f) (numbers_in fs)
+    ap (and_then (number_value (integer_of f))) (row-of-numbers ks fs all (omega (arith, many))) ∙ one-number (integer_of f) (numbers_in fs)
 row-of-numbers (column.Text ∷ ks) (f ∷ fs) all many = absurd (false≢true all)
 
 given-or-bad : (values : Values) (n : ℕ) → unwrap_or (option_map Are (given values)) (Bad n) ≡ or_bad n values
@@ -115,7 +115,7 @@ all-values kinds r k vs h room e =
 
 -- ---- a row has the kinds of its columns
 
-number-kind : (x : Integer) (v : Value) → number_in x ≡ Some v → kind_of v ≡ column.Number
+number-kind : (x : Integer) (v : Value) → number_value x ≡ Some v → kind_of v ≡ column.Number
 number-kind signed.No v e = absurd (let bad : ⊥ = cc e in bad)
 number-kind signed.Over v e = absurd (let bad : ⊥ = cc e in bad)
 number-kind (signed.Is n) v e = let is : Number n ≡ v = cc e in ap kind_of (sym is)

@@ -20,7 +20,7 @@ use Rattle.hg_script.specs.declared.values.Values.{Values}
 use Rattle.hg_script.specs.declared.values.Values.TheVariants.{No, Over, Bad, Are}
 use Rattle.hg_script.specs.Number.{natural_of, integer_of, value_of, plus, minus, is_natural}
 use Rattle.hg_script.specs.Fields.{Field}
-use Rattle.hg_script.specs.Draft.{and_then, before, number_in, numbers_in, row_in, typed_in, value_in, values_by}
+use Rattle.hg_script.specs.Draft.{and_then, before, number_value, numbers_in, row_in, typed_in, value_in, values_by}
 use Rattle.hg_script.specs.Meaning.{row_of}
 
 pub natural-fits : (text : List ℕ) → Fits64 (value_of (natural_of text))
@@ -75,7 +75,7 @@ numbers-fit [] = tt
 numbers-fit (f ∷ fs) = before-fits (integer_of f) (numbers_in fs) (integer-narrow f) (numbers-fit fs)
 
 -- a value, if it is there, fits
-number-fits : (x : Integer) → IsNarrow x → IfSome (number_in x) FitsValue
+number-fits : (x : Integer) → IsNarrow x → IfSome (number_value x) FitsValue
 number-fits signed.No h = tt
 number-fits signed.Over h = tt
 number-fits (signed.Is v) h = h

@@ -132,13 +132,13 @@ abbrev pub numbers_in : List Field → Values
 numbers_in [] = Are []
 numbers_in (f ∷ fs) = before (integer_of f) (numbers_in fs)
 
-abbrev pub number_in : Integer → Option Value
-number_in (signed.Is v) = Some (Number v)
-number_in _ = None
+abbrev pub number_value : Integer → Option Value
+number_value (signed.Is v) = Some (Number v)
+number_value _ = None
 
 -- what a field is in a column: a number of 64 bits with a sign, or at most 64 bytes
 abbrev pub value_in : Column → Field → Option Value
-value_in column.Number f = number_in (integer_of f)
+value_in column.Number f = number_value (integer_of f)
 value_in column.Text f = if nat_le (length f) MOST_TEXT_BYTES then Some (Text f) else None
 
 -- a value, and then others, if all are there

@@ -6,7 +6,7 @@ use Rattle.hg_rule.specs.declared.view.Part.TheVariants.{OfCommit, OfPass}
 use Rattle.hg_rule.specs.declared.view.View.{View}
 use Rattle.hg_rule.specs.declared.view.Sizes.{Sizes}
 use Rattle.hg_rule.specs.Keys.{session_key, pass_key, count, shares}
-use Rattle.hg_rule.specs.Views.{number, pass, others, session_there, pass_there, commit_there, number_in, first_in, after_first, HasPass}
+use Rattle.hg_rule.specs.Views.{number, pass, others, session_there, pass_there, commit_there, part_number, first_in, after_first, HasPass}
 use Rattle.hg_rule.specs.Moves.{joined}
 use Rattle.hg_rule.specs.Holding.{commit}
 use Rattle.hg_rule.specs.Places.{without_commit}
@@ -53,7 +53,7 @@ module _ (v w u : View) (part : CommitPart) (own : HasPass v) (only : w.parts �
     contents = h.contents;
     each = h.each;
     parts = ap (λ (t : View). t.parts) left ∙ (λ i. first_in (h.parts i) ∷ after_first (after_first (h.parts i)))
-        ∙ (λ i. OfPass (number_in (now i)) (record (pass_there (first_in (now i))) { visits = empty_visits (pass_there (first_in (now i))).mark h.contents ++ (pass_there (first_in (now i))).visits }) ∷ after_first (after_first (now i)));
+        ∙ (λ i. OfPass (part_number (now i)) (record (pass_there (first_in (now i))) { visits = empty_visits (pass_there (first_in (now i))).mark h.contents ++ (pass_there (first_in (now i))).visits }) ∷ after_first (after_first (now i)));
     kept = starts_on _ x.sights v.sights (starts_on x.sights u.sights v.sights (w.sights, ap (λ (t : View). t.sights) is) h.kept) (_, ap (λ (t : View). t.sights) left);
     events = ap (λ (t : View). t.events) left ∙ h.events ∙ ap (λ (t : View). t.events) is;
   }

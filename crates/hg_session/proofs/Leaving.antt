@@ -25,7 +25,7 @@ use Rattle.hg_rule.specs.declared.view.Sizes.{Sizes}
 use Rattle.hg_rule.specs.Keys.{session_key, pass_key, has, count, shares}
 use Rattle.hg_rule.specs.Facts.{StartsWith, IsAmong, heard, record_of}
 use Rattle.hg_rule.specs.Reading.{chosen, seek, passes_in}
-use Rattle.hg_rule.specs.Views.{number, pass, others, number_in, session_there, pass_there, first_in, after_first, HasPass}
+use Rattle.hg_rule.specs.Views.{number, pass, others, part_number, session_there, pass_there, first_in, after_first, HasPass}
 use Rattle.hg_rule.proofs.Counts.{key_self}
 use Rattle.hg_rule.proofs.Lists.{starts_on}
 use Rattle.hg_rule.specs.Rules.{IsBacked}
@@ -142,10 +142,10 @@ module _ (z : Sizes) (v w : View) (long : ℕ) (report : Report) (own : HasPass 
   after = record moved { visits = c.visits.on.visits ++ (pass v).visits }
 
   parts_moved : c.moved.parts ≡ OfPass (number v) moved ∷ others v
-  parts_moved = c.moves.parts ∙ (λ i. OfPass (number_in (c.gathers.parts i)) (record (pass_there (first_in (c.gathers.parts i))) { loaded = moved_by tried outcomes (pass_there (first_in (c.gathers.parts i))).loaded }) ∷ after_first (c.gathers.parts i))
+  parts_moved = c.moves.parts ∙ (λ i. OfPass (part_number (c.gathers.parts i)) (record (pass_there (first_in (c.gathers.parts i))) { loaded = moved_by tried outcomes (pass_there (first_in (c.gathers.parts i))).loaded }) ∷ after_first (c.gathers.parts i))
 
   parts_after : w.parts ≡ OfPass (number v) after ∷ others v
-  parts_after = c.visits.on.parts ∙ (λ i. OfPass (number_in (parts_moved i)) (record (pass_there (first_in (parts_moved i))) { visits = c.visits.on.visits ++ (pass_there (first_in (parts_moved i))).visits }) ∷ after_first (parts_moved i))
+  parts_after = c.visits.on.parts ∙ (λ i. OfPass (part_number (parts_moved i)) (record (pass_there (first_in (parts_moved i))) { visits = c.visits.on.visits ++ (pass_there (first_in (parts_moved i))).visits }) ∷ after_first (parts_moved i))
 
   pub logs_after : logs_in w ≡ logs_in v
   logs_after = logs_own v w after own parts_after

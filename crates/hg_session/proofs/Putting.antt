@@ -37,7 +37,7 @@ use Rattle.hg_group.specs.declared.receipt.Receipt.{Receipt}
 use Rattle.hg_headline.specs.Timely.{snapshot_in, newer_in, commit_in}
 use Rattle.hg_session.specs.declared.answers.PutRefusal.{PutRefusal}
 use Rattle.hg_session.specs.declared.answers.PutRefusal.TheVariants as put
-use Rattle.hg_session.specs.Gains.{Gains, IsAfter, IsRefusedBy, entries_of, number_in}
+use Rattle.hg_session.specs.Gains.{Gains, IsAfter, IsRefusedBy, entries_of, receipt_number}
 use Rattle.hg_session.specs.Replies.{inside, commit_answer, refused_at, refused_reply, IsNext, GoesOn, Answers}
 use Rattle.hg_session.specs.Alone.{WritesAlone, IsRefusedAlone}
 use Rattle.hg_session.proofs.Settling.{gains_on}
@@ -45,7 +45,7 @@ use Rattle.hg_session.proofs.Replying.{nothing_more, answers_inside, answers_alo
 
 -- ---- the end of a transaction
 
-pub is_number : (r : Option Receipt) → is_some (number_in r) ≡ is_some r
+pub is_number : (r : Option Receipt) → is_some (receipt_number r) ≡ is_some r
 is_number None = refl
 is_number (Some r) = refl
 
@@ -171,11 +171,11 @@ refused_bare v m rid image (Open j x) a bare = ap own_writes a.log ∙ bare
 refused_bare v m rid image (Newer n) a bare = ap own_writes a.log ∙ bare
 refused_bare v m rid image NoMemory a bare = ap own_writes a.log ∙ bare
 
-pub committed_alone : (v m w : View) (rid : Rid) (image : Image) (at : ℕ) (r : Option Receipt) → Gains v (Wrote rid image ∷ []) m → Gains m (close (number_in r)) w → is_some r ≡ is_written (own_writes (session m).log) → IfSome (number_in r) (IsAfter m.sights at) → WritesAlone v rid image at w (number_in r)
+pub committed_alone : (v m w : View) (rid : Rid) (image : Image) (at : ℕ) (r : Option Receipt) → Gains v (Wrote rid image ∷ []) m → Gains m (close (receipt_number r)) w → is_some r ≡ is_written (own_writes (session m).log) → IfSome (receipt_number r) (IsAfter m.sights at) → WritesAlone v rid image at w (receipt_number r)
 committed_alone v m w rid image at r a b wrote after = record {
-  gains = gains_on v m w (Wrote rid image ∷ []) (close (number_in r)) a b (λ l. sym (append_assoc (close (number_in r)) (Wrote rid image ∷ []) l));
+  gains = gains_on v m w (Wrote rid image ∷ []) (close (receipt_number r)) a b (λ l. sym (append_assoc (close (receipt_number r)) (Wrote rid image ∷ []) l));
   some = is_number r ∙ (wrote ∙ ap (λ log. is_written (own_writes log)) a.log);
-  after = go (number_in r) after;
+  after = go (receipt_number r) after;
 }
   where
     go : (n : Option ℕ) → IfSome n (IsAfter m.sights at) → IfSome n (IsAfter v.sights at)

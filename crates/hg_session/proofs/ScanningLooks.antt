@@ -15,7 +15,7 @@ use Rattle.hg_rule.specs.declared.view.SessionPart.{SessionPart}
 use Rattle.hg_rule.specs.declared.view.Part.{Part}
 use Rattle.hg_rule.specs.declared.view.Sight.{Sight}
 use Rattle.hg_rule.specs.declared.view.View.{View}
-use Rattle.hg_rule.specs.Views.{number_in, after_first}
+use Rattle.hg_rule.specs.Views.{part_number, after_first}
 use Rattle.hg_rule.specs.Holding.{bucket, writer, snapshot}
 use Rattle.hg_rule.specs.Writes.{with_log, with_entry, log_asked, Looks}
 use Rattle.hg_rule.specs.Places.{without_bucket}
@@ -39,7 +39,7 @@ on_ok (Err e) f a = a
 module _ (count j b n : ℕ) (part : SessionPart) (old : List Sight) (table : TableId) (low high : ℕ) (u w : View) (h : Beside j part b old u) (k : Looks u (Read table low high) n w) where
   pub saw_rows : log_asked u (Read table low high) n k.rows ≡ Saw table low high b k.rows ∷ part.log
   saw_rows =
-      let m = ap (λ (ps : List Part). number_in (after_first ps)) h.parts in
+      let m = ap (λ (ps : List Part). part_number (after_first ps)) h.parts in
       let s = first_session u j part _ h.parts in
       λ i. Saw table low high (m i) k.rows ∷ (s i).log
 

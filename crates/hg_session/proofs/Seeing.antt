@@ -18,7 +18,7 @@ use Rattle.hg_rule.specs.declared.view.SessionPart.{SessionPart}
 use Rattle.hg_rule.specs.declared.view.Part.{Part}
 use Rattle.hg_rule.specs.declared.view.Sight.{Sight}
 use Rattle.hg_rule.specs.declared.view.View.{View}
-use Rattle.hg_rule.specs.Views.{number_in, after_first}
+use Rattle.hg_rule.specs.Views.{part_number, after_first}
 use Rattle.hg_rule.specs.Steps.{loaded_in}
 use Rattle.hg_rule.specs.Holding.{bucket_number, held, writer, snapshot}
 use Rattle.hg_rule.specs.Writes.{log_asked, Looks}
@@ -49,7 +49,7 @@ snapshot_beside j b part old u h = ap (λ (p : SessionPart). loaded_in p.phase) 
 pub saw_log : (buckets j b n : ℕ) (part : SessionPart) (old : List Sight) (rid : Rid) (u w : View) (row : Option (List Value)) → Beside j part b old u → b ≡ bucket_of buckets rid → (k : Looks u (Read rid.table rid.key rid.key) n w)
     → (read_by (writer u) (snapshot u) (held u rid)).row ≡ row → log_asked u (Read rid.table rid.key rid.key) n k.rows ≡ saw buckets rid (rows_at rid.key row) ∷ part.log
 saw_log buckets j b n part old rid u w row h here k read =
-    let m : bucket_number u ≡ bucket_of buckets rid = ap (λ (ps : List Part). number_in (after_first ps)) h.parts ∙ here in
+    let m : bucket_number u ≡ bucket_of buckets rid = ap (λ (ps : List Part). part_number (after_first ps)) h.parts ∙ here in
     let s = first_session u j part _ h.parts in
     let rows = only_rows (λ key. read_by (writer u) (snapshot u) (held u record { table = rid.table; key = key })) rid.key row k.rows k.shown read in
     (λ i. Saw rid.table rid.key rid.key (m i) (rows i) ∷ (s i).log)

@@ -13,7 +13,7 @@ use Rattle.hg_rule.specs.declared.view.Sight.{Sight}
 use Rattle.hg_rule.specs.declared.view.Sight.TheVariants.{Heard}
 use Rattle.hg_rule.specs.declared.view.View.{View}
 use Rattle.hg_rule.specs.Facts.{StartsWith, IsAmong}
-use Rattle.hg_rule.specs.Views.{number, number_in, session, session_there, others, first_in, after_first, seeing, HasSession, HasOnlySession}
+use Rattle.hg_rule.specs.Views.{number, part_number, session, session_there, others, first_in, after_first, seeing, HasSession, HasOnlySession}
 use Rattle.hg_rule.specs.Steps.{logging, Ends}
 use Rattle.hg_rule.specs.Holding.{bucket_number, bucket, beyond, writer}
 use Rattle.hg_rule.specs.Writes.{with_log, with_entry, log_asked, Looks, Installs, Undoes, installing, undoing}
@@ -37,7 +37,7 @@ only_session v only = only ∙ (λ i. OfSession (number v) (session v) ∷ sym (
 
 -- what the first part is
 pub first_number : (v : View) (j : ℕ) (part : SessionPart) (os : List Part) → v.parts ≡ OfSession j part ∷ os → number v ≡ j
-first_number v j part os e = ap number_in e
+first_number v j part os e = ap part_number e
 
 pub first_session : (v : View) (j : ℕ) (part : SessionPart) (os : List Part) → v.parts ≡ OfSession j part ∷ os → session v ≡ part
 first_session v j part os e = ap (λ (ps : List Part). session_there (first_in ps)) e
@@ -87,7 +87,7 @@ pub installed : (j : ℕ) (part : SessionPart) (b : ℕ) (old : List Sight) (r :
 installed j part b old r image u w h k =
     let e = first_number u j part _ h.parts in
     let s = first_session u j part _ h.parts in
-    let m : bucket_number u ≡ b = ap (λ (ps : List Part). number_in (after_first ps)) h.parts in
+    let m : bucket_number u ≡ b = ap (λ (ps : List Part). part_number (after_first ps)) h.parts in
     let o : beyond u ≡ [] = ap (λ (ps : List Part). after_first (after_first ps)) h.parts in (
       record {
         holds = installing (writer u) r image (bucket u);
@@ -101,7 +101,7 @@ pub undone : (j : ℕ) (part : SessionPart) (b : ℕ) (old : List Sight) (r : Ri
 undone j part b old r u w h k =
     let e = first_number u j part _ h.parts in
     let s = first_session u j part _ h.parts in
-    let m : bucket_number u ≡ b = ap (λ (ps : List Part). number_in (after_first ps)) h.parts in
+    let m : bucket_number u ≡ b = ap (λ (ps : List Part). part_number (after_first ps)) h.parts in
     let o : beyond u ≡ [] = ap (λ (ps : List Part). after_first (after_first ps)) h.parts in (
       record {
         holds = undoing r (bucket u);

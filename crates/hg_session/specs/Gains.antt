@@ -63,9 +63,9 @@ outside_entries true table = Outside table ∷ []
 outside_entries false table = []
 
 -- a receipt's number
-abbrev pub number_in : Option Receipt → Option ℕ
-number_in None = None
-number_in (Some receipt) = Some receipt.number
+abbrev pub receipt_number : Option Receipt → Option ℕ
+receipt_number None = None
+receipt_number (Some receipt) = Some receipt.number
 
 -- a commit number is over all that was seen, and over the transaction's own snapshot
 pub record IsAfter (sights : List Sight) (at : ℕ) (c : ℕ) : Type 0 where

@@ -9,7 +9,7 @@ ghost use Rattle.hg_core.specs.Reading.{close};
 ghost use Rattle.hg_session.specs.Engines.{engine_sizes};
 ghost use Rattle.hg_session.specs.Sessions.{IsIn, IsOf, view_of, log_of, seen_by, open_of, left_of, retries_of, opened_of};
 ghost use Rattle.hg_session.specs.Replies.{Answers, inside, commit_answer};
-ghost use Rattle.hg_session.specs.Gains.{Gains, HasPlace, IsAfter, number_in};
+ghost use Rattle.hg_session.specs.Gains.{Gains, HasPlace, IsAfter, receipt_number};
 
 use crate::answers::Ended;
 use crate::engine::Engine;
@@ -29,9 +29,9 @@ impl Session {
     ) -> Result<Option<Receipt>, NoMemory>
         requires own { IsIn engine.now 0 0 self.old }
         requires opened { opened_of self.old ≡ Some snapshot }
-        ensures gains { IfOk result (λ receipt. Gains (view_of self.old) (close (number_in receipt)) (view_of self.new)) }
+        ensures gains { IfOk result (λ receipt. Gains (view_of self.old) (close (receipt_number receipt)) (view_of self.new)) }
         ensures wrote { IfOk result (λ receipt. is_some receipt ≡ is_written (own_writes (log_of self.old))) }
-        ensures after { IfOk result (λ receipt. IfSome (number_in receipt) (IsAfter (seen_by self.old) snapshot.at)) }
+        ensures after { IfOk result (λ receipt. IfSome (receipt_number receipt) (IsAfter (seen_by self.old) snapshot.at)) }
         ensures placed { IfOk result (λ receipt. IfSome receipt (HasPlace (view_of self.old) (view_of self.new))) }
         ensures closed { OnOk result (opened_of self.new ≡ None) }
         ensures refused { OnErr result (Gains (view_of self.old) [] (view_of self.new) × (opened_of self.new ≡ opened_of self.old)) }
@@ -70,7 +70,7 @@ impl Session {
     pub fn commit<R: Wait>(&mut self, rt: &R, engine: &Engine) -> Result<Ended, NoMemory>
         requires own { IsOf engine.now self.old }
         requires opened { IsSome (open_of self.old) }
-        ensures answers { IfOk result (λ ended. Answers (engine_sizes engine.now) (view_of self.old) say.Commit (inside (commit_answer (number_in ended.receipt))) (view_of self.new)) }
+        ensures answers { IfOk result (λ ended. Answers (engine_sizes engine.now) (view_of self.old) say.Commit (inside (commit_answer (receipt_number ended.receipt))) (view_of self.new)) }
         ensures refused { OnErr result (Gains (view_of self.old) [] (view_of self.new) × (open_of self.new ≡ open_of self.old)) }
         ensures placed { IfOk result (λ ended. IfSome ended.receipt (HasPlace (view_of self.old) (view_of self.new))) }
         ensures over { OnOk result (open_of self.new ≡ None) }

@@ -23,7 +23,7 @@ use Rattle.hg_rule.specs.declared.view.View.{View}
 use Rattle.hg_rule.specs.declared.view.Sizes.{Sizes}
 use Rattle.hg_rule.specs.Facts.{Shown}
 use Rattle.hg_rule.specs.Rules.{IsBacked}
-use Rattle.hg_rule.specs.Views.{number_in, bucket_there, first_in, after_first, seeing}
+use Rattle.hg_rule.specs.Views.{part_number, bucket_there, first_in, after_first, seeing}
 use Rattle.hg_rule.specs.Moves.{put_in}
 use Rattle.hg_rule.specs.Holding.{bucket_number, bucket, beyond, held}
 use Rattle.hg_rule.specs.Places.{HasFirst, HoldsBucket, arrive_first, with_bucket}
@@ -38,7 +38,7 @@ pub parts_are : (b : ℕ) (v : View) → HoldsBucket b v → v.parts ≡ first_i
 parts_are b v h = h.0 ∙ ap (λ ps. first_in v.parts ∷ ps) h.1.0
 
 pub number_is : (b : ℕ) (v : View) → HoldsBucket b v → bucket_number v ≡ b
-number_is b v h = ap number_in h.1.0
+number_is b v h = ap part_number h.1.0
 
 pub second_shown : (P : Part → Type 0) (ps rest : List Part) (p q : Part) → ps ≡ p ∷ q ∷ rest → Each P ps → P q
 second_shown P ps rest p q e h = (subst (Each P) e h).1.0
@@ -83,7 +83,7 @@ all_ordered z n b v k h r = go (bucket_of z.buckets r == b) refl
 -- ---- a bucket comes
 
 bucket_joined : (v w : View) (b : ℕ) (part : BucketPart) → HasFirst v → w.parts ≡ OfBucket b part ∷ [] → bucket (with_bucket v w) ≡ part
-bucket_joined v w b part e f = λ i. bucket_there (first_in (after_first (put_in (arrive_first (number_in (f i)) (e i)) (f i))))
+bucket_joined v w b part e f = λ i. bucket_there (first_in (after_first (put_in (arrive_first (part_number (f i)) (e i)) (f i))))
 
 pub taken_holds : (z : Sizes) (n : ℕ) (v w x : View) (b : ℕ) (part : BucketPart) (h : Held) → HasFirst v → w.parts ≡ OfBucket b part ∷ [] → x ≡ with_bucket v w → HoldsBucket b x → IsBacked z n x → held_number h ≡ b → Keeps (held_records h) part → Holds x h
 taken_holds z n v w x b part h first only is has backed same keeps = record {

@@ -3,7 +3,7 @@ pub mod Kept
 -- What is known of the transaction that a refused write met.
 pub mod Ends
 -- Locked buckets, and one that is held.
-pub mod Places
+pub mod Slots
 pub mod Stores
 pub mod Writing
 -- What a pass makes of a table.

@@ -13,7 +13,7 @@ use Rattle.hg_rule.specs.Seats.{BoardId}
 use Rattle.hg_store.specs.declared.store.Store.{Store}
 use Rattle.hg_store.specs.declared.held.Held.{Held}
 use Rattle.hg_store.specs.Kept.{Keeps, AreOrdered}
-use Rattle.hg_store.specs.Places.{seat_board_id}
+use Rattle.hg_store.specs.Slots.{seat_board_id}
 
 -- the board of a store, and how many buckets it has
 abbrev pub store_board_id : Store → BoardId

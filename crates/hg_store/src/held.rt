@@ -3,7 +3,7 @@
 ghost use Rattle.std.specs.Prelude.{◌≡◌};
 ghost use Rattle.hg_lock.specs.Locks.{IsLoanOf, lock_of};
 
-use crate::store::Place;
+use crate::store::Slot;
 use hg_bucket::Bucket;
 use hg_lock::{Loan, Locks};
 use hg_rule::{Board, BucketSeat, Pass};
@@ -11,8 +11,8 @@ use std::snapshot::Snapshot;
 
 /// A bucket whose lock was taken. It has no `Drop`: it ends in `give`.
 pub struct Held<'a> {
-    pub(crate) locks: &'a Locks<Place>,
-    pub(crate) loan: Loan<Place, Snapshot<BucketSeat>>,
+    pub(crate) locks: &'a Locks<Slot>,
+    pub(crate) loan: Loan<Slot, Snapshot<BucketSeat>>,
     pub(crate) bucket: Box<Bucket>,
     pub(crate) number: u32,
     ghost lent: { IsLoanOf locks.now loan },
@@ -39,6 +39,6 @@ impl<'a> Held<'a> {
             number,
         } = self;
         let seat = board.split_bucket(pass, number);
-        locks.give(Place { bucket, seat }, loan);
+        locks.give(Slot { bucket, seat }, loan);
     }
 }

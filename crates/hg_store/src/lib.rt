@@ -25,4 +25,4 @@ mod sweep;
 mod write;
 
 pub use held::Held;
-pub use store::{Place, Store};
+pub use store::{Slot, Store};

@@ -15,17 +15,17 @@ use std::sync::Wait;
 
 /// What lies under a bucket's lock: the bucket, and the seat that shows its content.
 #[derive(Drop)]
-pub struct Place {
+pub struct Slot {
     pub(crate) bucket: Box<Bucket>,
     pub(crate) seat: BucketSeat,
 }
 
-impl Fits for Place {
-    ghost use Rattle.hg_store.specs.Places.{PlaceFits};
+impl Fits for Slot {
+    ghost use Rattle.hg_store.specs.Slots.{SlotFits};
 
     type Tag = Snapshot<BucketSeat>;
 
-    ghost fits = { PlaceFits };
+    ghost fits = { SlotFits };
 }
 
 // The bucket of a record, of so many. Where table and key have a sum that fits, it is divided once.
@@ -45,7 +45,7 @@ fn bucket_among(count: u64, rid: Rid) -> u64
 /// The buckets of a board, each under a lock of its own.
 #[derive(Drop)]
 pub struct Store {
-    pub(crate) locks: Locks<Place>,
+    pub(crate) locks: Locks<Slot>,
     ghost some: { 0 < count_of locks },
     ghost few: { count_of locks < 2 ^ 32 },
 }
@@ -66,12 +66,12 @@ impl Store {
     {
         let seats = seats.into_vec();
         let tag = Snapshot::of(&seats[0]);
-        let mut places = Vec::with_capacity(alloc, seats.len())?;
+        let mut slots = Vec::with_capacity(alloc, seats.len())?;
         for seat in seats {
             let bucket = Box::new(alloc, Bucket::new(alloc))?;
-            places.push(Place { bucket, seat })?;
+            slots.push(Slot { bucket, seat })?;
         }
-        let locks = Locks::new(alloc, places, &tag)?;
+        let locks = Locks::new(alloc, slots, &tag)?;
         Ok(Store { locks })
     }
 
@@ -108,8 +108,8 @@ impl Store {
         ensures backed { (mark : ℕ) × IsBacked (sizes_of board.now) mark (view (P.seat_of pass.new)) }
         ensures own { IsSeatOf (board_id board.now) (P.seat_of pass.new) × (P.rest_of pass.new ≡ P.rest_of pass.old) }
     {
-        let (place, loan) = self.locks.take(rt, bucket as usize);
-        let Place { bucket: data, seat } = place;
+        let (slot, loan) = self.locks.take(rt, bucket as usize);
+        let Slot { bucket: data, seat } = slot;
         board.join_bucket(pass, seat);
         Held {
             locks: &self.locks,

@@ -15,7 +15,7 @@ use Rattle.hg_rule.specs.declared.view.Part.TheVariants.{OfPass}
 use Rattle.hg_rule.specs.declared.view.PassPart.{PassPart}
 use Rattle.hg_rule.specs.declared.view.View.{View}
 use Rattle.hg_rule.specs.Facts.{IsAmong, record_of}
-use Rattle.hg_rule.specs.Views.{number, number_in, pass, pass_there, first_in, after_first, others, seeing, HasPass}
+use Rattle.hg_rule.specs.Views.{number, part_number, pass, pass_there, first_in, after_first, others, seeing, HasPass}
 use Rattle.hg_rule.specs.Rounds.{IsWork}
 use Rattle.hg_rule.proofs.Rounds.{gone_on}
 use Rattle.hg_visit.specs.Visits.{closed_visit, IsOnlyFor, GoesOn}
@@ -83,7 +83,7 @@ pub record IsSame (v w : View) : Type 0 where
 
 pub same_pass : (kind : Kind) (v w : View) → GoesOn kind v w → IsSame v w
 same_pass kind v w g =
-    let a : number w ≡ number v = ap number_in g.parts in
+    let a : number w ≡ number v = ap part_number g.parts in
     let p : pass w ≡ record (pass v) { visits = g.visits ++ (pass v).visits } = ap (λ ps. pass_there (first_in ps)) g.parts in
     let o : others w ≡ others v = ap after_first g.parts in record {
       own = g.parts ∙ (λ i. OfPass (sym a i) (sym p i) ∷ sym o i);

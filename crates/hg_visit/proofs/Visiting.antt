@@ -17,7 +17,7 @@ use Rattle.hg_rule.specs.declared.view.View.{View}
 use Rattle.hg_rule.specs.declared.view.Sizes.{Sizes}
 use Rattle.hg_rule.specs.Facts.{record_of, Shown}
 use Rattle.hg_rule.specs.Rules.{HasRoom, IsBacked}
-use Rattle.hg_rule.specs.Views.{number, pass, others, number_in, pass_there, first_in, after_first, HasPass}
+use Rattle.hg_rule.specs.Views.{number, pass, others, part_number, pass_there, first_in, after_first, HasPass}
 use Rattle.hg_rule.specs.Holding.{bucket, beyond, held}
 use Rattle.hg_rule.specs.Places.{HoldsBucket, arriving, arrive_first, departing, without_bucket}
 use Rattle.hg_rule.specs.Moves.{put_in}
@@ -49,7 +49,7 @@ module _ (kind : Kind) (v x : View) (b : ℕ) (own : HasPass v) (takes : Takes v
   pass_taken = ap (λ ps. pass_there (first_in ps)) parts_taken
 
   pub number_taken : number x ≡ number v
-  number_taken = ap number_in parts_taken
+  number_taken = ap part_number parts_taken
 
   -- the pass has its part first still
   pub own_taken : HasPass x

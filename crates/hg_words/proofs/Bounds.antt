@@ -29,7 +29,7 @@ use Rattle.clap.proofs.WalkLemmas.{one_text-rows}
 use Rattle.hg_words.specs.declared.options.Options.{Options}
 use Rattle.hg_words.specs.declared.options.Command.{Command as Asked}
 use Rattle.hg_words.specs.Line.{command_line}
-use Rattle.hg_words.specs.Options.{AreWithin, command_in, number_in, number_of, options_in, options_of_all}
+use Rattle.hg_words.specs.Options.{AreWithin, command_in, named_number, number_of, options_in, options_of_all}
 
 false_true : false ≡ true → ⊥
 false_true e = cc
@@ -152,7 +152,7 @@ module _ (old : Command) (m : ArgMatches) (app : app_of old ≡ command_line) (p
         go true e = ap number_or e
         go false e = absurd (none_some n e)
 
-    in_range : (bits n : ℕ) → number_in bits name (rows_of (found_of m)) ≡ Some n → (low ≤ n) × (n ≤ high)
+    in_range : (bits n : ℕ) → named_number bits name (rows_of (found_of m)) ≡ Some n → (low ≤ n) × (n ≤ high)
     in_range bits n e = go (one_of name (rows_of (found_of m))) refl e
       where
         go : (o : Option Text) → one_of name (rows_of (found_of m)) ≡ o → option_and_then (number_of bits) o ≡ Some n → (low ≤ n) × (n ≤ high)
@@ -237,7 +237,7 @@ all_there (Some c) (Some b) (Some l) None options e = absurd (none_some options 
 pub are_within : (old : Command) (m : ArgMatches) → app_of old ≡ command_line → IsParsedFrom old m → (options : Options) → options_in (rows_of (found_of m)) ≡ Some options → AreWithin options
 are_within old m app p options e =
     let rows = rows_of (found_of m) in
-    let all = all_there (command_in rows) (number_in 32 (codes "buckets") rows) (number_in 64 (codes "long") rows) (number_in 32 (codes "rounds") rows) options e in
+    let all = all_there (command_in rows) (named_number 32 (codes "buckets") rows) (named_number 64 (codes "long") rows) (named_number 32 (codes "rounds") rows) options e in
     let buckets = in_range old m app p 2 (codes "buckets") 1 1024 buckets_stand 32 options.buckets all.buckets_are in
     let long = in_range old m app p 3 (codes "long") 1 1048576 long_stands 64 options.long all.long_is in
     let rounds = in_range old m app p 4 (codes "rounds") 0 1000 rounds_stand 32 options.rounds all.rounds_are in

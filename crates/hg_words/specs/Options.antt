@@ -21,11 +21,11 @@ command_of mode None = if bytes_eq mode (codes "replay") then Some Replay else (
 command_of mode (Some seed) = if bytes_eq mode (codes "load") then Some (Load seed) else None
 
 -- the number that stands for a name among what `clap` found
-abbrev pub number_in : ℕ → Text → List Row → Option ℕ
-number_in bits name rows = option_and_then (number_of bits) (one_of name rows)
+abbrev pub named_number : ℕ → Text → List Row → Option ℕ
+named_number bits name rows = option_and_then (number_of bits) (one_of name rows)
 
 abbrev pub command_in : List Row → Option Command
-command_in rows = option_and_then (λ mode. command_of mode (number_in 64 (codes "seed") rows)) (first_of (codes "mode") rows)
+command_in rows = option_and_then (λ mode. command_of mode (named_number 64 (codes "seed") rows)) (first_of (codes "mode") rows)
 
 abbrev pub options_of_all : Option Command → Option ℕ → Option ℕ → Option ℕ → Option Options
 options_of_all (Some command) (Some buckets) (Some long) (Some rounds) = Some (record { command = command; buckets = buckets; long = long; rounds = rounds })
@@ -33,7 +33,7 @@ options_of_all _ _ _ _ = None
 
 -- the options among what `clap` found
 abbrev pub options_in : List Row → Option Options
-options_in rows = options_of_all (command_in rows) (number_in 32 (codes "buckets") rows) (number_in 64 (codes "long") rows) (number_in 32 (codes "rounds") rows)
+options_in rows = options_of_all (command_in rows) (named_number 32 (codes "buckets") rows) (named_number 64 (codes "long") rows) (named_number 32 (codes "rounds") rows)
 
 abbrev pub options_unless : Kinds → List Row → Option Options
 options_unless [] rows = options_in rows

@@ -8,4 +8,4 @@ returns c =
     let fields = fields_of c.args.row.now in
     let session = c.session_in-session.ensures in
     let other : (session_in fields 0 == 0) ≡ false = grind (arith, nat_tests, session, c.if-session-eq0.false) in
-    rw other (rw (session, c.number_in-place.ensures) at c.reply_guess.ensures)
+    rw other (rw (session, c.natural_at-place.ensures) at c.reply_guess.ensures)

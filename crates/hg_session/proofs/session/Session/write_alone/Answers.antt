@@ -7,7 +7,7 @@ use Rattle.hg_core.specs.Reading.{close, UndoesAll}
 use Rattle.hg_rule.specs.Views.{session}
 use Rattle.hg_session.specs.Engines.{engine_sizes}
 use Rattle.hg_session.specs.Sessions.{view_of, written_of}
-use Rattle.hg_session.specs.Gains.{Gains, IsAfter, IsRefusedBy, entries_of, number_in}
+use Rattle.hg_session.specs.Gains.{Gains, IsAfter, IsRefusedBy, entries_of, receipt_number}
 use Rattle.hg_session.specs.Alone.{WritesAlone, IsRefusedAlone}
 use Rattle.hg_session.proofs.Replying.{no_writes}
 use Rattle.hg_session.proofs.Putting.{nothing_undone, refused_over, refused_bare, committed_alone}
@@ -37,10 +37,10 @@ returns-in-Ok-clause-stored g c =
     let r = c.in-Ok.receipt in
     let is : c.write_row.result ≡ Ok tt = search rules in
     let wrote = subst (λ x. Gains v (entries_of c.args.rid c.args.image x) m) is c.write_row.ensures.gains in
-    let closes : Gains m (close (number_in r)) w = subst (λ x. IfOk x (λ receipt. Gains m (close (number_in receipt)) w)) c.in-Ok.is c.commit_open.ensures.gains in
+    let closes : Gains m (close (receipt_number r)) w = subst (λ x. IfOk x (λ receipt. Gains m (close (receipt_number receipt)) w)) c.in-Ok.is c.commit_open.ensures.gains in
     let some : is_some r ≡ is_written (own_writes (session m).log) = subst (λ x. IfOk x (λ receipt. is_some receipt ≡ is_written (own_writes (session m).log))) c.in-Ok.is c.commit_open.ensures.wrote in
-    let after : IfSome (number_in r) (IsAfter m.sights c.args.snapshot.at) = subst (λ x. IfOk x (λ receipt. IfSome (number_in receipt) (IsAfter m.sights c.args.snapshot.at))) c.in-Ok.is c.commit_open.ensures.after in
-    let number : c.map.result ≡ number_in r = search rules in
+    let after : IfSome (receipt_number r) (IsAfter m.sights c.args.snapshot.at) = subst (λ x. IfOk x (λ receipt. IfSome (receipt_number receipt) (IsAfter m.sights c.args.snapshot.at))) c.in-Ok.is c.commit_open.ensures.after in
+    let number : c.map.result ≡ receipt_number r = search rules in
     subst (WritesAlone v c.args.rid c.args.image c.args.snapshot.at w) (sym number) (committed_alone v m w c.args.rid c.args.image c.args.snapshot.at r wrote closes some after)
 
 pub returns-in-Err-commit_open-clause-refused : goal.returns-in-Err-commit_open-clause-refused
