@@ -16,7 +16,7 @@ use crate::records::{join_records, make_room};
 use crate::refusing::lay_back;
 use crate::stamping::stamp_batch;
 use hg_lock::Fits;
-use hg_queue::{QueuePass, OpenTx, Queue};
+use hg_queue::{OpenTx, Queue, QueuePass};
 use hg_rule::{Board, CommitSeat, SessionPass};
 use hg_store::Store;
 use std::collections::VecDeque;

@@ -6,7 +6,7 @@ ghost use Rattle.hg_rule.specs.Seats.{board_id, sizes_of, session_view, IsAwayOf
 ghost use Rattle.hg_queue.specs.Queues.{IsPassOf, known};
 ghost use Rattle.hg_group.specs.Batch.{Gathers};
 
-use hg_queue::{Handed, QueuePass, OpenTx, Queue};
+use hg_queue::{Handed, OpenTx, Queue, QueuePass};
 use hg_rule::{Board, SessionPass};
 use std::sync::Wait;
 

@@ -8,7 +8,7 @@ use crate::context::GroupContext;
 use crate::group_list::GroupList;
 use crate::laid::Laid;
 use hg_lock::{Loan, Locks};
-use hg_queue::{QueuePass, OpenTx};
+use hg_queue::{OpenTx, QueuePass};
 use hg_rule::CommitSeat;
 use std::collections::VecDeque;
 use std::snapshot::Snapshot;

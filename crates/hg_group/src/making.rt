@@ -12,7 +12,7 @@ use crate::batch::Founding;
 use crate::laid::Laid;
 use crate::pusher::Pusher;
 use hg_base::NoMemory;
-use hg_queue::{QueuePass, Queue};
+use hg_queue::{Queue, QueuePass};
 use std::alloc::Global;
 use std::snapshot::Snapshot;
 

@@ -7,7 +7,7 @@ ghost use Rattle.hg_queue.specs.Handing.{IsOpenTxOf, MayCommit};
 ghost use Rattle.hg_queue.specs.Queues.{IsPassOf, known};
 ghost use Rattle.hg_group.specs.Submitting.{HasSubmitted, IsBackAgain, ends_with};
 
-use hg_queue::{Handed, QueuePass, OpenTx, Queue};
+use hg_queue::{Handed, OpenTx, Queue, QueuePass};
 use hg_rule::{Board, SessionPass};
 use std::sync::Wait;
 

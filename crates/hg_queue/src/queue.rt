@@ -32,7 +32,11 @@ impl Queue {
     {
         let (line, mut pass) = Line::with_rule(alloc)?;
         let other = line.another::<Opening<A>>(&mut pass);
-        Ok((Queue { line }, QueuePass { pass }, QueuePass { pass: other }))
+        Ok((
+            Queue { line },
+            QueuePass { pass },
+            QueuePass { pass: other },
+        ))
     }
 
     /// An empty queue of the seat's board, with the pass that pops and one that pushes.
