@@ -10,6 +10,8 @@ pub mod RidOrder
 -- A line more, and a longer history.
 pub mod Extending
 pub mod Growth
+-- What a cursor has left.
+pub mod Resting
 -- A text is read as what was printed.
 pub mod TextNumbers
 pub mod TextFits

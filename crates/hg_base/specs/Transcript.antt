@@ -142,12 +142,12 @@ last_key none [] = none
 last_key none (p ∷ []) = p.0
 last_key none (p ∷ q ∷ rows) = last_key none (q ∷ rows)
 
--- The last key that was passed where n rows were asked for up to `high`: that of the last row where so many were there, and else
+-- The last key that a fetch of n rows up to `high` has passed: that of its last row where it returned n rows, and otherwise
 -- `high`.
 abbrev pub passed : ℕ → ℕ → List (ℕ × List Value) → ℕ
 passed n high rows = if nat_lt (length rows) n then high else last_key high rows
 
--- what is left behind the rows that a fetch of n gave
+-- what is left after the rows that a fetch of n returned
 abbrev pub rest_behind : ℕ → List (ℕ × List Value) → Rest → Rest
 rest_behind n rows rest = record { table = rest.table; low = suc (passed n rest.high rows); high = rest.high }
 

@@ -16,7 +16,7 @@ pub enum Statement {
     Scan { table: TableId, low: u64, high: u64 },
     /// Begins a transaction that reads every key from `low` to `high` in parts, all at its snapshot.
     CursorOpen { table: TableId, low: u64, high: u64 },
-    /// The next rows of the open cursor, at most so many. One at least is asked for.
+    /// The next rows of the open cursor: at most this many, which is at least 1.
     Fetch(u32),
     CursorClose,
     Commit,

@@ -43,7 +43,7 @@ use Rattle.hg_headline.proofs.Ties.{Ties, ties_nothing}
 use Rattle.hg_headline.proofs.Commits.{Matches, same_printed, printed_onto}
 use Rattle.hg_headline.proofs.Whole.{matches_all}
 use Rattle.hg_headline.proofs.Telling.{lines_told}
-use Rattle.hg_headline.proofs.Lefts.{left_nothing}
+use Rattle.hg_base.proofs.Resting.{left_nothing}
 use Rattle.hg_headline.proofs.Replaying.{met_collected, replay_sound}
 use Rattle.hg_headline.proofs.Firsts.{first_by, first_writes_is, first_undone, passes, CountsFor, lines_counted}
 use Rattle.hg_headline.proofs.Undone.{publishes, undone_in_log}

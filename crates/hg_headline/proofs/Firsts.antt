@@ -39,7 +39,8 @@ use Rattle.hg_headline.specs.Counted.{every}
 use Rattle.hg_headline.proofs.Words.{true_false}
 use Rattle.hg_headline.proofs.Ties.{Ties, StandsIn, ties_other}
 use Rattle.hg_headline.proofs.Entries.{record_of, writes_above}
-use Rattle.hg_headline.proofs.Lines.{Right, AsCollected, above, inside_own, line_right, ShowsRest}
+use Rattle.hg_base.proofs.Resting.{ShowsRest}
+use Rattle.hg_headline.proofs.Lines.{Right, AsCollected, above, inside_own, line_right}
 use Rattle.hg_headline.proofs.Lefts.{left_step}
 use Rattle.hg_headline.proofs.Whole.{follows_first, judged_less, replied_less, differs_from, said_says}
 

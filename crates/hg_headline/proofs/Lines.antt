@@ -31,14 +31,11 @@ use Rattle.hg_core.proofs.Answering.{scope_alone, not_alone}
 use Rattle.hg_core.proofs.Right.{answer_right, fetch_right}
 use Rattle.hg_headline.specs.Timely.{commit_in}
 use Rattle.hg_headline.proofs.Words.{none_of_no, none_is_not_some, some_is_some}
+use Rattle.hg_base.proofs.Resting.{ShowsRest}
 use Rattle.hg_headline.proofs.Ties.{Ties, StandsIn, ties_step, ties_beside}
 use Rattle.hg_headline.proofs.Adds.{adds_nothing, access_answer, access_snapshot, access_commits, adds_fetch, fetch_answer}
 use Rattle.hg_headline.proofs.Entries.{reply_of, record_of, writes_above, own_is, says_inside, stands_inside, says_outside, stands_outside, says_begin, stands_begin, says_end, stands_end, adds_undone, says_gc, gc_snapshot, says_within, stands_within, says_open, stands_open}
 use Rattle.hg_headline.proofs.Right.{Reads, StillIn, conflict_right, seen_is}
-
--- what the cursor of the session's open transaction has left is this
-abbrev pub ShowsRest : ℕ → List Said → Option Rest → Type 0
-ShowsRest j earlier left = (opened : Said) → open_of j earlier ≡ Some opened → left ≡ rest_in j opened.transaction earlier
 
 -- the snapshot of a line is at least what the session's lines before it print
 abbrev pub IsRising : List Said → Said → Type 0

@@ -42,7 +42,7 @@ use Rattle.hg_headline.proofs.Right.{StillIn}
 use Rattle.hg_headline.proofs.Lines.{AsCollected}
 use Rattle.hg_headline.proofs.Whole.{IsTold, AtLine, IsKnown, said_says, told_right, matches_all}
 use Rattle.hg_headline.proofs.Telling.{lines_told}
-use Rattle.hg_headline.proofs.Lefts.{left_nothing}
+use Rattle.hg_base.proofs.Resting.{left_nothing}
 use Rattle.hg_headline.proofs.Orderly.{Orderly, orderly_nothing, orderly_all}
 use Rattle.hg_headline.proofs.Numbers.{IsOrdered, AllPrinted, below_nothing, lines_ordered, of_reads, each_up, now_over, printed_before, is_greatest, all_printed}
 use Rattle.hg_headline.proofs.OpenSnapshots.{IsLive, Begins, begins_less, live_is_open, live_ascends, live_each, map_twice, each_unmap, was_live}
