@@ -26,11 +26,11 @@ among [] i h lt = absurd (omega arith)
 among (d ∷ ds) zero h lt = record { some = h.0.some; most = h.0.most }
 among (d ∷ ds) (suc i) h lt = among ds i h.1 (omega arith)
 
--- where there is a table
+-- the table, if there is one, has 1 to 8 columns
 abbrev HasFew : List Declaration → Option TableId → Type 0
 HasFew tables o = IfSome o (λ table. AreFew (kinds_of tables table))
 
--- where a statement names a table, and where its session has opened a cursor
+-- so does the table that a statement names, and the table of its session's cursor
 abbrev pub HasColumns : List Declaration → Option TableId → Statement → Type 0
 HasColumns tables cursor statement = HasFew tables (table_of statement) × HasFew tables cursor
 

@@ -138,7 +138,7 @@ answer_fits tables cursor Rollback fields i = (tt, tt)
 answer_fits tables cursor (Gc kind) fields i =
     cond_both (says fields i (codes "beside")) Beside (Swept (sweep_guess fields i)) (IsGuess tables cursor (Gc kind)) (λ e. (tt, tt)) (λ e. (sweep_fits fields i, refl))
 
--- a fetch is answered no report
+-- a report is no answer to a fetch
 pub fetch_no_sweep : (tables : List Declaration) (cursor : Option TableId) (n : ℕ) (sweep : Sweep) → FitsAnswer tables cursor (Fetch n) (Swept sweep) → ⊥
 fetch_no_sweep tables None n sweep h = h
 fetch_no_sweep tables (Some table) n sweep h = h

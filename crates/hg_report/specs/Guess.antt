@@ -55,7 +55,7 @@ refusal_guess table fields i =
     else if says fields (i + 1) (codes "open") then OpenBy (record { session = session_in fields (i + 2); transaction = natural_at fields (i + 3) })
     else Undeclared table
 
--- by what the statement asks; the rows of a scan or fetch come later
+-- by what the statement asks; the rows of a scan or a fetch are in the records that follow
 abbrev pub get_guess : List Declaration → TableId → List Field → ℕ → Option Answer
 get_guess tables table fields i =
     if says fields i (codes "row") then option_map Found (row_in fields (i + 1) (kinds_of tables table))
@@ -103,7 +103,7 @@ answer_place at = if is_some at then 4 else 2
 abbrev pub number_guess : Answer → List Field → ℕ → Option ℕ
 number_guess answer fields i = if is_write answer && says fields (i + 1) (codes "committed") then Some (natural_at fields (i + 2)) else None
 
--- the table that is named, or that of the cursor, and the first where there is none
+-- the table that the statement names, or of a fetch its cursor's table, and the first table if there is none
 abbrev pub the_table : Asked → TableId
 the_table (Fetch cursor) = unwrap_or cursor (record { 0 = 0 })
 the_table asked = unwrap_or (table_asked asked) (record { 0 = 0 })

@@ -1,4 +1,4 @@
--- The cursors of statements, with one more.
+-- The table of each session's last cursor, and what one more statement changes.
 use Rattle.std.proofs.Common.{◌≡◌, ◌<◌, ◌≤◌, ◌+◌, ◌==◌, ◌&&◌, ◌∙◌, ℕ, zero, suc, ℤ, Bool, true, false, List, [], ◌∷◌, ◌++◌, length, map, take, get_or, Option, Some, None, nat_lt, if◌then◌else◌, refl, sym, ap, subst, arith, append_assoc}
 use Rattle.std.specs.List.{list_any}
 use Rattle.std.specs.Option.{option_or}
@@ -30,7 +30,7 @@ or_parts (Some t) b c = refl
 
 -- ---- one statement more
 
--- what a statement opens is what it opens as it is stored
+-- a stored statement opens a cursor on the same table as the statement
 pub packed_opens : (cursor : Option TableId) (n k : ℕ) (s : Statement) → table_opened (packed_as cursor n k s) ≡ opens s
 packed_opens cursor n k (say.Begin scope) = refl
 packed_opens cursor n k (say.Get rid) = refl

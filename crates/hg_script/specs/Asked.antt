@@ -7,7 +7,7 @@ use Rattle.hg_base.specs.declared.statement.Statement.TheVariants as say
 use Rattle.hg_script.specs.declared.asked.Asked.{Asked}
 use Rattle.hg_script.specs.declared.asked.Asked.TheVariants.{Begin, Get, Put, Del, Scan, CursorOpen, Fetch, CursorClose, Commit, Rollback, Gc}
 
--- where its session opened a cursor on that table last
+-- what a statement asks, where `cursor` is the table of the cursor that its session opened last
 abbrev pub asked_by : Option TableId → Statement → Asked
 asked_by cursor (say.Begin scope) = Begin
 asked_by cursor (say.Get r) = Get r.table
@@ -29,6 +29,6 @@ table_asked (Del table) = Some table
 table_asked (Scan table) = Some table
 table_asked _ = None
 
--- the session of a record, and what it asks
+-- the session of a record, and what it asks, where `cursor` is the table of that session's last cursor
 abbrev pub said_by : Option TableId → Record → ℕ × Asked
 said_by cursor r = (r.session, asked_by cursor r.statement)

@@ -1,4 +1,4 @@
--- On which table a session opened a cursor last.
+-- The table of the cursor that a session opened last.
 use Rattle.std.specs.Prelude.{◌≡◌, ◌==◌, ℕ, ◌≤◌, List, [], ◌∷◌, ◌++◌, get_or, Option, Some, None, if◌then◌else◌, ⊤}
 use Rattle.std.specs.Option.{option_or}
 use Rattle.hg_base.specs.declared.limits.TheConstants.{MOST_SESSIONS}
@@ -9,7 +9,7 @@ use Rattle.hg_script.specs.declared.statements.Entry.{Entry}
 use Rattle.hg_script.specs.declared.statements.Packed.{Packed}
 use Rattle.hg_script.specs.declared.statements.Packed.TheVariants.{CursorOpen, Fetch}
 
--- among statements with their sessions
+-- the table of session j's last cursor, in a list of statements with their sessions
 abbrev pub cursor_in : ℕ → List (ℕ × Statement) → Option TableId
 cursor_in j [] = None
 cursor_in j (said ∷ more) = option_or (cursor_in j more) (if said.0 == j then opens said.1 else None)
@@ -24,16 +24,16 @@ abbrev pub cursor_among : ℕ → List Entry → Option TableId
 cursor_among j [] = None
 cursor_among j (e ∷ es) = option_or (cursor_among j es) (if e.session == j then table_opened e.packed else None)
 
--- a fetch has its cursor's table
+-- a fetch is stored with the table of its cursor
 abbrev pub HasCursor : Option TableId → Packed → Type 0
 HasCursor cursor (Fetch n own) = own ≡ cursor
 HasCursor cursor _ = ⊤
 
--- each fetch has the table of the last cursor before it
+-- each fetch is stored with the table of its session's last cursor before it
 abbrev pub AreCursored : List Entry → List Entry → Type 0
 AreCursored before [] = ⊤
 AreCursored before (e ∷ es) = HasCursor (cursor_among e.session before) e.packed × AreCursored (before ++ e ∷ []) es
 
--- of each session
+-- for each session, the table of its last cursor
 abbrev pub KnowsCursors : List (Option TableId) → List Entry → Type 0
 KnowsCursors tables entries = (j : ℕ) → j ≤ MOST_SESSIONS → get_or tables j None ≡ cursor_among j entries

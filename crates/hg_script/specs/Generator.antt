@@ -108,7 +108,7 @@ statement_by x Gc = say.Gc (kind_at (drawn 2 3 x))
 abbrev pub statement_at : ℕ → Bool → Statement
 statement_at x within = statement_by x (chosen within (drawn 1 16 x))
 
--- how many numbers are drawn for a statement; no cursor is
+-- how many numbers are drawn for a statement; a made script has no cursors
 abbrev pub draws_of : Statement → ℕ
 draws_of (say.Begin scope) = 1
 draws_of (say.Get rid) = 3

@@ -37,8 +37,8 @@ abbrev pub IsScope : List Declaration → Scope → Type 0
 IsScope tables All = ⊤
 IsScope tables (Declared mask) = (1 ≤ mask) × (mask < 2 ^ length tables)
 
--- A statement on tables that are declared, and a row of the kinds that its table has. A scan and a cursor may have their
--- ends in any order.
+-- A statement on tables that are declared, and a row of the kinds that its table has. The two ends of a scan or a cursor may be
+-- in either order.
 abbrev pub FitsTables : List Declaration → Statement → Type 0
 FitsTables tables (say.Begin scope) = IsScope tables scope
 FitsTables tables (say.Get r) = IsAmong tables r.table
@@ -53,7 +53,7 @@ FitsTables tables say.Rollback = ⊤
 FitsTables tables (say.Gc kind) = ⊤
 
 -- Keys and the ends of a scan or a cursor are numbers of 64 bits, values are such numbers with a sign, or texts of at most 64 bytes,
--- and some rows are fetched, at most 1,048,576.
+-- and a fetch asks for 1 to 1,048,576 rows.
 abbrev pub HasWidths : Statement → Type 0
 HasWidths (say.Begin scope) = ⊤
 HasWidths (say.Get r) = Fits64 r.key
@@ -75,9 +75,9 @@ pub record IsStatement (tables : List Declaration) (r : Record) : Type 0 where
   pub fits : FitsTables tables r.statement
   pub widths : HasWidths r.statement
 
--- A statement may stand where its session's transaction is open, or its cursor, or neither: a `begin` or `open` where neither is, a
--- `commit` or `rollback` where the transaction is, a `fetch` or `close` where the cursor is, a `gc` anywhere, and the others where
--- the cursor is not.
+-- Which statements a session may make, by whether its transaction is open (`within`) and whether its cursor is open (`reads`): a
+-- `begin` or `open` if neither is, a `commit` or `rollback` in a transaction, a `fetch` or `close` with a cursor, a `gc` at any
+-- time, and every other statement if no cursor is open.
 abbrev pub MayStand : Bool → Bool → Statement → Type 0
 MayStand within reads (say.Begin scope) = IsFalse (within || reads)
 MayStand within reads (say.Get r) = IsFalse reads

@@ -43,8 +43,8 @@ IsWithin numbers rows e = HasRow numbers rows e.packed
 abbrev pub HasSession : Entry → Type 0
 HasSession e = e.session ≤ MOST_SESSIONS
 
--- The statement, whose values stand behind so many numbers or so many rows. The cursor that its session opened last is on that
--- table.
+-- The statement as it is stored after so many numbers and so many rows with a text. `cursor` is the table of the cursor that its
+-- session opened last.
 abbrev pub packed_as : Option TableId → ℕ → ℕ → Statement → Packed
 packed_as cursor numbers rows (say.Begin scope) = Begin scope
 packed_as cursor numbers rows (say.Get rid) = Get rid

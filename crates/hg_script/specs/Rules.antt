@@ -181,8 +181,8 @@ reading_by j before r = if r.session == j then reading before r.statement else b
 abbrev pub is_reading : ℕ → List Record → Bool
 is_reading j records = fold (reading_by j) false records
 
--- Where the session's transaction is open, or its cursor, or neither. A get, put, del or scan outside of both is a transaction of
--- its own.
+-- Whether a statement breaks the order, by whether its session's transaction is open (`within`) and whether its cursor is open
+-- (`reads`). A get, put, del or scan with neither open is a transaction of its own.
 abbrev pub ask_order_breaks : Bool → Bool → Ask → Bool
 ask_order_breaks within reads (Begin scope) = within || reads
 ask_order_breaks within reads (Get table key) = reads

@@ -8,6 +8,6 @@ use Rattle.hg_script.specs.Rules.{is_open, is_reading}
 abbrev pub KnowsOpen : List Bool → List Record → Type 0
 KnowsOpen flags records = (j : ℕ) → j ≤ MOST_SESSIONS → get_or flags j false ≡ is_open j records
 
--- and whether its cursor is
+-- for each session, whether its cursor is open
 abbrev pub KnowsReading : List Bool → List Record → Type 0
 KnowsReading cursors records = (j : ℕ) → j ≤ MOST_SESSIONS → get_or cursors j false ≡ is_reading j records

@@ -14,7 +14,7 @@ pub enum Asked {
     Del(TableId),
     Scan(TableId),
     CursorOpen(TableId),
-    /// Of the table that the session opened a cursor on last, if it did.
+    /// With the table of the cursor that the session opened last, if it opened one.
     Fetch(Option<TableId>),
     CursorClose,
     Commit,

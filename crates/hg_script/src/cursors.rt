@@ -1,11 +1,11 @@
-//! Which table each session's cursor reads.
+//! The table that each session's cursor reads.
 
 ghost use Rattle.std.specs.Prelude.{◌≡◌, ◌≤◌, ◌==◌, ℕ, None, get_or, if◌then◌else◌};
 ghost use Rattle.std.specs.Option.{option_or};
 
 use hg_base::{MOST_SESSIONS, TableId};
 
-/// For each session, by its number, the table that it opened a cursor on last.
+/// For each session, by its number, the table of the cursor that it opened last.
 #[derive(Debug, Drop)]
 pub(crate) struct Cursors {
     tables: [Option<TableId>; MOST_SESSIONS as usize + 1],
@@ -27,7 +27,7 @@ impl Cursors {
         self.tables[session as usize]
     }
 
-    /// Notes the table that a session's statement opens a cursor on, if it does.
+    /// Records the table of a cursor that the session opens. `None` changes nothing.
     pub(crate) fn note(&mut self, session: u32, opened: Option<TableId>)
         requires { session ≤ MOST_SESSIONS }
         ensures { (j : ℕ) → get_or self.new.tables j None ≡ option_or (if session == j then opened else None) (get_or self.old.tables j None) }

@@ -29,7 +29,7 @@ pub fn a_seed_has_one_script(_seed: u64)
     ensures { (s t : base.Script) → IsMade _seed s → IsMade _seed t → s ≡ t }
 {}
 
-/// Nothing else is asked where a cursor is open, no rows are fetched where none is, and a fetch asks for one row at least.
+/// A get is refused while a cursor is open, a fetch is refused without one, and so is a fetch of 0 rows.
 pub fn cursors_are_in_order()
     ensures get_within { refusal_of (
         (codes "table" ∷ codes "t" ∷ codes "1" ∷ [])

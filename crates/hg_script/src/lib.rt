@@ -15,8 +15,8 @@
 //!     1,gc,group       a round of the group collector; `table` and `interval` name the other two
 //!     3,get,t,5        outside of a transaction: a transaction of its own
 //!     4,open,t,0,9     opens a cursor over every row whose key is from 0 to 9, as the table is now
-//!     4,fetch,2        its next 2 rows
-//!     4,close
+//!     4,fetch,2        reads the cursor's next 2 rows
+//!     4,close          closes the cursor
 //!
 //! That is version 1 of the format, whose columns hold numbers. In a script whose first record is `version,2` a column can also hold
 //! texts, of at most 64 bytes each, and a table record has a letter for each column:

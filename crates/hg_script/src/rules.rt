@@ -14,7 +14,7 @@ use crate::table::Table;
 use crate::word::Word;
 use hg_base::{Column, MOST_RECORDS, MOST_SESSIONS, MOST_TABLES, TableId};
 
-/// A fetch asks for from 1 to this many rows.
+/// A fetch asks for at most this many rows, and for at least 1.
 pub const MOST_FETCHED: u64 = 1_048_576;
 
 /// What stands for a table that is not declared, where no rule asks for one.

@@ -1,4 +1,4 @@
-//! Which sessions are in a transaction, and which have a cursor.
+//! Which sessions have an open transaction, and which have an open cursor.
 
 ghost use Rattle.std.specs.Prelude.{◌≡◌, ◌≤◌, ◌==◌, ℕ, [], false, get_or, if◌then◌else◌};
 ghost use Rattle.hg_script.specs.Sessions.{KnowsOpen, KnowsReading};
@@ -6,7 +6,7 @@ ghost use Rattle.hg_script.specs.Rules.{opened, reading};
 
 use hg_base::{MOST_SESSIONS, Statement};
 
-/// For each session, by its number, whether its transaction is open, and whether its cursor is.
+/// For each session, by its number, whether its transaction is open and whether its cursor is open.
 #[derive(Debug, Drop)]
 pub(crate) struct OpenSessions {
     flags: [bool; MOST_SESSIONS as usize + 1],
@@ -38,7 +38,7 @@ impl OpenSessions {
         self.cursors[session as usize]
     }
 
-    /// Notes what a statement does to its session's transaction and cursor.
+    /// Records what a statement does to its session's transaction and cursor.
     pub(crate) fn note(&mut self, session: u32, statement: &Statement)
         requires { session ≤ MOST_SESSIONS }
         ensures flags { (j : ℕ) → get_or self.new.flags j false ≡ (if session == j then opened (get_or self.old.flags j false) statement.now else get_or self.old.flags j false) }

@@ -44,7 +44,7 @@ pub(crate) enum Packed {
     Del(Rid),
     Scan { table: TableId, low: u64, high: u64 },
     CursorOpen { table: TableId, low: u64, high: u64 },
-    /// With the table of its cursor.
+    /// The number of rows, and the table of the session's cursor.
     Fetch(u32, Option<TableId>),
     CursorClose,
     Commit,
@@ -139,7 +139,7 @@ fn pack_put(
     Ok(Packed::PutRow(rid, place))
 }
 
-// Takes the statement apart. The cursor that its session opened last is on that table.
+// Takes the statement apart. `cursor` is the table of the cursor that its session opened last.
 fn pack(
     numbers: &mut Vec<i64>,
     rows: &mut Vec<Row>,
@@ -172,7 +172,7 @@ fn pack(
     })
 }
 
-// The table that a statement opens a cursor on.
+// The table of the cursor that a statement opens.
 fn opens(statement: &Statement) -> Option<TableId>
     ensures { result ≡ opens statement.now }
 {
