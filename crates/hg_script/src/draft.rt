@@ -1,8 +1,12 @@
 //! A record with its fields read, each once, before its rules are tested.
 
-ghost use Rattle.std.specs.Prelude.{◌≡◌, IfOk, false, length};
+ghost use Rattle.std.specs.Prelude.{◌≡◌, IfOk, drop, false, length};
 ghost use Rattle.csv.specs.Records.{fields_of};
-ghost use Rattle.hg_script.specs.Draft.{draft_of};
+ghost use Rattle.hg_script.specs.Draft.{draft_of, kinds_at, table_named, values_by};
+ghost use Rattle.hg_script.specs.Fields.{nth};
+ghost use Rattle.hg_script.specs.Number.{natural_of};
+ghost use Rattle.hg_script.specs.declared.draft.Ask.TheVariants.{Put, CursorOpen};
+ghost use Rattle.hg_script.specs.declared.word.Word.TheVariants as word;
 ghost use Rattle.hg_script.specs.Rules.{ask_number_breaks, ask_range_breaks, ask_value_breaks, fields_breaks};
 ghost use Rattle.hg_script.specs.Meaning.{rid_of, statement_of};
 
@@ -112,6 +116,31 @@ impl Ask {
     }
 }
 
+// What a record of the word `put` asks.
+fn put_at(alloc: Global, version: u8, tables: &Tables, row: &ByteRecord) -> Result<Ask, NoMemory>
+    requires fields { fields_breaks word.Put (length (fields_of row.now)) ≡ false }
+    ensures { IfOk result (λ ask. let fields = fields_of row.now in let table = table_named tables.now (nth fields 2) in ask ≡ Put table (natural_of (nth fields 3)) (values_by version (kinds_at tables.now table) (drop 4 fields))) }
+{
+    let table = tables.find(field(row, 2));
+    Ok(Ask::Put {
+        table,
+        key: read_natural(field(row, 3)),
+        values: Values::read(alloc, version, kinds_at(tables.as_slice(), table), row)?,
+    })
+}
+
+// What a record of the word `open` asks.
+fn open_at(tables: &Tables, row: &ByteRecord) -> Ask
+    requires fields { fields_breaks word.Open (length (fields_of row.now)) ≡ false }
+    ensures { let fields = fields_of row.now in result ≡ CursorOpen (table_named tables.now (nth fields 2)) (natural_of (nth fields 3)) (natural_of (nth fields 4)) }
+{
+    Ask::CursorOpen {
+        table: tables.find(field(row, 2)),
+        low: read_natural(field(row, 3)),
+        high: read_natural(field(row, 4)),
+    }
+}
+
 impl Draft {
     /// Reads the fields of a record that has as many as its word asks for.
     pub(crate) fn read(
@@ -137,14 +166,7 @@ impl Draft {
                 table: tables.find(field(row, 2)),
                 key: read_natural(field(row, 3)),
             },
-            Word::Put => {
-                let table = tables.find(field(row, 2));
-                Ask::Put {
-                    table,
-                    key: read_natural(field(row, 3)),
-                    values: Values::read(alloc, version, kinds_at(tables.as_slice(), table), row)?,
-                }
-            }
+            Word::Put => put_at(alloc, version, tables, row)?,
             Word::Del => Ask::Del {
                 table: tables.find(field(row, 2)),
                 key: read_natural(field(row, 3)),
@@ -159,11 +181,7 @@ impl Draft {
             Word::Gc => Ask::Gc {
                 kind: find_kind(field(row, 2)),
             },
-            Word::Open => Ask::CursorOpen {
-                table: tables.find(field(row, 2)),
-                low: read_natural(field(row, 3)),
-                high: read_natural(field(row, 4)),
-            },
+            Word::Open => open_at(tables, row),
             Word::Fetch => Ask::Fetch {
                 most: read_natural(field(row, 2)),
             },
