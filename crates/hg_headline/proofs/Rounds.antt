@@ -35,7 +35,7 @@ use Rattle.hg_headline.proofs.Words.{append_assoc, each_pairs}
 use Rattle.hg_headline.proofs.Ties.{ties_nothing}
 use Rattle.hg_headline.proofs.Whole.{IsTold, AtLine, IsKnown, said_says, told_right}
 use Rattle.hg_headline.proofs.Telling.{lines_told}
-use Rattle.hg_headline.proofs.Lefts.{left_nothing}
+use Rattle.hg_base.proofs.Resting.{left_nothing}
 use Rattle.hg_headline.proofs.OpenSnapshots.{each_unmap}
 use Rattle.hg_headline.proofs.Reports.{no_report}
 use Rattle.hg_headline.proofs.Replaying.{each_after_first}
