@@ -73,7 +73,7 @@ ascends_take (suc zero) (x ∷ xs) a = tt
 ascends_take (suc (suc n)) (x ∷ []) a = tt
 ascends_take (suc (suc n)) (x ∷ y ∷ xs) a = (a.0, ascends_take (suc n) (y ∷ xs) a.1)
 
--- all rows behind one are over it
+-- all rows after one are over it
 over_first : (x : ℕ × List Value) (xs : Rows) → Ascends (map key_of (x ∷ xs)) → Each (λ p. x.0 < p.0) xs
 over_first x xs a = unmapped xs (all_over x.0 (map key_of xs) a)
   where
@@ -91,7 +91,7 @@ none_count limit (x ∷ xs) e = cases (nat_le x.0 limit)
     let rest = none_count limit xs e.1 in
     omega (arith, one, sum, rest))
 
--- where so many are up to a key, the first ones are
+-- where so many rows are up to a key, the first ones are
 first_upto : (n limit : ℕ) (xs : Rows) → Ascends (map key_of xs) → n ≤ sum_by (one_upto limit) xs → Each (λ p. p.0 ≤ limit) (take n xs)
 first_upto zero limit xs a m = tt
 first_upto (suc n) limit [] a m = tt
@@ -146,12 +146,12 @@ first_has (suc n) none [] p some a (k, within, e) l = absurd (omega (arith, with
 first_has (suc n) none (x ∷ xs) p some a (zero, within, e) l = (0, omega arith, e)
 first_has (suc zero) none (x ∷ xs) p some a (suc k, within, e) l = let over = each_at (λ q. x.0 < q.0) xs p (over_first x xs a) (k, omega (arith, within), e) in absurd (omega (arith, over, l))
 first_has (suc (suc n)) none (x ∷ []) p some a (suc k, within, e) l = absurd (omega (arith, within))
-first_has (suc (suc n)) none (x ∷ y ∷ xs) p some a (suc k, within, e) l = behind (first_has (suc n) none (y ∷ xs) p (omega arith) a.1 (k, omega (arith, within), e) l)
+first_has (suc (suc n)) none (x ∷ y ∷ xs) p some a (suc k, within, e) l = further (first_has (suc n) none (y ∷ xs) p (omega arith) a.1 (k, omega (arith, within), e) l)
   where
-    behind : Contains (take (suc n) (y ∷ xs)) p → Contains (x ∷ take (suc n) (y ∷ xs)) p
-    behind (i, w, s) = (suc i, omega (arith, w), s)
+    further : Contains (take (suc n) (y ∷ xs)) p → Contains (x ∷ take (suc n) (y ∷ xs)) p
+    further (i, w, s) = (suc i, omega (arith, w), s)
 
--- ---- what was gathered, with the first ones alone
+-- ---- what was gathered, of which only the first rows are kept
 
 pub record IsCut (count n : ℕ) (v : View) (table : TableId) (low high number limit upto : ℕ) (rows : Rows) (w : View) : Type 0 where
   pub gathered : IsGathered count n v table low high number upto rows w

@@ -10,12 +10,11 @@ use Rattle.hg_base.proofs.ListFacts.{cases, each_append, each_keeps, any_more, a
 use Rattle.hg_base.specs.Transcript.{last_key, passed}
 use Rattle.hg_rule.specs.Facts.{StartsWith}
 use Rattle.hg_cursor.specs.Keys.{Rows}
-use Rattle.hg_cursor.specs.Firsts.{left_behind}
-use Rattle.hg_cursor.specs.Given.{begins_at, goes_on, AreFirstOf, Fetched, joined, AreGiven}
-use Rattle.hg_cursor.proofs.Rows.{key_of, rest_rows, rows_over, any_behind, same_rows}
+use Rattle.hg_cursor.specs.Given.{begins_at, key_after, goes_on, AreFirstOf, Fetched, joined, AreGiven}
+use Rattle.hg_cursor.proofs.Rows.{key_of, rest_rows, rows_over, any_later, same_rows}
 use Rattle.hg_cursor.proofs.Cutting.{last_of}
 
--- ---- two ranges, one behind the other
+-- ---- two ranges, one after the other
 
 ascends_append : (xs ys : Rows) (m : ℕ) → Ascends (map key_of xs) → Ascends (map key_of ys) → Each (λ p. p.0 ≤ m) xs → Each (λ p. m + 1 ≤ p.0) ys → Ascends (map key_of (xs ++ ys))
 ascends_append [] ys m a b c d = b
@@ -31,16 +30,16 @@ join look low m high xs ys from to a b = record {
       (each_keeps _ (λ p. (low ≤ p.0) × (p.0 ≤ high) × ((look p.0).row ≡ Some p.1)) (λ p q. ((let l = q.0 in omega (arith, l, from)), q.1, q.2)) ys b.each);
   every = λ key l h. cases (nat_le key m)
       (λ t. let under : key ≤ m = grind (arith, nat_tests, t) in before key (a.every key l under))
-      (λ f. let over : m + 1 ≤ key = grind (arith, nat_tests, f) in behind key (b.every key over h));
+      (λ f. let over : m + 1 ≤ key = grind (arith, nat_tests, f) in later key (b.every key over h));
 }
   where
     before : (key : ℕ) → IsTrue (list_any (λ p. p.0 == key) xs) ⊎ ((look key).row ≡ None) → IsTrue (list_any (λ p. p.0 == key) (xs ++ ys)) ⊎ ((look key).row ≡ None)
     before key (inl t) = inl (any_more (λ p. p.0 == key) xs ys t)
     before key (inr n) = inr n
 
-    behind : (key : ℕ) → IsTrue (list_any (λ p. p.0 == key) ys) ⊎ ((look key).row ≡ None) → IsTrue (list_any (λ p. p.0 == key) (xs ++ ys)) ⊎ ((look key).row ≡ None)
-    behind key (inl t) = inl (any_behind (λ p. p.0 == key) xs ys t)
-    behind key (inr n) = inr n
+    later : (key : ℕ) → IsTrue (list_any (λ p. p.0 == key) ys) ⊎ ((look key).row ≡ None) → IsTrue (list_any (λ p. p.0 == key) (xs ++ ys)) ⊎ ((look key).row ≡ None)
+    later key (inl t) = inl (any_later (λ p. p.0 == key) xs ys t)
+    later key (inr n) = inr n
 
 -- ---- one fetch more
 
@@ -52,7 +51,7 @@ passed_over look n low high rows some le a = cases (nat_lt (length rows) n)
     let long : 0 < length rows = grind (arith, nat_tests, f, some) in
     subst (λ b. low ≤ (if b then high else last_key high rows)) (sym f) (last_of (λ k. low ≤ k) high rows long (each_keeps _ (λ p. low ≤ p.0) (λ p q. q.0) rows a.all.each)))
 
-given_on : (look : ℕ → Image) (n low high next : ℕ) (given rows : Rows) → 0 < n → AreGiven look low high (Some next) given → AreFirst look n next high rows → AreGiven look low high (left_behind high (passed n high rows)) (given ++ rows)
+given_on : (look : ℕ → Image) (n low high next : ℕ) (given rows : Rows) → 0 < n → AreGiven look low high (Some next) given → AreFirst look n next high rows → AreGiven look low high (key_after high (passed n high rows)) (given ++ rows)
 given_on look n low high next given rows some g a = cases (nat_lt (passed n high rows) high)
     (λ t.
     let less : passed n high rows < high = grind (arith, nat_tests, t) in
@@ -91,7 +90,7 @@ given_none look low high = cases (nat_le low high)
     let there : AreGiven look low high None [] = record { ascend = tt; each = tt; every = λ key l h. absurd (omega (arith, over, l, h)) } in
     subst (λ b. AreGiven look low high (if b then Some low else None) []) (sym f) there)
 
--- ---- what is given begins the scan
+-- ---- what was returned is a prefix of the scan
 
 -- the rows from a key on
 abbrev from_key : ℕ → Rows → Rows

@@ -7,6 +7,7 @@ use Rattle.hg_base.specs.declared.image.Image.{Image}
 use Rattle.hg_base.specs.declared.writer.Writer.{Writer}
 use Rattle.hg_base.specs.declared.fault.NoMemory.{NoMemory}
 use Rattle.hg_base.specs.declared.value.Value.{Value}
+use Rattle.hg_base.specs.Lists.{Each}
 use Rattle.hg_base.specs.Replies.{AreRows}
 use Rattle.hg_base.proofs.ListFacts.{cases, none_some, each_keeps}
 use Rattle.hg_core.specs.declared.ask.Ask.TheVariants.{Read}
@@ -22,7 +23,8 @@ use Rattle.hg_rule.specs.Holding.{bucket, writer, snapshot}
 use Rattle.hg_rule.specs.Writes.{log_asked, Looks}
 use Rattle.hg_cursor.specs.Keys.{Rows, IsOwnKey, AreOwn, HasVersion, read_of}
 use Rattle.hg_cursor.specs.Logs.{Adds}
-use Rattle.hg_cursor.specs.Looks.{Appends, Takes, Sees}
+use Rattle.hg_cursor.specs.declared.looks.Look.{Look}
+use Rattle.hg_cursor.specs.Looks.{IsFirstKey, Appends, AppendsFirst, Takes, Sees}
 use Rattle.hg_cursor.proofs.Keys.{own_key, unread, least_own}
 use Rattle.hg_cursor.proofs.Rows.{row_there, widened}
 use Rattle.hg_cursor.proofs.Trips.{Beside, first_session}
@@ -55,27 +57,40 @@ if_ok : {T : Type 0} {A B : T → Type 0} (answer : Result T NoMemory) → ((t :
 if_ok (Ok t) f a = f t a
 if_ok (Err e) f a = a
 
-module _ (count j b m : ℕ) (part : SessionPart) (old : List Sight) (table : TableId) (low high : ℕ) (u w : View) (h : Beside j part b old u) (k : Looks u (Read table low high) m w) where
-  pub saw_rows : log_asked u (Read table low high) m k.rows ≡ Saw table low high b k.rows ∷ part.log
+module _ (count j b m : ℕ) (part : SessionPart) (old : List Sight) (l : Look) (u w : View) (h : Beside j part b old u) (k : Looks u (Read l.request.table l.request.low l.request.high) m w) where
+  pub saw_rows : log_asked u (Read l.request.table l.request.low l.request.high) m k.rows ≡ Saw l.request.table l.request.low l.request.high b k.rows ∷ part.log
   saw_rows =
       let n = ap (λ (ps : List Part). part_number (after_first ps)) h.parts in
       let s = first_session u j part _ h.parts in
-      λ i. Saw table low high (n i) k.rows ∷ (s i).log
+      λ i. Saw l.request.table l.request.low l.request.high (n i) k.rows ∷ (s i).log
 
-  -- what was copied is what was logged
-  pub sees : (v x : View) (n limit own : ℕ) (by : Writer) (at : ℕ) (before after : Rows) (answer : Result ℕ NoMemory) → low ≤ own → own - low < count → limit ≤ high → b ≡ bucket_of count (record_at table own) → AreOwn count b (bucket u).content → by ≡ writer u → at ≡ snapshot u → IfOk answer (Appends (read_of by at table (bucket u).content) n own limit before after) → Adds v (Saw table low high b k.rows ∷ []) x
-      → Sees count n v table low high limit (bucket_of count (record_at table own)) before answer x after
-  sees v x n limit own by at before after answer over near below here are same_by same_at copied adds = subst (λ c. Sees count n v table low high limit c before answer x after) here record {
+  -- the rows that were copied are those that were logged
+  pub sees : (v x : View) (by : Writer) (before after : Rows) (answer : Result ℕ NoMemory) → IsFirstKey count l.request.low l.own → l.limit ≤ l.request.high → b ≡ bucket_of count (record_at l.request.table l.own) → AreOwn count b (bucket u).content → by ≡ writer u → l.request.at ≡ snapshot u
+      → IfOk answer (AppendsFirst by l (bucket u).content before after) → Adds v (Saw l.request.table l.request.low l.request.high b k.rows ∷ []) x → Sees count l v before answer x after
+  sees v x by before after answer first below here are same_by same_at copied adds = record {
     part = k.rows;
-    adds = adds;
+    adds = subst (λ c. Adds v (Saw table low high c k.rows ∷ []) x) here adds;
     within = each_keeps _ (λ p. (low ≤ p.0) × (p.0 ≤ high)) (λ p s. (s.0, s.1)) k.rows k.shown.each;
-    own = each_keeps (λ p. (low ≤ p.0) × (p.0 ≤ high) × ((read_of (writer u) (snapshot u) table (bucket u).content p.0).row ≡ Some p.1)) (λ p. IsOwnKey count b table p.0)
-        (λ p s. own_key count b (bucket u).content table p.0 are (shown_there (writer u) (snapshot u) table (bucket u).content p.0 p.1 s.2)) k.rows k.shown.each;
-    taken = if_ok answer same (subst (λ t. IfOk answer (Appends (read_of (writer u) t table (bucket u).content) n own limit before after)) same_at (subst (λ y. IfOk answer (Appends (read_of y at table (bucket u).content) n own limit before after)) same_by copied));
+    own = subst (λ c. Each (λ p. IsOwnKey count c table p.0) k.rows) here (each_keeps (λ p. (low ≤ p.0) × (p.0 ≤ high) × ((shown p.0).row ≡ Some p.1)) (λ p. IsOwnKey count b table p.0)
+        (λ p s. own_key count b (bucket u).content table p.0 are (shown_there (writer u) (snapshot u) table (bucket u).content p.0 p.1 s.2)) k.rows k.shown.each);
+    taken = if_ok answer same (subst (λ t. IfOk answer (Appends (read_of (writer u) t table (bucket u).content) n l.own l.limit before after)) same_at (subst (λ y. IfOk answer (Appends (read_of y l.request.at table (bucket u).content) n l.own l.limit before after)) same_by copied));
   }
     where
+      table : TableId
+      table = l.request.table
+
+      low : ℕ
+      low = l.request.low
+
+      high : ℕ
+      high = l.request.high
+
+      n : ℕ
+      n = l.request.most
+
       shown : ℕ → Image
       shown = read_of (writer u) (snapshot u) table (bucket u).content
 
-      same : (upto : ℕ) → Appends shown n own limit before after upto → Takes n limit k.rows before after upto
-      same upto a = takes shown n low high limit k.rows before after upto k.shown below (widened shown n low own limit before after upto over (λ key l less. none_below count (writer u) (snapshot u) table (bucket u).content low own key over near (subst (λ c. AreOwn count c (bucket u).content) here are) l less) a)
+      same : (upto : ℕ) → Appends shown n l.own l.limit before after upto → Takes n l.limit k.rows before after upto
+      same upto a = takes shown n low high l.limit k.rows before after upto k.shown below
+          (widened shown n low l.own l.limit before after upto first.0 (λ key from less. none_below count (writer u) (snapshot u) table (bucket u).content low l.own key first.0 first.1 (subst (λ c. AreOwn count c (bucket u).content) here are) from less) a)

@@ -1,4 +1,4 @@
--- The rows that a fetch gives, once no further bucket is wanted.
+-- The rows that a fetch returns, once no further bucket is needed.
 use Rattle.std.proofs.Common.{◌≡◌, ℕ, ◌+◌, ◌<◌, ◌≤◌, ◌⊎◌, inl, inr, [], ◌∷◌, length, true, false, sym, ap, ◌∙◌, subst, arith}
 use Rattle.std.specs.Prelude.{nat_lt, nat_le, ◌&&◌, if◌then◌else◌, Contains}
 use Rattle.std.specs.List.{sum_by}
@@ -14,14 +14,14 @@ use Rattle.hg_cursor.proofs.Keys.{of_first}
 use Rattle.hg_cursor.proofs.Gathering.{one_upto}
 use Rattle.hg_cursor.proofs.Cutting.{IsCut, count_few, last_same}
 
--- no further bucket is wanted: all were taken, or the next one's first key is over the limit
-pub unwanted : (ahead count low limit : ℕ) → (nat_lt ahead count && nat_le (low + ahead) limit) ≡ false → (count ≤ ahead) ⊎ (limit < low + ahead)
-unwanted ahead count low limit e = cases (nat_lt ahead count)
+-- no further bucket is needed: all were taken, or the next one's first key is over the limit
+pub unneeded : (ahead count low limit : ℕ) → (nat_lt ahead count && nat_le (low + ahead) limit) ≡ false → (count ≤ ahead) ⊎ (limit < low + ahead)
+unneeded ahead count low limit e = cases (nat_lt ahead count)
     (λ t. inr (let f : nat_le (low + ahead) limit ≡ false = ap (λ b. b && nat_le (low + ahead) limit) (sym t) ∙ e in grind (arith, nat_tests, f)))
     (λ f. inl (grind (arith, nat_tests, f)))
 
-pub wanted : (ahead count low limit : ℕ) → (nat_lt ahead count && nat_le (low + ahead) limit) ≡ true → (ahead < count) × (low + ahead ≤ limit)
-wanted ahead count low limit e = cases (nat_lt ahead count)
+pub needed : (ahead count low limit : ℕ) → (nat_lt ahead count && nat_le (low + ahead) limit) ≡ true → (ahead < count) × (low + ahead ≤ limit)
+needed ahead count low limit e = cases (nat_lt ahead count)
     (λ t. let f : nat_le (low + ahead) limit ≡ true = ap (λ b. b && nat_le (low + ahead) limit) (sym t) ∙ e in (grind (arith, nat_tests, t), grind (arith, nat_tests, f)))
     (λ f. absurd (let z : false ≡ true = ap (λ b. b && nat_le (low + ahead) limit) (sym f) ∙ e in cc))
 

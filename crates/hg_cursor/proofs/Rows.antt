@@ -55,9 +55,9 @@ pub each_mapped : (P : ℕ → Type 0) (xs : Rows) → Each (λ p. P p.0) xs →
 each_mapped P [] e = tt
 each_mapped P (x ∷ xs) e = (e.0, each_mapped P xs e.1)
 
-pub any_behind : {X : Type 0} (p : X → Bool) (xs ys : List X) → IsTrue (list_any p ys) → IsTrue (list_any p (xs ++ ys))
-any_behind p [] ys h = h
-any_behind p (x ∷ xs) ys h = go (p x) (any_behind p xs ys h)
+pub any_later : {X : Type 0} (p : X → Bool) (xs ys : List X) → IsTrue (list_any p ys) → IsTrue (list_any p (xs ++ ys))
+any_later p [] ys h = h
+any_later p (x ∷ xs) ys h = go (p x) (any_later p xs ys h)
   where
     go : (b : Bool) → IsTrue (list_any p (xs ++ ys)) → IsTrue (b || list_any p (xs ++ ys))
     go true e = refl
@@ -101,7 +101,7 @@ module _ (shown : ℕ → Image) (Sought : ℕ → Type 0) (low high : ℕ) (old
         each = each_snoc _ s.more (k, row) s.each (from, to, n);
         every = λ key l h m. cases (nat_lt key k)
             (λ t. let less : key < k = grind (arith, nat_tests, t) in more_found key (s.every key l h less))
-            (λ f. let same : k ≡ key = grind (arith, nat_tests, f, m) in inl (any_behind (λ p. p.0 == key) s.more ((k, row) ∷ []) (ap (λ b. b || false) ((Decides-eqb k key).1 same))));
+            (λ f. let same : k ≡ key = grind (arith, nat_tests, f, m) in inl (any_later (λ p. p.0 == key) s.more ((k, row) ∷ []) (ap (λ b. b || false) ((Decides-eqb k key).1 same))));
         below = each_snoc (λ p. p.0 ≤ k) s.more (k, row) weak (omega arith);
       }
         where
@@ -161,7 +161,7 @@ ends_all shown n low high old rows s = record {
   enough = inl refl;
 }
 
--- where there are as many as are wanted
+-- where there are as many rows as are asked for
 pub ends_at : (shown : ℕ → Image) (n low high : ℕ) (old rows : Rows) (k : ℕ) → k ≤ high → (u : IsUpTo shown low high old rows k) → n ≤ length u.more → Appends shown n low high old rows k
 ends_at shown n low high old rows k within u many = record {
   more = u.more;
@@ -207,7 +207,7 @@ none_below key (p ∷ rows) e h = go (p.0 == key) refl h (none_below key rows e.
     go true s h rest = let l = e.0 in let same : p.0 ≡ key = (Decides-eqb p.0 key).0 s in omega (arith, l, same)
     go false s h rest = rest h
 
--- what is left of a range behind its first row
+-- what is left of a range after its first row
 pub rest_rows : (shown : ℕ → Image) (low high : ℕ) (p : ℕ × List Value) (rows : Rows) → AreRows shown low high (p ∷ rows) → AreRows shown (suc p.0) high rows
 rest_rows shown low high p rows a = record {
   ascend = ascends_tail p.0 (map (λ p. p.0) rows) a.ascend;
@@ -221,11 +221,11 @@ rest_rows shown low high p rows a = record {
 
     go : (key : ℕ) → suc p.0 ≤ key → IsTrue (list_any (λ p. p.0 == key) (p ∷ rows)) ⊎ ((shown key).row ≡ None) → IsTrue (list_any (λ p. p.0 == key) rows) ⊎ ((shown key).row ≡ None)
     go key l (inr n) = inr n
-    go key l (inl t) = inl (behind (p.0 == key) refl t)
+    go key l (inl t) = inl (later (p.0 == key) refl t)
       where
-        behind : (b : Bool) → (p.0 == key) ≡ b → IsTrue (b || list_any (λ p. p.0 == key) rows) → IsTrue (list_any (λ p. p.0 == key) rows)
-        behind true s t = absurd (let same : p.0 ≡ key = (Decides-eqb p.0 key).0 s in omega (arith, l, same))
-        behind false s t = t
+        later : (b : Bool) → (p.0 == key) ≡ b → IsTrue (b || list_any (λ p. p.0 == key) rows) → IsTrue (list_any (λ p. p.0 == key) rows)
+        later true s t = absurd (let same : p.0 ≡ key = (Decides-eqb p.0 key).0 s in omega (arith, l, same))
+        later false s t = t
 
 -- the first row of a range is not before the first of the same range
 not_earlier : (shown : ℕ → Image) (low high : ℕ) (p q : ℕ × List Value) (xs ys : Rows) → AreRows shown low high (p ∷ xs) → AreRows shown low high (q ∷ ys) → p.0 < q.0 → ⊥
@@ -262,7 +262,7 @@ same_rows shown low high (p ∷ xs) (q ∷ ys) a b =
         (λ t. absurd (l (grind (arith, nat_tests, t))))
         (λ f. cases (nat_lt n m) (λ t. absurd (r (grind (arith, nat_tests, t)))) (λ g. grind (arith, nat_tests, f, g)))
 
--- ---- a row that is shown stands there
+-- ---- a row that is shown is in the list
 
 pub any_found : {X : Type 0} (p : X → Bool) (xs : List X) → IsTrue (list_any p xs) → (x : X) × Contains xs x × (p x ≡ true)
 any_found p [] e = absurd (false_true e)
@@ -270,10 +270,10 @@ any_found p (x ∷ xs) e = cases (p x)
     (λ t. (x, (0, omega arith, refl), t))
     (λ f.
     let more = any_found p xs (sym (ap (λ b. b || list_any p xs) f) ∙ e) in
-    (more.0, behind x xs more.0 more.1, more.2))
+    (more.0, later x xs more.0 more.1, more.2))
   where
-    behind : {X : Type 0} (x : X) (xs : List X) (y : X) → Contains xs y → Contains (x ∷ xs) y
-    behind x xs y (k, l, e) = (suc k, omega (arith, l), e)
+    later : {X : Type 0} (x : X) (xs : List X) (y : X) → Contains xs y → Contains (x ∷ xs) y
+    later x xs y (k, l, e) = (suc k, omega (arith, l), e)
 
 pub row_there : (shown : ℕ → Image) (low high : ℕ) (rows : Rows) (p : ℕ × List Value) → AreRows shown low high rows → low ≤ p.0 → p.0 ≤ high → (shown p.0).row ≡ Some p.1 → Contains rows p
 row_there shown low high rows p a l h e = go (a.every p.0 l h)

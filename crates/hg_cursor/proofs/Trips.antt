@@ -29,7 +29,7 @@ use Rattle.hg_store.specs.Stores.{Takes}
 use Rattle.hg_cursor.specs.Keys.{Rows}
 use Rattle.hg_cursor.specs.Logs.{Adds, ReadsAt}
 
--- a view that has a session's part and a bucket's, and has seen what was seen before
+-- a view with a session's part and a bucket's part, which has the earlier sights
 pub record Beside (j : ℕ) (part : SessionPart) (b : ℕ) (old : List Sight) (v : View) : Type 0 where
   pub holds : BucketPart
   pub parts : v.parts ≡ OfSession j part ∷ OfBucket b holds ∷ []
@@ -82,14 +82,14 @@ departed j part b old u w h e =
     let has : HasSession u = h.parts ∙ (λ i. OfSession (sym n i) (sym s i) ∷ sym (ap after_first h.parts) i) in
     (session_departs u w has e ∙ (λ i. OfSession (n i) (s i) ∷ o i), (h.kept.0, ap (λ (x : View). x.sights) e ∙ h.kept.1))
 
--- a pass that gave the bucket back is one of the board still
+-- a pass that gave the bucket back is still one of the board
 pub left_pass : (t : BoardId) (z : Sizes) (p q : SessionPass) (j b : ℕ) (part : SessionPart) (old : List Sight) → IsSessionOf t z p → Beside j part b old (session_view p) → IsSeatOf t q.seat → session_rest q ≡ session_rest p → (session_view q).parts ≡ OfSession j part ∷ [] → IsSessionOf t z q
 left_pass t z p q j b part old own h seat rest a =
     let n = first_number (session_view p) j part _ h.parts in
     let s = first_session (session_view p) j part _ h.parts in
     still_session t z p q [] own seat rest (a ∙ (λ i. OfSession (sym n i) (sym s i) ∷ []))
 
--- ---- who reads, beside a bucket
+-- ---- the reader, next to a bucket
 
 pub writer_beside : (j b : ℕ) (part : SessionPart) (old : List Sight) (u : View) (by : Writer) → Beside j part b old u → by.session ≡ j → by.transaction ≡ begans part.log → by ≡ writer u
 writer_beside j b part old u by h s t = (λ i. record { session = s i; transaction = t i }) ∙ (λ i. record { session = sym (first_number u j part _ h.parts) i; transaction = begans (sym (first_session u j part _ h.parts) i).log })

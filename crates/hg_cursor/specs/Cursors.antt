@@ -1,4 +1,4 @@
--- What a fetch looks at, and what it gives.
+-- What a fetch looks at, and what it returns.
 use Rattle.std.specs.Prelude.{◌≡◌, ℕ, ◌+◌, ◌≤◌, [], Option, Some, None, Result, Ok, Err}
 use Rattle.hg_base.specs.declared.rid.TableId.{TableId}
 use Rattle.hg_base.specs.declared.fault.NoMemory.{NoMemory}
@@ -11,7 +11,7 @@ use Rattle.hg_cursor.specs.declared.cursor.Cursor.{Cursor}
 use Rattle.hg_cursor.specs.Keys.{Rows}
 use Rattle.hg_cursor.specs.Logs.{Adds}
 
--- a cursor's snapshot, its table, the last key of its range, and the first key that it has not passed, if there is one
+-- a cursor's snapshot, its table, the last key of its range, and the first key that it has not passed: none once it is done
 abbrev pub at_of : Cursor → ℕ
 at_of c = c.at
 
@@ -26,7 +26,8 @@ rest_of c = c.rest
 
 -- ---- looks
 
--- Looks at a range, each at another bucket, which has a key of the range: the log has gained them, and nothing besides.
+-- The log has gained so many looks at a range, and nothing else: one at each of the buckets of the first keys. These are different
+-- buckets (`once`), and each can have a key of the range (`reached`).
 pub record LooksAt (count : ℕ) (old : View) (table : TableId) (low high : ℕ) (new : View) : Type 0 where
   pub number : ℕ
   pub once : number ≤ count
@@ -34,7 +35,7 @@ pub record LooksAt (count : ℕ) (old : View) (table : TableId) (low high : ℕ)
   pub part : ℕ → Rows
   pub adds : Adds old (looks count table low high part number) new
 
--- the rows of a range, by looks at it; and only looks where memory was wanting
+-- the first n rows of a range, by looks at it; and only looks where memory ran out
 pub record FetchesRows (count n : ℕ) (old : View) (table : TableId) (low high : ℕ) (rows : Rows) (new : View) : Type 0 where
   pub looked : LooksAt count old table low high new
   pub picks : Picks count n table low high looked.number looked.part rows
@@ -43,13 +44,13 @@ abbrev pub Fetches : ℕ → ℕ → View → TableId → ℕ → ℕ → Result
 Fetches count n old table low high (Ok rows) new = FetchesRows count n old table low high rows new
 Fetches count n old table low high (Err e) new = LooksAt count old table low high new
 
--- the same where there may be no rest of the range: then nothing is looked at
+-- the same of what a cursor has left: where that is nothing, no bucket is taken
 abbrev pub FetchesRest : ℕ → ℕ → View → TableId → Option ℕ → ℕ → Result Rows NoMemory → View → Type 0
 FetchesRest count n old table None high answer new = (answer ≡ Ok []) × (new ≡ old)
 FetchesRest count n old table (Some low) high answer new = Fetches count n old table low high answer new
 
 -- ---- rows
 
--- what a table shows at a snapshot that never reclaims
+-- what a table that never reclaims shows at a snapshot
 abbrev pub shown_at : History → TableId → ℕ → ℕ → Image
 shown_at h table at key = visible h (record_at table key) at

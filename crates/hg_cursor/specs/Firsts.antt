@@ -1,14 +1,10 @@
--- Where a range goes on behind a key, and which rows of several are kept.
-use Rattle.std.specs.Prelude.{◌≡◌, ℕ, ◌+◌, take, nat_lt, if◌then◌else◌, Option, Some, None}
+-- Which rows of several are kept.
+use Rattle.std.specs.Prelude.{◌≡◌, ℕ, take}
 use Rattle.std.specs.List.Sorted.{IsPermutation, IsNonDecreasingBy}
 use Rattle.hg_base.specs.Transcript.{passed}
 use Rattle.hg_cursor.specs.Keys.{Rows}
 
--- where the range goes on behind a key
-abbrev pub left_behind : ℕ → ℕ → Option ℕ
-left_behind high key = if nat_lt key high then Some (key + 1) else None
-
--- the first n of some rows, by key, and the last key that they pass
+-- the first n rows of several, by key, and the last key that they pass
 pub record Keeps (n limit : ℕ) (old new : Rows) (upto : ℕ) : Type 0 where
   pub sorted : Rows
   pub permutes : IsPermutation old sorted

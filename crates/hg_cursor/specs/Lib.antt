@@ -2,9 +2,9 @@
 pub mod Keys
 -- What a session's log gains.
 pub mod Logs
--- The first rows of a range.
+-- Which rows of several are kept.
 pub mod Firsts
--- What a fetch looks at, bucket by bucket, and all of it.
+-- What a fetch reads of one bucket, and of all.
 pub mod Looks
 pub mod Cursors
 -- The rows of all fetches.

@@ -15,16 +15,17 @@ use Rattle.hg_rule.specs.Facts.{StartsWith, EndsWith, IsAmong}
 use Rattle.hg_rule.specs.Views.{number, session, HasOnlySession}
 use Rattle.hg_rule.specs.Writes.{with_log}
 
--- The view has its session's part alone, whose log has these entries more. What was seen is kept.
+-- The view has only its session's part, whose log has gained these entries. All sights are kept.
 pub record Adds (old : View) (entries : List LogEntry) (new : View) : Type 0 where
   pub parts : new.parts ≡ OfSession (number old) (with_log (entries ++ (session old).log) (session old)) ∷ []
   pub kept : StartsWith new.sights old.sights
 
--- the whole log was heard
+-- the view has heard its session's whole log
 abbrev pub IsHeard : View → Type 0
 IsHeard v = ((session v).log ≡ []) ⊎ IsAmong (Heard (number v) (session v).log) v.sights
 
--- The session holds nothing besides, and reads the table at a snapshot. Its transaction has written nothing.
+-- The session reads the table at a snapshot: it is live there with the table in its scope, its transaction has written nothing,
+-- and it holds no bucket.
 pub record ReadsAt (at : ℕ) (table : TableId) (v : View) : Type 0 where
   pub only : HasOnlySession v
   pub scope : Scope
@@ -35,8 +36,8 @@ pub record ReadsAt (at : ℕ) (table : TableId) (v : View) : Type 0 where
   pub plain : IsTrue (is_plain (session v).log)
   pub unstamped : (session v).stamped ≡ false
 
--- A history with the logs of all sessions, in which each entry is right, and this session's log goes on from what the view has.
--- So are the state that backs the view, and each later one.
+-- A history with the logs of all sessions: each entry is right, and this session's log goes on from the one in the view. The
+-- state that backs the view has such a history, and each later state has.
 pub record GoesOn (buckets : ℕ) (v : View) (h : History) (logs : ℕ → List LogEntry) : Type 0 where
   pub answers : RepliesAnswer buckets h logs
   pub later : EndsWith (logs (number v)) (session v).log

@@ -1,16 +1,31 @@
 -- What a fetch reads of one bucket.
-use Rattle.std.specs.Prelude.{◌≡◌, ◌⊎◌, ℕ, ◌≤◌, [], ◌∷◌, ◌++◌, map, length, Result, IfOk, Contains}
+use Rattle.std.specs.Prelude.{◌≡◌, ◌⊎◌, ℕ, ◌-◌, ◌<◌, ◌≤◌, [], ◌∷◌, ◌++◌, map, length, Result, IfOk, Contains}
 use Rattle.hg_base.specs.declared.rid.TableId.{TableId}
 use Rattle.hg_base.specs.declared.image.Image.{Image}
+use Rattle.hg_base.specs.declared.writer.Writer.{Writer}
 use Rattle.hg_base.specs.declared.fault.NoMemory.{NoMemory}
 use Rattle.hg_base.specs.Lists.{Each, Ascends}
 use Rattle.hg_base.specs.Replies.{AreRows}
+use Rattle.hg_bucket.specs.BucketModel.{record_at}
 use Rattle.hg_core.specs.declared.log.LogEntry.TheVariants.{Saw}
+use Rattle.hg_core.specs.Contents.{Content, bucket_of}
 use Rattle.hg_rule.specs.declared.view.View.{View}
-use Rattle.hg_cursor.specs.Keys.{Rows, IsOwnKey}
+use Rattle.hg_rule.specs.Holding.{bucket}
+use Rattle.hg_store.specs.declared.held.Held.{Held}
+use Rattle.hg_store.specs.Stores.{Holds}
+use Rattle.hg_cursor.specs.declared.looks.Look.{Look}
+use Rattle.hg_cursor.specs.Keys.{Rows, IsOwnKey, AreOwn, read_of}
 use Rattle.hg_cursor.specs.Logs.{Adds}
 
--- Behind the rows that were there now stand those of a range, up to a key: the last one, or that of the n-th row.
+-- a fact of a bucket that is held and of its number b, where one of its own keys is given
+abbrev pub WhereOwn : Held → ℕ → TableId → ℕ → (View → ℕ → Type 0) → Type 0
+WhereOwn held count table key Fact = (v : View) (b : ℕ) → Holds v held → AreOwn count b (bucket v).content → IsOwnKey count b table key → Fact v b
+
+-- of the keys from `low` on this is the first one of its bucket
+abbrev pub IsFirstKey : ℕ → ℕ → ℕ → Type 0
+IsFirstKey count low own = (low ≤ own) × (own - low < count)
+
+-- Rows are appended: those that a range shows up to a key, which is the range's last one or that of the n-th row.
 pub record Appends (shown : ℕ → Image) (n low high : ℕ) (old new : Rows) (upto : ℕ) : Type 0 where
   pub more : Rows
   pub is : new ≡ old ++ more
@@ -18,7 +33,11 @@ pub record Appends (shown : ℕ → Image) (n low high : ℕ) (old new : Rows) (
   pub rows : AreRows shown low upto more
   pub enough : (upto ≡ high) ⊎ (n ≤ length more)
 
--- The same of rows that were logged: those up to the key are there.
+-- the same of what a transaction reads of a bucket's content, from the first key of a look to its limit
+abbrev pub AppendsFirst : Writer → Look → Content → Rows → Rows → ℕ → Type 0
+AppendsFirst by look content old new upto = Appends (read_of by look.request.at look.request.table content) look.request.most look.own look.limit old new upto
+
+-- Rows are appended: those of a logged part up to a key, which is the limit or that of the n-th row.
 pub record Takes (n limit : ℕ) (part old new : Rows) (upto : ℕ) : Type 0 where
   pub more : Rows
   pub is : new ≡ old ++ more
@@ -28,10 +47,10 @@ pub record Takes (n limit : ℕ) (part old new : Rows) (upto : ℕ) : Type 0 whe
   pub within : upto ≤ limit
   pub enough : (upto ≡ limit) ⊎ (n ≤ length more)
 
--- One look at bucket b, which logs the rows of a range there, and where the answer is Ok the first ones of them.
-pub record Sees (count n : ℕ) (old : View) (table : TableId) (low high limit b : ℕ) (before : Rows) (answer : Result ℕ NoMemory) (new : View) (after : Rows) : Type 0 where
+-- One look: it logs the rows that its bucket has in the range of the request, and on Ok the first of them are appended.
+pub record Sees (count : ℕ) (look : Look) (old : View) (before : Rows) (answer : Result ℕ NoMemory) (new : View) (after : Rows) : Type 0 where
   pub part : Rows
-  pub adds : Adds old (Saw table low high b part ∷ []) new
-  pub within : Each (λ p. (low ≤ p.0) × (p.0 ≤ high)) part
-  pub own : Each (λ p. IsOwnKey count b table p.0) part
-  pub taken : IfOk answer (Takes n limit part before after)
+  pub adds : Adds old (Saw look.request.table look.request.low look.request.high (bucket_of count (record_at look.request.table look.own)) part ∷ []) new
+  pub within : Each (λ p. (look.request.low ≤ p.0) × (p.0 ≤ look.request.high)) part
+  pub own : Each (λ p. IsOwnKey count (bucket_of count (record_at look.request.table look.own)) look.request.table p.0) part
+  pub taken : IfOk answer (Takes look.request.most look.limit part before after)

@@ -1,6 +1,6 @@
 //! The first rows of a range, of all buckets.
 
-ghost use Rattle.std.specs.Prelude.{◌≡◌, ◌+◌, ◌<◌, ◌≤◌, ◌&&◌, ◌⊎◌, [], nat_lt, nat_le, IfOk};
+ghost use Rattle.std.specs.Prelude.{◌≡◌, ◌+◌, ◌<◌, ◌≤◌, ◌&&◌, nat_lt, nat_le};
 ghost use Rattle.hg_rule.specs.Seats.{board_id, sizes_of, session_view, IsSessionOf};
 ghost use Rattle.hg_store.specs.Stores.{store_board_id, store_buckets};
 ghost use Rattle.hg_cursor.specs.Logs.{IsHeard, ReadsAt};
@@ -8,21 +8,22 @@ ghost use Rattle.hg_base.specs.Transcript.{passed};
 ghost use Rattle.hg_cursor.specs.Firsts.{Keeps};
 ghost use Rattle.hg_cursor.specs.Cursors.{Fetches};
 
-use crate::looks::{Range, see_bucket};
+use crate::looks::{Look, see_bucket};
+use crate::request::Request;
 use hg_base::{NoMemory, Row, RowList};
 use hg_rule::{Board, SessionPass};
 use hg_store::Store;
 use std::alloc::Global;
 use std::sync::Wait;
 
-// Whether the bucket that is so many keys from the first one of a range is still to be taken, where no key over `limit` is wanted.
-fn is_wanted(ahead: u64, count: u64, low: u64, limit: u64) -> bool
+// Whether a further bucket can have a key up to `limit`: the one whose first key is so many over the first one of the range.
+fn is_needed(ahead: u64, count: u64, low: u64, limit: u64) -> bool
     ensures { result ≡ (nat_lt ahead count && nat_le (low + ahead) limit) }
 {
     ahead < count && low <= limit && ahead <= limit - low
 }
 
-// The last key that was passed where `most` rows were wanted up to `high`.
+// The last key that a fetch of `most` rows up to `high` has passed.
 pub(crate) fn last_passed(rows: &[(u64, Row)], most: usize, high: u64) -> u64
     ensures { result ≡ passed most high rows.now }
 {
@@ -35,7 +36,7 @@ pub(crate) fn last_passed(rows: &[(u64, Row)], most: usize, high: u64) -> u64
     }
 }
 
-// Puts rows in order, keeps the first ones, and answers the last key that they pass.
+// Sorts rows by key, keeps the first `most` of them, and returns the last key that these pass.
 fn keep_first(rows: &mut Vec<(u64, Row)>, most: usize, limit: u64) -> u64
     ensures { Keeps most limit rows.old.items rows.new.items result }
 {
@@ -44,41 +45,46 @@ fn keep_first(rows: &mut Vec<(u64, Row)>, most: usize, limit: u64) -> u64
     last_passed(rows, most, limit)
 }
 
-// The first rows of a range, by key: `most` of them, or all.
+// The first rows of a range, by key: as many as are asked for, or all.
 pub(crate) fn first_rows<R: Wait>(
     rt: &R,
     alloc: Global,
     board: &Board,
     store: &Store,
     pass: &mut SessionPass,
-    range: Range,
-    most: usize,
+    request: Request,
 ) -> Result<RowList, NoMemory>
     requires board { store_board_id store.now ≡ board_id board.now }
     requires buckets { store_buckets store.now ≡ (sizes_of board.now).buckets }
     requires own { IsSessionOf (board_id board.now) (sizes_of board.now) pass.old }
-    requires reads { ReadsAt range.at range.table (session_view pass.old) }
-    requires range { range.low ≤ range.high }
-    requires most { 0 < most }
-    ensures gains { Fetches (store_buckets store.now) most (session_view pass.old) range.table range.low range.high result (session_view pass.new) }
-    ensures reads { ReadsAt range.at range.table (session_view pass.new) }
+    requires reads { ReadsAt request.at request.table (session_view pass.old) }
+    requires range { request.low ≤ request.high }
+    requires most { 0 < request.most }
+    ensures gains { Fetches (store_buckets store.now) request.most (session_view pass.old) request.table
+        request.low request.high result (session_view pass.new) }
+    ensures reads { ReadsAt request.at request.table (session_view pass.new) }
     ensures heard { IsHeard (session_view pass.old) → IsHeard (session_view pass.new) }
     ensures own { IsSessionOf (board_id board.now) (sizes_of board.now) pass.new }
 {
     let mut rows = Vec::new(alloc);
     let count = u64::from(store.buckets());
-    let mut limit = range.high;
+    let mut limit = request.high;
     let mut kept = 0;
     let mut ahead = 0;
-    while is_wanted(ahead, count, range.low, limit) {
-        let own = range.low + ahead;
-        limit = see_bucket(rt, board, store, pass, range, own, limit, most, &mut rows)?;
-        if rows.len() - kept >= most {
-            limit = keep_first(&mut rows, most, limit);
+    while is_needed(ahead, count, request.low, limit) {
+        let own = request.low + ahead;
+        let look = Look {
+            request,
+            own,
+            limit,
+        };
+        limit = see_bucket(rt, board, store, pass, look, &mut rows)?;
+        if rows.len() - kept >= request.most {
+            limit = keep_first(&mut rows, request.most, limit);
             kept = rows.len();
         }
         ahead += 1;
     }
-    keep_first(&mut rows, most, limit);
+    keep_first(&mut rows, request.most, limit);
     Ok(RowList::from(rows))
 }

@@ -1,25 +1,28 @@
-//! A scan in parts, at one snapshot, whatever is committed and reclaimed between.
+//! A scan in parts, at one snapshot, whatever is committed and reclaimed in between.
 //!
-//!     range, in 4 buckets of table 0      6   7   8   9  10  11  12  13  14 ..
-//!     a fetch of 3 takes bucket           2   3   0
-//!     and they have                       6               10          13        and 14, which is one too many
-//!                                             7
-//!                                                 8           11                 8 is the third: bucket 1 has none before it
+//!     a range of table 0         6   7   8   9  10  11  12  13  14 ..        a fetch of 3 rows, where each key has one
+//!     buckets, 4 in all          2   3   0   1   2   3   0   1   2 ..
 //!
-//! A fetch goes over the buckets in the order of their first keys in the rest of the range, and takes each at most once. It
-//! copies no more rows of a bucket than it is to give, and none over the last key that is still of use: where it has as many rows
-//! as it is to give, no row over the last of them is. So it ends at the first bucket whose first key is over that one. Where it
-//! has twice as many, they are put in order, and those behind are dropped.
+//!     copied from bucket 2       6               10              14          3 rows: no key over 14 is needed
+//!     copied from bucket 3           7               11                      2 more
+//!     copied from bucket 0               8               12                  2 more: 6, 7, 8 are the first 3
+//!     bucket 1 is not taken                  9                               9 is over 8
 //!
-//! Each bucket that was taken is looked at from the first key that the cursor has not passed up to the end of its range, and the
-//! session's log has that look. So the rows of all fetches are those of one history, at the cursor's snapshot: joined, they are
-//! a prefix of the scan, and the whole of it once the cursor is done (`fetches_are_the_scan`).
+//! A fetch takes buckets in the order of their first keys in the rest of the range, each at most once. From each it copies no more
+//! rows than it is to return, and none with a key over its limit: the range's last key at first, and the last key of the rows
+//! that it would return as soon as it has as many as it is to return. It ends at the first bucket whose first key is over the
+//! limit. Whenever it has copied as many rows again, it sorts them and drops those over the limit.
+//!
+//! The session logs one look for each bucket that was taken: at the keys from the first one that the cursor has not passed to the
+//! end of its range. So the rows of all fetches are those of one history, at the cursor's snapshot: joined, they are a prefix of
+//! the scan, and the whole scan once the cursor is done (`fetches_are_the_scan`).
 #![tactic(auto)]
 
 mod cursor;
 mod firsts;
 mod laws;
 mod looks;
+mod request;
 
 pub use cursor::Cursor;
 pub use laws::{fetches_are_the_scan, histories_go_on};

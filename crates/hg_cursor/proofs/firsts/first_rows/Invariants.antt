@@ -6,14 +6,14 @@ use Rattle.hg_cursor.proofs.Gathering.{IsGathered}
 use Rattle.hg_cursor.proofs.firsts.first_rows.Given as goal
 
 -- the first rows of the buckets so far are there
-abbrev pub invariant-loop-range : goal.invariant-loop-range
-invariant-loop-range g l = record {
-  gathered : IsGathered (store_buckets l.fn.store) l.most (session_view l.fn.pass) l.range.table l.range.low l.range.high l.ahead l.limit l.rows.items (session_view l.pass);
-  reads : ReadsAt l.range.at l.range.table (session_view l.pass);
+abbrev pub invariant-loop-own : goal.invariant-loop-own
+invariant-loop-own g l = record {
+  gathered : IsGathered (store_buckets l.fn.store) l.request.most (session_view l.fn.pass) l.request.table l.request.low l.request.high l.ahead l.limit l.rows.items (session_view l.pass);
+  reads : ReadsAt l.request.at l.request.table (session_view l.pass);
   heard : IsHeard (session_view l.fn.pass) → IsHeard (session_view l.pass);
   own : IsSessionOf (board_id l.board) (sizes_of l.board) l.pass;
   kept : l.kept ≤ length l.rows.items;
 }
 
-abbrev pub decreases-loop-range : goal.decreases-loop-range
-decreases-loop-range g l = l.count - l.ahead
+abbrev pub decreases-loop-own : goal.decreases-loop-own
+decreases-loop-own g l = l.count - l.ahead

@@ -9,11 +9,11 @@ use Rattle.hg_cursor.proofs.looks.push_rows.Given as goal
 
 abbrev pub invariant-loop-next : goal.invariant-loop-next
 invariant-loop-next l = record {
-  within : IsWithin l.own l.high l.next;
+  within : IsWithin l.look.own l.look.limit l.next;
   grown : length l.fn.rows.items ≤ length l.rows.items;
-  own_next : (v : View) (b : ℕ) → Holds v l.fn.held → AreOwn l.count b (bucket v).content → IsOwnKey l.count b l.range.table l.own → IfSome l.next (IsOwnKey l.count b l.range.table);
-  so_far : (v : View) (b : ℕ) → Holds v l.fn.held → AreOwn l.count b (bucket v).content → IsOwnKey l.count b l.range.table l.own → IsSoFar (read_of l.by l.range.at l.range.table (bucket v).content) l.own l.high l.fn.rows.items l.rows.items l.next;
+  own_next : (v : View) (b : ℕ) → Holds v l.fn.held → AreOwn l.count b (bucket v).content → IsOwnKey l.count b l.look.request.table l.look.own → IfSome l.next (IsOwnKey l.count b l.look.request.table);
+  so_far : (v : View) (b : ℕ) → Holds v l.fn.held → AreOwn l.count b (bucket v).content → IsOwnKey l.count b l.look.request.table l.look.own → IsSoFar (read_of l.by l.look.request.at l.look.request.table (bucket v).content) l.look.own l.look.limit l.fn.rows.items l.rows.items l.next;
 }
 
 abbrev pub decreases-loop-next : goal.decreases-loop-next
-decreases-loop-next l = room l.high l.next
+decreases-loop-next l = room l.look.limit l.next

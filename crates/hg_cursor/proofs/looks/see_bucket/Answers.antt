@@ -32,17 +32,18 @@ returns-clause-sees g c =
     let reads = c.requires.reads in
     let h = arrived v u b reads.only c.take-held.ensures.view in
     let by = writer_beside (number v) b (session v) v.sights u c.writer-by.result h c.writer-by.ensures.session c.writer-by.ensures.transaction in
-    let live : c.args.range.at ≡ loaded_in (session v).phase = sym (ap loaded_in reads.live) in
+    let l = c.args.look in
+    let live : l.request.at ≡ loaded_in (session v).phase = sym (ap loaded_in reads.live) in
     let at = live ∙ sym (snapshot_beside (number v) b (session v) v.sights u h) in
     let placed = held_own (sizes_of c.args.board.now) c.take-held.ensures.backed.0 b u c.take-held.ensures.backed.1 (subst (λ n. HoldsBucket n u) c.take-held.ensures.held.1 c.take-held.ensures.holds.has) in
     let are = subst (λ n. AreOwn n b (bucket u).content) (sym c.requires.buckets) placed in
     let counted : c.from-count.result ≡ count = search rules in
-    let rows = saw_rows count (number v) b m (session v) v.sights c.args.range.table c.args.range.low c.args.range.high u w h k in
-    let l = looked (number v) (session v) b m v.sights (Read c.args.range.table c.args.range.low c.args.range.high) u w h k in
-    let d = departed (number v) _ b v.sights w x l.0 c.give.ensures.view in
-    sees count (number v) b m (session v) v.sights c.args.range.table c.args.range.low c.args.range.high u w h k v x c.args.most c.args.limit c.args.own c.writer-by.result c.args.range.at c.args.rows.now.items c.push_rows-reached.new.rows.items c.push_rows-reached.result
-    c.requires.first.0 c.requires.first.1 c.requires.within.1 c.bucket_of-bucket.ensures.own are by at
-    (c.push_rows-reached.ensures u b c.take-held.ensures.holds (subst (λ n. AreOwn n b (bucket u).content) (sym counted) are) (ap (λ n. bucket_of n (record_at c.args.range.table c.args.own)) counted ∙ sym c.bucket_of-bucket.ensures.own))
+    let rows = saw_rows count (number v) b m (session v) v.sights l u w h k in
+    let seen = looked (number v) (session v) b m v.sights (Read l.request.table l.request.low l.request.high) u w h k in
+    let d = departed (number v) _ b v.sights w x seen.0 c.give.ensures.view in
+    sees count (number v) b m (session v) v.sights l u w h k v x c.writer-by.result c.args.rows.now.items c.push_rows-reached.new.rows.items c.push_rows-reached.result
+    c.requires.first c.requires.within.1 c.bucket_of-bucket.ensures.own are by at
+    (c.push_rows-reached.ensures u b c.take-held.ensures.holds (subst (λ n. AreOwn n b (bucket u).content) (sym counted) are) (ap (λ n. bucket_of n (record_at l.request.table l.own)) counted ∙ sym c.bucket_of-bucket.ensures.own))
     (record { parts = d.0 ∙ (λ i. OfSession (number v) (with_log (rows i) (session v)) ∷ []); kept = d.1 })
 
 pub returns-clause-heard : goal.returns-clause-heard
@@ -55,7 +56,7 @@ returns-clause-heard g c =
     let m = c.see.ensures.step.0 in
     let k = c.see.ensures.step.1 in
     let h = arrived v u b c.requires.reads.only c.take-held.ensures.view in
-    let ask = Read c.args.range.table c.args.range.low c.args.range.high in
+    let ask = Read c.args.look.request.table c.args.look.request.low c.args.look.request.high in
     let l = looked (number v) (session v) b m v.sights ask u w h k in
     let d = departed (number v) _ b v.sights w x l.0 c.give.ensures.view in
     let there = subst (IsAmong (Heard (number v) (log_asked u ask m k.rows))) (sym (ap (λ (y : View). y.sights) c.give.ensures.view)) l.1 in
