@@ -41,10 +41,13 @@ const STATEMENTS: &str = "\
 1,begin,u = 3 1 Begin(Declared(2))
 64,begin,u,t,u = 3 64 Begin(Declared(3))
 1,get,t,18446744073709551615 = 3 1 Get(Rid { table: TableId(0), key: 18446744073709551615 })
-1,put,t,5,-9223372036854775808 = 3 1 Put(Rid { table: TableId(0), key: 5 }, Row { held: One([-9223372036854775808]) })
-1,put,u,0,1,2,3,4,5,6,7,8 = 3 1 Put(Rid { table: TableId(1), key: 0 }, Row { held: Many([1, 2, 3, 4, 5, 6, 7, 8]) })
+1,put,t,5,-9223372036854775808 = 3 1 Put(Rid { table: TableId(0), key: 5 }, Row { storage: One([-9223372036854775808]) })
+1,put,u,0,1,2,3,4,5,6,7,8 = 3 1 Put(Rid { table: TableId(1), key: 0 }, Row { storage: Many([1, 2, 3, 4, 5, 6, 7, 8]) })
 1,del,u,5 = 3 1 Del(Rid { table: TableId(1), key: 5 })
 1,scan,u,9,3 = 3 1 Scan { table: TableId(1), low: 9, high: 3 }
+1,open,u,9,3 = 3 1 CursorOpen { table: TableId(1), low: 9, high: 3 }
+1,open,t,0,9/1,fetch,1048576 = 4 1 Fetch(1048576)
+2,open,t,0,9/1,open,t,0,9/2,close = 5 2 CursorClose
 1,begin/1,commit = 4 1 Commit
 2,begin/1,begin/2,rollback = 5 2 Rollback
 1,begin/1,rollback/1,begin,t,t = 5 1 Begin(Declared(1))
@@ -72,6 +75,7 @@ table,abcdefghijklmnopqrstuvwxyz_019AZ,8/1,get,abcdefghijklmnopqrstuvwxyz_019AZ,
 table,t,1/1,put,t,5,7/1,get,t,5/1,scan,t,0,9/1,del,t,5 = 4
 table,t,1/1,begin/2,begin,t/2,rollback/1,commit = 4
 1,gc,group/1,begin/1,gc,table/1,commit/1,gc,interval = 5
+table,t,1/1,open,t,0,18446744073709551615/1,fetch,1/1,gc,table/2,begin/1,fetch,1/1,close/1,begin/1,commit/1,open,t,9,0 = 9
 table,t,1//\"1\",\"get\",t,5\r/ = 1
 version,2 = 0
 version,2/table,t,tn/1,put,t,1,abcdefghijklmnopqrstuvwxyzabcdefghijklmnopqrstuvwxyzabcdefghijkl,-1 = 1
@@ -140,6 +144,35 @@ table,t,1/1,get,t,1/table,u,1 = record 3: Order
 table,t,1/1,rollback = record 2: Order
 table,t,1/1,begin/2,commit = record 3: Order
 table,t,1/1,begin/1,commit/1,rollback = record 4: Order
+1,Open,t,0,9 = record 1: Word
+1,open,t,0 = record 1: Fields
+1,fetch = record 1: Fields
+1,fetch,1,2 = record 1: Fields
+1,close,t = record 1: Fields
+1,open,t,x,9 = record 1: Number
+1,fetch,01 = record 1: Number
+1,fetch,-1 = record 1: Number
+65,fetch,x = record 1: Number
+1,open,t,0,18446744073709551616 = record 1: Range
+1,fetch,0 = record 1: Range
+1,fetch,1048577 = record 1: Range
+1,fetch,18446744073709551616 = record 1: Range
+1,open,t,0,9 = record 1: Name
+1,fetch,1048576 = record 1: Order
+1,close = record 1: Order
+table,t,1/1,begin/1,open,t,0,9 = record 3: Order
+table,t,1/1,begin/1,fetch,1 = record 3: Order
+table,t,1/1,open,t,0,9/1,open,t,0,9 = record 3: Order
+table,t,1/1,open,t,0,9/1,begin = record 3: Order
+table,t,1/1,open,t,0,9/1,get,t,1 = record 3: Order
+table,t,1/1,open,t,0,9/1,put,t,1,1 = record 3: Order
+table,t,1/1,open,t,0,9/1,del,t,1 = record 3: Order
+table,t,1/1,open,t,0,9/1,scan,t,0,9 = record 3: Order
+table,t,1/1,open,t,0,9/1,commit = record 3: Order
+table,t,1/1,open,t,0,9/1,rollback = record 3: Order
+table,t,1/1,open,t,0,9/table,u,1 = record 3: Order
+table,t,1/1,open,t,0,9/2,fetch,1 = record 3: Order
+table,t,1/1,open,t,0,9/1,close/1,close = record 4: Order
 version = record 1: Fields
 version,2,3 = record 1: Fields
 version,02 = record 1: Number
@@ -156,6 +189,8 @@ version,2/table,t,n/1,put,t,1,07 = record 3: Value
 version,2/table,t,tn/1,put,t,1,x,9223372036854775808 = record 3: Value
 version,2/table,t,t/1,put,t,1,abcdefghijklmnopqrstuvwxyzabcdefghijklmnopqrstuvwxyzabcdefghijklm = record 3: Value
 version,2/table,t,nt/1,put,t,1,x = record 3: Columns
+version,2/table,t,nt/1,open,t,0,x = record 3: Number
+version,2/1,fetch,0 = record 2: Range
 version,2/table,t,n/1,put,u,1,x = record 3: Name
 ";
 
@@ -278,13 +313,13 @@ const MADE: &str = "\
 4 1 Gc(Group)
 5 2 Begin(All)
 8 5 Begin(Declared(4))
-10 7 Put(Rid { table: TableId(1), key: 210 }, Row { held: Two([382, 645]) })
+10 7 Put(Rid { table: TableId(1), key: 210 }, Row { storage: Two([382, 645]) })
 12 1 Scan { table: TableId(1), low: 18, high: 33 }
 13 2 Commit
 16003 8 Get(Rid { table: TableId(2), key: 84 })
 
 14 3 Rollback
-15 4 Put(Rid { table: TableId(2), key: 4 }, Row { held: One([178]) })
+15 4 Put(Rid { table: TableId(2), key: 4 }, Row { storage: One([178]) })
 5 2 Del(Rid { table: TableId(0), key: 125 })
 15 4 Gc(Table)
 ";
