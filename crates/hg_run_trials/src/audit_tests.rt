@@ -9,6 +9,7 @@ use hg_run::{close, open_for, replay_on};
 use hg_script::{Script, make_script, read_script};
 use hg_words::{Command, Options};
 use std::alloc::Global;
+use std::process::Abort;
 use std::sync::Wait;
 use std::test::Fail;
 
@@ -56,10 +57,10 @@ const BESIDE: &str =
 const BESIDE_TEXT: &str =
     "1,2,at,0,stored,committed,1\n1,4,at,1,stored,committed,2\n2,3,begun,1\n2,5,rows,1\n2,5,row,5,7\n2,6,ended\n2,7,at,2,gone,committed,3\n0,1,swept,group,1,1,0\n0,1,held,2,1,unmoved\n0,2,swept,group,3,3,2\n0,1,swept,table,0,0,0\n0,2,swept,table,3,3,0\n0,1,swept,interval,2,2,0\n0,2,swept,interval,3,3,0\ntotal,made,3\ntotal,undone,0\ntotal,group,2\ntotal,table,1\ntotal,interval,0\ntotal,left,0\n";
 
-// What is not there at the snapshot; a mark that falls, of a collector's second report; a snapshot that session 2 never printed; a
-// report more of one collector, so that this is read as a replay, whose second line is of session 2; and totals. Each row says how
-// the text above is unsound, once what stands first behind that is what stands then. `/` is a line feed.
-const FAULTS: &str = "\
+// That text, and what is not there at the snapshot; a mark that falls, of a collector's second report; a snapshot that session 2 never
+// printed; a report more of one collector, so that this is read as a replay, whose second line is of session 2; and totals.
+const JUDGED: &str = "\
+Sound = 2,5,row,5,7 | 2,5,row,5,7
 Unsound { line: 4, why: Reply } = 2,5,row,5,7 | 2,5,row,5,8
 Unsound { line: 12, why: Fresh } = 0,2,swept,table,3,3,0 | 0,2,swept,table,4,4,0
 Unsound { line: 8, why: Fresh } = 0,1,held,2,1 | 0,1,held,2,0
@@ -68,11 +69,11 @@ Unsound { line: 20, why: Totals } = total,table,1 | total,table,2
 Unsound { line: 20, why: Totals } = total,group,2 | total,group,1
 ";
 
-// The text above with a change.
-fn changed(alloc: Global, change: &str) -> Result<String, Fail> {
+// A text with a change: what stands first is replaced by what stands then. `/` is a line feed.
+fn changed(alloc: Global, text: &str, change: &str) -> Result<String, Fail> {
     let change = change.replace(alloc, "/", "\n")?;
     let (from, to) = change.split_once(" | ").unwrap_or(("", ""));
-    Ok(BESIDE_TEXT.replace(alloc, from, to)?)
+    Ok(text.replace(alloc, from, to)?)
 }
 
 // The verdict on a text, as it is written.
@@ -83,18 +84,29 @@ fn verdict_on(alloc: Global, script: &Script, text: &str) -> Result<String, Fail
     Ok(format!(in alloc; "{verdict:?}")?)
 }
 
+// Each row says how a text is judged once it is changed.
+pub(crate) fn are_judged<R: Abort>(
+    rt: &R,
+    alloc: Global,
+    script: &Script,
+    text: &str,
+    rows: &str,
+) -> Result<(), Fail>
+    requires { IsLawful script.now }
+{
+    for row in rows.lines() {
+        let (told, change) = row.split_once(" = ").expect(rt, "a verdict");
+        let text = changed(alloc, text, change)?;
+        let verdict = verdict_on(alloc, script, text.as_str())?;
+        assert_eq!(rt; verdict.as_str(), told, "at {change}");
+    }
+    Ok(())
+}
+
 #[test]
 fn a_run_is_judged_as_one(rt: HostRuntime) -> Result<(), Fail> {
     let script = read_script(rt.alloc(), BESIDE.as_bytes())?;
-    let verdict = verdict_on(rt.alloc(), &script, BESIDE_TEXT)?;
-    assert_eq!(rt; verdict.as_str(), "Sound");
-    for row in FAULTS.lines() {
-        let (fault, change) = row.split_once(" = ").expect(&rt, "a fault");
-        let text = changed(rt.alloc(), change)?;
-        let verdict = verdict_on(rt.alloc(), &script, text.as_str())?;
-        assert_eq!(rt; verdict.as_str(), fault, "at {change}");
-    }
-    Ok(())
+    are_judged(&rt, rt.alloc(), &script, BESIDE_TEXT, JUDGED)
 }
 
 // Adds a record whose field at an index is one more, and says whether that field is a number.

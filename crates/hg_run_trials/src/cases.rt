@@ -1,7 +1,9 @@
 //! Scripts and what is printed for them, line by line.
 
+use hg_audit::{Verdict, audit};
 use hg_base::{Gate, MemorySink, MemorySource, NoGate};
 use hg_run::{Status, serve};
+use hg_script::read_script;
 use std::alloc::Global;
 use std::process::Abort;
 use std::sync::Wait;
@@ -131,6 +133,10 @@ table,t,1/1,put,t,5,1/1,begin/1,put,t,5,2/1,gc,table/1,put,t,6,2/
 of many sessions the last one alone has something to do
 table,t,1/64,put,t,5,1/64,put,t,5,2/64,del,t,5/64,get,t,5/
 64,2,at,0,stored,committed,1/64,3,at,1,stored,committed,2/64,4,at,2,gone,committed,3/64,5,at,3,none/total,made,3/total,undone,0/total,group,0/total,table,3/total,interval,0/total,left,0/
+
+a cursor that is open at the end is closed without a reply
+table,t,1/1,put,t,5,1/1,put,t,6,2/1,open,t,0,9/1,gc,table/1,fetch,1/
+1,2,at,0,stored,committed,1/1,3,at,1,stored,committed,2/1,4,begun,2/1,5,beside/1,6,rows,1/1,6,row,5,1/total,made,2/total,undone,0/total,group,0/total,table,0/total,interval,0/total,left,2/
 ";
 
 /// The text that is written for a script, with words as they stand between spaces.
@@ -154,7 +160,13 @@ pub(crate) fn written<R: Threads + Wait + Sync + Abort, G: Gate + Sync>(
     Ok(Vec::from_slice(alloc, sink.bytes())?)
 }
 
-/// Each case's script has the case's text, with these words.
+/// Whether an audit finds a text sound for its script.
+pub(crate) fn is_sound(alloc: Global, script: &str, text: &[u8]) -> Result<bool, Fail> {
+    let script = read_script(alloc, script.as_bytes())?;
+    Ok(audit(alloc, &script, text)? == Verdict::Sound)
+}
+
+/// Each case's script has the case's text, with these words, and an audit finds it sound.
 pub(crate) fn answers<R: Threads + Wait + Sync + Abort>(
     rt: &R,
     alloc: Global,
@@ -168,6 +180,7 @@ pub(crate) fn answers<R: Threads + Wait + Sync + Abort>(
         let want = text.trim_end().replace(alloc, "/", "\n")?;
         let found = written(rt, alloc, words, &script, &NoGate)?;
         assert_eq!(rt; found.as_slice(), want.as_bytes(), "{shown}");
+        assert!(rt; is_sound(alloc, &script, &found)?, "{shown}");
     }
     Ok(())
 }

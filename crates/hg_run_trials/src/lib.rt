@@ -3,6 +3,7 @@
 //!     serve_tests    statuses, failing sources and sinks, scripts that are replayed and what they print
 //!     run_tests      scripts that run in threads
 //!     audit_tests    what was printed, audited, and with one number changed
+//!     cursor_tests   scans in parts, in a replay and in a run
 //!     cases          scripts and what is printed for them
 //!     text_tests     texts of any bytes, and what scripts leave, written out as scripts again
 //!     order          a gate that holds workers, so that they meet
@@ -15,6 +16,8 @@
 mod audit_tests;
 #[cfg(test)]
 mod cases;
+#[cfg(test)]
+mod cursor_tests;
 #[cfg(test)]
 mod order;
 #[cfg(test)]

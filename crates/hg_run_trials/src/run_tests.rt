@@ -18,11 +18,11 @@ use std::test::Fail;
 use std::thread::Threads;
 
 // The numbers by which a gate knows the collectors.
-const GROUP: u32 = 101;
+pub(crate) const GROUP: u32 = 101;
 
-const TABLE: u32 = 102;
+pub(crate) const TABLE: u32 = 102;
 
-const INTERVAL: u32 = 103;
+pub(crate) const INTERVAL: u32 = 103;
 
 const NO_TOTALS: &str =
     "total,made,0\ntotal,undone,0\ntotal,group,0\ntotal,table,0\ntotal,interval,0\ntotal,left,0\n";
@@ -40,7 +40,7 @@ fn printed<R: Threads + Wait + Sync + Abort>(
 }
 
 // The same where workers are held, each of which has to see what it waits for.
-fn written_in_order<R: Threads + Wait + Sync + Abort>(
+pub(crate) fn written_in_order<R: Threads + Wait + Sync + Abort>(
     rt: &R,
     alloc: Global,
     words: &str,
@@ -61,7 +61,7 @@ fn balances<R: Abort>(rt: &R, totals: &Totals) {
 }
 
 // How many lines are printed for a script, and their totals. What is printed has to be sound.
-fn sound_totals<R: Threads + Wait + Sync + Abort>(
+pub(crate) fn sound_totals<R: Threads + Wait + Sync + Abort>(
     rt: &R,
     alloc: Global,
     words: &str,

@@ -167,6 +167,10 @@ table,t,1/1,put,t,1,-9223372036854775809/ = 2: Range
 table,t,1/1,get,t,18446744073709551616/ = 2: Range
 table,t,1/1,gc,Group/ = 2: Name
 table,t,1/1,rollback/ = 2: Order
+table,t,1/1,open,t,0,9/1,get,t,1/ = 3: Order
+1,fetch,0/ = 1: Range
+1,fetch,1048577/ = 1: Range
+1,fetch,2/ = 1: Order
 ";
 
 // Scripts that break a rule: what is told is the record and its first code, and nothing is written.
