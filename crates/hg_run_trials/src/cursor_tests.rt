@@ -1,4 +1,4 @@
-//! Scans in parts: what a cursor's fetches give, in a replay and in a run, and texts in which one of them is wrong.
+//! Scans in parts: what a cursor's fetches return, in a replay and in a run, and texts in which one of them is wrong.
 
 use crate::audit_tests::are_judged;
 use crate::cases::{answers, is_sound, written};
@@ -9,7 +9,7 @@ use hg_script::read_script;
 use std::alloc::Global;
 use std::test::Fail;
 
-// Cases as those of `cases`.
+// Cases in the form of those in `cases`.
 const CURSORS: &str = "\
 more rows are asked for than are left, and some after the end
 table,t,1/1,put,t,1,10/1,put,t,7,70/1,put,t,10,0/2,open,t,0,9/2,fetch,1/2,fetch,1048576/2,fetch,1/2,close/
@@ -97,8 +97,8 @@ total,interval,1
 total,left,2
 ";
 
-// What is judged of that text, and of one with a change: a row is left out, given twice, too new, one too many, one too few, in the
-// wrong order, and made up behind the end; a report's snapshot is another one, or shown as moved, which it may be since an `open`
+// How that text is judged, and how with one change: a row is left out, is returned twice, is too new, is one too many, is missing, is in
+// the wrong order, or is made up after the end; a report names another snapshot, or one that was moved, which is sound since an `open`
 // declares its table; and `close` is answered as `rollback` is.
 const JUDGED: &str = "\
 Sound = 1,5,begun,3 | 1,5,begun,3
@@ -122,9 +122,8 @@ fn a_wrong_fetch_is_found(rt: HostRuntime) -> Result<(), Fail> {
     are_judged(&rt, rt.alloc(), &script, PARTS_TEXT, JUDGED)
 }
 
-// Session 1 fetches once at snapshot 2. It is held before it fetches again until session 2 has committed twice more, and each
-// collector has made its first round, one after the other. The second rounds are made when the cursor is closed, and then the third
-// ones, with nothing to take.
+// Session 1 fetches once at snapshot 2. It is held before its second fetch until session 2 has committed twice more and each collector
+// has made its first round, one after the other. The second rounds are made after the cursor is closed.
 const HELD: &str =
     "table,t,1\n2,put,t,1,10\n2,put,t,2,20\n1,open,t,0,9\n1,fetch,1\n2,put,t,2,21\n2,put,t,2,22\n1,fetch,1\n1,close\n1,gc,interval\n2,gc,interval\n";
 
@@ -182,9 +181,9 @@ fn rounds_are_made_between_two_fetches(rt: HostRuntime) -> Result<(), Fail> {
     Ok(())
 }
 
-// Sessions 5 to 8 put 20 keys each, in a transaction, and then read all keys by cursors: session 5 by fetches of one row, and so on to
-// session 8 by fetches of four. Each opens two, and the second one stays open. Sessions 1 to 4 put the same keys meanwhile, five times each,
-// and ask for rounds.
+// Sessions 5 to 8 put 20 keys each, in a transaction, and then read all keys by cursors: session 5 in fetches of one row, and so on to
+// session 8 in fetches of four. Each opens two cursors, and leaves the second one open. Meanwhile sessions 1 to 4 put the same keys, five
+// times each, and ask for rounds.
 fn readers_in_parts(alloc: Global) -> Result<String, Fail> {
     let mut script = String::from_str(alloc, "table,t,1\n")?;
     for reader in 5..9u64 {
@@ -213,8 +212,8 @@ fn readers_in_parts(alloc: Global) -> Result<String, Fail> {
     Ok(script)
 }
 
-// What a cursor gives is what its snapshot shows, whatever is put and taken meanwhile: else the text were unsound. Each of 80 keys keeps
-// one row.
+// What a cursor returns is what its snapshot shows, whatever is put and removed meanwhile: otherwise the text would not be sound. Each of
+// 80 keys keeps one row.
 #[test]
 fn cursors_stay_beside_the_collectors(rt: HostRuntime) -> Result<(), Fail> {
     let script = readers_in_parts(rt.alloc())?;
