@@ -106,7 +106,7 @@ const PARTS_CHANGED: &str = "\
 13: 1,12,row,4,text | 1,12,row,4,7,text
 ";
 
-// Each row says at which record a text is refused, once what stands first is what stands then. `/` is a line feed.
+// Each row says at which record a text is refused once the first of two parts is replaced by the second. `/` is a line feed.
 fn refuses<R: Abort>(
     rt: &R,
     alloc: Global,

@@ -69,7 +69,7 @@ Unsound { line: 20, why: Totals } = total,table,1 | total,table,2
 Unsound { line: 20, why: Totals } = total,group,2 | total,group,1
 ";
 
-// A text with a change: what stands first is replaced by what stands then. `/` is a line feed.
+// A text with a change: the first of two parts is replaced by the second. `/` is a line feed.
 fn changed(alloc: Global, text: &str, change: &str) -> Result<String, Fail> {
     let change = change.replace(alloc, "/", "\n")?;
     let (from, to) = change.split_once(" | ").unwrap_or(("", ""));
