@@ -1,5 +1,5 @@
 -- A transaction that ends.
-use Rattle.std.proofs.Common.{◌≡◌, inl, inr, ℕ, suc, ◌-◌, ◌≤◌, List, [], ◌∷◌, true, false, length, Some, refl, sym, ap, ◌∙◌, subst, arith, ◌<◌}
+use Rattle.std.proofs.Common.{◌≡◌, inl, inr, ℕ, suc, ◌-◌, ◌≤◌, List, [], ◌∷◌, true, false, length, Some, None, refl, sym, ap, ◌∙◌, subst, arith, ◌<◌}
 use Rattle.std.specs.Prelude.{is_some, IsTrue, ◌||◌, ◌==◌, if◌then◌else◌}
 use Rattle.std.proofs.lemmas.Bool.Decides.{nat_tests}
 use Rattle.hg_base.specs.declared.rid.Rid.{Rid}
@@ -23,7 +23,7 @@ use Rattle.hg_queue.specs.Handing.{IsOpenTxOf}
 use Rattle.hg_session.specs.declared.engine.Engine.{Engine}
 use Rattle.hg_session.specs.declared.session.Session.{Session}
 use Rattle.hg_session.specs.Engines.{engine_board_id, engine_sizes}
-use Rattle.hg_session.specs.Sessions.{pass_of, view_of, seen_by, opened_of, written_of, left_of, IsIn}
+use Rattle.hg_session.specs.Sessions.{pass_of, view_of, seen_by, opened_of, written_of, cursor_of, left_of, IsIn}
 use Rattle.hg_session.proofs.Meetings.{among_first}
 use Rattle.hg_session.proofs.Settling.{gained}
 use Rattle.hg_rule.specs.declared.view.View.{View}
@@ -106,8 +106,8 @@ after v u receipt at h e = record {
 pub back_gains : (v w : View) → IsBackAgain v w → Gains v [] w
 back_gains v w b = gained v w (session v) [] (record { parts = b.parts; kept = b.kept }) refl
 
-pub back_in : (e : Engine) (v : View) (s : Session) → IsSessionOf (engine_board_id e) (engine_sizes e) (pass_of s) → IsBackAgain v (view_of s) → Ties (engine_sizes e).quota (opened_of s) (written_of s) (left_of s) 0 0 (session v) → IsHeard (number v) (session v).log v.sights → IsIn e 0 0 s
-back_in e v s own b ties heard =
+pub back_in : (e : Engine) (v : View) (s : Session) → IsSessionOf (engine_board_id e) (engine_sizes e) (pass_of s) → IsBackAgain v (view_of s) → Ties (engine_sizes e).quota (opened_of s) (written_of s) (left_of s) 0 0 (session v) → IsHeard (number v) (session v).log v.sights → cursor_of s ≡ None → IsIn e 0 0 s
+back_in e v s own b ties heard closed =
     let a : Alone (number v) (session v) v.sights (view_of s) = record { parts = b.parts; kept = b.kept } in
     let n = first_number (view_of s) (number v) (session v) [] b.parts in
     let p = first_session (view_of s) (number v) (session v) [] b.parts in record {
@@ -115,6 +115,7 @@ back_in e v s own b ties heard =
       only = alone_only (view_of s) (number v) (session v) v.sights a;
       ties = subst (Ties (engine_sizes e).quota (opened_of s) (written_of s) (left_of s) 0 0) (sym p) ties;
       heard = subst (λ (q : ℕ × SessionPart). IsHeard q.0 q.1.log (seen_by s)) (λ i. (sym n i, sym p i)) (later heard);
+      closed = closed;
     }
   where
     later : IsHeard (number v) (session v).log v.sights → IsHeard (number v) (session v).log (seen_by s)

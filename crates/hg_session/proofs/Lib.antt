@@ -15,6 +15,8 @@ pub mod Ranged
 pub mod Undoing
 pub mod Placed
 pub mod Right
+-- A cursor.
+pub mod Cursors
 -- A scan.
 pub mod ScanningKeys
 pub mod ScanningRows

@@ -20,7 +20,7 @@ use Rattle.hg_core.specs.Logs.{current, own_writes}
 use Rattle.hg_core.specs.Phases.{IsSession}
 use Rattle.hg_base.specs.declared.scope.Scope.{Scope}
 use Rattle.hg_base.specs.declared.value.Value.{Value}
-use Rattle.hg_core.specs.Reading.{FitsScope, Unprinted, own_entries, close, is_access, FitsAnswer, UndoesAll}
+use Rattle.hg_core.specs.Reading.{FitsScope, FitsIn, Unprinted, own_entries, close, is_access, FitsAnswer, UndoesAll}
 use Rattle.hg_core.specs.Reading as reading
 use Rattle.hg_core.proofs.Right.{if_none}
 use Rattle.hg_bucket.specs.declared.refusal.WriteRefusal.{WriteRefusal}
@@ -57,11 +57,11 @@ next_of sights at c o le a = record { before = a.before; next = a.next; over = a
     go (Some n) le = let b = a.begun in omega (arith, le, b)
 
 pub commit_inside : (z : Sizes) (v w : View) (c : Snapshot) (at : ℕ) (n : Option ℕ) → current (session v).log ≡ Some c → Gains v (close n) w → is_some n ≡ is_written (own_writes (session v).log) → IfSome n (IsAfter v.sights at) → Answers z v say.Commit (inside (commit_answer n)) w
-commit_inside z v w c at None e g wrote after = answers_inside z v w say.Commit answers.Ended nothing_more (ap (λ o. reading.is_alone o say.Commit) e) g (sym wrote) (λ c e. tt) tt tt tt tt
-commit_inside z v w c at (Some n) e g wrote after = answers_inside z v w say.Commit (answers.Committed n) nothing_more (ap (λ o. reading.is_alone o say.Commit) e) g (sym wrote) (λ c e. tt) tt (next_of v.sights at n None tt after) tt tt
+commit_inside z v w c at None e g wrote after = answers_inside z v w say.Commit answers.Ended nothing_more (ap (λ o. reading.is_alone o say.Commit) e) g (sym wrote) (λ c e. tt) tt tt tt tt tt
+commit_inside z v w c at (Some n) e g wrote after = answers_inside z v w say.Commit (answers.Committed n) nothing_more (ap (λ o. reading.is_alone o say.Commit) e) g (sym wrote) (λ c e. tt) tt tt (next_of v.sights at n None tt after) tt tt
 
 pub rollback_inside : (z : Sizes) (v w : View) (c : Snapshot) (undone : List Rid) → current (session v).log ≡ Some c → UndoesAll (own_writes (session v).log) undone → Gains v (Over ∷ map Undid undone) w → Answers z v say.Rollback (inside answers.Undone) w
-rollback_inside z v w c undone e all g = answers_inside z v w say.Rollback answers.Undone (record { found = []; part = λ b. []; undone = undone }) (ap (λ o. reading.is_alone o say.Rollback) e) g (tt, all) (λ c e. tt) tt tt tt tt
+rollback_inside z v w c undone e all g = answers_inside z v w say.Rollback answers.Undone (record { found = []; part = λ b. []; undone = undone; rest = None; looked = 0 }) (ap (λ o. reading.is_alone o say.Rollback) e) g (tt, all) (λ c e. tt) tt tt tt tt tt
 
 pub nothing_undone : (undone : List Rid) → UndoesAll [] undone → undone ≡ []
 nothing_undone [] all = refl
@@ -81,6 +81,7 @@ pub record Writing (z : Sizes) (s : Statement) (u : Unprinted) (own : List Write
   pub fits_opened : (w : Writer) → FitsAnswer z.buckets u own s (answers.OpenBy w)
   pub fits_newer : (n : ℕ) → FitsAnswer z.buckets u own s (answers.Newer n)
   pub unscanned : (scope : Scope) (b : Answer) → FitsScope scope s b
+  pub stands : (o : Option Snapshot) → FitsIn o s
   pub by : is_some (stored_by s a) ≡ true
   pub by_opened : (w : Writer) → is_some (stored_by s (answers.OpenBy w)) ≡ false
   pub by_newer : (n : ℕ) → is_some (stored_by s (answers.Newer n)) ≡ false
@@ -98,11 +99,11 @@ module _ (z : Sizes) (s : Statement) (u : Unprinted) (v w : View) (rid : Rid) (i
   inside_now c e = ap (λ o. reading.is_alone o s) e
 
   pub stored_inside : (c : Snapshot) → current (session v).log ≡ Some c → Gains v (Wrote rid image ∷ seen) w → Answers z v s (inside a) w
-  stored_inside c e g = answers_inside z v w s a u (inside_now c e) (subst (λ es. Gains v es w) (sym k.stores) g) k.fits (λ c e. k.unscanned c.scope a) (if_none _ _ k.at_none) (if_none _ _ k.number_none) (if_none _ _ (k.newer_none None None)) (k.goes v)
+  stored_inside c e g = answers_inside z v w s a u (inside_now c e) (subst (λ es. Gains v es w) (sym k.stores) g) k.fits (λ c e. k.unscanned c.scope a) (k.stands (current (session v).log)) (if_none _ _ k.at_none) (if_none _ _ k.number_none) (if_none _ _ (k.newer_none None None)) (k.goes v)
 
   pub refused_inside : (c : Snapshot) (at : ℕ) (e : WriteRefusal) → current (session v).log ≡ Some c → Gains v (entries_of {T = ⊤} rid image (Err e) ++ seen) w → IsRefusedBy z v at e → IfSome (refused_reply false (refused_at at e)) (λ reply. Answers z v s reply w)
-  refused_inside c at (Open j x) e g r = let o : Writer = record { session = j; transaction = x } in answers_inside z v w s (answers.OpenBy o) u (inside_now c e) (subst (λ es. Gains v es w) (sym (k.opened o)) g) (k.fits_opened o) (λ c e. k.unscanned c.scope (answers.OpenBy o)) tt (if_none _ _ (k.none_opened None o)) tt r
-  refused_inside c at (Newer n) e g r = answers_inside z v w s (answers.Newer n) u (inside_now c e) (subst (λ es. Gains v es w) (sym (k.newer n)) g) (k.fits_newer n) (λ c e. k.unscanned c.scope (answers.Newer n)) tt (if_none _ _ (k.none_newer None n)) (omega (arith, r)) tt
+  refused_inside c at (Open j x) e g r = let o : Writer = record { session = j; transaction = x } in answers_inside z v w s (answers.OpenBy o) u (inside_now c e) (subst (λ es. Gains v es w) (sym (k.opened o)) g) (k.fits_opened o) (λ c e. k.unscanned c.scope (answers.OpenBy o)) (k.stands (current (session v).log)) tt (if_none _ _ (k.none_opened None o)) tt r
+  refused_inside c at (Newer n) e g r = answers_inside z v w s (answers.Newer n) u (inside_now c e) (subst (λ es. Gains v es w) (sym (k.newer n)) g) (k.fits_newer n) (λ c e. k.unscanned c.scope (answers.Newer n)) (k.stands (current (session v).log)) tt (if_none _ _ (k.none_newer None n)) (omega (arith, r)) tt
   refused_inside c at NoMemory e g r = tt
 
   -- outside, after the begin and what was seen
@@ -145,6 +146,7 @@ puts z u own rid row = record {
   fits_opened = λ w. tt;
   fits_newer = λ n. tt;
   unscanned = λ scope b. tt;
+  stands = λ o. tt;
   by = refl;
   by_opened = λ w. refl;
   by_newer = λ n. refl;

@@ -30,10 +30,10 @@ use Rattle.hg_session.proofs.Settling.{gains_on}
 -- ---- a scan
 
 abbrev pub with_part : (ℕ → Rows) → Unprinted
-with_part part = record { found = []; part = part; undone = [] }
+with_part part = record { found = []; part = part; undone = []; rest = None; looked = 0 }
 
 pub scan_inside : (z : Sizes) (v w : View) (c : Snapshot) (table : TableId) (low high : ℕ) (rows : Rows) → current (session v).log ≡ Some c → IsTrue (has c.scope table) → ScansAll z.buckets v table low high rows w → Answers z v (say.Scan table low high) (inside (answers.Rows rows)) w
-scan_inside z v w c table low high rows e declared k = answers_inside z v w (say.Scan table low high) (answers.Rows rows) (with_part k.part) (ap (λ o. reading.is_alone o (say.Scan table low high)) e) k.gains k.joins (λ d q. of_some (Some d) (λ snapshot. IsTrue (has snapshot.scope table)) d refl (subst (λ o. IfSome o (λ snapshot. IsTrue (has snapshot.scope table))) (sym e ∙ q) declared)) tt tt tt tt
+scan_inside z v w c table low high rows e declared k = answers_inside z v w (say.Scan table low high) (answers.Rows rows) (with_part k.part) (ap (λ o. reading.is_alone o (say.Scan table low high)) e) k.gains k.joins (λ d q. of_some (Some d) (λ snapshot. IsTrue (has snapshot.scope table)) d refl (subst (λ o. IfSome o (λ snapshot. IsTrue (has snapshot.scope table))) (sym e ∙ q) declared)) tt tt tt tt tt
 
 pub scan_alone : (z : Sizes) (v m n w : View) (at : ℕ) (table : TableId) (low high : ℕ) (rows : Rows) → current (session v).log ≡ None → Each (AtMost at) v.sights → Gains v (Began at (only (Some table)) ∷ []) m → ScansAll z.buckets m table low high rows n → Gains n (Over ∷ []) w
     → Answers z v (say.Scan table low high) (record { at = Some at; answer = answers.Rows rows; number = None }) w
@@ -45,7 +45,7 @@ scan_alone z v m n w at table low high rows e most b k o =
 -- ---- a deletion
 
 abbrev pub with_found : List Value → Unprinted
-with_found found = record { found = found; part = λ b. []; undone = [] }
+with_found found = record { found = found; part = λ b. []; undone = []; rest = None; looked = 0 }
 
 abbrev pub saw_found : Sizes → Rid → List Value → List LogEntry
 saw_found z rid found = saw z.buckets rid ((rid.key, found) ∷ []) ∷ []
@@ -60,6 +60,7 @@ dels z own rid found = record {
   fits_opened = λ w. tt;
   fits_newer = λ n. tt;
   unscanned = λ scope b. tt;
+  stands = λ o. tt;
   by = refl;
   by_opened = λ w. refl;
   by_newer = λ n. refl;
@@ -83,7 +84,7 @@ no_row None e = refl
 no_row (Some found) e = absurd (let k = e in cc)
 
 pub nothing_inside : (z : Sizes) (v w : View) (c : Snapshot) (rid : Rid) → current (session v).log ≡ Some c → Gains v (saw z.buckets rid [] ∷ []) w → Answers z v (say.Del rid) (inside answers.Nothing) w
-nothing_inside z v w c rid e g = answers_inside z v w (say.Del rid) answers.Nothing nothing_more (ap (λ o. reading.is_alone o (say.Del rid)) e) g tt (λ c e. tt) tt tt tt tt
+nothing_inside z v w c rid e g = answers_inside z v w (say.Del rid) answers.Nothing nothing_more (ap (λ o. reading.is_alone o (say.Del rid)) e) g tt (λ c e. tt) tt tt tt tt tt
 
 pub nothing_alone : (z : Sizes) (v w : View) (at : ℕ) (rid : Rid) → current (session v).log ≡ None → Each (AtMost at) v.sights → Gains v (close None ++ (saw z.buckets rid [] ∷ Began at (only (Some rid.table)) ∷ [])) w → Answers z v (say.Del rid) (record { at = Some at; answer = answers.Nothing; number = None }) w
 nothing_alone z v w at rid e most g = answers_alone z v w (say.Del rid) answers.Nothing at None nothing_more e refl g refl tt refl refl most tt tt tt

@@ -38,12 +38,14 @@ seated_is e alloc quota j p most inside new =
           wrote = let b : ℕ = wrotes (session (session_view p)).log in let z : b ≡ 0 = ap (λ v. wrotes (session v).log) is in omega (arith, z, most);
         };
         heard = inl (ap (λ v. (session v).log) is);
+        cursor = tt;
       };
       number_is = at;
       log = ap (λ v. (session v).log) is;
       seen = ap (λ (v : View). v.sights) is;
       left = refl;
       retries = refl;
+      cursor = refl;
     }
 
 pub seated_row : (e : Engine) (alloc : Global) (quota i : ℕ) (ps : List SessionPass) → quota ≤ (engine_sizes e).quota → 0 < i → i + length ps ≤ suc (engine_sizes e).sessions → EachFrom (IsNewSession (engine_board_id e)) i ps → EachFrom (IsNewOf e quota) i (map (seated alloc quota) ps)

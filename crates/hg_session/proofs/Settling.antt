@@ -1,5 +1,5 @@
 -- A session after a call of it, which holds nothing again.
-use Rattle.std.proofs.Common.{◌≡◌, ℕ, List, [], ◌∷◌, ◌++◌, sym, ap, ◌∙◌, subst, inr}
+use Rattle.std.proofs.Common.{◌≡◌, ℕ, None, List, [], ◌∷◌, ◌++◌, sym, ap, ◌∙◌, subst, inr}
 use Rattle.hg_core.specs.declared.log.LogEntry.{LogEntry}
 use Rattle.hg_rule.specs.declared.passes.SessionPass.{SessionPass}
 use Rattle.hg_rule.specs.declared.view.SessionPart.{SessionPart}
@@ -17,7 +17,7 @@ use Rattle.hg_session.specs.declared.engine.Engine.{Engine}
 use Rattle.hg_session.specs.declared.session.Session.{Session}
 use Rattle.hg_session.specs.Engines.{engine_board_id, engine_sizes}
 use Rattle.hg_session.specs.Ties.{Ties, IsHeard}
-use Rattle.hg_session.specs.Sessions.{IsIn, pass_of, view_of, log_of, seen_by, left_of, opened_of, written_of}
+use Rattle.hg_session.specs.Sessions.{IsIn, pass_of, view_of, log_of, seen_by, cursor_of, left_of, opened_of, written_of}
 use Rattle.std.specs.Prelude.{IsFalse, ◌==◌}
 use Rattle.hg_base.specs.declared.writer.Writer.{Writer}
 use Rattle.hg_base.specs.Lists.{Each}
@@ -44,14 +44,15 @@ pub record Trip (j : ℕ) (part : SessionPart) (b : ℕ) (old : List Sight) (u w
 pub trip : (j b : ℕ) (part : SessionPart) (old : List Sight) (u w : View) → Beside j part b old u → IsAmong (Heard j part.log) u.sights → w ≡ without_bucket u → Trip j part b old u w
 trip j b part old u w h among e = record { beside = h; alone = departed j part b old u w h e; heard = subst (IsAmong (Heard j part.log)) (sym (ap (λ (x : View). x.sights) e)) among }
 
-pub settled : (e : Engine) (begins writes : ℕ) (v : View) (s : Session) (part : SessionPart) (old : List Sight) → IsSessionOf (engine_board_id e) (engine_sizes e) (pass_of s) → Alone (number v) part old (view_of s) → Ties (engine_sizes e).quota (opened_of s) (written_of s) (left_of s) begins writes part → IsAmong (Heard (number v) part.log) (seen_by s) → IsIn e begins writes s
-settled e begins writes v s part old own a ties among =
+pub settled : (e : Engine) (begins writes : ℕ) (v : View) (s : Session) (part : SessionPart) (old : List Sight) → IsSessionOf (engine_board_id e) (engine_sizes e) (pass_of s) → Alone (number v) part old (view_of s) → Ties (engine_sizes e).quota (opened_of s) (written_of s) (left_of s) begins writes part → IsAmong (Heard (number v) part.log) (seen_by s) → cursor_of s ≡ None → IsIn e begins writes s
+settled e begins writes v s part old own a ties among closed =
     let n = first_number (view_of s) (number v) part [] a.parts in
     let p = first_session (view_of s) (number v) part [] a.parts in record {
       pass = own;
       only = alone_only (view_of s) (number v) part old a;
       ties = subst (Ties (engine_sizes e).quota (opened_of s) (written_of s) (left_of s) begins writes) (sym p) ties;
       heard = subst (λ j. IsHeard j (log_of s) (seen_by s)) (sym n) (subst (λ l. IsHeard (number v) l (seen_by s)) (sym (ap (λ (x : SessionPart). x.log) p)) (inr among));
+      closed = closed;
     }
 
 pub gained : (v w : View) (part : SessionPart) (es : List LogEntry) → Alone (number v) part v.sights w → part.log ≡ es ++ (session v).log → Gains v es w
@@ -63,8 +64,8 @@ gained v w part es a e = record {
 
 -- the session after a trip
 pub trip_settled : (e : Engine) (begins writes b : ℕ) (v : View) (p : SessionPass) (s : Session) (part : SessionPart) → Trip (number v) part b v.sights (session_view p) (view_of s) → IsSessionOf (engine_board_id e) (engine_sizes e) p → IsSeatOf (engine_board_id e) (pass_of s).seat → session_rest (pass_of s) ≡ session_rest p
-    → Ties (engine_sizes e).quota (opened_of s) (written_of s) (left_of s) begins writes part → IsIn e begins writes s
-trip_settled e begins writes b v p s part t own seat rest ties = settled e begins writes v s part v.sights (left_pass (engine_board_id e) (engine_sizes e) p (pass_of s) (number v) b part v.sights own t.beside seat rest t.alone) t.alone ties t.heard
+    → Ties (engine_sizes e).quota (opened_of s) (written_of s) (left_of s) begins writes part → cursor_of s ≡ None → IsIn e begins writes s
+trip_settled e begins writes b v p s part t own seat rest ties closed = settled e begins writes v s part v.sights (left_pass (engine_board_id e) (engine_sizes e) p (pass_of s) (number v) b part v.sights own t.beside seat rest t.alone) t.alone ties t.heard closed
 
 -- two calls, one after the other
 pub gains_on : (u v w : View) (es fs : List LogEntry) → Gains u es v → Gains v fs w → ((l : List LogEntry) → fs ++ (es ++ l) ≡ (fs ++ es) ++ l) → Gains u (fs ++ es) w

@@ -8,6 +8,7 @@ pub mod Opened
 pub mod Gains
 pub mod Replies
 pub mod Refused
+pub mod Cursors
 pub mod Alone
 -- What a view tells of a reply that it has heard.
 pub mod Right

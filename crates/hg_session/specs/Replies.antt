@@ -8,9 +8,9 @@ use Rattle.hg_base.specs.declared.rid.TableId.{TableId}
 use Rattle.hg_base.specs.declared.scope.Snapshot.{Snapshot}
 use Rattle.hg_base.specs.declared.value.Value.{Value}
 use Rattle.hg_base.specs.Lists.{Each}
-use Rattle.hg_base.specs.Transcript.{has}
+use Rattle.hg_base.specs.Transcript.{Rest, has}
 use Rattle.hg_core.specs.Phases.{IsSession}
-use Rattle.hg_core.specs.Reading.{Unprinted, Fits, log_after}
+use Rattle.hg_core.specs.Reading.{Unprinted, Fits, HasRest, log_after}
 use Rattle.hg_rule.specs.declared.view.Sizes.{Sizes}
 use Rattle.hg_rule.specs.declared.view.Sight.{Sight}
 use Rattle.hg_rule.specs.declared.view.View.{View}
@@ -109,6 +109,11 @@ pub record Answers (z : Sizes) (old : View) (statement : Statement) (reply : Rep
   pub commit : IfSome (commit_in statement reply) (IsNext old.sights (snapshot_in reply))
   pub newer : IfSome (newer_in reply) (λ c. 0 < c)
   pub goes_on : GoesOn z old reply.answer
+
+-- the same of a session whose cursor has this left before the statement
+pub record AnswersFrom (rest : Option Rest) (z : Sizes) (old : View) (statement : Statement) (reply : Reply) (new : View) : Type 0 where
+  pub answers : Answers z old statement reply new
+  pub rest_is : HasRest statement answers.u.rest rest
 
 -- ---- the snapshot in an answer
 

@@ -1,9 +1,10 @@
 -- What a clause says of a session.
-use Rattle.std.specs.Prelude.{ℕ, List, Option, is_none, Bool}
+use Rattle.std.specs.Prelude.{◌≡◌, ℕ, List, Option, None, is_none, Bool}
 use Rattle.hg_base.specs.declared.rid.Rid.{Rid}
 use Rattle.hg_base.specs.declared.scope.Snapshot.{Snapshot}
 use Rattle.hg_core.specs.declared.log.LogEntry.{LogEntry}
 use Rattle.hg_core.specs.Logs.{current}
+use Rattle.hg_cursor.specs.declared.cursor.Cursor.{Cursor}
 use Rattle.hg_rule.specs.declared.passes.SessionPass.{SessionPass}
 use Rattle.hg_rule.specs.declared.view.Sight.{Sight}
 use Rattle.hg_rule.specs.declared.view.View.{View}
@@ -12,7 +13,7 @@ use Rattle.hg_rule.specs.Seats.{session_view, IsSessionOf}
 use Rattle.hg_session.specs.declared.engine.Engine.{Engine}
 use Rattle.hg_session.specs.declared.session.Session.{Session}
 use Rattle.hg_session.specs.Engines.{engine_board_id, engine_sizes}
-use Rattle.hg_session.specs.Ties.{Ties, IsHeard}
+use Rattle.hg_session.specs.Ties.{Ties, FitsCursor, IsHeard}
 
 -- its pass, what that sees, its number, its log and what it has seen
 abbrev pub pass_of : Session → SessionPass
@@ -40,7 +41,11 @@ is_alone s = is_none (open_of s)
 abbrev pub left_of : Session → ℕ
 left_of s = s.left
 
--- how many of its commits were refused for want of memory
+-- its cursor, if one is open
+abbrev pub cursor_of : Session → Option Cursor
+cursor_of s = s.cursor
+
+-- how many of its commits ran out of memory
 abbrev pub retries_of : Session → ℕ
 retries_of s = s.retries
 
@@ -50,13 +55,19 @@ opened_of s = s.opened
 abbrev pub written_of : Session → List Rid
 written_of s = s.written.list
 
--- The session is one of the engine and holds nothing of it, and what it keeps is what its part of the state says. It has
--- heard its own log.
+-- In a call, with no cursor: the session is one of the engine and holds nothing of it, and what it keeps is what its part of
+-- the state says. It has heard its own log.
 pub record IsIn (e : Engine) (begins writes : ℕ) (s : Session) : Type 0 where
   pub pass : IsSessionOf (engine_board_id e) (engine_sizes e) (pass_of s)
   pub only : HasOnlySession (view_of s)
   pub ties : Ties (engine_sizes e).quota (opened_of s) (written_of s) (left_of s) begins writes (session (view_of s))
   pub heard : IsHeard (number_of s) (log_of s) (seen_by s)
+  pub closed : cursor_of s ≡ None
 
-abbrev pub IsOf : Engine → Session → Type 0
-IsOf e s = IsIn e 0 0 s
+-- the same between calls, where a cursor may be open
+pub record IsOf (e : Engine) (s : Session) : Type 0 where
+  pub pass : IsSessionOf (engine_board_id e) (engine_sizes e) (pass_of s)
+  pub only : HasOnlySession (view_of s)
+  pub ties : Ties (engine_sizes e).quota (opened_of s) (written_of s) (left_of s) 0 0 (session (view_of s))
+  pub heard : IsHeard (number_of s) (log_of s) (seen_by s)
+  pub cursor : FitsCursor (cursor_of s) (opened_of s) (written_of s)

@@ -1,12 +1,15 @@
 -- What a session keeps of its part of the state.
-use Rattle.std.specs.Prelude.{◌≡◌, ◌⊎◌, ℕ, ◌+◌, ◌≤◌, List, [], false, Option, Some, None, is_some, IsTrue}
+use Rattle.std.specs.Prelude.{◌≡◌, ◌⊎◌, ℕ, ◌+◌, ◌≤◌, List, [], false, Option, Some, None, is_some, IsTrue, ⊤}
 use Rattle.hg_base.specs.declared.rid.Rid.{Rid}
 use Rattle.hg_base.specs.declared.scope.Snapshot.{Snapshot}
 use Rattle.hg_base.specs.History.{is_among, NoneTwice}
+use Rattle.hg_base.specs.Transcript.{only}
 use Rattle.hg_core.specs.declared.phase.Phase.{Phase}
 use Rattle.hg_core.specs.declared.phase.Phase.TheVariants.{Idle, Live}
 use Rattle.hg_core.specs.declared.log.LogEntry.{LogEntry}
 use Rattle.hg_core.specs.Logs.{current, begans, wrotes, is_plain, open_in}
+use Rattle.hg_cursor.specs.declared.cursor.Cursor.{Cursor}
+use Rattle.hg_cursor.specs.Cursors.{at_of, table_of}
 use Rattle.hg_rule.specs.declared.view.SessionPart.{SessionPart}
 use Rattle.hg_rule.specs.declared.view.Sight.{Sight}
 use Rattle.hg_rule.specs.declared.view.Sight.TheVariants.{Heard}
@@ -33,6 +36,15 @@ pub record Ties (quota : ℕ) (opened : Option Snapshot) (written : List Rid) (l
   pub rests : opened ≡ None → written ≡ []
   pub begun : begans part.log + left + begins ≤ quota
   pub wrote : wrotes part.log + left + writes ≤ quota
+
+-- the snapshot of a cursor, whose transaction declares its one table
+abbrev pub snapshot_of : Cursor → Snapshot
+snapshot_of c = record { at = at_of c; scope = only (Some (table_of c)) }
+
+-- a cursor that is open reads in the open transaction, which has written nothing
+abbrev pub FitsCursor : Option Cursor → Option Snapshot → List Rid → Type 0
+FitsCursor None opened written = ⊤
+FitsCursor (Some c) opened written = (opened ≡ Some (snapshot_of c)) × (written ≡ [])
 
 -- the whole log of session j was heard
 abbrev pub IsHeard : ℕ → List LogEntry → List Sight → Type 0

@@ -7,7 +7,7 @@ ghost use Rattle.hg_base.specs.Replies.{is_written};
 ghost use Rattle.hg_core.specs.Logs.{own_writes};
 ghost use Rattle.hg_core.specs.Reading.{close};
 ghost use Rattle.hg_session.specs.Engines.{engine_sizes};
-ghost use Rattle.hg_session.specs.Sessions.{IsIn, IsOf, view_of, log_of, seen_by, open_of, left_of, retries_of, opened_of};
+ghost use Rattle.hg_session.specs.Sessions.{IsIn, IsOf, view_of, log_of, seen_by, open_of, cursor_of, left_of, retries_of, opened_of};
 ghost use Rattle.hg_session.specs.Replies.{Answers, inside, commit_answer};
 ghost use Rattle.hg_session.specs.Gains.{Gains, HasPlace, IsAfter, receipt_number};
 
@@ -70,10 +70,12 @@ impl Session {
     pub fn commit<R: Wait>(&mut self, rt: &R, engine: &Engine) -> Result<Ended, NoMemory>
         requires own { IsOf engine.now self.old }
         requires opened { IsSome (open_of self.old) }
+        requires cursor { cursor_of self.old ≡ None }
         ensures answers { IfOk result (λ ended. Answers (engine_sizes engine.now) (view_of self.old) say.Commit (inside (commit_answer (receipt_number ended.receipt))) (view_of self.new)) }
         ensures refused { OnErr result (Gains (view_of self.old) [] (view_of self.new) × (open_of self.new ≡ open_of self.old)) }
         ensures placed { IfOk result (λ ended. IfSome ended.receipt (HasPlace (view_of self.old) (view_of self.new))) }
         ensures over { OnOk result (open_of self.new ≡ None) }
+        ensures cursor { cursor_of self.new ≡ None }
         ensures left { left_of self.new ≡ left_of self.old }
         ensures retries { OnOk result (retries_of self.new ≡ retries_of self.old) }
         ensures again { OnErr result (retries_of self.new ≡ next_count (retries_of self.old)) }

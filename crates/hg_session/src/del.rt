@@ -9,7 +9,7 @@ ghost use Rattle.hg_base.specs.Transcript.{has};
 ghost use Rattle.hg_core.specs.Reading.{saw};
 ghost use Rattle.hg_session.specs.declared.answers.PutRefusal.TheVariants as refusal;
 ghost use Rattle.hg_session.specs.Engines.{engine_sizes};
-ghost use Rattle.hg_session.specs.Sessions.{IsIn, IsOf, is_alone, view_of, open_of, left_of, retries_of, opened_of, written_of};
+ghost use Rattle.hg_session.specs.Sessions.{IsIn, IsOf, is_alone, view_of, open_of, cursor_of, left_of, retries_of, opened_of, written_of};
 ghost use Rattle.hg_session.specs.Gains.{Gains, rows_at};
 ghost use Rattle.hg_session.specs.Refused.{HasLooked, LeavesNoWrite};
 ghost use Rattle.hg_session.specs.Replies.{Answers, IsRefusedIf, IsAtOwn, del_at, del_reply};
@@ -56,6 +56,7 @@ impl Session {
     /// Looks first, as a get does. A row that is seen is deleted. Where none is, nothing is written, and no conflict is tested.
     pub fn del<R: Wait>(&mut self, rt: &R, engine: &Engine, rid: Rid) -> Result<Deleted, PutRefusal>
         requires own { IsOf engine.now self.old }
+        requires cursor { cursor_of self.old ≡ None }
         requires left { 0 < left_of self.old }
         requires table { rid.table.0 < (engine_sizes engine.now).tables }
         ensures reply { IfSome (del_reply (is_alone self.old) result) (λ reply. Answers (engine_sizes engine.now) (view_of self.old) (say.Del rid) reply (view_of self.new)) }
@@ -63,6 +64,7 @@ impl Session {
         ensures undeclared { IsRefusedIf (open_of self.old) rid.table result (refusal.Undeclared rid.table) }
         ensures refused { result ≡ Err refusal.NoMemory → LeavesNoWrite (open_of self.old) rid nothing (view_of self.old) (view_of self.new) }
         ensures open { open_of self.new ≡ open_of self.old }
+        ensures cursor { cursor_of self.new ≡ None }
         ensures left { left_of self.new + 1 ≡ left_of self.old }
         ensures retries { retries_of self.new ≡ retries_of self.old }
         ensures own { IsOf engine.now self.new }
@@ -91,7 +93,7 @@ impl Session {
         ensures open { opened_of self.new ≡ opened_of self.old }
         ensures left { left_of self.new ≡ left_of self.old }
         ensures retries { retries_of self.new ≡ retries_of self.old }
-        ensures own { IsOf engine.now self.new }
+        ensures own { IsIn engine.now 0 0 self.new }
     {
         let at = snapshot.at;
         if self.is_outside(engine, snapshot, rid.table) {
@@ -130,7 +132,7 @@ impl Session {
         ensures open { opened_of self.new ≡ None }
         ensures left { left_of self.new ≡ left_of self.old }
         ensures retries { retries_of self.new ≡ retries_of self.old }
-        ensures own { IsOf engine.now self.new }
+        ensures own { IsIn engine.now 0 0 self.new }
     {
         let snapshot = self.open(engine, only(rid.table));
         if !self.see_there(rt, engine, snapshot, rid) {

@@ -13,7 +13,7 @@ ghost use Rattle.hg_core.specs.Contents.{bucket_of};
 ghost use Rattle.hg_core.specs.Words.{IsBelow};
 ghost use Rattle.hg_core.specs.Reading.{saw};
 ghost use Rattle.hg_session.specs.Engines.{engine_sizes};
-ghost use Rattle.hg_session.specs.Sessions.{IsIn, IsOf, is_alone, view_of, open_of, left_of, retries_of, opened_of, written_of};
+ghost use Rattle.hg_session.specs.Sessions.{IsIn, IsOf, is_alone, view_of, open_of, cursor_of, left_of, retries_of, opened_of, written_of};
 ghost use Rattle.hg_session.specs.Replies.{Answers, IsRefusedIf, IsAtOwn, get_at, reading, row_answer, get_reply};
 ghost use Rattle.hg_session.specs.Gains.{Gains, rows_at, outside_entries};
 ghost use Rattle.hg_session.specs.Refused.{HasLooked, HasGivenUp, LeavesLooks};
@@ -102,6 +102,7 @@ impl Session {
     /// The row of a record, as the transaction sees it, or none.
     pub fn get<R: Wait>(&mut self, rt: &R, engine: &Engine, rid: Rid) -> Result<Read, GetRefusal>
         requires own { IsOf engine.now self.old }
+        requires cursor { cursor_of self.old ≡ None }
         requires left { 0 < left_of self.old }
         requires table { rid.table.0 < (engine_sizes engine.now).tables }
         ensures reply { IfSome (get_reply (is_alone self.old) result) (λ reply. Answers (engine_sizes engine.now) (view_of self.old) (say.Get rid) reply (view_of self.new)) }
@@ -109,6 +110,7 @@ impl Session {
         ensures undeclared { IsRefusedIf (open_of self.old) rid.table result (refusal.Undeclared rid.table) }
         ensures refused { result ≡ Err refusal.NoMemory → LeavesLooks (open_of self.old) rid.table rid.key rid.key (view_of self.old) (view_of self.new) }
         ensures open { open_of self.new ≡ open_of self.old }
+        ensures cursor { cursor_of self.new ≡ None }
         ensures left { left_of self.new + 1 ≡ left_of self.old }
         ensures retries { retries_of self.new ≡ retries_of self.old }
         ensures own { IsOf engine.now self.new }
@@ -137,7 +139,7 @@ impl Session {
         ensures open { opened_of self.new ≡ opened_of self.old }
         ensures left { left_of self.new ≡ left_of self.old }
         ensures retries { retries_of self.new ≡ retries_of self.old }
-        ensures own { IsOf engine.now self.new }
+        ensures own { IsIn engine.now 0 0 self.new }
     {
         if self.is_outside(engine, snapshot, rid.table) {
             return Err(GetRefusal::Undeclared { table: rid.table });
@@ -159,7 +161,7 @@ impl Session {
         ensures open { opened_of self.new ≡ None }
         ensures left { left_of self.new ≡ left_of self.old }
         ensures retries { retries_of self.new ≡ retries_of self.old }
-        ensures own { IsOf engine.now self.new }
+        ensures own { IsIn engine.now 0 0 self.new }
     {
         let snapshot = self.open(engine, only(rid.table));
         let row = self.see_row(rt, engine, snapshot, rid);

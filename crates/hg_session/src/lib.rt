@@ -10,16 +10,20 @@
 //!     scan       each bucket that can have a key, once, in order; then the rows by key
 //!     commit     hand over, into the queue; the commit lock; lead all that waits there, or be led; end
 //!     rollback   an undo for each record; end
+//!     cursor     begin; for each fetch, the buckets that can have the next rows, each once; end
 //!
 //! The session's log after a call is a function of the log before, the statement, the reply, and what no reply prints (`Answers`): the
 //! statement's entries are appended once, and nothing else. So a command that prints the replies has nothing to prove about contents or
 //! snapshots. It shows the logs, once, at its end.
 //!
 //! A statement outside a transaction is a transaction of its own: it begins with its one table declared, does its work, and commits.
+//!
+//! A cursor is a transaction that reads one range and nothing else. While it is open, no other statement may be run (`FitsCursor`).
 #![tactic(auto)]
 
 mod answers;
 mod commit;
+mod cursor;
 mod del;
 mod engine;
 mod finish;

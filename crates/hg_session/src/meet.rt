@@ -6,7 +6,7 @@ ghost use Rattle.hg_rule.specs.Views.{session};
 ghost use Rattle.hg_rule.specs.Moves.{joined, merged, meeting};
 ghost use Rattle.hg_rule.specs.Seats.{pass_view, IsPassOf};
 ghost use Rattle.hg_session.specs.Engines.{engine_board_id, engine_sizes};
-ghost use Rattle.hg_session.specs.Sessions.{IsOf, view_of, number_of, open_of, left_of, retries_of};
+ghost use Rattle.hg_session.specs.Sessions.{IsOf, view_of, number_of, open_of, cursor_of, left_of, retries_of};
 
 use crate::engine::Engine;
 use crate::session::Session;
@@ -20,6 +20,7 @@ impl Session {
         ensures view { view_of self.new ≡ meeting (view_of self.old) (view_of other.old) }
         ensures other { view_of other.new ≡ meeting (view_of other.old) (view_of self.new) }
         ensures kept { (left_of self.new ≡ left_of self.old) × (left_of other.new ≡ left_of other.old) }
+        ensures cursor { (cursor_of self.new ≡ cursor_of self.old) × (cursor_of other.new ≡ cursor_of other.old) }
         ensures retries { (retries_of self.new ≡ retries_of self.old) × (retries_of other.new ≡ retries_of other.old) }
         ensures own { IsOf engine.now self.new × IsOf engine.now other.new }
     {
@@ -34,13 +35,15 @@ impl Session {
         ensures pass { pass_view pass.new ≡ meeting (pass_view pass.old) (view_of self.old) }
         ensures view { view_of self.new ≡ meeting (view_of self.old) (pass_view pass.new) }
         ensures kept { left_of self.new ≡ left_of self.old }
+        ensures cursor { cursor_of self.new ≡ cursor_of self.old }
         ensures retries { retries_of self.new ≡ retries_of self.old }
         ensures own { IsOf engine.now self.new × IsPassOf (engine_board_id engine.now) pass.new }
     {
         pass.meet(engine.board(), &mut self.pass);
     }
 
-    /// Its part of the state goes to a collector's pass for good, which then knows what it had seen and done.
+    /// Its part of the state goes to a collector's pass for good, which then knows what it had seen and done. No transaction is
+    /// open, and so no cursor.
     pub fn finish(self, engine: &Engine, pass: &mut CollectorPass)
         requires own { IsOf engine.now self × IsPassOf (engine_board_id engine.now) pass.old }
         requires closed { open_of self ≡ None }

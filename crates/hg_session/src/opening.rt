@@ -41,6 +41,7 @@ fn seat_all(alloc: Global, passes: Vec<SessionPass>, quota: u64) -> Result<Vec<S
             pass,
             opened: None,
             written,
+            cursor: None,
             left: quota,
             retries: 0,
             alloc,

@@ -7,7 +7,7 @@ ghost use Rattle.hg_base.specs.Transcript.{has};
 ghost use Rattle.hg_core.specs.Events.{with_refusal};
 ghost use Rattle.hg_core.specs.declared.log.LogEntry.TheVariants.{Wrote};
 ghost use Rattle.hg_session.specs.Engines.{engine_sizes};
-ghost use Rattle.hg_session.specs.Sessions.{IsIn, IsOf, is_alone, view_of, open_of, left_of, retries_of, opened_of, written_of};
+ghost use Rattle.hg_session.specs.Sessions.{IsIn, IsOf, is_alone, view_of, open_of, cursor_of, left_of, retries_of, opened_of, written_of};
 ghost use Rattle.hg_session.specs.Replies.{Answers, IsRefusedIf, IsAtOwn, put_at, put_reply, refused_at};
 ghost use Rattle.hg_session.specs.Alone.{WritesAlone, IsRefusedAlone};
 ghost use Rattle.hg_session.specs.Gains.{Gains, IsRefusedBy, entries_of};
@@ -90,7 +90,7 @@ impl Session {
         ensures over { opened_of self.new ≡ None }
         ensures left { left_of self.new ≡ left_of self.old }
         ensures retries { retries_of self.new ≡ retries_of self.old }
-        ensures own { IsOf engine.now self.new }
+        ensures own { IsIn engine.now 0 0 self.new }
     {
         if let Err(refusal) = self.write_row(rt, engine, snapshot, rid, image) {
             self.undo_open(rt, engine);
@@ -115,6 +115,7 @@ impl Session {
         row: Row,
     ) -> Result<Written, PutRefusal>
         requires own { IsOf engine.now self.old }
+        requires cursor { cursor_of self.old ≡ None }
         requires left { 0 < left_of self.old }
         requires table { rid.table.0 < (engine_sizes engine.now).tables }
         ensures reply { IfSome (put_reply (is_alone self.old) result) (λ reply. Answers (engine_sizes engine.now) (view_of self.old) (say.Put rid row) reply (view_of self.new)) }
@@ -122,6 +123,7 @@ impl Session {
         ensures undeclared { IsRefusedIf (open_of self.old) rid.table result (refusal.Undeclared rid.table) }
         ensures refused { result ≡ Err refusal.NoMemory → LeavesNoWrite (open_of self.old) rid (record { row = Some row }) (view_of self.old) (view_of self.new) }
         ensures open { open_of self.new ≡ open_of self.old }
+        ensures cursor { cursor_of self.new ≡ None }
         ensures left { left_of self.new + 1 ≡ left_of self.old }
         ensures retries { retries_of self.new ≡ retries_of self.old }
         ensures own { IsOf engine.now self.new }
@@ -151,7 +153,7 @@ impl Session {
         ensures open { opened_of self.new ≡ opened_of self.old }
         ensures left { left_of self.new ≡ left_of self.old }
         ensures retries { retries_of self.new ≡ retries_of self.old }
-        ensures own { IsOf engine.now self.new }
+        ensures own { IsIn engine.now 0 0 self.new }
     {
         if self.is_outside(engine, snapshot, rid.table) {
             return Err(PutRefusal::Undeclared { table: rid.table });
@@ -183,7 +185,7 @@ impl Session {
         ensures open { opened_of self.new ≡ None }
         ensures left { left_of self.new ≡ left_of self.old }
         ensures retries { retries_of self.new ≡ retries_of self.old }
-        ensures own { IsOf engine.now self.new }
+        ensures own { IsIn engine.now 0 0 self.new }
     {
         let snapshot = self.open(engine, only(rid.table));
         let image = Image { row: Some(row) };

@@ -12,7 +12,7 @@ ghost use Rattle.hg_rule.specs.Views.{session, HasOnlySession};
 ghost use Rattle.hg_rule.specs.Holding.{writer as writer_of};
 ghost use Rattle.hg_rule.specs.Seats.{session_view, IsSessionOf};
 ghost use Rattle.hg_session.specs.Engines.{engine_board_id, engine_sizes};
-ghost use Rattle.hg_session.specs.Sessions.{IsIn, IsOf, view_of, log_of, open_of, left_of, retries_of, opened_of};
+ghost use Rattle.hg_session.specs.Sessions.{IsIn, IsOf, view_of, log_of, open_of, cursor_of, left_of, retries_of, opened_of};
 ghost use Rattle.hg_session.specs.Replies.{Answers, inside};
 ghost use Rattle.hg_session.specs.Gains.{Gains, HasUndone};
 
@@ -83,8 +83,10 @@ impl Session {
     pub fn rollback<R: Wait>(&mut self, rt: &R, engine: &Engine)
         requires own { IsOf engine.now self.old }
         requires opened { IsSome (open_of self.old) }
+        requires cursor { cursor_of self.old ≡ None }
         ensures answers { Answers (engine_sizes engine.now) (view_of self.old) say.Rollback (inside Undone) (view_of self.new) }
         ensures over { open_of self.new ≡ None }
+        ensures cursor { cursor_of self.new ≡ None }
         ensures left { left_of self.new ≡ left_of self.old }
         ensures retries { retries_of self.new ≡ retries_of self.old }
         ensures own { IsOf engine.now self.new }

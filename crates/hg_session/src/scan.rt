@@ -18,7 +18,7 @@ ghost use Rattle.hg_rule.specs.declared.view.View.{View};
 ghost use Rattle.hg_rule.specs.Holding.{bucket as bucket_in, held as held_in};
 ghost use Rattle.hg_store.specs.Stores.{Holds};
 ghost use Rattle.hg_session.specs.Engines.{engine_sizes};
-ghost use Rattle.hg_session.specs.Sessions.{IsIn, IsOf, is_alone, view_of, open_of, left_of, retries_of, opened_of, written_of};
+ghost use Rattle.hg_session.specs.Sessions.{IsIn, IsOf, is_alone, view_of, open_of, cursor_of, left_of, retries_of, opened_of, written_of};
 ghost use Rattle.hg_session.specs.declared.answers.GetRefusal.TheVariants as refusal;
 ghost use Rattle.hg_session.specs.Replies.{Answers, IsRefusedIf, IsAtOwn, scan_at, reading, scan_reply};
 ghost use Rattle.hg_session.specs.Gains.{rows_at};
@@ -224,6 +224,7 @@ impl Session {
         high: u64,
     ) -> Result<Scanned, GetRefusal>
         requires own { IsOf engine.now self.old }
+        requires cursor { cursor_of self.old ≡ None }
         requires left { 0 < left_of self.old }
         requires table { table.0 < (engine_sizes engine.now).tables }
         ensures reply { IfSome (scan_reply (is_alone self.old) result) (λ reply. Answers (engine_sizes engine.now) (view_of self.old) (say.Scan table low high) reply (view_of self.new)) }
@@ -231,6 +232,7 @@ impl Session {
         ensures undeclared { IsRefusedIf (open_of self.old) table result (refusal.Undeclared table) }
         ensures refused { result ≡ Err refusal.NoMemory → LeavesLooks (open_of self.old) table low high (view_of self.old) (view_of self.new) }
         ensures open { open_of self.new ≡ open_of self.old }
+        ensures cursor { cursor_of self.new ≡ None }
         ensures left { left_of self.new + 1 ≡ left_of self.old }
         ensures retries { retries_of self.new ≡ retries_of self.old }
         ensures own { IsOf engine.now self.new }
@@ -260,7 +262,7 @@ impl Session {
         ensures open { opened_of self.new ≡ opened_of self.old }
         ensures left { left_of self.new ≡ left_of self.old }
         ensures retries { retries_of self.new ≡ retries_of self.old }
-        ensures own { IsOf engine.now self.new }
+        ensures own { IsIn engine.now 0 0 self.new }
     {
         let table = range.table;
         if self.is_outside(engine, snapshot, table) {
@@ -288,7 +290,7 @@ impl Session {
         ensures open { opened_of self.new ≡ None }
         ensures left { left_of self.new ≡ left_of self.old }
         ensures retries { retries_of self.new ≡ retries_of self.old }
-        ensures own { IsOf engine.now self.new }
+        ensures own { IsIn engine.now 0 0 self.new }
     {
         let snapshot = self.open(engine, only(range.table));
         let rows = self.scan_rows(rt, engine, snapshot, range);

@@ -9,12 +9,13 @@ ghost use Rattle.hg_core.specs.declared.log.LogEntry.TheVariants.{Began, Over};
 ghost use Rattle.hg_tracker.specs.Begun.{AtMost};
 ghost use Rattle.hg_session.specs.declared.engine.Engine.{Engine};
 ghost use Rattle.hg_session.specs.Engines.{engine_sizes};
-ghost use Rattle.hg_session.specs.Sessions.{IsIn, IsOf, view_of, seen_by, open_of, left_of, retries_of, opened_of, written_of};
+ghost use Rattle.hg_session.specs.Sessions.{IsIn, IsOf, view_of, seen_by, open_of, cursor_of, left_of, retries_of, opened_of, written_of};
 ghost use Rattle.hg_session.specs.Replies.{Answers, inside};
 ghost use Rattle.hg_session.specs.Gains.{Gains};
 
 use crate::engine::Engine;
 use hg_base::{Scope, Snapshot};
+use hg_cursor::Cursor;
 use hg_group::RidList;
 use hg_rule::SessionPass;
 use std::alloc::Global;
@@ -26,6 +27,8 @@ pub struct Session {
     // The snapshot of the open transaction, and the records that this one wrote.
     pub(crate) opened: Option<Snapshot>,
     pub(crate) written: RidList,
+    // Where it is open, the open transaction is the cursor's.
+    pub(crate) cursor: Option<Cursor>,
     pub(crate) left: u64,
     pub(crate) retries: u64,
     pub(crate) alloc: Global,
@@ -66,22 +69,24 @@ impl Session {
     // One statement of those that are left.
     pub(crate) fn spend(&mut self)
         requires left { 0 < left_of self.old }
-        ensures own { (e : Engine) → IsOf e self.old → IsIn e 1 1 self.new }
+        ensures own { (e : Engine) → IsOf e self.old → IsOf e self.new }
+        ensures may { (e : Engine) → IsOf e self.old → cursor_of self.old ≡ None → IsIn e 1 1 self.new }
         ensures kept { (view_of self.new ≡ view_of self.old) × (opened_of self.new ≡ opened_of self.old) × (written_of self.new ≡ written_of self.old) }
+        ensures cursor { cursor_of self.new ≡ cursor_of self.old }
         ensures left { left_of self.new + 1 ≡ left_of self.old }
         ensures retries { retries_of self.new ≡ retries_of self.old }
     {
         self.left -= 1;
     }
 
-    /// Whether a transaction is open.
+    /// Whether a transaction is open. A cursor has one.
     pub fn is_open(&self) -> bool
         ensures { (e : Engine) → IsOf e self.now → result ≡ is_some (open_of self.now) }
     {
         self.opened.is_some()
     }
 
-    /// How many statements the session may still run. A commit or rollback takes none.
+    /// How many statements the session may still run. A commit, a rollback and the closing of a cursor take none.
     pub fn left(&self) -> u64
         ensures { result ≡ left_of self.now }
     {
@@ -95,7 +100,7 @@ impl Session {
         self.retries
     }
 
-    /// Begins a transaction, and answers its snapshot. No memory and no lock is taken.
+    /// Begins a transaction, and answers its snapshot. No memory and no lock is taken. No transaction is open, and so no cursor.
     pub fn begin(&mut self, engine: &Engine, scope: Scope) -> u64
         requires own { IsOf engine.now self.old }
         requires closed { open_of self.old ≡ None }
@@ -103,6 +108,7 @@ impl Session {
         requires tables { IsBelow (engine_sizes engine.now).tables scope }
         ensures answers { Answers (engine_sizes engine.now) (view_of self.old) (say.Begin scope) (inside (Begun result)) (view_of self.new) }
         ensures open { open_of self.new ≡ Some (record { at = result; scope = scope }) }
+        ensures cursor { cursor_of self.new ≡ None }
         ensures left { left_of self.new + 1 ≡ left_of self.old }
         ensures retries { retries_of self.new ≡ retries_of self.old }
         ensures own { IsOf engine.now self.new }

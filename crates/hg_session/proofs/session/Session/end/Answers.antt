@@ -12,4 +12,4 @@ returns-clause-own c =
     let v = session_view c.args.self.now.pass in
     let e = ended v (session_view c.end.new.pass) c.requires.own.only c.end.ensures.step in
     let own : IsSessionOf (engine_board_id c.args.engine.now) (engine_sizes c.args.engine.now) c.end.new.pass = search rules in
-    settled c.args.engine.now 0 0 v _ _ v.sights own e.0 (ties_over _ _ 0 0 _ _ (session v) c.requires.unwritten c.requires.own.ties) e.1
+    settled c.args.engine.now 0 0 v _ _ v.sights own e.0 (ties_over _ _ 0 0 _ _ (session v) c.requires.unwritten c.requires.own.ties) e.1 c.requires.own.closed

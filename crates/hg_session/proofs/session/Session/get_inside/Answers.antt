@@ -16,7 +16,7 @@ returns-then-is_outside-clause-reply g c =
     let v = view_of c.args.self.now in
     let opened : current (session v).log ≡ Some c.args.snapshot = search rules in
     let gains = subst (λ b. Gains v (outside_entries b c.args.rid.table) (view_of c.is_outside.new.self)) c.if-is_outside.true c.is_outside.ensures.gains in
-    undeclared_inside z v (view_of c.is_outside.new.self) c.args.snapshot (say.Get c.args.rid) c.args.rid.table opened refl refl refl gains
+    undeclared_inside z v (view_of c.is_outside.new.self) c.args.snapshot (say.Get c.args.rid) c.args.rid.table opened refl refl tt refl gains
 
 pub returns-in_err-row-clause-refused : goal.returns-in_err-row-clause-refused
 returns-in_err-row-clause-refused g c =

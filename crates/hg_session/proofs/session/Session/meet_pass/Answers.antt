@@ -8,4 +8,4 @@ pub returns-clause-own : goal.returns-clause-own
 returns-clause-own c =
     let own : IsSessionOf (engine_board_id c.args.engine.now) (engine_sizes c.args.engine.now) c.meet.new.other = search rules in
     let pass : IsPassOf (engine_board_id c.args.engine.now) c.meet.new.self = search rules in
-    (met c.args.engine.now 0 0 c.args.self.now _ (pass_view c.meet.new.self) c.requires.own.0 own c.meet.ensures.other refl refl refl, pass)
+    (met c.args.engine.now c.args.self.now _ (pass_view c.meet.new.self) c.requires.own.0 own c.meet.ensures.other refl refl refl refl, pass)

@@ -47,4 +47,4 @@ returns-clause-own g c =
     let own : IsSessionOf (engine_board_id c.args.engine.now) (engine_sizes c.args.engine.now) c.see.new.pass = search rules in
     let seat : IsSeatOf (engine_board_id c.args.engine.now) c.give.new.pass.seat = search rules in
     let t = trip_saw z.buckets (number v) b c.see.ensures.step.0 (session v) v.sights c.args.range.table c.args.range.low c.args.range.high u w h k x c.give.ensures.view in
-    trip_settled c.args.engine.now 0 1 b v c.see.new.pass _ _ t own seat c.give.ensures.own.1 (ties_quiet _ _ 0 1 _ _ (session v) (Saw c.args.range.table c.args.range.low c.args.range.high b k.rows) tt c.requires.own.ties)
+    trip_settled c.args.engine.now 0 1 b v c.see.new.pass _ _ t own seat c.give.ensures.own.1 (ties_quiet _ _ 0 1 _ _ (session v) (Saw c.args.range.table c.args.range.low c.args.range.high b k.rows) tt c.requires.own.ties) c.requires.own.closed

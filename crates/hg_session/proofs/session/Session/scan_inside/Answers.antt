@@ -21,7 +21,7 @@ returns-then-is_outside-clause-reply g c =
     let v = view_of c.args.self.now in
     let opened : current (session v).log ≡ Some c.args.snapshot = search rules in
     let gains = subst (λ b. Gains v (outside_entries b c.args.range.table) (view_of c.is_outside.new.self)) c.if-is_outside.true c.is_outside.ensures.gains in
-    undeclared_inside z v (view_of c.is_outside.new.self) c.args.snapshot (say.Scan c.args.range.table c.args.range.low c.args.range.high) c.args.range.table opened refl refl refl gains
+    undeclared_inside z v (view_of c.is_outside.new.self) c.args.snapshot (say.Scan c.args.range.table c.args.range.low c.args.range.high) c.args.range.table opened refl refl tt refl gains
 
 pub returns-in_err-rows-clause-refused : goal.returns-in_err-rows-clause-refused
 returns-in_err-rows-clause-refused g c =

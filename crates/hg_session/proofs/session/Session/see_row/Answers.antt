@@ -51,4 +51,4 @@ returns-clause-own g c =
     let m = made g c in
     let own : IsSessionOf (engine_board_id c.args.engine.now) (engine_sizes c.args.engine.now) c.see.new.pass = search rules in
     let seat : IsSeatOf (engine_board_id c.args.engine.now) c.give.new.pass.seat = search rules in
-    trip_settled c.args.engine.now 0 1 c.bucket_of-bucket.result v c.see.new.pass _ _ m.1 own seat c.give.ensures.own.1 (ties_quiet _ _ 0 1 _ _ (session v) (saw (engine_sizes c.args.engine.now).buckets c.args.rid (rows_at c.args.rid.key m.0)) tt c.requires.own.ties)
+    trip_settled c.args.engine.now 0 1 c.bucket_of-bucket.result v c.see.new.pass _ _ m.1 own seat c.give.ensures.own.1 (ties_quiet _ _ 0 1 _ _ (session v) (saw (engine_sizes c.args.engine.now).buckets c.args.rid (rows_at c.args.rid.key m.0)) tt c.requires.own.ties) c.requires.own.closed

@@ -34,4 +34,4 @@ returns-clause-own g c =
     let none : c.undo_each.new.records.list ≡ [] = c.undo_each.ensures.emptied in
     let part = logging Over Idle (with_log (map Undid c.args.self.now.written.list ++ (session v).log) (session v)) in
     let ties = ties_rolled (engine_sizes c.args.engine.now).quota c.args.self.now.left 0 0 _ _ c.args.self.now.written.list (session v) c.requires.own.ties in
-    settled c.args.engine.now 0 0 v _ part v.sights own r.alone (subst (λ l. Ties (engine_sizes c.args.engine.now).quota None l c.args.self.now.left 0 0 part) (sym none) ties) r.heard
+    settled c.args.engine.now 0 0 v _ part v.sights own r.alone (subst (λ l. Ties (engine_sizes c.args.engine.now).quota None l c.args.self.now.left 0 0 part) (sym none) ties) r.heard c.requires.own.closed

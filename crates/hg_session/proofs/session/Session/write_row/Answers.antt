@@ -66,7 +66,7 @@ returns-in_err-written-clause-own g c =
     let t = trip_refused (number v) b (session v) v.sights c.args.rid c.args.image c.write-written.result u (session_view c.write-written.new.pass) (session_view c.give.new.pass) h c.write-written.ensures.step c.give.ensures.view c.in_err-written.field-0.0 c.in_err-written.was in
     let ties = subst (λ l. Ties (engine_sizes c.args.engine.now).quota c.args.self.now.opened l c.args.self.now.left 0 1 (session v)) (sym c.reserve.ensures.same) c.requires.own.ties in
     trip_settled c.args.engine.now 0 0 b v c.write-written.new.pass _ _ t own seat c.give.ensures.own.1
-    (ties_unwritten _ _ _ _ _ (ties_refused _ _ 0 1 _ _ (session v) c.args.rid c.args.image c.in_err-written.field-0.0 ties))
+    (ties_unwritten _ _ _ _ _ (ties_refused _ _ 0 1 _ _ (session v) c.args.rid c.args.image c.in_err-written.field-0.0 ties)) c.requires.own.closed
 
 pub returns-then-branch-clause-gains : goal.returns-then-branch-clause-gains
 returns-then-branch-clause-gains g c =
@@ -91,7 +91,7 @@ returns-then-branch-clause-own g c =
     trip_settled c.args.engine.now 0 0 b v c.write-written.new.pass _ _ t own seat c.give.ensures.own.1
     (subst (λ l. Ties (engine_sizes c.args.engine.now).quota c.args.self.now.opened l c.args.self.now.left 0 0 (with_entry (Wrote c.args.rid c.args.image) (session v))) (sym (c.push_reserved.ensures.pushed ∙ ap (λ l. l ++ c.args.rid ∷ []) c.reserve.ensures.same))
     (subst (λ o. Ties (engine_sizes c.args.engine.now).quota o (with_written true c.args.rid (written_of c.args.self.now)) c.args.self.now.left 0 0 (with_entry (Wrote c.args.rid c.args.image) (session v))) (sym c.requires.opened)
-    (ties_wrote _ _ 0 c.args.snapshot (written_of c.args.self.now) (session v) c.args.rid c.args.image true new (subst (λ o. Ties (engine_sizes c.args.engine.now).quota o (written_of c.args.self.now) c.args.self.now.left 0 1 (session v)) c.requires.opened c.requires.own.ties))))
+    (ties_wrote _ _ 0 c.args.snapshot (written_of c.args.self.now) (session v) c.args.rid c.args.image true new (subst (λ o. Ties (engine_sizes c.args.engine.now).quota o (written_of c.args.self.now) c.args.self.now.left 0 1 (session v)) c.requires.opened c.requires.own.ties)))) c.requires.own.closed
 
 pub returns-else-branch-clause-gains : goal.returns-else-branch-clause-gains
 returns-else-branch-clause-gains g c =
@@ -116,4 +116,4 @@ returns-else-branch-clause-own g c =
     trip_settled c.args.engine.now 0 0 b v c.write-written.new.pass _ _ t own seat c.give.ensures.own.1
     (subst (λ l. Ties (engine_sizes c.args.engine.now).quota c.args.self.now.opened l c.args.self.now.left 0 0 (with_entry (Wrote c.args.rid c.args.image) (session v))) (sym c.reserve.ensures.same)
     (subst (λ o. Ties (engine_sizes c.args.engine.now).quota o (with_written false c.args.rid (written_of c.args.self.now)) c.args.self.now.left 0 0 (with_entry (Wrote c.args.rid c.args.image) (session v))) (sym c.requires.opened)
-    (ties_wrote _ _ 0 c.args.snapshot (written_of c.args.self.now) (session v) c.args.rid c.args.image false new (subst (λ o. Ties (engine_sizes c.args.engine.now).quota o (written_of c.args.self.now) c.args.self.now.left 0 1 (session v)) c.requires.opened c.requires.own.ties))))
+    (ties_wrote _ _ 0 c.args.snapshot (written_of c.args.self.now) (session v) c.args.rid c.args.image false new (subst (λ o. Ties (engine_sizes c.args.engine.now).quota o (written_of c.args.self.now) c.args.self.now.left 0 1 (session v)) c.requires.opened c.requires.own.ties)))) c.requires.own.closed
