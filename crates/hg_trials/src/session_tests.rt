@@ -3,7 +3,7 @@
 ghost use Rattle.std.specs.Prelude.{◌≡◌, ◌+◌, ◌<◌, None, OnOk};
 ghost use Rattle.hg_session.specs.Engines.{engine_sizes};
 ghost use Rattle.hg_session.specs.Resting.{MayRun};
-ghost use Rattle.hg_session.specs.Sessions.{IsOf, open_of, left_of};
+ghost use Rattle.hg_session.specs.Sessions.{IsOf, open_of, cursor_of, left_of};
 
 use hg_base::{Rid, Row, Scope, TableId};
 use hg_group::Receipt;
@@ -22,7 +22,7 @@ fn store_one<R: Abort + Wait>(
 ) -> Result<(), Fail>
     requires ready { MayRun engine.now 3 session.old }
     requires table { rid.table.0 < (engine_sizes engine.now).tables }
-    ensures over { OnOk result (open_of session.new ≡ None) }
+    ensures over { OnOk result ((open_of session.new ≡ None) × (cursor_of session.new ≡ None)) }
     ensures left { OnOk result (left_of session.new + 3 ≡ left_of session.old) }
     ensures own { IsOf engine.now session.new }
 {
@@ -59,5 +59,10 @@ fn a_row_is_stored_and_read(rt: HostRuntime) -> Result<(), Fail> {
     let read = session.get(&rt, &engine, rid)?;
     assert_eq!(rt; read.at, 1);
     assert_eq!(rt; read.row.is_some(), true);
+    // a range in parts, at one snapshot
+    assert_eq!(rt; session.open_cursor(&engine, TableId(0), 0, 9), 1);
+    let rows = session.fetch(&rt, &engine, 2)?;
+    assert_eq!(rt; rows.as_slice().len(), 1);
+    session.close_cursor(&engine);
     Ok(())
 }
