@@ -17,6 +17,8 @@ pub mod Losing
 pub mod Ending
 pub mod Closing
 pub mod Opened
+-- What cursors have left.
+pub mod Rests
 pub mod Fresher
 pub mod Pointing
 pub mod Tallying

@@ -12,7 +12,7 @@ use Rattle.hg_base.specs.declared.line.Line.{Line}
 use Rattle.hg_base.specs.declared.line.Reply.{Reply}
 use Rattle.hg_base.proofs.RidOrder.{alike_numbers}
 use Rattle.hg_known.specs.declared.said.Last.{Last}
-use Rattle.hg_known.specs.Lines.{left_by, number_of, AreLasts, OpensKnown}
+use Rattle.hg_known.specs.Lines.{left_by, number_of, without_rest, AreLasts, OpensKnown}
 
 -- a number has another entry, and no other changes
 abbrev pub Puts : {X : Type 0} → BTreeMap ℕ X → BTreeMap ℕ X → ℕ → X → Type 0
@@ -21,10 +21,10 @@ Puts old new s x = (j : ℕ) → get nat_cmp new j ≡ cond (is_at (nat_cmp s) j
 pub put_at : {X : Type 0} (old new : BTreeMap ℕ X) (s : ℕ) (x : X) → Puts old new s x → (j : ℕ) → get nat_cmp new j ≡ cond (s == j) (Some x) (get nat_cmp old j)
 put_at old new s x h j = h j ∙ ap (λ b. cond b (Some x) (get nat_cmp old j)) (alike_numbers s j)
 
-pub lasts_more : (old new : BTreeMap ℕ Last) (earlier : List Said) (now : Said) (left : Last) → AreLasts old earlier → left ≡ left_by now → nat_lt 0 now.transaction ≡ true → Puts old new now.session left → AreLasts new (now ∷ earlier)
-lasts_more old new earlier now left h is some put j = put_at old new now.session left put j ∙ go (now.session == j)
+pub lasts_more : (old new : BTreeMap ℕ Last) (earlier : List Said) (now : Said) (left : Last) → AreLasts old earlier → without_rest left ≡ left_by now → nat_lt 0 now.transaction ≡ true → Puts old new now.session left → AreLasts new (now ∷ earlier)
+lasts_more old new earlier now left h is some put j = ap (option_map without_rest) (put_at old new now.session left put j) ∙ go (now.session == j)
   where
-    go : (b : Bool) → cond b (Some left) (get nat_cmp old j) ≡ option_map left_by (cond (b && nat_lt 0 now.transaction) (Some now) (last_of j earlier))
+    go : (b : Bool) → option_map without_rest (cond b (Some left) (get nat_cmp old j)) ≡ option_map left_by (cond (b && nat_lt 0 now.transaction) (Some now) (last_of j earlier))
     go true = ap Some is ∙ sym (ap (λ t. option_map left_by (cond t (Some now) (last_of j earlier))) some)
     go false = h j
 

@@ -5,6 +5,7 @@
 //!
 //!     Sequence   the records that lines answer, in their order          in_order
 //!     Lines      each line with the transaction it belongs to           said_from
+//!     Rest       what the cursor of a line's transaction has left       rest_in
 //!     Own        (transaction, record) -> its last stored image         image_in r (stored_in j x lines)
 //!     Writes     (record, commit number) -> image                       group_image r (group_at h n)
 //!     Numbers    transaction -> its least commit number                 numbers_in j x lines
@@ -32,6 +33,7 @@ mod history;
 mod lines;
 mod marks;
 mod own;
+mod rest;
 mod said;
 mod sequence;
 mod tally;
@@ -46,6 +48,7 @@ pub use history::read_history;
 pub use lines::{Lines, Reader};
 pub use marks::Points;
 pub use own::{LEAST, Own, Tx};
+pub use rest::Rest;
 pub use said::Said;
 pub use sequence::Sequence;
 pub use tally::Tally;

@@ -1,11 +1,11 @@
-//! The lines of a text beside the records that they answer.
+//! The lines of a text with the records that they answer.
 
-ghost use Rattle.std.specs.Prelude.{◌≡◌, ℕ, ◌+◌, ◌<◌, ◌^◌, [], List, get_or, length, IfOk, OnOk};
-ghost use Rattle.hg_base.specs.Lists.{Each, EachAfter};
+ghost use Rattle.std.specs.Prelude.{◌≡◌, ℕ, ◌+◌, ◌<◌, ◌^◌, [], List, get_or, length, take, IfOk, OnOk};
+ghost use Rattle.hg_base.specs.Lists.{Each, EachAfter, onto};
 ghost use Rattle.hg_base.specs.Transcript as script;
 ghost use Rattle.hg_base.specs.Transcript.{said_from};
 ghost use Rattle.hg_known.specs.Ended.{IsOpen};
-ghost use Rattle.hg_known.specs.Lines.{said_of, OpensKnown};
+ghost use Rattle.hg_known.specs.Lines.{said_of, HasRest, OpensKnown};
 
 use crate::said::{Last, Said, read_line};
 use crate::sequence::Sequence;
@@ -86,13 +86,13 @@ impl<'a> Model for Reader<'a> {
     ghost use Rattle.std.specs.Prelude.{ℕ, [], List, take};
     ghost use Rattle.hg_base.specs.Lists.{onto};
     ghost use Rattle.hg_base.specs.Transcript.{Said};
-    ghost use Rattle.hg_known.specs.Lines.{AreLasts, ReachTo};
+    ghost use Rattle.hg_known.specs.Lines.{AreLasts, AreRests, ReachTo};
 
     ghost Value = { ℕ × List Said };
 
     ghost view = { λ r. (r.at, r.all.now) };
 
-    ghost invariant = { λ r. AreLasts r.lasts (onto (take r.at r.all.now) []) × ReachTo r.at r.lasts };
+    ghost invariant = { λ r. AreLasts r.lasts (onto (take r.at r.all.now) []) × AreRests r.lasts (onto (take r.at r.all.now) []) × ReachTo r.at r.lasts };
 }
 
 impl<'a> Reader<'a> {
@@ -100,6 +100,7 @@ impl<'a> Reader<'a> {
     pub fn read(&mut self) -> Result<Said<'a>, NoMemory>
         requires { self.old.0 < length self.old.1 }
         ensures said { IfOk result (λ said. said_of said ≡ get_or self.old.1 self.old.0 (said_of said)) }
+        ensures rest { IfOk result (λ said. HasRest (onto (take self.old.0 self.old.1) []) said) }
         ensures next { OnOk result (self.new ≡ (self.old.0 + 1, self.old.1)) }
     {
         let all = self.all;

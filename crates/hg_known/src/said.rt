@@ -1,17 +1,19 @@
 //! Lines, each read with the transaction in which it stands.
 
-ghost use Rattle.std.specs.Prelude.{◌≡◌, ℕ, ◌+◌, ◌<◌, ◌≤◌, ◌^◌, ◌∷◌, List, Option, Some, None, option_map, IfSome, IfOk, OnErr, OnOk};
+ghost use Rattle.std.specs.Prelude.{◌≡◌, ℕ, ◌+◌, ◌<◌, ◌≤◌, ◌^◌, ◌∷◌, List, Option, Some, None, option_map, false, IfSome, IfOk, OnErr, OnOk};
+ghost use Rattle.hg_base.specs.declared.scope.Scope.TheVariants.{All};
 ghost use Rattle.std.specs.BTreeMap.{IsUnchanged, get};
 ghost use Rattle.std.specs.Ordering.{nat_cmp};
 ghost use Rattle.hg_base.specs.Transcript as script;
-ghost use Rattle.hg_base.specs.Transcript.{said_after};
-ghost use Rattle.hg_known.specs.Lines.{said_of, number_of, left_by, AreLasts, OpensKnown, ReachTo};
+ghost use Rattle.hg_base.specs.Transcript.{last_of, rest_after, rest_in, said_after};
+ghost use Rattle.hg_known.specs.Lines.{said_of, rest_of, number_of, without_rest, left_by, left_rest, AreLasts, AreRests, HasRest, IsRest, OpensKnown, ReachTo};
 
+use crate::rest::{self, Rest};
 use hg_base::{Answer, NoMemory, Record, Reply, Scope, Statement};
 use std::collections::BTreeMap;
 
-/// A record with its reply, and the transaction in which it stands. Where it is a transaction of its own (`alone`), that
-/// declares the statement's one table, and `scope` says nothing.
+/// A record with its reply, the transaction that it belongs to, and what that transaction's cursor had left before it. A record that
+/// is a transaction of its own (`alone`) declares the statement's one table, and `scope` says nothing.
 #[derive(Drop)]
 pub struct Said<'a> {
     pub session: u32,
@@ -21,10 +23,11 @@ pub struct Said<'a> {
     pub scope: Scope,
     pub alone: bool,
     pub statement: Statement,
+    pub rest: Option<Rest>,
     pub reply: &'a Reply,
 }
 
-/// The transaction of a session's last line that stands in one: over, or open at a snapshot.
+/// The transaction of a session's last line that belongs to one: over, or open at a snapshot, with what its cursor has left.
 #[derive(Clone, Copy)]
 pub enum Last {
     Over(u64),
@@ -32,6 +35,7 @@ pub enum Last {
         transaction: u64,
         at: u64,
         scope: Scope,
+        rest: Option<Rest>,
     },
 }
 
@@ -71,19 +75,25 @@ pub fn ends(said: &Said) -> bool
     said.alone || is_end(&said.statement)
 }
 
-// The line of a record, behind the session's last.
-fn stand<'a>(last: Option<Last>, asked: Record, reply: &'a Reply) -> Said<'a>
-    requires room { IfSome last (λ l. number_of l + 1 < 2 ^ 64) }
-    requires known { OpensKnown asked.statement }
-    ensures said { (o : Option script.Said) → option_map left_by o ≡ last → said_of result ≡ said_after o asked reply.entry.now asked.statement }
-    ensures reach { IfSome last (λ l. result.transaction ≤ number_of l + 1) }
-    ensures first { last ≡ None → result.transaction ≤ 1 }
+// The number of a session's next transaction.
+fn next_after(last: Option<Last>) -> u64
+    requires { IfSome last (λ l. number_of l + 1 < 2 ^ 64) }
+    ensures next { (o : Option script.Said) → option_map left_by o ≡ option_map without_rest last → result ≡ script.next_after o }
+    ensures reach { IfSome last (λ l. result ≡ number_of l + 1) }
+    ensures first { last ≡ None → result ≡ 1 }
 {
-    let next = match last {
+    match last {
         Some(last) => last.transaction() + 1,
         None => 1,
-    };
-    let bare = Said {
+    }
+}
+
+// A record and its reply, in no transaction.
+fn outside<'a>(asked: Record, reply: &'a Reply) -> Said<'a>
+    ensures said { said_of result ≡ record { session = asked.session; place = asked.place; transaction = 0; at = 0; scope = All; alone = false; statement = asked.statement; reply = reply.entry.now } }
+    ensures rest { result.rest ≡ None }
+{
+    Said {
         session: asked.session,
         place: asked.place,
         transaction: 0,
@@ -91,8 +101,24 @@ fn stand<'a>(last: Option<Last>, asked: Record, reply: &'a Reply) -> Said<'a>
         scope: Scope::All,
         alone: false,
         statement: asked.statement,
+        rest: None,
         reply,
-    };
+    }
+}
+
+// The line of a record, after the session's last.
+fn stand<'a>(last: Option<Last>, asked: Record, reply: &'a Reply) -> Said<'a>
+    requires room { IfSome last (λ l. number_of l + 1 < 2 ^ 64) }
+    requires known { OpensKnown asked.statement }
+    ensures said { (o : Option script.Said) → option_map left_by o ≡ option_map without_rest last → said_of result ≡ said_after o asked reply.entry.now asked.statement }
+    ensures rest { (earlier : List script.Said) → option_map without_rest last ≡ option_map left_by (last_of asked.session earlier) → IsRest asked.session earlier last →
+        option_map rest_of result.rest ≡ rest_in asked.session result.transaction earlier }
+    ensures session { result.session ≡ asked.session }
+    ensures reach { IfSome last (λ l. result.transaction ≤ number_of l + 1) }
+    ensures first { last ≡ None → result.transaction ≤ 1 }
+{
+    let next = next_after(last);
+    let bare = outside(asked, reply);
     match bare.statement {
         Statement::Begin(scope) => Said {
             transaction: next,
@@ -113,11 +139,13 @@ fn stand<'a>(last: Option<Last>, asked: Record, reply: &'a Reply) -> Said<'a>
                     transaction,
                     at,
                     scope,
+                    rest,
                 },
             ) => Said {
                 transaction,
                 at,
                 scope,
+                rest,
                 ..bare
             },
             _ => Said {
@@ -132,7 +160,8 @@ fn stand<'a>(last: Option<Last>, asked: Record, reply: &'a Reply) -> Said<'a>
 
 // What a line leaves to its session's next.
 fn left(now: &Said) -> Last
-    ensures { result ≡ left_by (said_of now.now) }
+    ensures left { without_rest result ≡ left_by (said_of now.now) }
+    ensures rest { script.ends (said_of now.now) ≡ false → left_rest (Some result) ≡ rest_after now.now.statement now.now.reply.now.answer (option_map rest_of now.now.rest) }
 {
     if ends(now) {
         return Last::Over(now.transaction);
@@ -141,6 +170,7 @@ fn left(now: &Said) -> Last
         transaction: now.transaction,
         at: now.at,
         scope: now.scope,
+        rest: rest::rest_after(now),
     }
 }
 
@@ -164,7 +194,9 @@ pub fn read_line<'a>(
     requires reach { ReachTo (2 ^ 63) lasts.old }
     requires known { OpensKnown asked.statement }
     ensures said { IfOk result (λ now. (earlier : List script.Said) → AreLasts lasts.old earlier → said_of now ≡ script.said earlier asked reply.entry.now) }
+    ensures rest { IfOk result (λ now. (earlier : List script.Said) → AreLasts lasts.old earlier → AreRests lasts.old earlier → HasRest earlier now) }
     ensures lasts { IfOk result (λ now. (earlier : List script.Said) → AreLasts lasts.old earlier → AreLasts lasts.new (said_of now ∷ earlier)) }
+    ensures rests { IfOk result (λ now. (earlier : List script.Said) → AreLasts lasts.old earlier → AreRests lasts.old earlier → AreRests lasts.new (said_of now ∷ earlier)) }
     ensures reach { OnOk result ((n : ℕ) → ReachTo n lasts.old → ReachTo (n + 1) lasts.new) }
     ensures refused { OnErr result (IsUnchanged lasts.old lasts.new) }
 {

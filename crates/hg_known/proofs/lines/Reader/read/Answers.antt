@@ -1,9 +1,13 @@
-use Rattle.std.proofs.Common.{◌≡◌, ◌<◌, ◌≤◌, ◌^◌, ◌∙◌, sym, ap, subst, arith, length, take, get_or, []}
+use Rattle.std.proofs.Common.{◌≡◌, ℕ, List, ◌<◌, ◌≤◌, ◌^◌, ◌∙◌, sym, ap, subst, arith, length, take, get_or, []}
+use Rattle.std.specs.Prelude.{option_map, IfSome}
+use Rattle.std.specs.Map.{lookup}
+use Rattle.std.specs.BTreeMap.{get, is_at}
+use Rattle.std.specs.Ordering.{nat_cmp}
 use Rattle.std.proofs.lemmas.List.{get_or_default}
 use Rattle.hg_base.specs.Lists.{onto}
-use Rattle.hg_base.specs.Transcript.{said}
+use Rattle.hg_base.specs.Transcript.{Said, said}
 use Rattle.hg_base.specs.declared.statement.Record.{Record}
-use Rattle.hg_known.specs.Lines.{said_of, AreLasts, OpensKnown}
+use Rattle.hg_known.specs.Lines.{said_of, AreLasts, AreRests, HasRest, IsRest, OpensKnown, number_of, without_rest}
 use Rattle.hg_known.proofs.Reading.{all_read, known_at, reach_far, read_at, reply_at}
 use Rattle.hg_known.proofs.Walking.{AtLine, at_line, earlier_at, earlier_next}
 use Rattle.hg_known.proofs.lines.Reader.read.Goals as goal
@@ -26,7 +30,7 @@ read_line-requires-clause-reach c =
     let here : k ≡ c.args.self.now.0 = λ i. (c.self.view_is i).0 in
     let its : length xs ≡ length c.args.self.now.1 = λ i. length (c.self.view_is i).1 in
     let most : k ≤ 2 ^ 63 = omega (arith, many, here, its, c.requires, c.all.invariant.1) in
-    λ j. reach_far k (2 ^ 63) _ most (c.self.invariant.1 j)
+    λ j. reach_far k (2 ^ 63) _ most (c.self.invariant.2 j)
 
 pub read_line-requires-clause-known : goal.read_line-requires-clause-known
 read_line-requires-clause-known c =
@@ -71,6 +75,10 @@ returns-clause-said c =
     ∙ (λ i. said (onto (take k (c.all.view_is i)) []) r reply) in
     c.in_ok-said.ensures.said (onto (take k xs) []) c.self.invariant.0 ∙ sym is ∙ (λ i. get_or (c.self.view_is i).1 (c.self.view_is i).0 now)
 
+pub returns-clause-rest : goal.returns-clause-rest
+returns-clause-rest c =
+    subst (λ (p : ℕ × List Said). HasRest (onto (take p.0 p.1) []) c.in_ok-said.said) c.self.view_is (c.in_ok-said.ensures.rest (onto (take c.self.inside.at c.self.inside.all.now) []) c.self.invariant.0 c.self.invariant.1)
+
 pub invariant_of-self-2 : goal.invariant_of-self-2
 invariant_of-self-2 c =
     let ls = c.all.inside in
@@ -92,5 +100,16 @@ invariant_of-self-2 c =
     (λ i. get_or (sym c.all.view_is i) k now)
     ∙ read_at [] ls.sequence.now ls.lines.now k r reply now long short c.in_ok-record.ensures (λ line e. replied ∙ (λ i. (get_or (sym c.all.view_is i) k now).reply) ∙ sym (reply_at [] ls.sequence.now ls.lines.now k line now same short e))
     ∙ (λ i. said (onto (take k (c.all.view_is i)) []) r reply) in
-    let at : AtLine xs k now = at_line xs k now less (c.in_ok-said.ensures.said (onto (take k xs) []) c.self.invariant.0 ∙ sym is) in
-    (subst (AreLasts c.read_line.new.lasts) (sym (earlier_next xs k now at)) (c.in_ok-said.ensures.lasts (earlier_at xs k) c.self.invariant.0), c.in_ok-said.ensures.reach k c.self.invariant.1)
+    let at : AtLine xs k now = at_line xs k now less (c.in_ok-said.ensures.said (onto (take k xs) []) c.self.invariant.0 ∙ sym is) in (
+      subst (AreLasts c.read_line.new.lasts) (sym (earlier_next xs k now at)) (c.in_ok-said.ensures.lasts (earlier_at xs k) c.self.invariant.0),
+      subst (AreRests c.read_line.new.lasts) (sym (earlier_next xs k now at)) (c.in_ok-said.ensures.rests (earlier_at xs k) c.self.invariant.0 c.self.invariant.1),
+      c.in_ok-said.ensures.reach k c.self.invariant.2,
+    )
+
+pub invariant_of-self : goal.invariant_of-self
+invariant_of-self c =
+    let same : (j : ℕ) → get nat_cmp c.read_line.new.lasts j ≡ get nat_cmp c.self.inside.lasts j = λ j. ap (lookup (is_at (nat_cmp j))) c.in_err-said.ensures.refused in (
+      λ j. ap (option_map without_rest) (same j) ∙ c.self.invariant.0 j,
+      λ j. subst (IsRest j (onto (take c.self.inside.at c.self.inside.all.now) [])) (sym (same j)) (c.self.invariant.1 j),
+      λ j. subst (λ o. IfSome o (λ l. number_of l ≤ c.self.inside.at)) (sym (same j)) (c.self.invariant.2 j),
+    )
