@@ -8,6 +8,8 @@ use Rattle.hg_base.proofs.ListFacts.{false_true}
 use Rattle.hg_decide.specs.Audit.{FirstWithout}
 use Rattle.hg_known.proofs.Walking.{AtLine, earlier_at, each_more, each_all}
 use Rattle.hg_audit.specs.Found.{IsFirst}
+use Rattle.hg_known.specs.declared.said.Said as kept
+use Rattle.hg_known.specs.Lines.{HasRest}
 
 pub first_without : (P : List Said → Said → Type 0) (earlier xs : List Said) (k : ℕ) (now : Said) → k < length xs → now ≡ get_or xs k now → EachAfter P earlier (take k xs) → (P (onto (take k xs) earlier) now → ⊥) → FirstWithout P earlier xs k
 first_without P earlier [] k now less e h f = absurd (omega (arith, less))
@@ -27,3 +29,7 @@ so_far P xs k now None result false less is at h d e = subst (SoFar P xs (k + 1)
 pub so_far_all : (P : List Said → Said → Type 0) (xs : List Said) (k : ℕ) (found : Option ℕ) → length xs ≤ k → SoFar P xs k found → IsFirst P xs found
 so_far_all P xs k (Some i) over h = h
 so_far_all P xs k None over h = each_all P xs k over h
+
+-- what a reader at line k reads has what its cursor had left before it
+pub rest_at : (reader : ℕ × List Said) (xs : List Said) (k : ℕ) (now : kept.Said) → reader ≡ (k, xs) → HasRest (onto (take reader.0 reader.1) []) now → HasRest (earlier_at xs k) now
+rest_at reader xs k now e h = subst (λ (p : ℕ × List Said). HasRest (onto (take p.0 p.1) []) now) e h

@@ -10,6 +10,8 @@ pub mod Opening
 -- Shape and totals.
 pub mod Shaping
 pub mod Living
+-- Cursors name tables below the limit.
+pub mod Opens
 -- The verdict.
 pub mod Sequencing
 pub mod Placing

@@ -1,6 +1,6 @@
 -- The rows of a scan, one after the other.
 use Rattle.std.proofs.Common.{◌≡◌, ℕ, ◌+◌, ◌-◌, ◌<◌, ◌≤◌, ◌⊎◌, inl, inr, List, [], ◌∷◌, ◌++◌, map, Bool, true, false, Option, Some, None, refl, sym, ap, ◌∙◌, subst, arith}
-use Rattle.std.specs.Prelude.{◌==◌, ◌||◌, IsTrue, nat_lt}
+use Rattle.std.specs.Prelude.{◌==◌, ◌||◌, IsTrue, nat_lt, unwrap_or}
 use Rattle.std.specs.List.{list_any}
 use Rattle.std.specs.Option.{MatchOption, SomeIff}
 use Rattle.std.proofs.lemmas.Bool.{ltb-true, ltb-false}
@@ -73,9 +73,9 @@ each_both P (x ∷ xs) ys h k = (h.0, each_both P xs ys h.1 k)
 
 -- ---- the rows so far
 
--- the least number over the keys so far, and over none where there is no such number of 64 bits
+-- the least number from `low` on that is over the keys so far, or none if no number of 64 bits is
 abbrev pub IsNext : ℕ → Rows → Option ℕ → Type 0
-IsNext low rows from = MatchOption from ((k : ℕ) → Below k rows → 18446744073709551616 ≤ k) (λ first. (low ≤ first) × Below first rows × ((k : ℕ) → low ≤ k → Below k rows → first ≤ k))
+IsNext low rows from = MatchOption from ((k : ℕ) → low ≤ k → Below k rows → 18446744073709551616 ≤ k) (λ first. (low ≤ first) × Below first rows × ((k : ℕ) → low ≤ k → Below k rows → first ≤ k))
 
 -- whether a key was passed
 abbrev pub IsPassed : Option ℕ → ℕ → Type 0
@@ -94,8 +94,9 @@ module _ (look : ℕ → Image) (low high : ℕ) where
     pub next : IsNext low rows from
     pub told : (k : ℕ) → low ≤ k → k ≤ high → IsPassed from k → IsTold rows k
 
-  pub scan_first : Scanning [] (Some low)
-  scan_first = record { ascend = tt; each = tt; next = (omega arith, tt, λ k j _. j); told = λ k j l m. absurd (omega (arith, j, m)) }
+  pub scan_first : (next : Option ℕ) → low ≡ unwrap_or next 18446744073709551616 → high < 18446744073709551616 → Scanning [] next
+  scan_first None e small = record { ascend = tt; each = tt; next = λ k j _. omega (arith, e, j); told = λ k j l m. absurd (omega (arith, e, j, l, small)) }
+  scan_first (Some n) e small = record { ascend = tt; each = tt; next = (omega (arith, e), tt, λ k j _. omega (arith, e, j)); told = λ k j l m. absurd (omega (arith, e, j, m)) }
 
   pub told_more : (rows : Rows) (q : ℕ × List Value) (k : ℕ) → IsTold rows k → IsTold (rows ++ q ∷ []) k
   told_more rows q k (inl e) = inl (any_append (λ (p : ℕ × List Value). p.0 == k) rows (q ∷ []) ∙ ap (λ b. b || list_any (λ (p : ℕ × List Value). p.0 == k) (q ∷ [])) e)
@@ -131,7 +132,7 @@ module _ (look : ℕ → Image) (low high : ℕ) where
       last_of k b = (each_right (λ (p : ℕ × List Value). p.0 < k) rows ((key, row) ∷ []) b).0
 
       is_next : (from : Option ℕ) → SomeIff from (key + 1 < 18446744073709551616) (key + 1) → IsNext low (rows ++ (key, row) ∷ []) from
-      is_next None none = λ k b. let l = last_of k b in cases (nat_lt k 18446744073709551616) (λ e. absurd (let m : k < 18446744073709551616 = ltb-true k 18446744073709551616 e in none (omega (arith, l, m)))) (λ e. ltb-false k 18446744073709551616 e)
+      is_next None none = λ k j b. let l = last_of k b in cases (nat_lt k 18446744073709551616) (λ e. absurd (let m : k < 18446744073709551616 = ltb-true k 18446744073709551616 e in none (omega (arith, l, m)))) (λ e. ltb-false k 18446744073709551616 e)
       is_next (Some n) (fits, is) = (
         omega (arith, is, low_key),
         each_snoc (λ p. p.0 < n) rows (key, row) (below_all rows key n (omega (arith, is)) below) (omega (arith, is)),
@@ -184,7 +185,7 @@ module _ (look : ℕ → Image) (low high : ℕ) where
 
   pub no_next : (rows rest : Rows) (q : ℕ × List Value) → high < 18446744073709551616 → Scanning rows None → AreRows look low high (rows ++ q ∷ rest) → ⊥
   no_next rows rest q small h are =
-      let big : 18446744073709551616 ≤ q.0 = h.next q.0 (ascends_split rows rest q are.ascend).0 in
+      let big : 18446744073709551616 ≤ q.0 = h.next q.0 (its_row rows rest q are).0 (ascends_split rows rest q are.ascend).0 in
       let top : q.0 ≤ high = (its_row rows rest q are).1 in
       omega (arith, big, top, small)
 

@@ -1,23 +1,24 @@
 //! Whether a line is right.
 
-ghost use Rattle.std.specs.Prelude.{◌≡◌, ◌&&◌, ℕ, List, length, is_some, Decides};
+ghost use Rattle.std.specs.Prelude.{◌≡◌, ◌&&◌, ℕ, List, length, is_some, option_map, Decides};
 ghost use Rattle.hg_base.specs.Script.{Mode};
 ghost use Rattle.hg_base.specs.History.{History, seen};
 ghost use Rattle.hg_base.specs.Transcript as script;
 ghost use Rattle.hg_base.specs.Transcript.{own_writes};
 ghost use Rattle.hg_base.specs.Replies.{IsAnswer, IsReply, WithinScope, IsGot, IsPut, IsDeleted, IsScanned, is_written};
-ghost use Rattle.hg_known.specs.Lines.{said_of};
+ghost use Rattle.hg_known.specs.Lines.{HasRest, rest_of, said_of};
 ghost use Rattle.hg_known.specs.Owned.{HasOwn};
 ghost use Rattle.hg_known.specs.Written.{IsOfHistory};
 ghost use Rattle.hg_audit.specs.Judged.{IsOf};
 
+use crate::fetch::is_fetched;
 use crate::reply::{
-    Command, is_begun, is_collected, is_committed, is_deleted, is_got, is_put, is_undeclared,
-    is_undone, is_within, see,
+    Command, is_begun, is_collected, is_committed, is_deleted, is_ended, is_got, is_put,
+    is_undeclared, is_undone, is_within, see,
 };
 use crate::scan::is_scanned;
 use hg_base::{Answer, Rid, Statement, TableId};
-use hg_known::{LEAST, Own, Said, Tx, Writes};
+use hg_known::{LEAST, Own, Rest, Said, Tx, Writes};
 
 // Whether the transaction of a line stored anything before it.
 fn wrote(own: &Own, now: &Said) -> bool
@@ -49,8 +50,13 @@ fn is_numbered(now: &Said) -> bool
 fn is_scan(writes: &Writes, own: &Own, now: &Said, table: TableId, low: u64, high: u64) -> bool
     ensures { (h : History) (earlier : List script.Said) → IsOfHistory h writes.now → HasOwn own.now earlier (said_of now.now) → Decides result (IsScanned (λ key. seen h (own_writes earlier (said_of now.now)) now.now.at (record { table = table; key = key })) low high now.now.reply.now.answer) }
 {
+    let range = Rest {
+        table,
+        next: Some(low),
+        high,
+    };
     match &now.reply.answer {
-        Answer::Rows(rows) => is_scanned(writes, own, now, table, low, high, rows.as_slice()),
+        Answer::Rows(rows) => is_scanned(writes, own, now, range, rows.as_slice()),
         _ => false,
     }
 }
@@ -58,7 +64,7 @@ fn is_scan(writes: &Writes, own: &Own, now: &Said, table: TableId, low: u64, hig
 // Whether the answer is the table's.
 fn is_answer(command: Command, writes: &Writes, own: &Own, now: &Said) -> bool
     ensures { (mode : Mode) (h : History) (earlier : List script.Said) → IsOf command mode → IsOfHistory h writes.now → HasOwn own.now earlier (said_of now.now) →
-        Decides result (IsAnswer mode (seen h (own_writes earlier (said_of now.now)) now.now.at) (is_written (own_writes earlier (said_of now.now))) (said_of now.now) now.now.statement) }
+        Decides result (IsAnswer mode (seen h (own_writes earlier (said_of now.now)) now.now.at) (is_written (own_writes earlier (said_of now.now))) (option_map rest_of now.now.rest) (said_of now.now) now.now.statement) }
 {
     let answer = &now.reply.answer;
     match &now.statement {
@@ -87,6 +93,9 @@ fn is_answer(command: Command, writes: &Writes, own: &Own, now: &Said) -> bool
             }
             is_scan(writes, own, now, *table, *low, *high)
         }
+        Statement::CursorOpen { .. } => is_begun(answer),
+        Statement::Fetch(most) => is_fetched(writes, own, now, *most),
+        Statement::CursorClose => is_ended(answer),
         Statement::Commit => is_committed(wrote(own, now), answer),
         Statement::Rollback => is_undone(answer),
         Statement::Gc(_) => is_collected(command, now.session, answer),
@@ -95,7 +104,7 @@ fn is_answer(command: Command, writes: &Writes, own: &Own, now: &Said) -> bool
 
 /// Whether a reply is that of a table that never reclaims, where so many groups are in the history.
 pub fn is_reply(command: Command, writes: &Writes, groups: u64, own: &Own, now: &Said) -> bool
-    ensures { (mode : Mode) (h : History) (earlier : List script.Said) → IsOf command mode → IsOfHistory h writes.now → length h ≡ groups → HasOwn own.now earlier (said_of now.now) → Decides result (IsReply mode h earlier (said_of now.now)) }
+    ensures { (mode : Mode) (h : History) (earlier : List script.Said) → IsOf command mode → IsOfHistory h writes.now → length h ≡ groups → HasOwn own.now earlier (said_of now.now) → HasRest earlier now.now → Decides result (IsReply mode h earlier (said_of now.now)) }
 {
     if now.reply.at.is_some() != now.alone {
         return false;

@@ -2,9 +2,11 @@
 
 ghost use Rattle.std.specs.Prelude.{◌≡◌, ◌↔◌, IfOk};
 ghost use Rattle.hg_base.specs.declared.line.Printed as base;
+ghost use Rattle.hg_base.specs.Lists.{Each};
 ghost use Rattle.hg_base.specs.Script.{Mode, Script as Meaning, replay};
 ghost use Rattle.hg_base.specs.Transcript.{in_order};
 ghost use Rattle.hg_script.specs.Lawful.{IsLawful};
+ghost use Rattle.hg_known.specs.Lines.{OpensKnown};
 ghost use Rattle.hg_audit.specs.declared.verdict.Verdict.TheVariants as verdicts;
 ghost use Rattle.hg_audit.specs.Judged.{IsOf};
 ghost use Rattle.hg_audit.specs.Verdict.{IsFinding, IsVerdict, IsOfRun, IsAudit, IsSoundText, first_record, last_record};
@@ -42,6 +44,7 @@ fn find(
     order: &Sequence<'_>,
     printed: &Printed,
 ) -> Result<Verdict, NoMemory>
+    requires known { Each (λ r. OpensKnown r.statement) order.now }
     ensures { IfOk result (λ verdict. (mode : Mode) (script : Meaning) → IsOf command mode → order.now ≡ in_order mode script.records → IsFinding mode script printed.now verdict) }
 {
     let lines = printed.lines.as_slice();
@@ -59,6 +62,7 @@ fn find(
 }
 
 fn find_in_replay(alloc: Global, script: &Script, printed: &Printed) -> Result<Verdict, NoMemory>
+    requires known { Each (λ r. OpensKnown r.statement) script.now.records }
     ensures { IfOk result (λ verdict. IsFinding replay script.now printed.now verdict) }
 {
     let order = Sequence::of_replay(alloc, script);
@@ -71,6 +75,7 @@ fn find_in_run(
     script: &Script,
     printed: &Printed,
 ) -> Result<Option<Verdict>, NoMemory>
+    requires known { Each (λ r. OpensKnown r.statement) script.now.records }
     ensures { IfOk result (λ found. IsOfRun script.now printed.now found) }
 {
     let lines = printed.lines.as_slice();
@@ -86,6 +91,7 @@ fn find_in_run(
 
 /// The verdict on what was printed.
 pub fn find_verdict(alloc: Global, script: &Script, printed: &Printed) -> Result<Verdict, NoMemory>
+    requires known { Each (λ r. OpensKnown r.statement) script.now.records }
     ensures { IfOk result (λ verdict. IsVerdict script.now printed.now verdict) }
 {
     if has_session_report(printed.lines.as_slice()) {

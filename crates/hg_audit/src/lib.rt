@@ -13,13 +13,15 @@
 //!
 //! `find_fault` decides the lines and totals, by what `hg_known` gathers from them. Lost updates, replies and numbers are decided in
 //! one pass over the lines (`first_faults`). For a scan it checks that no key is seen between the rows, neither one that the
-//! transaction stored nor one that anybody else wrote.
+//! transaction stored nor one that anybody else wrote. A fetch is checked like a scan of what its cursor has left, up to the last key
+//! that it passed, so a scan in parts costs about what the whole scan does.
 #![tactic(auto)]
 
 mod answered;
 mod conflict;
 mod facts;
 mod faults;
+mod fetch;
 mod fresh;
 mod judge;
 mod judging;

@@ -1,7 +1,7 @@
 //! The first fault of lines and totals.
 
 ghost use Rattle.std.specs.Prelude.{◌≡◌, ℕ, ◌<◌, ◌^◌, List, [], length, IsTrue, IfOk};
-ghost use Rattle.hg_base.specs.Lists.{EachAfter, onto};
+ghost use Rattle.hg_base.specs.Lists.{Each, EachAfter, onto};
 ghost use Rattle.hg_base.specs.Script.{Mode};
 ghost use Rattle.hg_audit.specs.Judged.{IsOf};
 ghost use Rattle.hg_base.specs.Sound.{IsWhole};
@@ -11,6 +11,7 @@ ghost use Rattle.hg_audit.specs.declared.reply.Command.TheVariants.{Run};
 ghost use Rattle.hg_known.specs.Asked.{names_writer};
 ghost use Rattle.hg_known.specs.Owned.{AreOwn};
 ghost use Rattle.hg_known.specs.Ended.{IsOpen};
+ghost use Rattle.hg_known.specs.Lines.{OpensKnown};
 ghost use Rattle.hg_known.specs.Tallied.{IsTally};
 ghost use Rattle.hg_known.specs.Written.{IsOfHistory};
 ghost use Rattle.hg_audit.specs.Found.{IsFound, IsDecided};
@@ -97,7 +98,8 @@ pub fn find_fault(
     lines: &[Line],
     totals: Totals,
 ) -> Result<Found, NoMemory>
-    requires { length lines.now < 2 ^ 62 }
+    requires few { length lines.now < 2 ^ 62 }
+    requires known { Each (λ r. OpensKnown r.statement) records.now }
     ensures { IfOk result (λ found. (mode : Mode) → IsOf command mode → IsFound mode records.now lines.now totals found) }
 {
     if let Some(k) = first_out_of_shape(records, lines)? {

@@ -8,7 +8,7 @@ ghost use Rattle.hg_base.specs.Script.{Mode};
 ghost use Rattle.hg_base.specs.History.{History, seen};
 ghost use Rattle.hg_base.specs.Transcript as script;
 ghost use Rattle.hg_base.specs.Transcript.{own_writes};
-ghost use Rattle.hg_base.specs.Replies.{IsBegun, IsGot, IsPut, IsDeleted, IsCommitted, IsUndone, IsSwept, IsBeside, IsCollected, IsUndeclared};
+ghost use Rattle.hg_base.specs.Replies.{IsBegun, IsGot, IsPut, IsDeleted, IsEnded, IsCommitted, IsUndone, IsSwept, IsBeside, IsCollected, IsUndeclared};
 ghost use Rattle.hg_known.specs.Lines.{said_of};
 ghost use Rattle.hg_known.specs.Owned.{HasOwn};
 ghost use Rattle.hg_known.specs.Written.{IsOfHistory};
@@ -80,6 +80,12 @@ pub fn is_deleted(seen: Option<&Row>, answer: &Answer) -> bool
         Answer::Gone | Answer::Newer(_) | Answer::OpenBy(_) => seen.is_some(),
         _ => false,
     }
+}
+
+pub fn is_ended(answer: &Answer) -> bool
+    ensures { Decides result (IsEnded answer.now) }
+{
+    matches!(answer, Answer::Ended)
 }
 
 pub fn is_committed(wrote: bool, answer: &Answer) -> bool

@@ -5,14 +5,14 @@ ghost use Rattle.hg_base.specs.History.{History, nothing, seen};
 ghost use Rattle.hg_base.specs.Transcript as script;
 ghost use Rattle.hg_base.specs.Transcript.{own_writes};
 ghost use Rattle.hg_base.specs.Replies.{AreRows};
-ghost use Rattle.hg_known.specs.Lines.{said_of};
+ghost use Rattle.hg_known.specs.Lines.{rest_of, said_of};
 ghost use Rattle.hg_known.specs.Owned.{HasOwn, own_at};
 ghost use Rattle.hg_known.specs.Written.{IsOfHistory};
 ghost use Rattle.hg_audit.specs.Seen.{IsNextStored, NoneSeen, look, other_look, own_look};
 
 use crate::reply::{is_row, see};
 use hg_base::{Rid, Row, TableId};
-use hg_known::{Own, Said, Tx, Writes};
+use hg_known::{Own, Rest, Said, Tx, Writes};
 
 // The least key of the table, at or over `from`, that the transaction stored.
 fn next_stored(own: &Own, tx: Tx, table: TableId, from: u64) -> Option<u64>
@@ -101,18 +101,12 @@ fn none_seen(writes: &Writes, own: &Own, now: &Said, table: TableId, from: u64, 
 }
 
 /// Whether these are the rows of the range that a line's transaction sees, by ascending key.
-pub fn is_scanned(
-    writes: &Writes,
-    own: &Own,
-    now: &Said,
-    table: TableId,
-    low: u64,
-    high: u64,
-    rows: &[(u64, Row)],
-) -> bool
-    ensures { (h : History) (earlier : List script.Said) → IsOfHistory h writes.now → HasOwn own.now earlier (said_of now.now) → Decides result (AreRows (look h earlier (said_of now.now) table) low high rows.now) }
+pub fn is_scanned(writes: &Writes, own: &Own, now: &Said, range: Rest, rows: &[(u64, Row)]) -> bool
+    ensures { (h : History) (earlier : List script.Said) → IsOfHistory h writes.now → HasOwn own.now earlier (said_of now.now) → Decides result (AreRows (look h earlier (said_of now.now) range.table) (rest_of range).low range.high rows.now) }
 {
-    let mut from = Some(low);
+    let table = range.table;
+    let high = range.high;
+    let mut from = range.next;
     for (key, row) in rows {
         let Some(first) = from else {
             return false;

@@ -11,7 +11,7 @@ use Rattle.hg_known.proofs.Closing.{forgets_more, its_own, open_at, others_own}
 use Rattle.hg_known.proofs.Losing.{all_kept, line_keeps, line_lost}
 use Rattle.hg_known.proofs.Walking.{AtLine, at_reader, earlier_at, earlier_next, reader_next, read_item}
 use Rattle.hg_audit.proofs.Conflicting.{part_at}
-use Rattle.hg_audit.proofs.Firsts.{so_far, so_far_all}
+use Rattle.hg_audit.proofs.Firsts.{rest_at, so_far, so_far_all}
 use Rattle.hg_audit.proofs.faults.first_faults.Goals as goal
 
 pub loop-k-preserved : goal.loop-k-preserved
@@ -31,7 +31,7 @@ loop-k-preserved c =
       before = subst (AreBefore c.add-in-loop-k.new.self) (sym (earlier_next xs k now at)) (c.in_ok-add-2.ensures (earlier_at xs k) c.loop-k.invariant.before);
       kept = λ whole shows. line_keeps xs c.args.facts.now.writes.now whole shows k now c.add.new.self at own (c.keeps_update.ensures.0 c.if-not-keeps_update.false) (c.loop-k.invariant.kept whole shows);
       answered = λ mode command knows. so_far (IsRightReply mode xs) xs k now c.loop-k.unanswered c.first-unanswered.result c.is_answered-answered.result less is at (c.loop-k.invariant.answered mode command knows)
-          (c.is_answered-answered.ensures mode xs (earlier_at xs k) command knows (any_here names_writer xs k now at) (part_at xs k) (c.loop-k.invariant.own now.session now.transaction opened) c.loop-k.invariant.own c.loop-k.invariant.over) c.first-unanswered.ensures;
+          (c.is_answered-answered.ensures mode xs (earlier_at xs k) command knows (any_here names_writer xs k now at) (part_at xs k) (c.loop-k.invariant.own now.session now.transaction opened) (rest_at c.loop-k.reader xs k c.in_ok-said.said c.loop-k.invariant.reader c.in_ok-said.ensures.rest) c.loop-k.invariant.own c.loop-k.invariant.over) c.first-unanswered.ensures;
       ordered = λ mode command knows points. so_far (IsKnown mode xs) xs k now c.loop-k.unordered c.first-unordered.result c.is_fresh-ordered.result less is at (c.loop-k.invariant.ordered mode command knows points)
           (c.is_fresh-ordered.ensures mode (history_of xs) xs (earlier_at xs k) command knows.groups (λ asked. points (any_here tells_held xs k now at asked)) c.loop-k.invariant.before) c.first-unordered.ensures;
     }

@@ -1,9 +1,9 @@
 use Rattle.std.proofs.Common.{◌∙◌, sym, ap, subst}
-use Rattle.std.specs.Prelude.{Decides}
+use Rattle.std.specs.Prelude.{Decides, option_map}
 use Rattle.hg_base.specs.History.{seen}
 use Rattle.hg_base.specs.Transcript.{own_writes, table_of, has}
-use Rattle.hg_base.specs.Replies.{IsAnswer, IsGot, IsDeleted, IsScanned, IsCommitted, IsUndeclared, is_written}
-use Rattle.hg_known.specs.Lines.{said_of}
+use Rattle.hg_base.specs.Replies.{IsAnswer, IsGot, IsDeleted, IsScanned, IsFetched, IsCommitted, IsUndeclared, is_written}
+use Rattle.hg_known.specs.Lines.{rest_of, said_of}
 use Rattle.hg_audit.specs.Seen.{look}
 use Rattle.hg_audit.proofs.Looking.{decided_within}
 use Rattle.hg_audit.proofs.judge.is_answer.Goals as goal
@@ -14,7 +14,7 @@ returns-else-not-is_within c =
     let now = said_of c.args.now.now in
     let see = seen h (own_writes earlier now) now.at in
     let r = c.in-Get.rid in
-    subst (λ s. Decides c.is_got.result (IsAnswer mode see (is_written (own_writes earlier now)) now s)) (sym c.in-Get.is)
+    subst (λ s. Decides c.is_got.result (IsAnswer mode see (is_written (own_writes earlier now)) (option_map rest_of c.args.now.now.rest) now s)) (sym c.in-Get.is)
     (decided_within (has now.scope r.table) c.is_got.result (IsGot (see r) now.reply.answer) (IsUndeclared r.table now.reply.answer) (sym (c.is_within.ensures (ap table_of c.in-Get.is)) ∙ c.if-not-is_within.false)
     (c.is_got.ensures (see r) (c.see.ensures h earlier shows is)))
 
@@ -24,7 +24,7 @@ returns-else-not-is_within-3 c =
     let now = said_of c.args.now.now in
     let see = seen h (own_writes earlier now) now.at in
     let r = c.in-Del.rid in
-    subst (λ s. Decides c.is_deleted.result (IsAnswer mode see (is_written (own_writes earlier now)) now s)) (sym c.in-Del.is)
+    subst (λ s. Decides c.is_deleted.result (IsAnswer mode see (is_written (own_writes earlier now)) (option_map rest_of c.args.now.now.rest) now s)) (sym c.in-Del.is)
     (decided_within (has now.scope r.table) c.is_deleted.result (IsDeleted (see r) now.reply.answer) (IsUndeclared r.table now.reply.answer) (sym (c.is_within-in-Del.ensures (ap table_of c.in-Del.is)) ∙ c.if-not-is_within-3.false)
     (c.is_deleted.ensures (see r) (c.see-in-Del.ensures h earlier shows is)))
 
@@ -33,13 +33,20 @@ returns-else-not-is_within-4 c =
     λ mode h earlier command shows is.
     let now = said_of c.args.now.now in
     let t = c.in-Scan.table in
-    subst (λ s. Decides c.is_scan.result (IsAnswer mode (seen h (own_writes earlier now) now.at) (is_written (own_writes earlier now)) now s)) (sym c.in-Scan.is)
+    subst (λ s. Decides c.is_scan.result (IsAnswer mode (seen h (own_writes earlier now) now.at) (is_written (own_writes earlier now)) (option_map rest_of c.args.now.now.rest) now s)) (sym c.in-Scan.is)
     (decided_within (has now.scope t) c.is_scan.result (IsScanned (look h earlier now t) c.in-Scan.low c.in-Scan.high now.reply.answer) (IsUndeclared t now.reply.answer) (sym (c.is_within-in-Scan.ensures (ap table_of c.in-Scan.is)) ∙ c.if-not-is_within-4.false)
     (c.is_scan.ensures h earlier shows is))
+
+pub returns-in-Fetch : goal.returns-in-Fetch
+returns-in-Fetch c =
+    λ mode h earlier command shows is.
+    let now = said_of c.args.now.now in
+    subst (λ s. Decides c.is_fetched.result (IsAnswer mode (seen h (own_writes earlier now) now.at) (is_written (own_writes earlier now)) (option_map rest_of c.args.now.now.rest) now s)) (sym c.in-Fetch.is)
+    (c.is_fetched.ensures h earlier shows is)
 
 pub returns-in-Commit : goal.returns-in-Commit
 returns-in-Commit c =
     λ mode h earlier command shows is.
     let now = said_of c.args.now.now in
-    subst (λ s. Decides c.is_committed.result (IsAnswer mode (seen h (own_writes earlier now) now.at) (is_written (own_writes earlier now)) now s)) (sym c.in-Commit.is)
+    subst (λ s. Decides c.is_committed.result (IsAnswer mode (seen h (own_writes earlier now) now.at) (is_written (own_writes earlier now)) (option_map rest_of c.args.now.now.rest) now s)) (sym c.in-Commit.is)
     (subst (λ b. Decides c.is_committed.result (IsCommitted b now.reply.answer)) (c.wrote.ensures earlier is) c.is_committed.ensures)

@@ -5,6 +5,7 @@ use Rattle.hg_base.specs.Shape.{HasShape}
 use Rattle.hg_base.specs.Transcript.{in_order}
 use Rattle.hg_known.specs.Sequenced.{shown_of, with_rounds}
 use Rattle.hg_known.proofs.Sequencing.{run_length}
+use Rattle.hg_audit.proofs.Opens.{AllKnown, known_in_run}
 use Rattle.hg_audit.proofs.Sequencing.{shape_length, run_lines, not_in_shape, when_none, when_some}
 use Rattle.hg_audit.proofs.judging.find_in_run.Goals as goal
 
@@ -30,3 +31,10 @@ returns-then-is_some c =
     let is : rounds ≡ made.0 = omega (arith, fit, told, there) in
     not_in_shape c.in-Some.order c.as_slice-lines.result.now c.in_ok-first_out_of_shape.field-0 (sym c.is_some.ensures ∙ c.if-is_some.true) c.in_ok-first_out_of_shape.ensures
     (subst (HasShape c.in-Some.order) (sym c.as_slice-lines.ensures) (subst (λ rs. HasShape rs lines) (ap (with_rounds s) is ∙ sym made.1) shape))
+
+pub find-requires : goal.find-requires
+find-requires c =
+    let records = c.args.script.now.records in
+    let many = length c.as_slice-lines.result.now in
+    let made = when_some ((n : ℕ) → length (in_order (run n) records) ≡ many → ⊥) (λ (sequence : List Record). (n : ℕ) × (sequence ≡ in_order (run n) records) × (length sequence ≡ many)) c.in_ok-order.field-0 c.in-Some.order c.in-Some.is c.in_ok-order.ensures in
+    record { known = subst AllKnown (sym made.1) (known_in_run records made.0 c.requires.known) }
