@@ -18,7 +18,9 @@ use hg_known::{Own, Said};
 
 /// Whether a line has the right reply, and shows the cause of a refused write.
 pub fn is_answered(facts: &Facts, own: &Own, now: &Said) -> bool
-    ensures { (mode : Mode) (all earlier : List script.Said) → IsOf facts.now.command mode → Knows (history_of all) all facts.now → IsAsked all (said_of now.now) → IsPart earlier all → HasOwn own.now earlier (said_of now.now) → HasRest earlier now.now → AreOpenOwn own.now earlier → ForgetsOver own.now earlier → Decides result (IsRightReply mode all earlier (said_of now.now)) }
+    ensures { (mode : Mode) (all earlier : List script.Said) → IsOf facts.now.command mode → Knows (history_of all) all facts.now →
+        IsAsked all (said_of now.now) → IsPart earlier all → HasOwn own.now earlier (said_of now.now) → HasRest earlier now.now →
+        AreOpenOwn own.now earlier → ForgetsOver own.now earlier → Decides result (IsRightReply mode all earlier (said_of now.now)) }
 {
     if !is_reply(facts.command, facts.writes, facts.groups, own, now) {
         return false;

@@ -24,7 +24,8 @@ fn are_first(
     rest: Rest,
     rows: &[(u64, Row)],
 ) -> bool
-    ensures { (h : History) (earlier : List script.Said) → IsOfHistory h writes.now → HasOwn own.now earlier (said_of now.now) → Decides result (AreFirst (look h earlier (said_of now.now) rest.table) most (rest_of rest).low rest.high rows.now) }
+    ensures { (h : History) (earlier : List script.Said) → IsOfHistory h writes.now → HasOwn own.now earlier (said_of now.now) →
+        Decides result (AreFirst (look h earlier (said_of now.now) rest.table) most (rest_of rest).low rest.high rows.now) }
 {
     if rows.len() > most as usize {
         return false;
@@ -39,7 +40,8 @@ fn are_first(
 /// Whether the answer to a fetch has the first `most` rows of what the cursor of the line's transaction has left.
 pub fn is_fetched(writes: &Writes, own: &Own, now: &Said, most: u32) -> bool
     ensures { (h : History) (earlier : List script.Said) → IsOfHistory h writes.now → HasOwn own.now earlier (said_of now.now) →
-        Decides result (IsFetched (seen h (own_writes earlier (said_of now.now)) now.now.at) most (option_map rest_of now.now.rest) now.now.reply.now.answer) }
+        Decides result (IsFetched (seen h (own_writes earlier (said_of now.now)) now.now.at) most (option_map rest_of now.now.rest)
+        now.now.reply.now.answer) }
 {
     let Some(rest) = now.rest else {
         return false;

@@ -64,7 +64,9 @@ fn is_scan(writes: &Writes, own: &Own, now: &Said, table: TableId, low: u64, hig
 // Whether the answer is the table's.
 fn is_answer(command: Command, writes: &Writes, own: &Own, now: &Said) -> bool
     ensures { (mode : Mode) (h : History) (earlier : List script.Said) → IsOf command mode → IsOfHistory h writes.now → HasOwn own.now earlier (said_of now.now) →
-        Decides result (IsAnswer mode (seen h (own_writes earlier (said_of now.now)) now.now.at) (is_written (own_writes earlier (said_of now.now))) (option_map rest_of now.now.rest) (said_of now.now) now.now.statement) }
+        Decides result (IsAnswer mode (seen h (own_writes earlier (said_of now.now)) now.now.at)
+        (is_written (own_writes earlier (said_of now.now)))
+        (option_map rest_of now.now.rest) (said_of now.now) now.now.statement) }
 {
     let answer = &now.reply.answer;
     match &now.statement {
@@ -104,7 +106,8 @@ fn is_answer(command: Command, writes: &Writes, own: &Own, now: &Said) -> bool
 
 /// Whether a reply is that of a table that never reclaims, where so many groups are in the history.
 pub fn is_reply(command: Command, writes: &Writes, groups: u64, own: &Own, now: &Said) -> bool
-    ensures { (mode : Mode) (h : History) (earlier : List script.Said) → IsOf command mode → IsOfHistory h writes.now → length h ≡ groups → HasOwn own.now earlier (said_of now.now) → HasRest earlier now.now → Decides result (IsReply mode h earlier (said_of now.now)) }
+    ensures { (mode : Mode) (h : History) (earlier : List script.Said) → IsOf command mode → IsOfHistory h writes.now → length h ≡ groups →
+        HasOwn own.now earlier (said_of now.now) → HasRest earlier now.now → Decides result (IsReply mode h earlier (said_of now.now)) }
 {
     if now.reply.at.is_some() != now.alone {
         return false;

@@ -102,7 +102,8 @@ fn none_seen(writes: &Writes, own: &Own, now: &Said, table: TableId, from: u64, 
 
 /// Whether these are the rows of the range that a line's transaction sees, by ascending key.
 pub fn is_scanned(writes: &Writes, own: &Own, now: &Said, range: Rest, rows: &[(u64, Row)]) -> bool
-    ensures { (h : History) (earlier : List script.Said) → IsOfHistory h writes.now → HasOwn own.now earlier (said_of now.now) → Decides result (AreRows (look h earlier (said_of now.now) range.table) (rest_of range).low range.high rows.now) }
+    ensures { (h : History) (earlier : List script.Said) → IsOfHistory h writes.now → HasOwn own.now earlier (said_of now.now) →
+        Decides result (AreRows (look h earlier (said_of now.now) range.table) (rest_of range).low range.high rows.now) }
 {
     let table = range.table;
     let high = range.high;

@@ -90,7 +90,16 @@ fn next_after(last: Option<Last>) -> u64
 
 // A record and its reply, in no transaction.
 fn outside<'a>(asked: Record, reply: &'a Reply) -> Said<'a>
-    ensures said { said_of result ≡ record { session = asked.session; place = asked.place; transaction = 0; at = 0; scope = All; alone = false; statement = asked.statement; reply = reply.entry.now } }
+    ensures said { said_of result ≡ record {
+      session = asked.session;
+      place = asked.place;
+      transaction = 0;
+      at = 0;
+      scope = All;
+      alone = false;
+      statement = asked.statement;
+      reply = reply.entry.now;
+    } }
     ensures rest { result.rest ≡ None }
 {
     Said {
@@ -110,8 +119,10 @@ fn outside<'a>(asked: Record, reply: &'a Reply) -> Said<'a>
 fn stand<'a>(last: Option<Last>, asked: Record, reply: &'a Reply) -> Said<'a>
     requires room { IfSome last (λ l. number_of l + 1 < 2 ^ 64) }
     requires known { OpensKnown asked.statement }
-    ensures said { (o : Option script.Said) → option_map left_by o ≡ option_map without_rest last → said_of result ≡ said_after o asked reply.entry.now asked.statement }
-    ensures rest { (earlier : List script.Said) → option_map without_rest last ≡ option_map left_by (last_of asked.session earlier) → IsRest asked.session earlier last →
+    ensures said { (o : Option script.Said) → option_map left_by o ≡ option_map without_rest last →
+        said_of result ≡ said_after o asked reply.entry.now asked.statement }
+    ensures rest { (earlier : List script.Said) → option_map without_rest last ≡ option_map left_by (last_of asked.session earlier) →
+        IsRest asked.session earlier last →
         option_map rest_of result.rest ≡ rest_in asked.session result.transaction earlier }
     ensures session { result.session ≡ asked.session }
     ensures reach { IfSome last (λ l. result.transaction ≤ number_of l + 1) }
@@ -161,7 +172,8 @@ fn stand<'a>(last: Option<Last>, asked: Record, reply: &'a Reply) -> Said<'a>
 // What a line leaves to its session's next.
 fn left(now: &Said) -> Last
     ensures left { without_rest result ≡ left_by (said_of now.now) }
-    ensures rest { script.ends (said_of now.now) ≡ false → left_rest (Some result) ≡ rest_after now.now.statement now.now.reply.now.answer (option_map rest_of now.now.rest) }
+    ensures rest { script.ends (said_of now.now) ≡ false →
+        left_rest (Some result) ≡ rest_after now.now.statement now.now.reply.now.answer (option_map rest_of now.now.rest) }
 {
     if ends(now) {
         return Last::Over(now.transaction);
@@ -194,9 +206,11 @@ pub fn read_line<'a>(
     requires reach { ReachTo (2 ^ 63) lasts.old }
     requires known { OpensKnown asked.statement }
     ensures said { IfOk result (λ now. (earlier : List script.Said) → AreLasts lasts.old earlier → said_of now ≡ script.said earlier asked reply.entry.now) }
-    ensures rest { IfOk result (λ now. (earlier : List script.Said) → AreLasts lasts.old earlier → AreRests lasts.old earlier → HasRest earlier now) }
+    ensures rest { IfOk result (λ now. (earlier : List script.Said) → AreLasts lasts.old earlier → AreRests lasts.old earlier →
+        HasRest earlier now) }
     ensures lasts { IfOk result (λ now. (earlier : List script.Said) → AreLasts lasts.old earlier → AreLasts lasts.new (said_of now ∷ earlier)) }
-    ensures rests { IfOk result (λ now. (earlier : List script.Said) → AreLasts lasts.old earlier → AreRests lasts.old earlier → AreRests lasts.new (said_of now ∷ earlier)) }
+    ensures rests { IfOk result (λ now. (earlier : List script.Said) → AreLasts lasts.old earlier → AreRests lasts.old earlier →
+        AreRests lasts.new (said_of now ∷ earlier)) }
     ensures reach { OnOk result ((n : ℕ) → ReachTo n lasts.old → ReachTo (n + 1) lasts.new) }
     ensures refused { OnErr result (IsUnchanged lasts.old lasts.new) }
 {
