@@ -14,10 +14,10 @@ use Rattle.hg_base.proofs.ListFacts.{cases, each_keeps, each_at}
 use Rattle.hg_base.specs.Transcript.{last_key}
 use Rattle.hg_rule.specs.declared.view.View.{View}
 use Rattle.hg_cursor.specs.Keys.{Rows}
-use Rattle.hg_cursor.specs.Firsts.{Keeps}
+use Rattle.hg_cursor.specs.Firsts.{one_upto, Keeps}
 use Rattle.hg_cursor.proofs.Keys.{differ, is_apart}
 use Rattle.hg_cursor.proofs.Rows.{key_of, ascends_tail}
-use Rattle.hg_cursor.proofs.Gathering.{IsGathered, one_upto, all_count, all_over, ascends_distinct}
+use Rattle.hg_cursor.proofs.Gathering.{IsGathered, all_count, all_over, ascends_distinct}
 
 -- ---- in order
 

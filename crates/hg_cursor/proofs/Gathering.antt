@@ -1,5 +1,5 @@
 -- The first rows of some buckets: bucket by bucket.
-use Rattle.std.proofs.Common.{◌≡◌, ℕ, zero, suc, ◌+◌, ◌<◌, ◌≤◌, ◌⊎◌, inl, inr, List, [], ◌∷◌, ◌++◌, map, length, false, cond, refl, sym, ap, ◌∙◌, subst, arith}
+use Rattle.std.proofs.Common.{◌≡◌, ℕ, zero, suc, ◌+◌, ◌<◌, ◌≤◌, ◌⊎◌, inl, inr, List, [], ◌∷◌, ◌++◌, map, length, Bool, true, false, cond, refl, sym, ap, ◌∙◌, subst, arith}
 use Rattle.std.specs.Prelude.{◌==◌, nat_eq, nat_lt, nat_le, if◌then◌else◌, Contains}
 use Rattle.std.specs.List.{IsDistinct, AllByRecursion, sum_by}
 use Rattle.std.proofs.lemmas.Bool.Decides.{Decides-eqb, nat_tests}
@@ -16,17 +16,14 @@ use Rattle.hg_core.specs.Reading.{bucket_at, looks}
 use Rattle.hg_bucket.specs.BucketModel.{record_at}
 use Rattle.hg_rule.specs.declared.view.View.{View}
 use Rattle.hg_rule.specs.Views.{HasOnlySession}
+use Rattle.hg_cursor.specs.Firsts.{one_upto, count_upto, rows_upto}
 use Rattle.hg_cursor.specs.Keys.{Rows, IsOwnKey}
 use Rattle.hg_cursor.specs.Logs.{Adds}
 use Rattle.hg_cursor.specs.Looks.{Takes}
 use Rattle.hg_cursor.specs.Cursors.{LooksAt}
 use Rattle.hg_cursor.proofs.Keys.{is_apart, far_apart}
-use Rattle.hg_cursor.proofs.Rows.{key_of, map_append, each_mapped, ascends_tail}
+use Rattle.hg_cursor.proofs.Rows.{key_of, map_append, each_mapped, ascends_tail, still_enough}
 use Rattle.hg_cursor.proofs.Trips.{adds_none, adds_one}
-
--- a row up to a key counts as one
-abbrev pub one_upto : ℕ → ℕ × List Value → ℕ
-one_upto limit p = if nat_le p.0 limit then 1 else 0
 
 -- The rows up to a key of the first buckets, which were looked at; and no other ones are among the first n.
 pub record IsGathered (count n : ℕ) (v : View) (table : TableId) (low high number limit : ℕ) (rows : Rows) (w : View) : Type 0 where
@@ -166,19 +163,11 @@ module _ (count n : ℕ) (v u w : View) (table : TableId) (low high number limit
         (each_keeps (λ p. p.0 ≤ upto → Contains t.more p) (λ p. p.0 ≤ upto → Contains new p) (λ p f k. subst (λ r. Contains r p) (sym t.is) (Contains-append_right rows t.more p (f k))) part t.every);
     distinct = subst (IsDistinct nat_eq) (sym (ap (map key_of) t.is ∙ map_append rows t.more)) (distinct_append (map key_of rows) (map key_of t.more) s.distinct (ascends_distinct (map key_of t.more) t.ascend) apart_keys);
     within = omega (arith, b, q);
-    enough = enough_still t.enough s.enough;
+    enough = still_enough n upto limit high rows t.more new t.is t.enough s.enough;
   }
     where
       IsOfSome : ℕ × List Value → Type 0
       IsOfSome p = (i : ℕ) × (i < suc number) × Contains (parts i) p
-
-      sums : sum_by (one_upto upto) new ≡ sum_by (one_upto upto) rows + sum_by (one_upto upto) t.more
-      sums = ap (sum_by (one_upto upto)) t.is ∙ sum_by-append (one_upto upto) rows t.more
-
-      enough_still : (upto ≡ limit) ⊎ (n ≤ length t.more) → (limit ≡ high) ⊎ (n ≤ sum_by (one_upto limit) rows) → (upto ≡ high) ⊎ (n ≤ sum_by (one_upto upto) new)
-      enough_still (inl e) (inl f) = inl (e ∙ f)
-      enough_still (inl e) (inr many) = let more = subst (λ k. n ≤ sum_by (one_upto k) rows) (sym e) many in inr (omega (arith, sums, more))
-      enough_still (inr many) other = let all = all_count upto t.more (each_keeps _ (λ p. p.0 ≤ upto) (λ p c. c.1) t.more t.each) in inr (omega (arith, sums, many, all))
 
       apart_keys : Each (λ x. Each (λ y. nat_eq x y ≡ false) (map key_of t.more)) (map key_of rows)
       apart_keys = each_mapped (λ x. Each (λ y. nat_eq x y ≡ false) (map key_of t.more)) rows
@@ -193,3 +182,75 @@ module _ (count n : ℕ) (v u w : View) (table : TableId) (low high number limit
               let there : bucket_of count (record_at table r.0) ≡ bucket_at count table low number = each_at (λ x. IsOwnKey count (bucket_at count table low number) table x.0) part r own k in
               let same = far_apart count table low i number (omega (arith, less, l)) l (sym here ∙ (ap (λ x. bucket_of count (record_at table x)) e ∙ there)) in
               omega (arith, less, same)
+
+-- ---- only the rows up to the limit
+
+each_upto : (P : ℕ × List Value → Type 0) (limit : ℕ) (xs : Rows) → Each P xs → Each P (rows_upto limit xs)
+each_upto P limit [] e = tt
+each_upto P limit (x ∷ xs) e = go (nat_le x.0 limit) (each_upto P limit xs e.1)
+  where
+    go : (b : Bool) → Each P (rows_upto limit xs) → Each P (cond b (x ∷ rows_upto limit xs) (rows_upto limit xs))
+    go true rest = (e.0, rest)
+    go false rest = rest
+
+has_upto : (limit : ℕ) (xs : Rows) (p : ℕ × List Value) → Contains xs p → p.0 ≤ limit → Contains (rows_upto limit xs) p
+has_upto limit [] p (k, within, e) l = absurd (omega (arith, within))
+has_upto limit (x ∷ xs) p (zero, within, e) l =
+    let under : nat_le x.0 limit ≡ true = let m = subst (λ q. q.0 ≤ limit) (sym e) l in grind (arith, nat_tests, m) in
+    subst (λ b. Contains (cond b (x ∷ rows_upto limit xs) (rows_upto limit xs)) p) (sym under) (0, omega arith, e)
+has_upto limit (x ∷ xs) p (suc k, within, e) l = go (nat_le x.0 limit) (has_upto limit xs p (k, omega (arith, within), e) l)
+  where
+    go : (b : Bool) → Contains (rows_upto limit xs) p → Contains (cond b (x ∷ rows_upto limit xs) (rows_upto limit xs)) p
+    go true (i, w, s) = (suc i, omega (arith, w), s)
+    go false c = c
+
+distinct_upto : (limit : ℕ) (xs : Rows) → IsDistinct nat_eq (map key_of xs) → IsDistinct nat_eq (map key_of (rows_upto limit xs))
+distinct_upto limit [] d = d
+distinct_upto limit (x ∷ xs) d = go (nat_le x.0 limit) (distinct_upto limit xs (IsDistinct-tail nat_eq x.0 (map key_of xs) d))
+  where
+    apart : (ys : Rows) → Each (λ y. nat_eq x.0 y ≡ false) (map key_of ys) → Each (λ p. nat_eq x.0 p.0 ≡ false) ys
+    apart [] e = tt
+    apart (y ∷ ys) e = (e.0, apart ys e.1)
+
+    go : (b : Bool) → IsDistinct nat_eq (map key_of (rows_upto limit xs)) → IsDistinct nat_eq (map key_of (cond b (x ∷ rows_upto limit xs) (rows_upto limit xs)))
+    go true rest =
+        let differs = each_upto (λ p. nat_eq x.0 p.0 ≡ false) limit xs (apart xs (each_of (λ y. nat_eq x.0 y ≡ false) (map key_of xs) (IsDistinct-head nat_eq x.0 (map key_of xs) d))) in
+        IsDistinct-cons nat_eq x.0 (map key_of (rows_upto limit xs)) (all_of (λ y. nat_eq x.0 y ≡ false) (map key_of (rows_upto limit xs)) (each_mapped (λ y. nat_eq x.0 y ≡ false) (rows_upto limit xs) differs)) rest
+    go false rest = rest
+
+count_stays : (limit : ℕ) (xs : Rows) → count_upto limit (rows_upto limit xs) ≡ count_upto limit xs
+count_stays limit [] = refl
+count_stays limit (x ∷ xs) = cases (nat_le x.0 limit)
+    (λ t.
+    let here : rows_upto limit (x ∷ xs) ≡ x ∷ rows_upto limit xs = ap (λ b. cond b (x ∷ rows_upto limit xs) (rows_upto limit xs)) t in
+    let more = sum_by-cons (one_upto limit) x (rows_upto limit xs) in
+    let all = sum_by-cons (one_upto limit) x xs in
+    let rest = count_stays limit xs in
+    let same = ap (sum_by (one_upto limit)) here in
+    omega (arith, same, more, all, rest))
+    (λ f.
+    let here : rows_upto limit (x ∷ xs) ≡ rows_upto limit xs = ap (λ b. cond b (x ∷ rows_upto limit xs) (rows_upto limit xs)) f in
+    let one : one_upto limit x ≡ 0 = ap (λ b. if b then 1 else 0) f in
+    let all = sum_by-cons (one_upto limit) x xs in
+    let rest = count_stays limit xs in
+    let same = ap (sum_by (one_upto limit)) here in
+    omega (arith, same, one, all, rest))
+
+pub up_to_limit : (count n : ℕ) (v w : View) (table : TableId) (low high number limit : ℕ) (rows : Rows) → IsGathered count n v table low high number limit rows w → IsGathered count n v table low high number limit (rows_upto limit rows) w
+up_to_limit count n v w table low high number limit rows s = record {
+  once = s.once;
+  reached = s.reached;
+  part = s.part;
+  adds = s.adds;
+  own = s.own;
+  inside = s.inside;
+  each = each_upto (λ p. (i : ℕ) × (i < number) × Contains (s.part i) p) limit rows s.each;
+  every = λ i l. each_keeps _ (λ p. p.0 ≤ limit → Contains (rows_upto limit rows) p) (λ p f m. has_upto limit rows p (f m) m) (s.part i) (s.every i l);
+  distinct = distinct_upto limit rows s.distinct;
+  within = s.within;
+  enough = go s.enough;
+}
+  where
+    go : (limit ≡ high) ⊎ (n ≤ count_upto limit rows) → (limit ≡ high) ⊎ (n ≤ count_upto limit (rows_upto limit rows))
+    go (inl e) = inl e
+    go (inr many) = let same = count_stays limit rows in inr (omega (arith, many, same))

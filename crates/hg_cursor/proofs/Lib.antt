@@ -5,6 +5,7 @@ pub mod Rows
 pub mod Trips
 pub mod Looking
 -- The first rows of all buckets.
+pub mod Counting
 pub mod Gathering
 pub mod Cutting
 pub mod Picking

@@ -21,6 +21,7 @@ use Rattle.hg_rule.specs.declared.view.View.{View}
 use Rattle.hg_rule.specs.Views.{part_number, after_first}
 use Rattle.hg_rule.specs.Holding.{bucket, writer, snapshot}
 use Rattle.hg_rule.specs.Writes.{log_asked, Looks}
+use Rattle.hg_cursor.specs.Firsts.{Copied}
 use Rattle.hg_cursor.specs.Keys.{Rows, IsOwnKey, AreOwn, HasVersion, read_of}
 use Rattle.hg_cursor.specs.Logs.{Adds}
 use Rattle.hg_cursor.specs.declared.looks.Look.{Look}
@@ -65,15 +66,16 @@ module _ (count j b m : ℕ) (part : SessionPart) (old : List Sight) (l : Look) 
       λ i. Saw l.request.table l.request.low l.request.high (n i) k.rows ∷ (s i).log
 
   -- the rows that were copied are those that were logged
-  pub sees : (v x : View) (by : Writer) (before after : Rows) (answer : Result ℕ NoMemory) → IsFirstKey count l.request.low l.own → l.limit ≤ l.request.high → b ≡ bucket_of count (record_at l.request.table l.own) → AreOwn count b (bucket u).content → by ≡ writer u → l.request.at ≡ snapshot u
-      → IfOk answer (AppendsFirst by l (bucket u).content before after) → Adds v (Saw l.request.table l.request.low l.request.high b k.rows ∷ []) x → Sees count l v before answer x after
-  sees v x by before after answer first below here are same_by same_at copied adds = record {
+  pub sees : (v x : View) (by : Writer) (before after : Copied) (answer : Result ℕ NoMemory) → IsFirstKey count l.request.low l.own → l.limit ≤ l.request.high → b ≡ bucket_of count (record_at l.request.table l.own) → AreOwn count b (bucket u).content → by ≡ writer u → l.request.at ≡ snapshot u
+      → after.most ≡ before.most → IfOk answer (AppendsFirst by l (bucket u).content before after) → Adds v (Saw l.request.table l.request.low l.request.high b k.rows ∷ []) x → Sees count l v before answer x after
+  sees v x by before after answer first below here are same_by same_at same_most copied adds = record {
     part = k.rows;
     adds = subst (λ c. Adds v (Saw table low high c k.rows ∷ []) x) here adds;
     within = each_keeps _ (λ p. (low ≤ p.0) × (p.0 ≤ high)) (λ p s. (s.0, s.1)) k.rows k.shown.each;
     own = subst (λ c. Each (λ p. IsOwnKey count c table p.0) k.rows) here (each_keeps (λ p. (low ≤ p.0) × (p.0 ≤ high) × ((shown p.0).row ≡ Some p.1)) (λ p. IsOwnKey count b table p.0)
         (λ p s. own_key count b (bucket u).content table p.0 are (shown_there (writer u) (snapshot u) table (bucket u).content p.0 p.1 s.2)) k.rows k.shown.each);
-    taken = if_ok answer same (subst (λ t. IfOk answer (Appends (read_of (writer u) t table (bucket u).content) n l.own l.limit before after)) same_at (subst (λ y. IfOk answer (Appends (read_of y l.request.at table (bucket u).content) n l.own l.limit before after)) same_by copied));
+    most = same_most;
+    taken = if_ok answer same (subst (λ t. IfOk answer (Appends (read_of (writer u) t table (bucket u).content) n l.own l.limit before.rows after.rows)) same_at (subst (λ y. IfOk answer (Appends (read_of y l.request.at table (bucket u).content) n l.own l.limit before.rows after.rows)) same_by copied));
   }
     where
       table : TableId
@@ -86,11 +88,11 @@ module _ (count j b m : ℕ) (part : SessionPart) (old : List Sight) (l : Look) 
       high = l.request.high
 
       n : ℕ
-      n = l.request.most
+      n = before.most
 
       shown : ℕ → Image
       shown = read_of (writer u) (snapshot u) table (bucket u).content
 
-      same : (upto : ℕ) → Appends shown n l.own l.limit before after upto → Takes n l.limit k.rows before after upto
-      same upto a = takes shown n low high l.limit k.rows before after upto k.shown below
-          (widened shown n low l.own l.limit before after upto first.0 (λ key from less. none_below count (writer u) (snapshot u) table (bucket u).content low l.own key first.0 first.1 (subst (λ c. AreOwn count c (bucket u).content) here are) from less) a)
+      same : (upto : ℕ) → Appends shown n l.own l.limit before.rows after.rows upto → Takes n l.limit k.rows before.rows after.rows upto
+      same upto a = takes shown n low high l.limit k.rows before.rows after.rows upto k.shown below
+          (widened shown n low l.own l.limit before.rows after.rows upto first.0 (λ key from less. none_below count (writer u) (snapshot u) table (bucket u).content low l.own key first.0 first.1 (subst (λ c. AreOwn count c (bucket u).content) here are) from less) a)

@@ -10,8 +10,8 @@ use Rattle.hg_base.specs.Transcript.{last_key, passed}
 use Rattle.hg_rule.specs.declared.view.View.{View}
 use Rattle.hg_cursor.specs.Keys.{Rows}
 use Rattle.hg_cursor.specs.Cursors.{FetchesRows}
+use Rattle.hg_cursor.specs.Firsts.{one_upto}
 use Rattle.hg_cursor.proofs.Keys.{of_first}
-use Rattle.hg_cursor.proofs.Gathering.{one_upto}
 use Rattle.hg_cursor.proofs.Cutting.{IsCut, count_few, last_same}
 
 -- no further bucket is needed: all were taken, or the next one's first key is over the limit

@@ -1,14 +1,16 @@
 -- The rows of one bucket, key by key.
 use Rattle.std.proofs.Common.{◌≡◌, ℕ, suc, ◌+◌, ◌-◌, ◌<◌, ◌≤◌, ◌⊎◌, inl, inr, List, [], ◌∷◌, ◌++◌, map, length, Bool, true, false, Option, Some, None, refl, sym, ap, ◌∙◌, subst, arith, append_assoc}
 use Rattle.std.specs.Prelude.{◌==◌, ◌||◌, nat_lt, IsTrue, Contains, ⊤}
-use Rattle.std.specs.List.{list_any}
+use Rattle.std.specs.List.{list_any, sum_by}
 use Rattle.std.proofs.lemmas.Bool.Decides.{Decides-eqb, nat_tests}
+use Rattle.std.proofs.lemmas.List.Sums.{sum_by-append}
 use Rattle.hg_base.specs.declared.image.Image.{Image}
 use Rattle.hg_base.specs.declared.value.Value.{Value}
 use Rattle.hg_base.specs.Lists.{Each, Ascends}
 use Rattle.hg_base.specs.Replies.{AreRows}
 use Rattle.hg_base.proofs.ListFacts.{cases, none_some, append_nil, each_snoc, each_keeps, each_at, any_more, false_true}
 use Rattle.hg_cursor.specs.Keys.{Rows, rows_at, IsWithin, LeadsOn}
+use Rattle.hg_cursor.specs.Firsts.{one_upto, count_upto}
 use Rattle.hg_cursor.specs.Looks.{Appends}
 
 abbrev pub key_of : ℕ × List Value → ℕ
@@ -131,9 +133,34 @@ module _ (shown : ℕ → Image) (Sought : ℕ → Type 0) (low high : ℕ) (old
     below = each_keeps (λ p. p.0 ≤ k) (λ p. p.0 < m) (λ p l. let b = w.0 in omega (arith, l, b)) u.more u.below;
   }
 
-  -- one key more, and the next one after it
-  pub one_more : (rows new : Rows) (k : ℕ) (next : Option ℕ) → IsWithin low high (Some k) → IsSoFar shown low high old rows (Some k) → new ≡ rows ++ rows_at k (shown k).row → IsWithin (k + 1) high next → LeadsOn Sought (k + 1) high next → IsSoFar shown low high old new next
-  one_more rows new k next here s e within n = goes_on new k next (row_added rows new k here.0 here.1 s e) within n
+each_both : {X : Type 0} (P Q : X → Type 0) (xs : List X) → Each P xs → Each Q xs → Each (λ x. P x × Q x) xs
+each_both P Q [] a b = tt
+each_both P Q (x ∷ xs) a b = ((a.0, b.0), each_both P Q xs a.1 b.1)
+
+-- the same up to a lower key
+pub narrowed : (shown : ℕ → Image) (low high limit : ℕ) (old rows : Rows) (k : ℕ) → k ≤ limit → limit ≤ high → IsUpTo shown low high old rows k → IsUpTo shown low limit old rows k
+narrowed shown low high limit old rows k over under u = record {
+  more = u.more;
+  is = u.is;
+  ascend = u.ascend;
+  each = each_keeps _ (λ p. (low ≤ p.0) × (p.0 ≤ limit) × ((shown p.0).row ≡ Some p.1)) (λ p q. (q.0.0, (let m = q.1 in omega (arith, m, over)), q.0.2)) u.more (each_both _ _ u.more u.each u.below);
+  every = λ key l h m. u.every key l (omega (arith, h, under)) m;
+  below = u.below;
+}
+
+-- one key more, and the next one after it up to a limit that may be lower
+pub one_more : (shown : ℕ → Image) (Sought : ℕ → Type 0) (low high limit : ℕ) (old : Rows) (gone : (key : ℕ) → (Sought key → ⊥) → (shown key).row ≡ None) (rows new : Rows) (k : ℕ) (next : Option ℕ) → IsWithin low high (Some k) → k ≤ limit → limit ≤ high → IsSoFar shown low high old rows (Some k) → new ≡ rows ++ rows_at k (shown k).row → IsWithin (k + 1) limit next → LeadsOn Sought (k + 1) limit next
+    → IsSoFar shown low limit old new next
+one_more shown Sought low high limit old gone rows new k next here over under s e within n = goes_on shown Sought low limit old gone new k next (narrowed shown low high limit old new k over under (row_added shown Sought low high old gone rows new k here.0 here.1 s e)) within n
+
+-- where so many rows are up to a limit, or it is the highest, the same is so of a lower one
+pub still_enough : (n lower limit high : ℕ) (rows more new : Rows) → new ≡ rows ++ more → (lower ≡ limit) ⊎ (n ≤ count_upto lower new) → (limit ≡ high) ⊎ (n ≤ count_upto limit rows) → (lower ≡ high) ⊎ (n ≤ count_upto lower new)
+still_enough n lower limit high rows more new is (inl e) (inl f) = inl (e ∙ f)
+still_enough n lower limit high rows more new is (inl e) (inr many) =
+    let sums : count_upto lower new ≡ count_upto lower rows + count_upto lower more = ap (sum_by (one_upto lower)) is ∙ sum_by-append (one_upto lower) rows more in
+    let same = subst (λ k. n ≤ count_upto k rows) (sym e) many in
+    inr (omega (arith, sums, same))
+still_enough n lower limit high rows more new is (inr many) other = inr many
 
 -- ---- how far the next key is from the end
 
@@ -147,32 +174,13 @@ still_within low k high (Some m) here w = let a = here.0 in let c = w.0 in (omeg
 
 -- ---- where the search ends
 
-each_both : {X : Type 0} (P Q : X → Type 0) (xs : List X) → Each P xs → Each Q xs → Each (λ x. P x × Q x) xs
-each_both P Q [] a b = tt
-each_both P Q (x ∷ xs) a b = ((a.0, b.0), each_both P Q xs a.1 b.1)
-
--- at the end of the range
-pub ends_all : (shown : ℕ → Image) (n low high : ℕ) (old rows : Rows) → IsSoFar shown low high old rows None → Appends shown n low high old rows high
-ends_all shown n low high old rows s = record {
+pub ends : (shown : ℕ → Image) (n low limit high : ℕ) (old rows : Rows) → IsSoFar shown low limit old rows None → limit ≤ high → (limit ≡ high) ⊎ (n ≤ count_upto limit rows) → Appends shown n low high old rows limit
+ends shown n low limit high old rows s under enough = record {
   more = s.more;
   is = s.is;
-  within = omega arith;
+  within = under;
   rows = record { ascend = s.ascend; each = s.each; every = λ key l h. s.every key l h tt };
-  enough = inl refl;
-}
-
--- where there are as many rows as are asked for
-pub ends_at : (shown : ℕ → Image) (n low high : ℕ) (old rows : Rows) (k : ℕ) → k ≤ high → (u : IsUpTo shown low high old rows k) → n ≤ length u.more → Appends shown n low high old rows k
-ends_at shown n low high old rows k within u many = record {
-  more = u.more;
-  is = u.is;
-  within = within;
-  rows = record {
-    ascend = u.ascend;
-    each = each_keeps _ _ (λ p q. (q.0.0, q.1, q.0.2)) u.more (each_both _ _ u.more u.each u.below);
-    every = λ key l h. u.every key l (omega (arith, h, within)) h;
-  };
-  enough = inr many;
+  enough = enough;
 }
 
 -- a wider range, of which no other key is shown

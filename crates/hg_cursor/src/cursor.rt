@@ -3,7 +3,7 @@
 ghost use Rattle.std.specs.Prelude.{◌≤◌};
 ghost use Rattle.std.specs.Option.{ForSome};
 
-use crate::firsts::{first_rows, last_passed};
+use crate::buckets::{first_rows, last_passed};
 use crate::request::Request;
 use hg_base::{NoMemory, RowList, TableId};
 use hg_rule::{Board, SessionPass};

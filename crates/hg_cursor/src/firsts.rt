@@ -1,90 +1,87 @@
-//! The first rows of a range, of all buckets.
+//! The rows that a fetch has copied.
 
-ghost use Rattle.std.specs.Prelude.{◌≡◌, ◌+◌, ◌<◌, ◌≤◌, ◌&&◌, nat_lt, nat_le};
-ghost use Rattle.hg_rule.specs.Seats.{board_id, sizes_of, session_view, IsSessionOf};
-ghost use Rattle.hg_store.specs.Stores.{store_board_id, store_buckets};
-ghost use Rattle.hg_cursor.specs.Logs.{IsHeard, ReadsAt};
-ghost use Rattle.hg_base.specs.Transcript.{passed};
-ghost use Rattle.hg_cursor.specs.Firsts.{Keeps};
-ghost use Rattle.hg_cursor.specs.Cursors.{Fetches};
-
-use crate::looks::{Look, see_bucket};
-use crate::request::Request;
-use hg_base::{NoMemory, Row, RowList};
-use hg_rule::{Board, SessionPass};
-use hg_store::Store;
+use hg_base::{NoMemory, Row};
 use std::alloc::Global;
-use std::sync::Wait;
+use std::collections::BinaryHeap;
+use std::marker::Model;
 
-// Whether a further bucket can have a key up to `limit`: the one whose first key is so many over the first one of the range.
-fn is_needed(ahead: u64, count: u64, low: u64, limit: u64) -> bool
-    ensures { result ≡ (nat_lt ahead count && nat_le (low + ahead) limit) }
-{
-    ahead < count && low <= limit && ahead <= limit - low
+/// Rows in the order in which they were copied, and a heap with the least of their keys: as many as rows are to be returned.
+#[derive(Drop)]
+pub(crate) struct Firsts {
+    rows: Vec<(u64, Row)>,
+    keys: BinaryHeap<u64>,
+    most: usize,
 }
 
-// The last key that a fetch of `most` rows up to `high` has passed.
-pub(crate) fn last_passed(rows: &[(u64, Row)], most: usize, high: u64) -> u64
-    ensures { result ≡ passed most high rows.now }
-{
-    if rows.len() < most {
-        return high;
-    }
-    match rows.last() {
-        Some(row) => row.0,
-        None => high,
-    }
+impl Model for Firsts {
+    ghost use Rattle.hg_cursor.specs.Firsts.{Copied};
+
+    ghost Value = { Copied };
+
+    ghost use Rattle.std.specs.BinaryHeap.{heap_items, IsHeap};
+    ghost use Rattle.std.specs.Ordering.{nat_cmp};
+    ghost use Rattle.hg_cursor.specs.Firsts.{AreAmong};
+
+    ghost view = { λ a. record { rows = a.rows.items; most = a.most } };
+
+    ghost invariant = { λ a. IsHeap nat_cmp (heap_items a.keys) × AreAmong (heap_items a.keys) a.rows.items };
 }
 
-// Sorts rows by key, keeps the first `most` of them, and returns the last key that these pass.
-fn keep_first(rows: &mut Vec<(u64, Row)>, most: usize, limit: u64) -> u64
-    ensures { Keeps most limit rows.old.items rows.new.items result }
-{
-    rows.sort_unstable_by_key(|row| row.0);
-    rows.truncate(most);
-    last_passed(rows, most, limit)
-}
+impl Firsts {
+    ghost use Rattle.std.specs.Prelude.{◌≡◌, ◌≤◌, ◌⊎◌, [], ◌∷◌, ◌++◌, OnOk};
+    ghost use Rattle.hg_base.specs.Transcript.{passed};
+    ghost use Rattle.hg_cursor.specs.Firsts.{count_upto, rows_upto, Keeps};
 
-// The first rows of a range, by key: as many as are asked for, or all.
-pub(crate) fn first_rows<R: Wait>(
-    rt: &R,
-    alloc: Global,
-    board: &Board,
-    store: &Store,
-    pass: &mut SessionPass,
-    request: Request,
-) -> Result<RowList, NoMemory>
-    requires board { store_board_id store.now ≡ board_id board.now }
-    requires buckets { store_buckets store.now ≡ (sizes_of board.now).buckets }
-    requires own { IsSessionOf (board_id board.now) (sizes_of board.now) pass.old }
-    requires reads { ReadsAt request.at request.table (session_view pass.old) }
-    requires range { request.low ≤ request.high }
-    requires most { 0 < request.most }
-    ensures gains { Fetches (store_buckets store.now) request.most (session_view pass.old) request.table
-        request.low request.high result (session_view pass.new) }
-    ensures reads { ReadsAt request.at request.table (session_view pass.new) }
-    ensures heard { IsHeard (session_view pass.old) → IsHeard (session_view pass.new) }
-    ensures own { IsSessionOf (board_id board.now) (sizes_of board.now) pass.new }
-{
-    let mut rows = Vec::new(alloc);
-    let count = u64::from(store.buckets());
-    let mut limit = request.high;
-    let mut kept = 0;
-    let mut ahead = 0;
-    while is_needed(ahead, count, request.low, limit) {
-        let own = request.low + ahead;
-        let look = Look {
-            request,
-            own,
-            limit,
-        };
-        limit = see_bucket(rt, board, store, pass, look, &mut rows)?;
-        if rows.len() - kept >= request.most {
-            limit = keep_first(&mut rows, request.most, limit);
-            kept = rows.len();
+    /// No row. It takes no memory.
+    pub(crate) fn new(alloc: Global, most: usize) -> Firsts
+        ensures { result ≡ record { rows = []; most = most } }
+    {
+        Firsts {
+            rows: Vec::new(alloc),
+            keys: BinaryHeap::new(alloc),
+            most,
         }
-        ahead += 1;
     }
-    keep_first(&mut rows, request.most, limit);
-    Ok(RowList::from(rows))
+
+    /// Adds a row.
+    pub(crate) fn add(&mut self, key: u64, row: Row) -> Result<(), NoMemory>
+        ensures added { OnOk result (self.new.rows ≡ self.old.rows ++ (key, row) ∷ []) }
+        ensures most { self.new.most ≡ self.old.most }
+    {
+        self.rows.push((key, row))?;
+        self.keys.push(key)?;
+        if self.keys.len() > self.most {
+            let _ = self.keys.pop();
+        }
+        Ok(())
+    }
+
+    /// How far the rows that are still needed go, once all up to `key` were added: to the last of the least keys where there are
+    /// as many as rows are to be returned, and else to `limit`.
+    pub(crate) fn limit_after(&self, key: u64, limit: u64) -> u64
+        requires { key ≤ limit }
+        ensures within { (key ≤ result) × (result ≤ limit) }
+        ensures enough { (result ≡ limit) ⊎ (self.now.most ≤ count_upto result self.now.rows) }
+    {
+        if self.keys.len() < self.most {
+            return limit;
+        }
+        match self.keys.peek() {
+            Some(last) if *last <= key => key,
+            Some(last) if *last <= limit => *last,
+            _ => limit,
+        }
+    }
+
+    /// The first of the rows up to `limit`, by key: as many as are to be returned, or all.
+    pub(crate) fn into_rows(self, limit: u64) -> Vec<(u64, Row)>
+        ensures { Keeps self.most limit (rows_upto limit self.rows) result.items (passed self.most limit result.items) }
+    {
+        let Firsts { rows, most, .. } = self;
+        let mut rows = rows;
+        rows.retain(|row| row.0 <= limit);
+        rows.sort_unstable_by_key(|row| row.0);
+        rows.truncate(most);
+        rows
+    }
 }

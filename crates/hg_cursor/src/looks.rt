@@ -1,6 +1,6 @@
 //! What a fetch reads of one bucket.
 
-ghost use Rattle.std.specs.Prelude.{◌≡◌, ◌+◌, ◌-◌, ◌<◌, ◌≤◌, ◌++◌, length, IfOk, IfSome, OnOk};
+ghost use Rattle.std.specs.Prelude.{◌≡◌, ◌+◌, ◌-◌, ◌<◌, ◌≤◌, ◌++◌, IfOk, IfSome, OnOk};
 ghost use Rattle.hg_core.specs.Replies.{read_by};
 ghost use Rattle.hg_rule.specs.declared.view.View.{View};
 ghost use Rattle.hg_rule.specs.Holding.{bucket as bucket_in, held as held_in};
@@ -10,8 +10,9 @@ ghost use Rattle.hg_cursor.specs.Keys.{rows_at, IsOwnKey, HasVersion, IsWithin, 
 ghost use Rattle.hg_cursor.specs.Logs.{IsHeard, ReadsAt};
 ghost use Rattle.hg_cursor.specs.Looks.{WhereOwn, IsFirstKey, AppendsFirst, Sees};
 
+use crate::firsts::Firsts;
 use crate::request::Request;
-use hg_base::{Image, NoMemory, Rid, Row, TableId, Writer};
+use hg_base::{Image, NoMemory, Rid, TableId, Writer};
 use hg_rule::{Board, SessionPass};
 use hg_store::{Held, Store};
 use std::sync::Wait;
@@ -52,8 +53,16 @@ fn next_from(held: &Held<'_>, table: TableId, count: u64, own: u64, high: u64) -
     }
 }
 
-// The next key to read after one of the bucket's own keys. Own keys are `count` apart.
-fn next_after(held: &Held<'_>, table: TableId, count: u64, key: u64, high: u64) -> Option<u64>
+// The next key to read after one of the bucket's own keys. Own keys are `count` apart. Where the last ones that were read had rows
+// and were next to each other (`is_dense`), the next own key is tried; else the index leads on.
+fn next_after(
+    held: &Held<'_>,
+    table: TableId,
+    count: u64,
+    key: u64,
+    high: u64,
+    is_dense: bool,
+) -> Option<u64>
     requires some { 0 < count }
     requires within { key ≤ high }
     ensures within { IsWithin (key + 1) high result }
@@ -63,69 +72,71 @@ fn next_after(held: &Held<'_>, table: TableId, count: u64, key: u64, high: u64) 
 {
     if high - key < count {
         None
+    } else if is_dense {
+        Some(key + count)
     } else {
         next_from(held, table, count, key + count, high)
     }
 }
 
-// Appends the row that a transaction reads of a record, if it reads one.
+// Copies the row that a transaction reads of a record, and says whether it reads one.
 fn push_row(
     held: &Held<'_>,
     rid: Rid,
     at: u64,
     by: Writer,
-    rows: &mut Vec<(u64, Row)>,
-) -> Result<(), NoMemory>
+    firsts: &mut Firsts,
+) -> Result<bool, NoMemory>
     ensures added { (v : View) → Holds v held.now →
-        OnOk result (rows.new.items ≡ rows.old.items ++ rows_at rid.key (read_by by at (held_in v rid)).row) }
-    ensures grown { length rows.old.items ≤ length rows.new.items }
+        OnOk result (firsts.new.rows ≡ firsts.old.rows ++ rows_at rid.key (read_by by at (held_in v rid)).row) }
+    ensures most { firsts.new.most ≡ firsts.old.most }
 {
     if let Some(Image { row: Some(row) }) = held.read(rid, at, by) {
-        rows.push((rid.key, row.copy()?))?;
+        firsts.add(rid.key, row.copy()?)?;
+        return Ok(true);
     }
-    Ok(())
+    Ok(false)
 }
 
-// Appends the first rows that a transaction reads of the bucket held: as many as are asked for, or all up to the look's limit.
-// Returns the last key up to which all of the bucket's rows were appended.
+// Copies the rows that a transaction reads of the bucket held, by key, as long as they are needed. Returns the new limit: up to it
+// all of the bucket's rows were copied.
 fn push_rows(
     held: &Held<'_>,
     look: Look,
     count: u64,
     by: Writer,
-    rows: &mut Vec<(u64, Row)>,
+    firsts: &mut Firsts,
 ) -> Result<u64, NoMemory>
     requires some { 0 < count }
     requires within { look.own ≤ look.limit }
-    ensures { WhereOwn held.now count look.request.table look.own
-        (λ v b. IfOk result (AppendsFirst by look (bucket_in v).content rows.old.items rows.new.items)) }
+    ensures most { firsts.new.most ≡ firsts.old.most }
+    ensures rows { WhereOwn held.now count look.request.table look.own
+        (λ v b. IfOk result (AppendsFirst by look (bucket_in v).content firsts.old firsts.new)) }
 {
-    let request = look.request;
-    let before = rows.len();
-    let mut next = next_from(held, request.table, count, look.own, look.limit);
+    let table = look.request.table;
+    let mut limit = look.limit;
+    // as if the own key before the first one had been read
+    let mut last = look.own.wrapping_sub(count);
+    let mut next = next_from(held, table, count, look.own, limit);
     while let Some(key) = next {
-        let rid = Rid {
-            table: request.table,
-            key,
-        };
-        push_row(held, rid, request.at, by, rows)?;
-        if rows.len() - before >= request.most {
-            return Ok(key);
-        }
-        next = next_after(held, request.table, count, key, look.limit);
+        let found = push_row(held, Rid { table, key }, look.request.at, by, firsts)?;
+        limit = firsts.limit_after(key, limit);
+        let is_dense = found && key.wrapping_sub(last) == count;
+        next = next_after(held, table, count, key, limit, is_dense);
+        last = key;
     }
-    Ok(look.limit)
+    Ok(limit)
 }
 
-// Takes the bucket of a look, logs the look over the whole range of the request, and appends the first rows up to the look's
-// limit. Returns the last key up to which all of the bucket's rows were appended.
+// Takes the bucket of a look, logs the look over the whole range of the request, and copies the rows that are needed. Returns the
+// new limit: up to it all of the bucket's rows were copied.
 pub(crate) fn see_bucket<R: Wait>(
     rt: &R,
     board: &Board,
     store: &Store,
     pass: &mut SessionPass,
     look: Look,
-    rows: &mut Vec<(u64, Row)>,
+    firsts: &mut Firsts,
 ) -> Result<u64, NoMemory>
     requires board { store_board_id store.now ≡ board_id board.now }
     requires buckets { store_buckets store.now ≡ (sizes_of board.now).buckets }
@@ -133,8 +144,8 @@ pub(crate) fn see_bucket<R: Wait>(
     requires reads { ReadsAt look.request.at look.request.table (session_view pass.old) }
     requires first { IsFirstKey (store_buckets store.now) look.request.low look.own }
     requires within { (look.own ≤ look.limit) × (look.limit ≤ look.request.high) }
-    ensures sees { Sees (store_buckets store.now) look (session_view pass.old) rows.old.items
-        result (session_view pass.new) rows.new.items }
+    ensures sees { Sees (store_buckets store.now) look (session_view pass.old) firsts.old
+        result (session_view pass.new) firsts.new }
     ensures heard { IsHeard (session_view pass.new) }
     ensures own { IsSessionOf (board_id board.now) (sizes_of board.now) pass.new }
 {
@@ -147,7 +158,7 @@ pub(crate) fn see_bucket<R: Wait>(
     });
     let held = store.take(rt, board, bucket, pass);
     held.see(board, pass, request.table, request.low, request.high);
-    let reached = push_rows(&held, look, count, by, rows);
+    let reached = push_rows(&held, look, count, by, firsts);
     held.give(board, pass);
     reached
 }

@@ -1,48 +1,41 @@
-use Rattle.std.proofs.Common.{◌≡◌, ◌+◌, length, Some, None, ap, ◌∙◌, subst, arith, rules, length-append}
+use Rattle.std.proofs.Common.{◌≡◌, ◌≤◌, ◌⊎◌, Some, None, ◌∙◌, subst, arith, rules}
 use Rattle.std.specs.Prelude.{IfSome}
 use Rattle.hg_rule.specs.Holding.{bucket}
-use Rattle.hg_cursor.specs.Keys.{IsOwnKey, IsWithin, HasVersion, read_of}
+use Rattle.hg_cursor.specs.Firsts.{count_upto}
+use Rattle.hg_cursor.specs.Keys.{rows_at, IsOwnKey, IsWithin, HasVersion, read_of}
 use Rattle.hg_cursor.proofs.Keys.{unread}
-use Rattle.hg_cursor.proofs.Rows.{IsSoFar, one_more, row_added, still_within, ends_all, ends_at}
+use Rattle.hg_cursor.proofs.Rows.{IsSoFar, one_more, still_enough, still_within, ends}
 use Rattle.hg_cursor.proofs.looks.push_rows.Goals as goal
-
-pub overflow_sub-len : goal.overflow_sub-len
-overflow_sub-len c =
-    let before : c.len-before.result ≡ length c.args.rows.now.items = search rules in
-    let now : c.len.result ≡ length c.push_row.new.rows.items = search rules in
-    let grown = c.loop-next.invariant.grown in
-    let more = c.push_row.ensures.grown in
-    omega (arith, before, now, grown, more)
-
-pub returns-then-len-before : goal.returns-then-len-before
-returns-then-len-before c = λ v b h are own.
-    let shown = read_of c.args.by c.args.look.request.at c.args.look.request.table (bucket v).content in
-    let here : IsWithin c.args.look.own c.args.look.limit (Some c.in-Some.key) = subst (IsWithin c.args.look.own c.args.look.limit) c.in-Some.is c.loop-next.invariant.within in
-    let so_far = subst (IsSoFar shown c.args.look.own c.args.look.limit c.args.rows.now.items c.loop-next.rows.items) c.in-Some.is (c.loop-next.invariant.so_far v b h are own) in
-    let u = row_added shown (HasVersion (bucket v).content c.args.look.request.table) c.args.look.own c.args.look.limit c.args.rows.now.items (unread c.args.by c.args.look.request.at c.args.look.request.table (bucket v).content) c.loop-next.rows.items c.push_row.new.rows.items c.in-Some.key here.0 here.1 so_far (c.in_ok-push_row.ensures.added v h) in
-    let before : c.len-before.result ≡ length c.args.rows.now.items = search rules in
-    let now : c.len.result ≡ length c.push_row.new.rows.items = search rules in
-    let sum : length c.push_row.new.rows.items ≡ length c.args.rows.now.items + length u.more = ap length u.is ∙ length-append c.args.rows.now.items u.more in
-    ends_at shown c.args.look.request.most c.args.look.own c.args.look.limit c.args.rows.now.items c.push_row.new.rows.items c.in-Some.key here.1 u (let most = c.if-len-before.true in omega (arith, before, now, sum, most))
 
 pub loop-next-preserved : goal.loop-next-preserved
 loop-next-preserved c =
-    let here : IsWithin c.args.look.own c.args.look.limit (Some c.in-Some.key) = subst (IsWithin c.args.look.own c.args.look.limit) c.in-Some.is c.loop-next.invariant.within in
+    let l = c.args.look in
+    let inv = c.loop-next.invariant in
+    let key = c.in-Some.key in
+    let lower = c.limit_after-limit.result in
+    let here : IsWithin l.own c.loop-next.limit (Some key) = subst (IsWithin l.own c.loop-next.limit) c.in-Some.is inv.within in
+    let within = c.limit_after-limit.ensures.within in
     record {
-      within = still_within c.args.look.own c.in-Some.key c.args.look.limit c.next_after-next.result here c.next_after-next.ensures.within;
-      grown = let grown = c.loop-next.invariant.grown in let more = c.push_row.ensures.grown in omega (arith, grown, more);
-      own_next = λ v b h are own. c.next_after-next.ensures.own v b h are (subst (λ o. IfSome o (IsOwnKey c.args.count b c.args.look.request.table)) c.in-Some.is (c.loop-next.invariant.own_next v b h are own));
+      below = let a = within.1 in let b = inv.below in omega (arith, a, b);
+      within = still_within l.own key lower c.next_after-next.result (here.0, within.0) c.next_after-next.ensures.within;
+      most = c.push_row.ensures.most ∙ inv.most;
+      own_next = λ v b h are own. c.next_after-next.ensures.own v b h are (subst (λ o. IfSome o (IsOwnKey c.args.count b l.request.table)) c.in-Some.is (inv.own_next v b h are own));
       so_far = λ v b h are own.
-          one_more (read_of c.args.by c.args.look.request.at c.args.look.request.table (bucket v).content) (HasVersion (bucket v).content c.args.look.request.table) c.args.look.own c.args.look.limit c.args.rows.now.items (unread c.args.by c.args.look.request.at c.args.look.request.table (bucket v).content)
-          c.loop-next.rows.items c.push_row.new.rows.items c.in-Some.key c.next_after-next.result here
-          (subst (IsSoFar (read_of c.args.by c.args.look.request.at c.args.look.request.table (bucket v).content) c.args.look.own c.args.look.limit c.args.rows.now.items c.loop-next.rows.items) c.in-Some.is (c.loop-next.invariant.so_far v b h are own))
-          (c.in_ok-push_row.ensures.added v h)
+          one_more (read_of c.args.by l.request.at l.request.table (bucket v).content) (HasVersion (bucket v).content l.request.table) l.own c.loop-next.limit lower c.args.firsts.now.rows (unread c.args.by l.request.at l.request.table (bucket v).content)
+          c.loop-next.firsts.rows c.push_row.new.firsts.rows key c.next_after-next.result here within.0 within.1
+          (subst (IsSoFar (read_of c.args.by l.request.at l.request.table (bucket v).content) l.own c.loop-next.limit c.args.firsts.now.rows c.loop-next.firsts.rows) c.in-Some.is (inv.so_far v b h are own))
+          (c.in_ok-found.ensures.added v h)
           c.next_after-next.ensures.within
-          (c.next_after-next.ensures.leads v b h are (subst (λ o. IfSome o (IsOwnKey c.args.count b c.args.look.request.table)) c.in-Some.is (c.loop-next.invariant.own_next v b h are own)));
+          (c.next_after-next.ensures.leads v b h are (subst (λ o. IfSome o (IsOwnKey c.args.count b l.request.table)) c.in-Some.is (inv.own_next v b h are own)));
+      enough = λ v b h are own.
+          still_enough c.args.firsts.now.most lower c.loop-next.limit l.limit c.loop-next.firsts.rows (rows_at key (read_of c.args.by l.request.at l.request.table (bucket v).content key).row) c.push_row.new.firsts.rows (c.in_ok-found.ensures.added v h)
+          (subst (λ n. (lower ≡ c.loop-next.limit) ⊎ (n ≤ count_upto lower c.push_row.new.firsts.rows)) (c.push_row.ensures.most ∙ inv.most) c.limit_after-limit.ensures.enough)
+          (inv.enough v b h are own);
     }
 
-pub returns : goal.returns
-returns c = λ v b h are own.
+pub returns-clause-rows : goal.returns-clause-rows
+returns-clause-rows c = λ v b h are own.
     let shown = read_of c.args.by c.args.look.request.at c.args.look.request.table (bucket v).content in
+    let inv = c.loop-next.invariant in
     let none : c.loop-next.next ≡ None = search rules in
-    ends_all shown c.args.look.request.most c.args.look.own c.args.look.limit c.args.rows.now.items c.loop-next.rows.items (subst (IsSoFar shown c.args.look.own c.args.look.limit c.args.rows.now.items c.loop-next.rows.items) none (c.loop-next.invariant.so_far v b h are own))
+    ends shown c.args.firsts.now.most c.args.look.own c.loop-next.limit c.args.look.limit c.args.firsts.now.rows c.loop-next.firsts.rows (subst (IsSoFar shown c.args.look.own c.loop-next.limit c.args.firsts.now.rows c.loop-next.firsts.rows) none (inv.so_far v b h are own)) inv.below (inv.enough v b h are own)

@@ -41,9 +41,9 @@ returns-clause-sees g c =
     let rows = saw_rows count (number v) b m (session v) v.sights l u w h k in
     let seen = looked (number v) (session v) b m v.sights (Read l.request.table l.request.low l.request.high) u w h k in
     let d = departed (number v) _ b v.sights w x seen.0 c.give.ensures.view in
-    sees count (number v) b m (session v) v.sights l u w h k v x c.writer-by.result c.args.rows.now.items c.push_rows-reached.new.rows.items c.push_rows-reached.result
-    c.requires.first c.requires.within.1 c.bucket_of-bucket.ensures.own are by at
-    (c.push_rows-reached.ensures u b c.take-held.ensures.holds (subst (λ n. AreOwn n b (bucket u).content) (sym counted) are) (ap (λ n. bucket_of n (record_at l.request.table l.own)) counted ∙ sym c.bucket_of-bucket.ensures.own))
+    sees count (number v) b m (session v) v.sights l u w h k v x c.writer-by.result c.args.firsts.now c.push_rows-reached.new.firsts c.push_rows-reached.result
+    c.requires.first c.requires.within.1 c.bucket_of-bucket.ensures.own are by at c.push_rows-reached.ensures.most
+    (c.push_rows-reached.ensures.rows u b c.take-held.ensures.holds (subst (λ n. AreOwn n b (bucket u).content) (sym counted) are) (ap (λ n. bucket_of n (record_at l.request.table l.own)) counted ∙ sym c.bucket_of-bucket.ensures.own))
     (record { parts = d.0 ∙ (λ i. OfSession (number v) (with_log (rows i) (session v)) ∷ []); kept = d.1 })
 
 pub returns-clause-heard : goal.returns-clause-heard

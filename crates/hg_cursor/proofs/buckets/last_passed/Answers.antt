@@ -4,7 +4,7 @@ use Rattle.std.proofs.lemmas.Bool.Decides.{nat_tests}
 use Rattle.std.proofs.lemmas.Option.{slice_get_within}
 use Rattle.hg_base.specs.Transcript.{last_key}
 use Rattle.hg_cursor.proofs.Cutting.{last_got}
-use Rattle.hg_cursor.proofs.firsts.last_passed.Goals as goal
+use Rattle.hg_cursor.proofs.buckets.last_passed.Goals as goal
 
 pub returns-in-Some : goal.returns-in-Some
 returns-in-Some c =
