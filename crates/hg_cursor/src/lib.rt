@@ -8,8 +8,8 @@
 //! A fetch takes buckets in the order of their first keys in the rest of the range, each at most once, and copies rows of a bucket
 //! by ascending key. A heap keeps the least keys of all rows that were copied, as many as rows are asked for. Once it is full,
 //! its greatest key is the limit: no row over it is needed. So in each bucket the fetch stops at the limit, and it ends at the
-//! first bucket whose first key is over the limit. Of n rows in B buckets it copies at most about n (1 + 1/2 + .. + 1/B) where
-//! keys are spread evenly, and it drops those over the last limit.
+//! first bucket whose first key is over the limit. The rows over the last limit are dropped: where keys are spread evenly over B
+//! buckets, a fetch of n rows copies about n (1 + 1/2 + .. + 1/B). No clause says how many.
 //!
 //! The session logs one look for each bucket that was taken: at the keys from the first one that the cursor has not passed to the
 //! end of its range. So the rows of all fetches are those of one history, at the cursor's snapshot: joined, they are a prefix of
