@@ -18,7 +18,7 @@
 //!
 //! A statement outside a transaction is a transaction of its own: it begins with its one table declared, does its work, and commits.
 //!
-//! A cursor is a transaction that reads one range and nothing else. While it is open, no other statement may be run (`FitsCursor`).
+//! A cursor is a transaction that reads one range, in parts, and does nothing else. While it is open, no other statement may run.
 #![tactic(auto)]
 
 mod answers;

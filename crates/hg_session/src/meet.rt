@@ -42,8 +42,7 @@ impl Session {
         pass.meet(engine.board(), &mut self.pass);
     }
 
-    /// Its part of the state goes to a collector's pass for good, which then knows what it had seen and done. No transaction is
-    /// open, and so no cursor.
+    /// Its part of the state goes to a collector's pass for good, which then knows what it had seen and done.
     pub fn finish(self, engine: &Engine, pass: &mut CollectorPass)
         requires own { IsOf engine.now self × IsPassOf (engine_board_id engine.now) pass.old }
         requires closed { open_of self ≡ None }

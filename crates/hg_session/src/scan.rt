@@ -3,10 +3,8 @@
 //!     range, in 4 buckets of table 0      6   7   8   9  10  11  12  13
 //!     bucket 1's own                                  9              13
 //!
-//! Each bucket that can have a key of the range is taken once, in ascending order, and one look logs it. A bucket that can have
-//! none is passed over, with no lock and no entry: a range of one key takes one bucket, and an empty one takes none. A key that
-//! can't be the bucket's own is not looked up, and where the bucket may have many of the range, its index leads over those
-//! without a version. The rows of all buckets are put in order once, at the end.
+//! Each bucket that can have a key of the range is locked once, in ascending order, and logged by one look. The others are not
+//! locked or logged. In a bucket only its own keys are looked up, by its index where it may have many of them.
 
 ghost use Rattle.std.specs.Prelude.{◌≡◌, ◌+◌, ◌%◌, [], ◌++◌, ◌<◌, true, false, Some, None, Err, IsTrue, IfOk, IfSome, OnOk, OnErr};
 ghost use Rattle.hg_base.specs.declared.line.Answer.TheVariants.{Rows};
@@ -213,8 +211,7 @@ impl Session {
         Ok(RowList::from(rows))
     }
 
-    /// Every key from `low` to `high` that is seen as a row, by ascending key. Each bucket that can have one of them is taken
-    /// once, and no other.
+    /// Every key from `low` to `high` with a visible row, by ascending key. Each bucket that can have one is locked once.
     pub fn scan<R: Wait>(
         &mut self,
         rt: &R,

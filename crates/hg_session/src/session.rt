@@ -79,14 +79,14 @@ impl Session {
         self.left -= 1;
     }
 
-    /// Whether a transaction is open. A cursor has one.
+    /// Whether a transaction is open. An open cursor has one.
     pub fn is_open(&self) -> bool
         ensures { (e : Engine) → IsOf e self.now → result ≡ is_some (open_of self.now) }
     {
         self.opened.is_some()
     }
 
-    /// How many statements the session may still run. A commit, a rollback and the closing of a cursor take none.
+    /// How many statements the session may still run. A commit or rollback does not count, nor does closing a cursor.
     pub fn left(&self) -> u64
         ensures { result ≡ left_of self.now }
     {
@@ -100,7 +100,8 @@ impl Session {
         self.retries
     }
 
-    /// Begins a transaction, and answers its snapshot. No memory and no lock is taken. No transaction is open, and so no cursor.
+    /// Begins a transaction, and returns its snapshot. It allocates nothing and takes no lock. An open cursor would be an open
+    /// transaction, so none is open.
     pub fn begin(&mut self, engine: &Engine, scope: Scope) -> u64
         requires own { IsOf engine.now self.old }
         requires closed { open_of self.old ≡ None }
