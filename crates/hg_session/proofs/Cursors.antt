@@ -19,8 +19,7 @@ use Rattle.hg_core.specs.Reading as reading
 use Rattle.hg_core.proofs.Right.{if_any}
 use Rattle.hg_cursor.specs.declared.cursor.Cursor.{Cursor}
 use Rattle.hg_cursor.specs.Cursors.{at_of, table_of, high_of, rest_of, FetchesRest}
-use Rattle.hg_cursor.specs.Firsts.{left_behind}
-use Rattle.hg_cursor.specs.Given.{begins_at, goes_on}
+use Rattle.hg_cursor.specs.Given.{begins_at, goes_on, key_after}
 use Rattle.hg_cursor.specs.Logs.{Adds, ReadsAt}
 use Rattle.hg_rule.specs.declared.view.SessionPart.{SessionPart}
 use Rattle.hg_rule.specs.declared.view.Sizes.{Sizes}
@@ -200,8 +199,8 @@ fetch_replies z v w most snapshot c rows (Some rest) opened f left = fetch_answe
 
 -- ---- what the cursor has left after it
 
--- where a range goes on behind a key, one begins
-behind_is : (high key : ℕ) → left_behind high key ≡ begins_at (suc key) high
+-- a cursor goes on after a key where one over the rest of its range begins
+behind_is : (high key : ℕ) → key_after high key ≡ begins_at (suc key) high
 behind_is high key = grind (arith, nat_tests)
 
 none_behind : (high : ℕ) → begins_at (suc high) high ≡ None
