@@ -2,7 +2,7 @@
 use Rattle.std.proofs.Common.{◌≡◌, ℕ, zero, suc, ◌+◌, ◌<◌, ◌≤◌, ◌≢◌, inl, inr, List, [], ◌∷◌, length, Bool, true, false, Option, Some, None, refl, sym, ap, ◌∙◌, subst, arith}
 use Rattle.std.specs.Prelude.{get_or, map, nat_lt, is_some, IsSome}
 use Rattle.std.proofs.lemmas.Bool.Decides.{nat_tests}
-use Rattle.hg_base.specs.declared.statement.Statement.TheVariants.{Rollback}
+use Rattle.hg_base.specs.declared.statement.Statement.TheVariants.{CursorClose, Rollback}
 use Rattle.hg_base.specs.declared.report.Kind.{Kind}
 use Rattle.hg_base.specs.declared.report.Kind.TheVariants.{Group, Table, Interval}
 use Rattle.hg_base.specs.declared.line.Reply.{Reply}
@@ -10,7 +10,9 @@ use Rattle.hg_base.specs.declared.line.Totals.{Totals}
 use Rattle.hg_base.proofs.ListFacts.{false_true}
 use Rattle.hg_base.specs.History.{History}
 use Rattle.hg_base.specs.Lists.{Each}
-use Rattle.hg_core.specs.Logs.{current, newest_of}
+use Rattle.hg_core.specs.Logs.{current, newest_of, own_writes}
+use Rattle.hg_core.specs.Reading.{UndoesAll, is_alone, log_with}
+use Rattle.hg_core.proofs.Answering.{not_alone}
 use Rattle.hg_core.specs.Sums.{sum_below}
 use Rattle.hg_rule.specs.declared.view.View.{View}
 use Rattle.hg_rule.specs.declared.view.Sizes.{Sizes}
@@ -30,7 +32,8 @@ use Rattle.hg_headline.proofs.Closing.{closes_rollback}
 use Rattle.hg_session.specs.declared.engine.Engine.{Engine}
 use Rattle.hg_session.specs.declared.session.Session.{Session}
 use Rattle.hg_session.specs.Engines.{engine_board_id, engine_sizes}
-use Rattle.hg_session.specs.Sessions.{IsOf, view_of, number_of, log_of, open_of, seen_by}
+use Rattle.hg_session.specs.Sessions.{IsOf, view_of, number_of, log_of, open_of, seen_by, cursor_of}
+use Rattle.hg_session.proofs.Cursors.{reads_at, some_cursor}
 use Rattle.hg_session.specs.Opened.{IsNewOf}
 use Rattle.hg_session.specs.declared.opening.Passes.{Passes}
 use Rattle.hg_session.specs.Ended.{logs_in, visits_in}
@@ -45,7 +48,7 @@ use Rattle.hg_run.specs.Heard.{HasSeen}
 use Rattle.hg_run.proofs.Hearing.{heard_none}
 use Rattle.hg_run.proofs.Rounds.{starts_more}
 use Rattle.hg_run.proofs.Listing.{by_two, log_at, map_over}
-use Rattle.hg_run.proofs.OpenAfter.{open_after}
+use Rattle.hg_run.proofs.OpenAfter.{none_open, open_after}
 
 -- ---- a row, place by place
 
@@ -101,9 +104,14 @@ new_removed e passes k h =
 
 -- ---- rolling back
 
-pub none_open : {X : Type 0} (o : Option X) → is_some o ≡ false → o ≡ None
-none_open None e = refl
-none_open (Some x) e = absurd (false_true (sym e))
+-- a cursor that is open is closed, whose transaction wrote nothing
+pub cursor_closed : (e : Engine) (s t : Session) (reply : Reply) → IsOf e s → IsSome (cursor_of s) → Answers (engine_sizes e) (view_of s) CursorClose reply (view_of t) → Closes (log_of s) (log_of t)
+cursor_closed e s t reply own reads a =
+    let one = some_cursor (cursor_of s) reads in
+    let r = reads_at e s one.0 own one.1 in
+    let written : UndoesAll (own_writes (log_of s)) [] = subst (λ ws. UndoesAll ws []) (sym r.unwritten) (tt, λ rid. refl) in
+    let within : is_alone (current (log_of s)) CursorClose ≡ false = not_alone (current (log_of s)) CursorClose refl in
+    inr (subst IsSome (sym r.opens) refl, ([], written, a.log ∙ ap (λ b. log_with b (engine_sizes e).buckets a.u CursorClose reply (log_of s)) within))
 
 pub rolled_back : (z : Sizes) (v w : View) (reply : Reply) → IsSome (current (session v).log) → Answers z v Rollback reply w → Closes (session v).log (session w).log × (current (session w).log ≡ None)
 rolled_back z v w reply opened a = (

@@ -5,7 +5,7 @@ use Rattle.std.specs.List.{cons_option, filter_map, list_any}
 use Rattle.std.proofs.lemmas.List.{length-map}
 use Rattle.std.proofs.lemmas.Bool.Decides.{Decides-eqb}
 use Rattle.hg_base.specs.declared.statement.Statement.{Statement}
-use Rattle.hg_base.specs.declared.statement.Statement.TheVariants.{Begin, Gc}
+use Rattle.hg_base.specs.declared.statement.Statement.TheVariants.{Begin, CursorOpen, Gc}
 use Rattle.hg_base.specs.declared.statement.Record.{Record}
 use Rattle.hg_base.specs.declared.line.Line.{Line}
 use Rattle.hg_base.specs.declared.line.Reply.{Reply}
@@ -153,6 +153,7 @@ begins_next (Some s) n h = omega (arith, h)
 
 says_next : (last : Option Said) (n : ℕ) (r : Record) (reply : Reply) (s : Statement) → IfSome last (λ s. s.transaction ≤ n) → (said_after last r reply s).transaction ≤ suc n
 says_next last n r reply (Begin scope) h = begins_next last n h
+says_next last n r reply (CursorOpen table low high) h = begins_next last n h
 says_next last n r reply (Gc kind) h = omega arith
 says_next last n r reply _ h = stands_next last n r reply h
 

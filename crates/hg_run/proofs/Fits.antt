@@ -13,12 +13,13 @@ use Rattle.hg_base.specs.declared.rid.TableId.{TableId}
 use Rattle.hg_base.specs.declared.image.Image.{Image}
 use Rattle.hg_base.specs.declared.scope.Scope.{Scope}
 use Rattle.hg_base.specs.declared.statement.Statement.{Statement}
-use Rattle.hg_base.specs.declared.statement.Statement.TheVariants.{Begin, Get, Put, Del, Scan, Commit as CommitIt, Rollback, Gc}
+use Rattle.hg_base.specs.declared.statement.Statement.TheVariants.{Begin, Get, Put, Del, Scan, CursorOpen, Fetch, CursorClose, Commit as CommitIt, Rollback, Gc}
 use Rattle.hg_base.specs.declared.statement.Record.{Record}
 use Rattle.hg_base.specs.declared.line.Answer.{Answer}
 use Rattle.hg_base.specs.declared.line.Answer.TheVariants.{Begun, Stored, Found, Nothing, Gone, Rows, Committed, Ended, Undone, Newer, OpenBy, Undeclared, Swept, Beside}
 use Rattle.hg_base.specs.declared.line.Line.{Line}
 use Rattle.hg_base.specs.declared.line.Printed.{Printed}
+use Rattle.hg_base.specs.declared.line.Reply.{Reply}
 use Rattle.hg_base.specs.declared.line.Totals.{Totals}
 use Rattle.hg_base.specs.declared.report.Kind.{Kind}
 use Rattle.hg_base.specs.declared.report.Kind.TheVariants as kinds
@@ -30,26 +31,28 @@ use Rattle.hg_base.specs.Freshness.{IsHeld, IsReported, prints, snapshot_of}
 use Rattle.hg_base.specs.Lists.{Each, EachAfter, Ascends, greatest}
 use Rattle.hg_base.specs.Script.{Mode, Declaration, Script, replay, run}
 use Rattle.hg_base.specs.History.{History, image_in, seen}
-use Rattle.hg_base.specs.Transcript.{Said, said, said_from, has, is_of, last_of, own_writes, stored, stored_by, stored_in, committed, committed_by, table_of, history_of, in_order, said_after}
+use Rattle.hg_base.specs.Transcript.{Rest, Said, rest_in, standing, next_after, open_after, said, said_from, has, is_of, last_of, own_writes, stored, stored_by, stored_in, committed, committed_by, table_of, history_of, in_order, said_after}
 use Rattle.hg_base.specs.Shape.{HasShape, IsLineOf, report_of, same_kind}
-use Rattle.hg_base.specs.Replies.{IsBegun, IsGot, IsPut, IsDeleted, IsScanned, IsCommitted, IsUndone, IsSwept, IsBeside, IsCollected, IsUndeclared, IsAnswer, is_written}
+use Rattle.hg_base.specs.Replies.{IsBegun, IsGot, IsPut, IsDeleted, IsScanned, IsFetched, IsEnded, IsCommitted, IsUndone, IsSwept, IsBeside, IsCollected, IsUndeclared, IsAnswer, is_written}
 use Rattle.hg_base.specs.Conflicts.{ShowsCause, target}
 use Rattle.hg_base.specs.Sound.{IsRight, IsSound, all_said}
-use Rattle.hg_base.specs.Text.{Fits64, Fits32, FitsRow, FitsBegin, FitsGet, FitsPut, FitsDel, FitsScan, FitsCommit, FitsRollback, FitsSweep, FitsReport, FitsGc, FitsAnswer, FitsReply, FitTotals, Fits, IsFit, IsReport, asked, is_write}
+use Rattle.hg_base.specs.Text.{Fits64, Fits32, FitsRow, FitsBegin, FitsGet, FitsPut, FitsDel, FitsScan, FitsFetch, FitsClose, FitsCommit, FitsRollback, FitsSweep, FitsReport, FitsGc, FitsAnswer, FitsReply, FitTotals, Fits, IsFit, IsReport, asked, cursor_before, is_write}
 use Rattle.hg_base.proofs.ListFacts.{false_true, not_equal, each_keeps}
 use Rattle.hg_headline.proofs.Orderly.{orderly_nothing}
 use Rattle.hg_headline.proofs.Parts.{ascends_over, ascends_rest}
 use Rattle.hg_headline.proofs.Whole.{said_says}
 use Rattle.hg_headline.proofs.Words.{same_number}
 use Rattle.hg_core.specs.Answered.{is_gc}
+use Rattle.hg_script.specs.declared.rules.TheConstants.{MOST_FETCHED}
 use Rattle.hg_script.specs.Lawful.{IsLawful, IsStatement, FitsTables, HasWidths}
 use Rattle.hg_run.specs.Printing.{rounds_beside}
-use Rattle.hg_run.specs.Rows.{AsksRow, FoundRow, FoundRows, PrintsRow}
+use Rattle.hg_run.specs.Rows.{AsksRow, FoundRow, FoundRows, PrintsRow, cursor_table}
 use Rattle.hg_run.proofs.Rows.{all_ask, rows_put}
 use Rattle.hg_run.proofs.Counts.{IsIn, no_more, lines_few, groups_few, numbers_within, transactions_few, totals_fit}
-use Rattle.hg_run.proofs.InOrder.{each_in_order, few_in_order, stand_in_order}
+use Rattle.hg_run.proofs.Fetched.{FindsRest, IfFetch, IsRestOf, lines_find}
+use Rattle.hg_run.proofs.InOrder.{each_in_order, few_in_order, lower, stand_in_turn}
 use Rattle.hg_run.proofs.Going.{sessions_within}
-use Rattle.hg_run.proofs.Opens.{IsStanding, all_stand, gc_of}
+use Rattle.hg_run.proofs.Opens.{IsStanding, all_stand, begins, gc_of}
 
 -- ---- lists
 
@@ -136,6 +139,20 @@ scan_fits script table look low high (Rows rows) few wide s found =
     )
 scan_fits script table look low high _ few wide s found = absurd s
 
+fetch_fits : (script : Script) (look : Rid → Image) (n : ℕ) (cursor : Option TableId) (rest : Option Rest) (a : Answer) → n ≤ MOST_FETCHED → IsRestOf cursor rest → IsFetched look n rest a → MatchOption cursor ⊥ (λ table. FoundRows (IsPutRow script) table a) → FitsFetch script.tables cursor a
+fetch_fits script look n cursor None a most found f put = absurd f
+fetch_fits script look n cursor (Some rest) (Rows rows) most found f put =
+    let rows_are : Each (λ (p : ℕ × List Value). IsPutRow script (record { table = rest.table; key = p.0 }) p.1) rows = subst (λ o. MatchOption o ⊥ (λ table. FoundRows (IsPutRow script) table (Rows rows))) found.0 put in
+    subst (λ o. FitsFetch script.tables o (Rows rows)) (sym found.0) (
+      omega (arith, f.few, most),
+      both_each _ _ (λ (p : ℕ × List Value). Fits64 p.0 × FitsRow script.tables rest.table p.1) (λ p k q. (omega (arith, k.1, f.within, found.1), q.0)) rows f.all.each rows_are,
+    )
+fetch_fits script look n cursor (Some rest) _ most found f put = absurd f
+
+close_fits : (a : Answer) → IsEnded a → FitsClose a
+close_fits Ended e = tt
+close_fits _ e = absurd e
+
 commit_fits : (wrote : Bool) (a : Answer) → IsCommitted wrote a → IfSome (committed_by CommitIt a) (λ c. Fits64 c) → FitsCommit a
 commit_fits wrote (Committed c) w fits = fits
 commit_fits wrote Ended w fits = tt
@@ -197,17 +214,24 @@ kind_itself kinds.Group = refl
 kind_itself kinds.Table = refl
 kind_itself kinds.Interval = refl
 
--- only a `begin` is answered `begun`
-begun_alone : (mode : Mode) (look : Rid → Image) (wrote : Bool) (now : Said) (s : Statement) (n : ℕ) → now.reply.answer ≡ Begun n → IsAnswer mode look wrote now s → (scope : Scope) × (s ≡ Begin scope)
-begun_alone mode look wrote now (Begin scope) n e a = (scope, refl)
-begun_alone mode look wrote now (Get r) n e a = absurd (either (has now.scope r.table) (subst (IsGot (look r)) e) (subst (IsUndeclared r.table) e) a)
-begun_alone mode look wrote now (Put r row) n e a = absurd (either (has now.scope r.table) (subst IsPut e) (subst (IsUndeclared r.table) e) a)
-begun_alone mode look wrote now (Del r) n e a = absurd (either (has now.scope r.table) (subst (IsDeleted (look r)) e) (subst (IsUndeclared r.table) e) a)
-begun_alone mode look wrote now (Scan table low high) n e a =
+-- only a `begin` and an `open` are answered `begun`
+begun_alone : (mode : Mode) (look : Rid → Image) (wrote : Bool) (rest : Option Rest) (now : Said) (s : Statement) (n : ℕ) → now.reply.answer ≡ Begun n → IsAnswer mode look wrote rest now s → begins s ≡ true
+begun_alone mode look wrote rest now (Begin scope) n e a = refl
+begun_alone mode look wrote rest now (CursorOpen table low high) n e a = refl
+begun_alone mode look wrote rest now (Get r) n e a = absurd (either (has now.scope r.table) (subst (IsGot (look r)) e) (subst (IsUndeclared r.table) e) a)
+begun_alone mode look wrote rest now (Put r row) n e a = absurd (either (has now.scope r.table) (subst IsPut e) (subst (IsUndeclared r.table) e) a)
+begun_alone mode look wrote rest now (Del r) n e a = absurd (either (has now.scope r.table) (subst (IsDeleted (look r)) e) (subst (IsUndeclared r.table) e) a)
+begun_alone mode look wrote rest now (Scan table low high) n e a =
     absurd (either (has now.scope table) (subst (IsScanned (λ key. look (record { table = table; key = key })) low high) e) (subst (IsUndeclared table) e) a)
-begun_alone mode look wrote now CommitIt n e a = absurd (subst (IsCommitted wrote) e a)
-begun_alone mode look wrote now Rollback n e a = absurd (subst IsUndone e a)
-begun_alone mode look wrote now (Gc kind) n e a = absurd (subst FitsGc e (collected_fits mode now.session now.reply.answer a (λ s. absurd (subst IsSwept e s))))
+begun_alone mode look wrote rest now (Fetch m) n e a = absurd (no_begin rest (subst (IsFetched look m rest) e a))
+  where
+    no_begin : (rest : Option Rest) → IsFetched look m rest (Begun n) → ⊥
+    no_begin None f = f
+    no_begin (Some rest) f = f
+begun_alone mode look wrote rest now CursorClose n e a = absurd (subst IsEnded e a)
+begun_alone mode look wrote rest now CommitIt n e a = absurd (subst (IsCommitted wrote) e a)
+begun_alone mode look wrote rest now Rollback n e a = absurd (subst IsUndone e a)
+begun_alone mode look wrote rest now (Gc kind) n e a = absurd (subst FitsGc e (collected_fits mode now.session now.reply.answer a (λ s. absurd (subst IsSwept e s))))
 
 snapshot_within : (mode : Mode) (h : History) (all earlier : List Said) (now : Said) → IsRight mode h all earlier now → IsStanding now → PrintsWithin h now
 snapshot_within mode h all earlier now right stands = go now.reply.answer refl
@@ -223,8 +247,8 @@ snapshot_within mode h all earlier now right stands = go now.reply.answer refl
 
     go : (a : Answer) → now.reply.answer ≡ a → IfSome (elim a [ Begun s ↦ Some s | _ ↦ now.reply.at ]) (λ s. s ≤ length h)
     go (Begun n) is =
-        let k = begun_alone mode _ _ now now.statement n is right.reply.answer in
-        let same : now.at ≡ n = stands.begun k.0 k.1 ∙ ap (λ (a : Answer). elim a [ Begun s ↦ s | _ ↦ 0 ]) is in
+        let k = begun_alone mode _ _ _ now now.statement n is right.reply.answer in
+        let same : now.at ≡ n = stands.begun k ∙ ap (λ (a : Answer). elim a [ Begun s ↦ s | _ ↦ 0 ]) is in
         subst (λ n. n ≤ length h) same right.reply.snapshot
     go _ is = at
 
@@ -263,7 +287,7 @@ record IsBesideThem (now : Said) : Type 0 where
 
 -- a report of session 0 stands alone, and another reply is one to its statement
 abbrev FitsSaid : Script → Said → Type 0
-FitsSaid script now = MatchBool (now.session == 0) (IsReport now.reply) (FitsReply script.tables now.statement now.reply)
+FitsSaid script now = MatchBool (now.session == 0) (IsReport now.reply) (FitsReply script.tables (cursor_table script now) now.statement now.reply)
 
 nothing_there : {X : Type 0} (o : Option X) → is_some o ≡ false → is_none o ≡ true
 nothing_there None e = refl
@@ -319,24 +343,30 @@ module _ (mode : Mode) (script : Script) (h : History) (all : List Said) (few : 
       go true is = subst (λ o. IfSome o Fits64) (sym (no_commit now.statement now.reply.answer (k.alone is).1)) tt
       go false is = wide (committed_by now.statement now.reply.answer) (subst (λ o. IfSome o (λ c. c ≤ length h)) (ap (λ b. cond b now.reply.number (committed_by now.statement now.reply.answer)) is) within)
 
-  answer_fits : (look : Rid → Image) (wrote : Bool) (now : Said) (s : Statement) → now.statement ≡ s → IsStanding now → now.at ≤ length h → IsAnswer mode look wrote now s → IfSome (target s) (λ r. FitsCause now.reply.answer) →
-      PrintsRow (IsPutRow script) s now.reply.answer → HasWidths s → (IsSwept now.reply.answer → FitsReport now.reply.answer) → IfSome (committed_by s now.reply.answer) Fits64 → FitsAnswer script.tables s now.reply.answer
-  answer_fits look wrote now (Begin scope) is k most a cause rows wide quiet number =
-      let same = k.begun scope is in
+  answer_fits : (look : Rid → Image) (wrote : Bool) (cursor : Option TableId) (rest : Option Rest) (now : Said) (s : Statement) → now.statement ≡ s → IsStanding now → now.at ≤ length h → IsAnswer mode look wrote rest now s → IfFetch s (IsRestOf cursor rest) → IfSome (target s) (λ r. FitsCause now.reply.answer) →
+      PrintsRow (IsPutRow script) cursor s now.reply.answer → HasWidths s → (IsSwept now.reply.answer → FitsReport now.reply.answer) → IfSome (committed_by s now.reply.answer) Fits64 → FitsAnswer script.tables cursor s now.reply.answer
+  answer_fits look wrote cursor rest now (Begin scope) is k most a found cause rows wide quiet number =
+      let same = k.begun (ap begins is) in
       let fits : Fits64 now.at = omega (arith, most, few) in
       begin_fits now.reply.answer a (subst Fits64 same fits)
-  answer_fits look wrote now (Get r) is k most a cause rows wide quiet number =
+  answer_fits look wrote cursor rest now (Get r) is k most a found cause rows wide quiet number =
       either (has now.scope r.table) (λ g. get_fits script r (look r) now.reply.answer g rows) (λ u. (out_fits script.tables r.table now.reply.answer u).0) a
-  answer_fits look wrote now (Put r row) is k most a cause rows wide quiet number =
+  answer_fits look wrote cursor rest now (Put r row) is k most a found cause rows wide quiet number =
       either (has now.scope r.table) (λ p. put_fits r.table now.reply.answer p cause) (λ u. (out_fits script.tables r.table now.reply.answer u).1) a
-  answer_fits look wrote now (Del r) is k most a cause rows wide quiet number =
+  answer_fits look wrote cursor rest now (Del r) is k most a found cause rows wide quiet number =
       either (has now.scope r.table) (λ d. del_fits r.table (look r) now.reply.answer d cause) (λ u. (out_fits script.tables r.table now.reply.answer u).2) a
-  answer_fits look wrote now (Scan table low high) is k most a cause rows wide quiet number =
+  answer_fits look wrote cursor rest now (Scan table low high) is k most a found cause rows wide quiet number =
       either (has now.scope table) (λ s. scan_fits script table (λ key. look (record { table = table; key = key })) low high now.reply.answer short wide.1 s rows)
       (λ u. (out_fits script.tables table now.reply.answer u).3) a
-  answer_fits look wrote now CommitIt is k most a cause rows wide quiet number = commit_fits wrote now.reply.answer a number
-  answer_fits look wrote now Rollback is k most a cause rows wide quiet number = rollback_fits now.reply.answer a
-  answer_fits look wrote now (Gc kind) is k most a cause rows wide swept number = collected_fits mode now.session now.reply.answer a swept
+  answer_fits look wrote cursor rest now (CursorOpen table low high) is k most a found cause rows wide quiet number =
+      let same = k.begun (ap begins is) in
+      let fits : Fits64 now.at = omega (arith, most, few) in
+      begin_fits now.reply.answer a (subst Fits64 same fits)
+  answer_fits look wrote cursor rest now (Fetch n) is k most a found cause rows wide quiet number = fetch_fits script look n cursor rest now.reply.answer wide.1 found a rows
+  answer_fits look wrote cursor rest now CursorClose is k most a found cause rows wide quiet number = close_fits now.reply.answer a
+  answer_fits look wrote cursor rest now CommitIt is k most a found cause rows wide quiet number = commit_fits wrote now.reply.answer a number
+  answer_fits look wrote cursor rest now Rollback is k most a found cause rows wide quiet number = rollback_fits now.reply.answer a
+  answer_fits look wrote cursor rest now (Gc kind) is k most a found cause rows wide swept number = collected_fits mode now.session now.reply.answer a swept
 
   causes_fit : (earlier : List Said) (now : Said) (s : Statement) → IfSome (target s) (λ r. ShowsCause mode h all earlier now r now.reply.answer) → IfSome (target s) (λ r. FitsCause now.reply.answer)
   causes_fit earlier now (Put r row) k = cause_fits earlier now r now.reply.answer k
@@ -377,7 +407,7 @@ module _ (mode : Mode) (script : Script) (h : History) (all : List Said) (few : 
   -- what was found out of a line
   record IsKnown (now : Said) : Type 0 where
     standing : IsStanding now
-    rows : PrintsRow (IsPutRow script) now.statement now.reply.answer
+    rows : PrintsRow (IsPutRow script) (cursor_table script now) now.statement now.reply.answer
     number : IfSome (committed now) (λ c. c ≤ length h)
     gone : (k : Kind) → Fits64 (removed_by k now)
     beside : (now.session == 0) ≡ true → IsBesideThem now
@@ -385,10 +415,10 @@ module _ (mode : Mode) (script : Script) (h : History) (all : List Said) (few : 
   report_fits : (earlier : List Said) (now : Said) → Each (PrintsWithin h) all → IsRight mode h all earlier now → IsKnown now → IsSwept now.reply.answer → FitsReport now.reply.answer
   report_fits earlier now shown right known s = gc_fits earlier now now.reply.answer refl s right.fresh.report shown known.gone
 
-  reply_fits : (earlier : List Said) (now : Said) → Each (PrintsWithin h) all → IsRight mode h all earlier now → IsKnown now → FitsReply script.tables now.statement now.reply
-  reply_fits earlier now shown right known = record {
+  reply_fits : (earlier : List Said) (now : Said) → Each (PrintsWithin h) all → IsRight mode h all earlier now → FindsRest script.records earlier now → IsKnown now → FitsReply script.tables (cursor_table script now) now.statement now.reply
+  reply_fits earlier now shown right finds known = record {
     at = at_fits now right.reply.at right.reply.snapshot known.standing;
-    answer = answer_fits _ _ now now.statement refl known.standing right.reply.snapshot right.reply.answer (causes_fit earlier now now.statement right.conflict) known.rows known.standing.widths
+    answer = answer_fits _ _ (cursor_table script now) (rest_in now.session now.transaction earlier) now now.statement refl known.standing right.reply.snapshot right.reply.answer finds (causes_fit earlier now now.statement right.conflict) known.rows known.standing.widths
         (report_fits earlier now shown right known) (number_in now known.standing known.number);
     number = number_fits now right.reply.number known.number;
   }
@@ -397,35 +427,24 @@ module _ (mode : Mode) (script : Script) (h : History) (all : List Said) (few : 
   stands_alone : (earlier : List Said) (now : Said) → Each (PrintsWithin h) all → IsRight mode h all earlier now → IsKnown now → (now.session == 0) ≡ true → IsReport now.reply
   stands_alone earlier now shown right known e =
       let k = known.beside e in
-      let answer : IsCollected mode now.session now.reply.answer = subst (IsAnswer mode (seen h (own_writes earlier now) now.at) (is_written (own_writes earlier now)) now) k.statement.1 right.reply.answer in record {
+      let answer : IsCollected mode now.session now.reply.answer = subst (IsAnswer mode (seen h (own_writes earlier now) now.at) (is_written (own_writes earlier now)) (rest_in now.session now.transaction earlier) now) k.statement.1 right.reply.answer in record {
         at = nothing_there now.reply.at (right.reply.at ∙ k.alone);
         answer = report_fits earlier now shown right known (is_reported mode now.session now.reply.answer e answer);
         number = nothing_there now.reply.number (right.reply.number ∙ ap (λ b. b && is_some (stored now)) k.alone);
       }
 
-  said_fits : (earlier : List Said) (now : Said) → Each (PrintsWithin h) all → IsRight mode h all earlier now → IsKnown now → FitsSaid script now
-  said_fits earlier now shown right known = go (now.session == 0) refl
+  said_fits : (earlier : List Said) (now : Said) → Each (PrintsWithin h) all → IsRight mode h all earlier now → FindsRest script.records earlier now → IsKnown now → FitsSaid script now
+  said_fits earlier now shown right finds known = go (now.session == 0) refl
     where
-      go : (b : Bool) → (now.session == 0) ≡ b → MatchBool b (IsReport now.reply) (FitsReply script.tables now.statement now.reply)
+      go : (b : Bool) → (now.session == 0) ≡ b → MatchBool b (IsReport now.reply) (FitsReply script.tables (cursor_table script now) now.statement now.reply)
       go true is = stands_alone earlier now shown right known is
-      go false is = reply_fits earlier now shown right known
+      go false is = reply_fits earlier now shown right finds known
 
-  all_fit : (earlier xs : List Said) → Each (PrintsWithin h) all → EachAfter (IsRight mode h all) earlier xs → Each IsKnown xs → Each (FitsSaid script) xs
-  all_fit earlier [] shown right known = tt
-  all_fit earlier (now ∷ later) shown right known = (said_fits earlier now shown right.0 known.0, all_fit (now ∷ earlier) later shown right.1 known.1)
+  all_fit : (earlier xs : List Said) → Each (PrintsWithin h) all → EachAfter (IsRight mode h all) earlier xs → EachAfter (FindsRest script.records) earlier xs → Each IsKnown xs → Each (FitsSaid script) xs
+  all_fit earlier [] shown right finds known = tt
+  all_fit earlier (now ∷ later) shown right finds known = (said_fits earlier now shown right.0 finds.0 known.0, all_fit (now ∷ earlier) later shown right.1 finds.1 known.1)
 
 -- ---- the record of a line
-
-lower : (before rs : List Record) (r : Record) → Ascends (map (λ r. r.place) (before ++ r ∷ rs)) → Each (λ q. q.place < r.place) before
-lower [] rs r a = tt
-lower (q ∷ qs) rs r a = (
-  middle qs (ascends_over q.place (map (λ (r : Record). r.place) (qs ++ r ∷ rs)) a),
-  lower qs rs r (ascends_rest q.place (map (λ (r : Record). r.place) (qs ++ r ∷ rs)) a),
-)
-  where
-    middle : (ps : List Record) → Each (λ m. q.place < m) (map (λ (r : Record). r.place) (ps ++ r ∷ rs)) → q.place < r.place
-    middle [] e = e.0
-    middle (p ∷ ps) e = middle ps e.1
 
 is_asked : (before rs : List Record) (r : Record) (place session : ℕ) → place ≡ r.place → session ≡ r.session → Each (λ q. q.place < r.place) before → find (λ q. (q.place == place) && (q.session == session)) (before ++ r ∷ rs) ≡ Some r
 is_asked [] rs r place session p s e =
@@ -452,6 +471,17 @@ record IsRound (r : Record) : Type 0 where
 abbrev IsOwn : Script → Record → Type 0
 IsOwn script r = MatchBool (r.session == 0) (IsRound r) (IsAsked script r)
 
+-- a line keeps its record's place
+says_place : (last : Option Said) (r : Record) (reply : Reply) (s : Statement) → (said_after last r reply s).place ≡ r.place
+says_place last r reply (Begin scope) = refl
+says_place last r reply (CursorOpen table low high) = refl
+says_place last r reply (Gc kind) = refl
+says_place last r reply _ = stands (open_after last)
+  where
+    stands : (o : Option Said) → (standing o (next_after last) r reply).place ≡ r.place
+    stands None = refl
+    stands (Some opened) = refl
+
 module _ (script : Script) (lawful : IsLawful script) where
   owned : (before rs : List Record) → script.records ≡ before ++ rs → Each (IsStatement script.tables) rs → Each (IsOwn script) rs
   owned before [] e are = tt
@@ -467,23 +497,26 @@ module _ (script : Script) (lawful : IsLawful script) where
         owned (before ++ r ∷ []) rs (e ∙ sym (append_assoc before (r ∷ []) rs)) are.1,
       )
 
-  line_fits : (r : Record) (line : Line) → IsLineOf r line → IsOwn script r → MatchBool (r.session == 0) (IsReport line.reply) (FitsReply script.tables r.statement line.reply) → Fits script line
+  abbrev cursor_at : Line → Option TableId
+  cursor_at line = cursor_before script.records line.session line.place
+
+  line_fits : (r : Record) (line : Line) → IsLineOf r line → IsOwn script r → MatchBool (r.session == 0) (IsReport line.reply) (FitsReply script.tables (cursor_at line) r.statement line.reply) → Fits script line
   line_fits r line shape own fits = go (r.session == 0) refl own fits
     where
-      go : (b : Bool) → (r.session == 0) ≡ b → MatchBool b (IsRound r) (IsAsked script r) → MatchBool b (IsReport line.reply) (FitsReply script.tables r.statement line.reply) → Fits script line
+      go : (b : Bool) → (r.session == 0) ≡ b → MatchBool b (IsRound r) (IsAsked script r) → MatchBool b (IsReport line.reply) (FitsReply script.tables (cursor_at line) r.statement line.reply) → Fits script line
       go true is own fits =
           let none : r.session ≡ 0 = (Decides-eqb r.session 0).0 is in record {
             session = omega (arith, shape.session, none);
             place = subst Fits64 (sym shape.place) own.place;
-            reply = subst (λ b. MatchBool b (IsReport line.reply) (MatchOption (asked script.records line) ⊥ (λ s. FitsReply script.tables s line.reply))) (sym (ap (λ n. n == 0) shape.session ∙ is)) fits;
+            reply = subst (λ b. MatchBool b (IsReport line.reply) (MatchOption (asked script.records line) ⊥ (λ s. FitsReply script.tables (cursor_at line) s line.reply))) (sym (ap (λ n. n == 0) shape.session ∙ is)) fits;
           }
       go false is own fits =
           let at : (λ (q : Record). (q.place == line.place) && (q.session == line.session)) ≡ (λ (q : Record). (q.place == r.place) && (q.session == r.session)) = (λ i (q : Record). (q.place == shape.place i) && (q.session == shape.session i)) in
           let asks : asked script.records line ≡ Some r.statement = ap (λ test. option_map_or (λ r. Some r.statement) (find test script.records) None) at ∙ ap (λ o. option_map_or (λ r. Some r.statement) o None) own.found in record {
             session = subst Fits32 (sym shape.session) own.session;
             place = subst Fits64 (sym shape.place) own.place;
-            reply = subst (λ b. MatchBool b (IsReport line.reply) (MatchOption (asked script.records line) ⊥ (λ s. FitsReply script.tables s line.reply))) (sym (ap (λ n. n == 0) shape.session ∙ is))
-                (subst (λ o. MatchOption o ⊥ (λ s. FitsReply script.tables s line.reply)) (sym asks) fits);
+            reply = subst (λ b. MatchBool b (IsReport line.reply) (MatchOption (asked script.records line) ⊥ (λ s. FitsReply script.tables (cursor_at line) s line.reply))) (sym (ap (λ n. n == 0) shape.session ∙ is))
+                (subst (λ o. MatchOption o ⊥ (λ s. FitsReply script.tables (cursor_at line) s line.reply)) (sym asks) fits);
           }
 
   lines_fit : (rs : List Record) (lines : List Line) (earlier : List Said) → HasShape rs lines → Each (IsOwn script) rs → Each (FitsSaid script) (said_from earlier rs lines) → Each (Fits script) lines
@@ -493,10 +526,12 @@ module _ (script : Script) (lawful : IsLawful script) where
   lines_fit (r ∷ rs) (line ∷ lines) earlier shape own fits =
       let says = said_says (last_of r.session earlier) r line.reply r.statement in
       let now : Said = said earlier r line.reply in
-      let here : MatchBool (r.session == 0) (IsReport line.reply) (FitsReply script.tables r.statement line.reply) =
-      subst (λ j. MatchBool (j == 0) (IsReport line.reply) (FitsReply script.tables r.statement line.reply)) says.0
-      (subst (λ s. MatchBool (now.session == 0) (IsReport line.reply) (FitsReply script.tables s line.reply)) says.1
-      (subst (λ reply. MatchBool (now.session == 0) (IsReport reply) (FitsReply script.tables now.statement reply)) says.2 fits.0)) in (
+      let cursor : cursor_table script now ≡ cursor_at line = (λ i. cursor_before script.records ((says.0 ∙ sym shape.0.session) i) ((says_place (last_of r.session earlier) r line.reply r.statement ∙ sym shape.0.place) i)) in
+      let here : MatchBool (r.session == 0) (IsReport line.reply) (FitsReply script.tables (cursor_at line) r.statement line.reply) =
+      subst (λ j. MatchBool (j == 0) (IsReport line.reply) (FitsReply script.tables (cursor_at line) r.statement line.reply)) says.0
+      (subst (λ s. MatchBool (now.session == 0) (IsReport line.reply) (FitsReply script.tables (cursor_at line) s line.reply)) says.1
+      (subst (λ reply. MatchBool (now.session == 0) (IsReport reply) (FitsReply script.tables (cursor_at line) now.statement reply)) says.2
+      (subst (λ c. MatchBool (now.session == 0) (IsReport now.reply) (FitsReply script.tables c now.statement now.reply)) cursor fits.0))) in (
         line_fits r line shape.0 own.0 here,
         lines_fit rs lines (now ∷ earlier) shape.1 own.1 fits.1,
       )
@@ -547,17 +582,18 @@ sound_fits mode script printed rounds lawful sound =
     let transactions : Each (λ (s : Said). s.transaction ≤ 0 + length rs) all = transactions_few rs printed.lines [] 0 tt in
     let writers : Each IsFew all = both_each (λ (s : Said). Fits32 s.session) (λ (s : Said). s.transaction ≤ 0 + length rs) IsFew (λ s session n. (session, omega (arith, n, asks))) all
     (all_of_sessions rs printed.lines [] sessions) transactions in
-    let standing : Each IsStanding all = all_stand [] rs printed.lines [] (stand_in_order mode script.records lawful.order) widths orderly_nothing (λ j. refl) in
-    let rows = rows_put (IsPutRow script) mode all (all_rows mode script printed.lines lawful) right in
+    let stands : Each IsStanding all = all_stand script.records [] rs printed.lines [] (stand_in_turn mode script.records lawful.places lawful.order) widths orderly_nothing (λ j. refl) in
+    let finds : EachAfter (FindsRest script.records) [] all = lines_find mode script printed.lines lawful in
+    let rows = rows_put (IsPutRow script) mode script.records all (all_rows mode script printed.lines lawful) right finds in
     let totals : FitTotals printed.totals = totals_fit all h printed.totals sound.totals (omega (arith, many, asks)) in
     let gone : Each (λ (now : Said). (k : Kind) → Fits64 (removed_by k now)) all = removed_few all h printed.totals sound.totals totals in
     let beside : Each (λ (now : Said). (now.session == 0) ≡ true → IsBesideThem now) all = all_beside script rs printed.lines [] own in
-    let shown : Each (PrintsWithin h) all = snapshots_within mode h all [] all right.lines standing in
-    let one : Each (λ (now : Said). IsStanding now × PrintsRow (IsPutRow script) now.statement now.reply.answer) all = both_each IsStanding (λ (now : Said). PrintsRow (IsPutRow script) now.statement now.reply.answer) (λ (now : Said). IsStanding now × PrintsRow (IsPutRow script) now.statement now.reply.answer) (λ now k rows. (k, rows)) all standing rows in
+    let shown : Each (PrintsWithin h) all = snapshots_within mode h all [] all right.lines stands in
+    let one : Each (λ (now : Said). IsStanding now × PrintsRow (IsPutRow script) (cursor_table script now) now.statement now.reply.answer) all = both_each IsStanding (λ (now : Said). PrintsRow (IsPutRow script) (cursor_table script now) now.statement now.reply.answer) (λ (now : Said). IsStanding now × PrintsRow (IsPutRow script) (cursor_table script now) now.statement now.reply.answer) (λ now k rows. (k, rows)) all stands rows in
     let two : Each (λ (now : Said). CommitsWithin h now × ((k : Kind) → Fits64 (removed_by k now))) all = both_each (CommitsWithin h) (λ (now : Said). (k : Kind) → Fits64 (removed_by k now)) (λ (now : Said). CommitsWithin h now × ((k : Kind) → Fits64 (removed_by k now))) (λ now n g. (n, g)) all (numbers_within all) gone in
-    let three : Each (λ (now : Said). IsStanding now × PrintsRow (IsPutRow script) now.statement now.reply.answer × ((now.session == 0) ≡ true → IsBesideThem now)) all = both_each _ (λ (now : Said). (now.session == 0) ≡ true → IsBesideThem now) (λ (now : Said). IsStanding now × PrintsRow (IsPutRow script) now.statement now.reply.answer × ((now.session == 0) ≡ true → IsBesideThem now)) (λ now k b. (k.0, k.1, b)) all one beside in
+    let three : Each (λ (now : Said). IsStanding now × PrintsRow (IsPutRow script) (cursor_table script now) now.statement now.reply.answer × ((now.session == 0) ≡ true → IsBesideThem now)) all = both_each _ (λ (now : Said). (now.session == 0) ≡ true → IsBesideThem now) (λ (now : Said). IsStanding now × PrintsRow (IsPutRow script) (cursor_table script now) now.statement now.reply.answer × ((now.session == 0) ≡ true → IsBesideThem now)) (λ now k b. (k.0, k.1, b)) all one beside in
     let known : Each (IsKnown mode script h all few short writers) all = both_each _ (λ (now : Said). CommitsWithin h now × ((k : Kind) → Fits64 (removed_by k now))) (IsKnown mode script h all few short writers) (λ now k n. record { standing = k.0; rows = k.1; number = n.0; gone = n.1; beside = k.2 }) all three two in
     record {
-      lines = lines_fit script lawful rs printed.lines [] sound.lines.shape own (all_fit mode script h all few short writers [] all shown right.lines known);
+      lines = lines_fit script lawful rs printed.lines [] sound.lines.shape own (all_fit mode script h all few short writers [] all shown right.lines finds known);
       totals = totals;
     }

@@ -4,7 +4,7 @@ use Rattle.std.specs.Prelude.{◌&&◌, is_some, IfSome, option_map}
 use Rattle.std.specs.Option.{option_or}
 use Rattle.hg_base.specs.declared.report.Sweep.{Sweep}
 use Rattle.hg_base.specs.declared.statement.Statement.{Statement}
-use Rattle.hg_base.specs.declared.statement.Statement.TheVariants.{Begin, Get, Put, Del, Scan, Commit as CommitIt, Rollback, Gc}
+use Rattle.hg_base.specs.declared.statement.Statement.TheVariants.{Begin, Get, Put, Del, Scan, CursorOpen, Fetch, CursorClose, Commit as CommitIt, Rollback, Gc}
 use Rattle.hg_base.specs.declared.line.Answer.{Answer}
 use Rattle.hg_base.specs.declared.line.Answer.TheVariants.{Newer}
 use Rattle.hg_base.specs.declared.line.Reply.{Reply}
@@ -35,6 +35,9 @@ leaves_gc (Get r) a h = tt
 leaves_gc (Put r row) a h = tt
 leaves_gc (Del r) a h = tt
 leaves_gc (Scan t low high) a h = tt
+leaves_gc (CursorOpen t low high) a h = tt
+leaves_gc (Fetch n) a h = tt
+leaves_gc CursorClose a h = tt
 leaves_gc CommitIt a h = tt
 leaves_gc Rollback a h = tt
 

@@ -1,10 +1,10 @@
 -- A replay amid a script that breaks no rule.
-use Rattle.std.proofs.Common.{◌≡◌, ℕ, suc, ◌+◌, ◌≤◌, inl, List, [], ◌∷◌, ◌++◌, length, Bool, true, false, refl, sym, ap, ◌∙◌, subst, arith, append_assoc}
-use Rattle.std.specs.Prelude.{cond, map, max, is_some, ⊤, ◌==◌}
+use Rattle.std.proofs.Common.{◌≡◌, ℕ, suc, ◌+◌, ◌<◌, ◌≤◌, inl, List, [], ◌∷◌, ◌++◌, length, Bool, true, false, Option, None, refl, sym, ap, ◌∙◌, subst, arith, append_assoc}
+use Rattle.std.specs.Prelude.{cond, get_or, map, max, is_some, ⊤, ◌==◌}
 use Rattle.std.proofs.lemmas.List.Sums.{sum_by-cons, sum_by-append}
 use Rattle.hg_base.specs.declared.limits.TheConstants.{MOST_SESSIONS}
 use Rattle.hg_base.specs.declared.statement.Statement.{Statement}
-use Rattle.hg_base.specs.declared.statement.Statement.TheVariants.{Begin, Get, Put, Del, Scan, Commit, Rollback, Gc}
+use Rattle.hg_base.specs.declared.statement.Statement.TheVariants.{Begin, Get, Put, Del, Scan, CursorOpen, Fetch, CursorClose, Commit, Rollback, Gc}
 use Rattle.hg_base.specs.declared.report.Kind.{Kind}
 use Rattle.hg_base.specs.declared.scope.Scope.{Scope}
 use Rattle.hg_base.specs.declared.scope.Scope.TheVariants.{All, Declared}
@@ -12,14 +12,15 @@ use Rattle.hg_base.specs.declared.statement.Record.{Record}
 use Rattle.hg_base.specs.declared.line.Line.{Line}
 use Rattle.hg_base.specs.Lists.{Each, greatest}
 use Rattle.hg_base.specs.Script.{Declaration, Script}
-use Rattle.hg_base.specs.Transcript.{of_session}
+use Rattle.hg_base.specs.Transcript.{Rest, of_session, rest_after}
 use Rattle.hg_base.proofs.ListFacts.{append_nil}
 use Rattle.hg_core.specs.declared.log.LogEntry.{LogEntry}
 use Rattle.hg_core.specs.Logs.{current}
-use Rattle.hg_core.specs.Reading.{Follows}
+use Rattle.hg_core.specs.Events.{put}
+use Rattle.hg_core.specs.Reading.{Follows, left_after}
 use Rattle.hg_core.specs.Words.{IsBelow}
-use Rattle.hg_script.specs.Lawful.{AreInOrder, FitsTables, IsScope, IsLawful, IsStatement, MayStand}
-use Rattle.hg_script.specs.Rules.{is_open}
+use Rattle.hg_script.specs.Lawful.{AreInOrder, FitsTables, HasWidths, IsScope, IsLawful, IsStatement, MayStand}
+use Rattle.hg_script.specs.Rules.{is_open, is_reading, reading}
 use Rattle.hg_headline.specs.Counted.{Closes}
 use Rattle.hg_headline.specs.Met.{IsMet}
 use Rattle.hg_headline.specs.Following.{IsFollowing, top_after, told_by, told_removed}
@@ -28,14 +29,18 @@ use Rattle.hg_session.specs.declared.engine.Engine.{Engine}
 use Rattle.hg_session.specs.declared.session.Session.{Session}
 use Rattle.hg_session.specs.Engines.{engine_sizes}
 use Rattle.hg_session.specs.Finished.{logs_of}
-use Rattle.hg_run.specs.Listed.{ArePlaced, AreReady, SawAt, none_left, one_more}
-use Rattle.hg_run.specs.Asked.{IsOnTables, IsReplied, HasReplied}
+use Rattle.hg_session.specs.Sessions.{cursor_of, open_of}
+use Rattle.hg_session.proofs.Cursors.{no_cursor}
+use Rattle.hg_run.specs.Listed.{AreOpen, ArePlaced, AreReady, HaveCursors, KeepCursors, SawAt, none_left, one_more}
+use Rattle.hg_run.specs.Asked.{IsOnTables, IsReplied, HasReplied, MayAsk}
 use Rattle.hg_run.specs.Swept.{told_of}
 use Rattle.hg_run.specs.Played.{HasPlayed, HasPlayedOut}
 use Rattle.hg_run.specs.declared.collecting.Collectors.{Collectors}
 use Rattle.hg_run.specs.Collecting.{HaveMade, removed_of}
 use Rattle.hg_run.specs.Driven.{HasDrivenOne, sweeps_in, sweeps_of}
+use Rattle.hg_run.proofs.Cursors.{cursors_kept, cursors_same, left_more, no_cursors, reading_more}
 use Rattle.hg_run.proofs.Driving.{made_first, made_more}
+use Rattle.hg_run.proofs.Listing.{log_at}
 use Rattle.hg_run.proofs.OpenAfter.{opened_more}
 
 -- of a record that is still to come: a statement of a session that there is
@@ -50,7 +55,8 @@ pub record Going (e : Engine) (long : ℕ) (before now : Collectors) (list : Lis
   pub top : ℕ
   pub all : script.records ≡ done ++ rest
   pub following : IsFollowing (engine_sizes e).buckets (engine_sizes e).sessions (logs_of list) seen top done lines
-  pub opened : (j : ℕ) → is_open j done ≡ is_some (current (logs_of list j))
+  pub opened : (j : ℕ) → AreOpen (is_open j done) (is_reading j done) (is_some (current (logs_of list j)))
+  pub cursors : HaveCursors (λ j. is_reading j done) (left_after (λ j. None) done lines) list
   pub ready : AreReady e last (λ j. length (of_session j rest)) list
   pub saw : SawAt seen last list
   pub told : (k : Kind) → removed_of k now ≡ removed_of k before + told_removed k lines
@@ -122,7 +128,8 @@ going_first e long c list script sessions h ready none =
       top = 0;
       all = refl;
       following = subst (λ logs. IsFollowing (engine_sizes e).buckets (engine_sizes e).sessions logs 0 0 [] []) same (following_opened (engine_sizes e).buckets (engine_sizes e).sessions);
-      opened = λ j. ap (λ l. is_some (current l)) (sym (none j));
+      opened = λ j. ap (λ l. is_some (current l)) (none j);
+      cursors = no_cursors list (λ j. None) (λ d k within. no_cursor e (get_or list k d) (ready.placed d k within).own (ap current (sym (log_at d list k within) ∙ none (suc k))));
       ready = ready;
       saw = λ d. inl refl;
       told = λ k. (let nothing : told_removed k [] ≡ 0 = refl in omega (arith, nothing));
@@ -132,14 +139,15 @@ going_first e long c list script sessions h ready none =
     }
 
 -- the session of the next record has met the one that ran last
-pub going_turned : (e : Engine) (long : ℕ) (before now : Collectors) (old mid : List Session) (last i : ℕ) (lines : List Line) (rest : List Record) (script : Script) → Going e long before now old last lines rest script → logs_of mid ≡ logs_of old → ((seen : ℕ) → SawAt seen last old → SawAt seen i mid) → ((left : ℕ → ℕ) → AreReady e last left old → AreReady e i left mid) → Going e long before now mid i lines rest script
-going_turned e long before now old mid last i lines rest script g same saw ready = record {
+pub going_turned : (e : Engine) (long : ℕ) (before now : Collectors) (old mid : List Session) (last i : ℕ) (lines : List Line) (rest : List Record) (script : Script) → Going e long before now old last lines rest script → logs_of mid ≡ logs_of old → KeepCursors old mid → ((seen : ℕ) → SawAt seen last old → SawAt seen i mid) → ((left : ℕ → ℕ) → AreReady e last left old → AreReady e i left mid) → Going e long before now mid i lines rest script
+going_turned e long before now old mid last i lines rest script g same kept saw ready = record {
   done = g.done;
   seen = g.seen;
   top = g.top;
   all = g.all;
   following = subst (λ logs. IsFollowing (engine_sizes e).buckets (engine_sizes e).sessions logs g.seen g.top g.done lines) (sym same) g.following;
-  opened = λ j. g.opened j ∙ ap (λ (l : ℕ → List LogEntry). is_some (current (l j))) (sym same);
+  opened = λ j. subst (λ (l : ℕ → List LogEntry). AreOpen (is_open j g.done) (is_reading j g.done) (is_some (current (l j)))) (sym same) (g.opened j);
+  cursors = cursors_kept (λ j. is_reading j g.done) (left_after (λ j. None) g.done lines) old mid (let a = g.ready.many in let b = (ready (λ j. length (of_session j rest)) g.ready).many in omega (arith, a, b)) kept g.cursors;
   ready = ready (λ j. length (of_session j rest)) g.ready;
   saw = saw g.seen g.saw;
   told = g.told;
@@ -157,11 +165,15 @@ told_more k lines line =
     omega (arith, all, one, none, same)
 
 pub going_on : (e : Engine) (long : ℕ) (before now later : Collectors) (old new : List Session) (i : ℕ) (lines : List Line) (r : Record) (rest : List Record) (script : Script) (line : Line) → (g : Going e long before now old i lines (r ∷ rest) script) → suc i ≡ r.session → line.session ≡ r.session → line.place ≡ r.place →
-    HasReplied e g.seen old i r.statement line.reply new → ((left : ℕ → ℕ) → AreReady e i (one_more (suc i) left) old → AreReady e i left new) → ((k : Kind) → removed_of k later ≡ removed_of k now + told_of k line.reply) → HaveMade (engine_sizes e) long now (λ k. sweeps_in k line.reply) later →
+    HasReplied e g.seen (λ j. is_reading j g.done) (left_after (λ j. None) g.done lines) old i r.statement line.reply new → ((left : ℕ → ℕ) → AreReady e i (one_more (suc i) left) old → AreReady e i left new) → ((k : Kind) → removed_of k later ≡ removed_of k now + told_of k line.reply) → HaveMade (engine_sizes e) long now (λ k. sweeps_in k line.reply) later →
     Going e long before later new i (lines ++ line ∷ []) rest script
 going_on e long before now later old new i lines r rest script line g is session place h ready gone made =
     let z = engine_sizes e in
-    let a : IsReplied z.buckets z.sessions (logs_of old) g.seen h.later r.session r.statement line.reply (logs_of new) = subst (λ j. IsReplied z.buckets z.sessions (logs_of old) g.seen h.later j r.statement line.reply (logs_of new)) is h.replied in
+    let reads : ℕ → Bool = λ j. is_reading j g.done in
+    let left : ℕ → Option Rest = left_after (λ j. None) g.done lines in
+    let a : IsReplied z.buckets z.sessions (logs_of old) g.seen h.later r.session (left r.session) r.statement line.reply (logs_of new) = subst (λ j. IsReplied z.buckets z.sessions (logs_of old) g.seen h.later j (left j) r.statement line.reply (logs_of new)) is h.replied in
+    let cursors : HaveCursors (put reads r.session (reading (reads r.session) r.statement)) (put left r.session (rest_after r.statement line.reply.answer (left r.session))) new =
+    subst (λ j. HaveCursors (put reads j (reading (reads j) r.statement)) (put left j (rest_after r.statement line.reply.answer (left j))) new) is h.cursors in
     let top : ℕ = top_after g.top r.statement line.reply in
     record {
       done = g.done ++ r ∷ [];
@@ -169,8 +181,10 @@ going_on e long before now later old new i lines r rest script line g is session
       top = top;
       all = g.all ∙ sym (append_assoc g.done (r ∷ []) rest);
       following = subst (λ logs. IsFollowing z.buckets z.sessions logs h.later top (g.done ++ r ∷ []) (lines ++ line ∷ [])) (sym a.logs)
-          (following_more z.buckets z.sessions (logs_of old) g.seen h.later g.top g.done lines r line a.u g.following g.coming.0.stands.some g.coming.0.most session place a.fits a.met a.fresh);
-      opened = opened_more z.buckets (logs_of old) (logs_of new) g.done r a.u line.reply a.logs a.fits g.opened;
+          (following_more z.buckets z.sessions (logs_of old) g.seen h.later g.top g.done lines r line a.u g.following g.coming.0.stands.some g.coming.0.most session place a.fits a.rest_is a.met a.fresh);
+      opened = opened_more z.buckets (logs_of old) (logs_of new) g.done r a.u line.reply a.logs a.fits g.order.0 g.opened;
+      cursors = cursors_same _ (λ j. is_reading j (g.done ++ r ∷ [])) _ (left_after (λ j. None) (g.done ++ r ∷ []) (lines ++ line ∷ [])) new (reading_more g.done r)
+          (λ j. ap (λ f. f j) (sym (left_more (λ j. None) g.done lines r line g.following.shape))) cursors;
       ready = ready (λ j. length (of_session j rest)) (more_left e i old r rest is g.ready);
       saw = h.saw;
       told = λ k. let first = g.told k in let here = gone k in let more = told_more k lines line in omega (arith, first, here, more);
@@ -194,18 +208,18 @@ going_last e long before now list last lines script g = record {
 -- ---- what is known at the end
 
 -- whatever holds of each record besides
-follows_any : (buckets : ℕ) (P : (ℕ → List LogEntry) → Record → Line → Type 0) (final : ℕ → List LogEntry) (rs : List Record) (lines : List Line) (logs : ℕ → List LogEntry) → Follows buckets P logs rs lines final → Follows buckets (λ _ _ _. ⊤) logs rs lines final
-follows_any buckets P final [] [] logs h = h
-follows_any buckets P final [] (line ∷ lines) logs h = absurd h
-follows_any buckets P final (r ∷ rs) [] logs h = absurd h
-follows_any buckets P final (r ∷ rs) (line ∷ lines) logs (p, (u, fits, rest)) = (tt, (u, fits, follows_any buckets P final rs lines _ rest))
+follows_any : (buckets : ℕ) (P : (ℕ → List LogEntry) → Record → Line → Type 0) (final : ℕ → List LogEntry) (rs : List Record) (lines : List Line) (logs : ℕ → List LogEntry) (left : ℕ → Option Rest) → Follows buckets P logs left rs lines final → Follows buckets (λ _ _ _. ⊤) logs left rs lines final
+follows_any buckets P final [] [] logs left h = h
+follows_any buckets P final [] (line ∷ lines) logs left h = absurd h
+follows_any buckets P final (r ∷ rs) [] logs left h = absurd h
+follows_any buckets P final (r ∷ rs) (line ∷ lines) logs left h = (tt, (h.1.0, h.1.1, follows_any buckets P final rs lines _ _ h.1.2, h.1.3))
 
 pub driven_one : (e : Engine) (long : ℕ) (before after : Collectors) (old played closed : List Session) (script : Script) (lines : List Line) → ((j : ℕ) → logs_of old j ≡ []) → HasPlayed e long before after played script lines → ((j : ℕ) → Closes (logs_of played j) (logs_of closed j)) →
     HasDrivenOne (engine_sizes e) long script.records old before lines closed after
 driven_one e long before after old played closed script lines none p closes = record {
   logs = logs_of played;
   shape = p.following.shape;
-  follows = subst (λ logs. Follows (engine_sizes e).buckets (λ _ _ _. ⊤) logs script.records lines (logs_of played)) same (follows_any (engine_sizes e).buckets (IsMet (engine_sizes e).sessions) (logs_of played) script.records lines (λ j. []) p.following.follows);
+  follows = subst (λ logs. Follows (engine_sizes e).buckets (λ _ _ _. ⊤) logs (λ j. None) script.records lines (logs_of played)) same (follows_any (engine_sizes e).buckets (IsMet (engine_sizes e).sessions) (logs_of played) script.records lines (λ j. []) (λ j. None) p.following.follows);
   closes = closes;
   rounds = p.rounds;
 }
@@ -229,19 +243,29 @@ played_out e long before after played closed script lines p closes many saw = re
 
 -- ---- what the next record asks for
 
-pub may_stand : (e : Engine) (long : ℕ) (before now : Collectors) (list : List Session) (last : ℕ) (lines : List Line) (r : Record) (rest : List Record) (script : Script) → Going e long before now list last lines (r ∷ rest) script → MayStand (is_some (current (logs_of list r.session))) r.statement
-may_stand e long before now list last lines r rest script g = subst (λ b. MayStand b r.statement) (g.opened r.session) g.order.0
+pub may_ask : (e : Engine) (long : ℕ) (before now : Collectors) (list : List Session) (last i : ℕ) (lines : List Line) (r : Record) (rest : List Record) (script : Script) → Going e long before now list last lines (r ∷ rest) script → suc i ≡ r.session → i < length list → (d : Session) → MayAsk (get_or list i d) r.statement
+may_ask e long before now list last i lines r rest script g is within d =
+    let reads : is_reading r.session g.done ≡ is_some (cursor_of (get_or list i d)) = ap (λ j. is_reading j g.done) (sym is) ∙ sym (g.cursors d i within).reads_is in
+    let log : is_some (current (logs_of list r.session)) ≡ is_some (open_of (get_or list i d)) = ap (λ j. is_some (current (logs_of list j))) (sym is) ∙ ap (λ l. is_some (current l)) (log_at d list i within) in
+    record {
+      within = is_open r.session g.done;
+      opens = subst (λ p. p) (λ k. AreOpen (is_open r.session g.done) (reads k) (log k)) (g.opened r.session);
+      may = subst (λ b. MayStand (is_open r.session g.done) b r.statement) reads g.order.0;
+    }
 
 scope_below : (tables : List Declaration) (scope : Scope) → IsScope tables scope → IsBelow (length tables) scope
 scope_below tables All h = tt
 scope_below tables (Declared mask) h = h.1
 
-pub on_tables : (tables : List Declaration) (s : Statement) → FitsTables tables s → IsOnTables (length tables) s
-on_tables tables (Begin scope) fits = scope_below tables scope fits
-on_tables tables (Get r) fits = fits
-on_tables tables (Put r row) fits = fits.0
-on_tables tables (Del r) fits = fits
-on_tables tables (Scan table low high) fits = fits
-on_tables tables Commit fits = tt
-on_tables tables Rollback fits = tt
-on_tables tables (Gc kind) fits = tt
+pub on_tables : (tables : List Declaration) (s : Statement) → FitsTables tables s → HasWidths s → IsOnTables (length tables) s
+on_tables tables (Begin scope) fits wide = scope_below tables scope fits
+on_tables tables (Get r) fits wide = fits
+on_tables tables (Put r row) fits wide = fits.0
+on_tables tables (Del r) fits wide = fits
+on_tables tables (Scan table low high) fits wide = fits
+on_tables tables (CursorOpen table low high) fits wide = fits
+on_tables tables (Fetch n) fits wide = wide.0
+on_tables tables CursorClose fits wide = tt
+on_tables tables Commit fits wide = tt
+on_tables tables Rollback fits wide = tt
+on_tables tables (Gc kind) fits wide = tt

@@ -19,26 +19,27 @@ use Rattle.hg_rule.specs.New.{EachFrom}
 use Rattle.hg_headline.proofs.Running.{none_over, none_at_zero}
 use Rattle.hg_report.specs.LinesText.{Shown}
 use Rattle.hg_script.specs.Lawful.{AreInOrder, IsLawful, IsStatement, MayStand}
-use Rattle.hg_script.specs.Rules.{is_open, opened, opened_by}
+use Rattle.hg_script.specs.Rules.{is_open, is_reading, opened, reading}
 use Rattle.hg_session.specs.declared.engine.Engine.{Engine}
 use Rattle.hg_session.specs.declared.session.Session.{Session}
 use Rattle.hg_session.specs.Engines.{engine_sizes}
 use Rattle.hg_session.specs.Finished.{logs_of, IsClosed}
 use Rattle.hg_session.specs.Opened.{IsNewOf}
 use Rattle.hg_session.specs.Replies.{inside}
-use Rattle.hg_session.specs.Sessions.{log_of}
+use Rattle.hg_session.specs.Sessions.{log_of, open_of, cursor_of}
 use Rattle.hg_run.specs.declared.beside.RoundLists.{RoundLists}
 use Rattle.hg_run.specs.declared.collecting.Collectors.{Collectors}
 use Rattle.hg_run.specs.declared.work.Worker.{Worker}
 use Rattle.hg_run.specs.Asked.{IsOnTables}
 use Rattle.hg_run.specs.Collecting.{view_in}
 use Rattle.hg_run.specs.Driven.{HasDrivenAll}
+use Rattle.hg_run.specs.Listed.{AreOpen}
 use Rattle.hg_run.specs.Rounding.{IsRoundBy, AreRounds, sweep_lines}
 use Rattle.hg_run.specs.Working.{AreEnded, AreWilling, HasEnded, HasWorked, HaveMadeAll, IsAskedOf, IsHired, MayFollow, hired, lines_in, sessions_in, told_in}
 use Rattle.hg_run.proofs.Begun.{by_kind}
 use Rattle.hg_run.proofs.Closes.{by_place}
 use Rattle.hg_run.proofs.Going.{on_tables}
-use Rattle.hg_run.proofs.OpenAfter.{open_snoc}
+use Rattle.hg_run.proofs.OpenAfter.{open_other, open_own}
 
 -- ---- lists
 
@@ -108,17 +109,18 @@ hired_many script j [] = refl
 hired_many script j (s ∷ ss) = let more = hired_many script (suc j) ss in omega (arith, more)
 
 -- the records of one session are in order where all are
-follow : (j : ℕ) (before rs : List Record) → AreInOrder before rs → MayFollow (is_open j before) (of_session j rs)
+follow : (j : ℕ) (before rs : List Record) → AreInOrder before rs → MayFollow (is_open j before) (is_reading j before) (of_session j rs)
 follow j before [] h = tt
-follow j before (r ∷ rs) h = go (subst (λ b. MayFollow b (of_session j rs)) (open_snoc j before r) (follow j (before ++ r ∷ []) rs h.1)) (r.session == j) refl
+follow j before (r ∷ rs) h = go (follow j (before ++ r ∷ []) rs h.1) (r.session == j) refl
   where
-    go : MayFollow (opened_by j (is_open j before) r) (of_session j rs) → (b : Bool) → (r.session == j) ≡ b → MayFollow (is_open j before) (cond b (r ∷ of_session j rs) (of_session j rs))
+    go : MayFollow (is_open j (before ++ r ∷ [])) (is_reading j (before ++ r ∷ [])) (of_session j rs) → (b : Bool) → (r.session == j) ≡ b → MayFollow (is_open j before) (is_reading j before) (cond b (r ∷ of_session j rs) (of_session j rs))
     go later true e =
-        let same : r.session ≡ j = grind (arith, nat_tests, e) in (
-          subst (λ i. MayStand (is_open i before) r.statement) same h.0,
-          subst (λ b. MayFollow (cond b (opened (is_open j before) r.statement) (is_open j before)) (of_session j rs)) e later,
+        let same : r.session ≡ j = grind (arith, nat_tests, e) in
+        let own = open_own j before r same in (
+          subst (λ i. MayStand (is_open i before) (is_reading i before) r.statement) same h.0,
+          subst (λ p. p) (λ i. MayFollow (own.0 i) (own.1 i) (of_session j rs)) later,
         )
-    go later false e = subst (λ b. MayFollow (cond b (opened (is_open j before) r.statement) (is_open j before)) (of_session j rs)) e later
+    go later false e = let other = open_other j before r e in subst (λ p. p) (λ i. MayFollow (other.0 i) (other.1 i) (of_session j rs)) later
 
 module _ (e : Engine) (quota : ℕ) (script : Script) (lawful : IsLawful script) (tables : (engine_sizes e).tables ≡ length script.tables) (room : (j : ℕ) → length (of_session j script.records) ≤ quota) where
   hired_one : (j : ℕ) (s : Session) → IsNewOf e quota j s → IsHired e (worker_of script j s)
@@ -126,14 +128,23 @@ module _ (e : Engine) (quota : ℕ) (script : Script) (lawful : IsLawful script)
     ready = record {
       own = n.own;
       asked = each_filter (IsAskedOf (engine_sizes e).tables) (λ (r : Record). r.session == j) script.records
-          (each_keeps (IsStatement script.tables) (IsAskedOf (engine_sizes e).tables) (λ r is. record { some = is.some; on = subst (λ m. IsOnTables m r.statement) (sym tables) (on_tables script.tables r.statement is.fits) }) script.records lawful.statements);
-      may = subst (λ log. MayFollow (is_some (current log)) (of_session j script.records)) (sym n.log) (follow j [] script.records lawful.order);
+          (each_keeps (IsStatement script.tables) (IsAskedOf (engine_sizes e).tables) (λ r is. record { some = is.some; on = subst (λ m. IsOnTables m r.statement) (sym tables) (on_tables script.tables r.statement is.fits is.widths) }) script.records lawful.statements);
+      within = false;
+      opens = subst (λ p. p) (λ i. AreOpen false (sym none i) (sym closed i)) refl;
+      may = subst (λ b. MayFollow false b (of_session j script.records)) (sym none) (follow j [] script.records lawful.order);
       left = (let here = room j in let left = n.left in omega (arith, here, left));
     };
+    cursor = n.cursor;
     most = (let here = few (λ (r : Record). r.session == j) script.records in let all = lawful.records in omega (arith, here, all));
     none = refl;
     willing = refl;
   }
+    where
+      none : is_some (cursor_of s) ≡ false
+      none = ap (λ o. is_some o) n.cursor
+
+      closed : is_some (open_of s) ≡ false
+      closed = ap (λ log. is_some (current log)) n.log
 
   hired_from : (j : ℕ) (list : List Session) → EachFrom (IsNewOf e quota) j list → (k : ℕ) (d : Worker) → k < length (hired script j list) → IsHired e (get_or (hired script j list) k d)
   hired_from j [] r k d h = absurd (omega (arith, h))

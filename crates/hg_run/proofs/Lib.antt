@@ -20,6 +20,7 @@ mod Sweeping
 mod Reported
 -- A whole script.
 mod OpenAfter
+mod Cursors
 mod Going
 mod Asking
 mod Begun
@@ -31,6 +32,7 @@ mod Hiring
 -- What is printed fits the script: how many there are of all, the records in the order of their lines, the rows, and each line.
 mod Counts
 mod InOrder
-mod Rows
 mod Opens
+mod Fetched
+mod Rows
 mod Fits

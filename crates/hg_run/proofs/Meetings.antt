@@ -16,7 +16,7 @@ use Rattle.hg_rule.specs.Views.{number, part_number, session, pass, pass_there, 
 use Rattle.hg_rule.specs.Seats.{BoardId, pass_view, IsPassOf}
 use Rattle.hg_core.specs.Counters.{removed_all}
 use Rattle.hg_session.specs.declared.session.Session.{Session}
-use Rattle.hg_session.specs.Sessions.{view_of, number_of, left_of}
+use Rattle.hg_session.specs.Sessions.{view_of, number_of, left_of, cursor_of}
 use Rattle.hg_session.specs.Finished.{AreAmong}
 use Rattle.hg_session.specs.Passing.{IsAlonePass}
 use Rattle.hg_run.specs.Swept.{HasSwept, HasMetSessions, HasMetPass}
@@ -25,12 +25,13 @@ use Rattle.hg_run.proofs.Rounds.{starts_more}
 
 -- ---- a session meets a pass
 
-pub met_pass : (p : ℕ) (v w : View) (s t : Session) → v.parts ≡ OfPass p (pass v) ∷ [] → AgreesWith v (number_of s) (session (view_of s)) → w ≡ meeting v (view_of s) → view_of t ≡ meeting (view_of s) w → left_of t ≡ left_of s → HasMetPass v s t
-met_pass p v w s t only agrees this other left = record {
+pub met_pass : (p : ℕ) (v w : View) (s t : Session) → v.parts ≡ OfPass p (pass v) ∷ [] → AgreesWith v (number_of s) (session (view_of s)) → w ≡ meeting v (view_of s) → view_of t ≡ meeting (view_of s) w → left_of t ≡ left_of s → cursor_of t ≡ cursor_of s → HasMetPass v s t
+met_pass p v w s t only agrees this other left cursor = record {
   parts = ap (λ (x : View). x.parts) other;
   kept = (w.sights, ap (λ (x : View). x.sights) other);
   seen = λ a i. subst (IsAmong a) (sym (ap (λ (x : View). x.sights) other)) (among_right a (view_of s).sights w.sights (subst (IsAmong a) (sym (ap (λ (x : View). x.sights) this)) (among_left a v.sights (view_of s).sights i)));
   left = left;
+  cursor = cursor;
   agrees = (subst (Each (PartAgrees (number_of s) (session (view_of s)))) only agrees.parts).0;
 }
 

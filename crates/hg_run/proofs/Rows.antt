@@ -1,6 +1,6 @@
 -- Every row that is printed was put.
 use Rattle.std.proofs.Common.{◌≡◌, ℕ, suc, List, [], ◌∷◌, Bool, true, false, Option, Some, None, refl, sym, subst}
-use Rattle.std.specs.Prelude.{cond, filter, map, nat_le, nat_lt, IfSome, option_map, unwrap_or, ◌==◌}
+use Rattle.std.specs.Prelude.{cond, filter, map, nat_le, nat_lt, IfSome, MatchOption, option_map, unwrap_or, ◌==◌}
 use Rattle.std.specs.List.{filter_map}
 use Rattle.std.specs.Bool.{MatchBool}
 use Rattle.std.specs.Option.{option_or}
@@ -8,7 +8,7 @@ use Rattle.hg_base.specs.declared.rid.Rid.{Rid}
 use Rattle.hg_base.specs.declared.rid.TableId.{TableId}
 use Rattle.hg_base.specs.declared.image.Image.{Image}
 use Rattle.hg_base.specs.declared.statement.Statement.{Statement}
-use Rattle.hg_base.specs.declared.statement.Statement.TheVariants.{Get, Put, Del, Scan}
+use Rattle.hg_base.specs.declared.statement.Statement.TheVariants.{Get, Put, Del, Scan, Fetch}
 use Rattle.hg_base.specs.declared.statement.Record.{Record}
 use Rattle.hg_base.specs.declared.line.Answer.{Answer}
 use Rattle.hg_base.specs.declared.line.Answer.TheVariants.{Begun, Stored, Found, Nothing, Gone, Rows, Committed, Ended, Undone, Newer, OpenBy, Undeclared, Swept, Beside}
@@ -18,8 +18,9 @@ use Rattle.hg_base.specs.declared.value.Value.{Value}
 use Rattle.hg_base.specs.Lists.{Each, EachAfter}
 use Rattle.hg_base.specs.Script.{Mode, Declaration, Script}
 use Rattle.hg_base.specs.History.{Write, Commit, Group, History, same_rid, image_in, group_image, writes_from, writes, last_image, visible, seen}
-use Rattle.hg_base.specs.Transcript.{Said, has, said, said_from, last_of, is_of, stored, stored_by, stored_in, own_writes, committed, last_images, commit_by, commits_from, commits, put_by_session, group_of, history_of, in_order}
-use Rattle.hg_base.specs.Replies.{IsGot, IsScanned, IsUndeclared, IsAnswer}
+use Rattle.hg_base.specs.Text.{cursor_before}
+use Rattle.hg_base.specs.Transcript.{Rest, Said, has, passed, rest_in, said, said_from, last_of, is_of, stored, stored_by, stored_in, own_writes, committed, last_images, commit_by, commits_from, commits, put_by_session, group_of, history_of, in_order}
+use Rattle.hg_base.specs.Replies.{IsGot, IsScanned, IsFetched, IsUndeclared, IsAnswer}
 use Rattle.hg_base.specs.Sound.{IsSound, AreRight, IsRight, all_said}
 use Rattle.hg_base.proofs.ListFacts.{each_keeps}
 use Rattle.hg_base.proofs.HistoryFacts.{same_rid_equal}
@@ -28,6 +29,7 @@ use Rattle.hg_headline.proofs.Same.{each_filter}
 use Rattle.hg_headline.proofs.Whole.{said_says}
 use Rattle.hg_script.specs.Lawful.{IsLawful, IsStatement, FitsTables}
 use Rattle.hg_run.specs.Rows.{AsksRow, FoundRow, FoundRows, PrintsRow, HasColumns, PrintsColumns}
+use Rattle.hg_run.proofs.Fetched.{FindsRest, IfFetch, IsRestOf, lines_find}
 use Rattle.hg_run.proofs.InOrder.{each_in_order}
 
 -- ---- lists
@@ -234,28 +236,38 @@ rows_out P t table (Undeclared other) u = tt
 rows_out P t table (Swept s) u = tt
 rows_out P t table Beside u = tt
 
-answered : (P : Rid → List Value → Type 0) (mode : Mode) (look : Rid → Image) (wrote : Bool) (now : Said) (s : Statement) → ((r : Rid) → Holds P r (look r)) → IsAnswer mode look wrote now s → PrintsRow P s now.reply.answer
-answered P mode look wrote now (Get r) h a = go (has now.scope r.table) a
+fetched : (P : Rid → List Value → Type 0) (look : Rid → Image) (n : ℕ) (cursor : Option TableId) (rest : Option Rest) (a : Answer) → ((r : Rid) → Holds P r (look r)) → IsRestOf cursor rest → IsFetched look n rest a → MatchOption cursor ⊥ (λ table. FoundRows P table a)
+fetched P look n cursor None a h found f = absurd f
+fetched P look n cursor (Some rest) (Rows rows) h found f =
+    subst (λ o. MatchOption o ⊥ (λ table. FoundRows P table (Rows rows))) (sym found.0)
+    (scanned P rest.table (λ key. look (record { table = rest.table; key = key })) rest.low (passed n rest.high rows) (Rows rows) (λ key. h (record { table = rest.table; key = key })) f.all)
+fetched P look n cursor (Some rest) _ h found f = absurd f
+
+answered : (P : Rid → List Value → Type 0) (mode : Mode) (look : Rid → Image) (wrote : Bool) (cursor : Option TableId) (rest : Option Rest) (now : Said) (s : Statement) → ((r : Rid) → Holds P r (look r)) → IfFetch s (IsRestOf cursor rest) → IsAnswer mode look wrote rest now s → PrintsRow P cursor s now.reply.answer
+answered P mode look wrote cursor rest now (Get r) h found a = go (has now.scope r.table) a
   where
     go : (b : Bool) → MatchBool b (IsGot (look r) now.reply.answer) (IsUndeclared r.table now.reply.answer) → FoundRow P r now.reply.answer
     go true a = got P r (look r) now.reply.answer (h r) a
     go false a = found_out P r r.table now.reply.answer a
-answered P mode look wrote now (Scan table low high) h a = go (has now.scope table) a
+answered P mode look wrote cursor rest now (Scan table low high) h found a = go (has now.scope table) a
   where
     go : (b : Bool) → MatchBool b (IsScanned (λ key. look (record { table = table; key = key })) low high now.reply.answer) (IsUndeclared table now.reply.answer) → FoundRows P table now.reply.answer
     go true a = scanned P table (λ key. look (record { table = table; key = key })) low high now.reply.answer (λ key. h (record { table = table; key = key })) a
     go false a = rows_out P table table now.reply.answer a
-answered P mode look wrote now _ h a = tt
+answered P mode look wrote cursor rest now (Fetch n) h found a = fetched P look n cursor rest now.reply.answer h found a
+answered P mode look wrote cursor rest now _ h found a = tt
 
-all_print : (P : Rid → List Value → Type 0) (mode : Mode) (h : History) (all earlier xs : List Said) → Each (Each (λ c. Each (IsOne P) c.images)) h → Each (λ now. AsksRow P now.statement) earlier → Each (λ now. AsksRow P now.statement) xs → EachAfter (IsRight mode h all) earlier xs → Each (λ now. PrintsRow P now.statement now.reply.answer) xs
-all_print P mode h all earlier [] history before asks right = tt
-all_print P mode h all earlier (now ∷ later) history before asks right = (
-  answered P mode (seen h (own_writes earlier now) now.at) _ now now.statement (λ r. one_seen P h (own_writes earlier now) now.at r history (one_own P now.session now.transaction earlier before)) right.0.reply.answer,
-  all_print P mode h all (now ∷ earlier) later history (asks.0, before) asks.1 right.1,
+all_print : (P : Rid → List Value → Type 0) (mode : Mode) (h : History) (records : List Record) (all earlier xs : List Said) → Each (Each (λ c. Each (IsOne P) c.images)) h → Each (λ now. AsksRow P now.statement) earlier → Each (λ now. AsksRow P now.statement) xs → EachAfter (IsRight mode h all) earlier xs → EachAfter (FindsRest records) earlier xs →
+    Each (λ now. PrintsRow P (cursor_before records now.session now.place) now.statement now.reply.answer) xs
+all_print P mode h records all earlier [] history before asks right finds = tt
+all_print P mode h records all earlier (now ∷ later) history before asks right finds = (
+  answered P mode (seen h (own_writes earlier now) now.at) _ (cursor_before records now.session now.place) (rest_in now.session now.transaction earlier) now now.statement
+      (λ r. one_seen P h (own_writes earlier now) now.at r history (one_own P now.session now.transaction earlier before)) finds.0 right.0.reply.answer,
+  all_print P mode h records all (now ∷ earlier) later history (asks.0, before) asks.1 right.1 finds.1,
 )
 
-pub rows_put : (P : Rid → List Value → Type 0) (mode : Mode) (all : List Said) → Each (λ now. AsksRow P now.statement) all → AreRight mode all → Each (λ now. PrintsRow P now.statement now.reply.answer) all
-rows_put P mode all asks right = all_print P mode (history_of all) all [] all (one_history P all asks) tt asks right.lines
+pub rows_put : (P : Rid → List Value → Type 0) (mode : Mode) (records : List Record) (all : List Said) → Each (λ now. AsksRow P now.statement) all → AreRight mode all → EachAfter (FindsRest records) [] all → Each (λ now. PrintsRow P (cursor_before records now.session now.place) now.statement now.reply.answer) all
+rows_put P mode records all asks right finds = all_print P mode (history_of all) records all [] all (one_history P all asks) tt asks right.lines finds
 
 -- ---- the columns
 
@@ -263,10 +275,10 @@ lawful_row : (tables : List Declaration) (s : Statement) → FitsTables tables s
 lawful_row tables (Put r row) fits = fits.1
 lawful_row tables _ fits = tt
 
-pub rows_have_columns : (mode : Mode) (script : Script) (printed : Printed) → IsLawful script → IsSound mode script printed → Each (PrintsColumns script.tables) (all_said mode script printed.lines)
+pub rows_have_columns : (mode : Mode) (script : Script) (printed : Printed) → IsLawful script → IsSound mode script printed → Each (PrintsColumns script) (all_said mode script printed.lines)
 rows_have_columns mode script printed lawful sound =
     let P = HasColumns script.tables in
-    rows_put P mode (all_said mode script printed.lines)
+    rows_put P mode script.records (all_said mode script printed.lines)
     (all_ask P [] (in_order mode script.records) printed.lines
     (each_in_order (λ r. AsksRow P r.statement) mode script.records (each_keeps (IsStatement script.tables) (λ r. AsksRow P r.statement) (λ r is. lawful_row script.tables r.statement is.fits) script.records lawful.statements) (λ kind m k. tt)))
-    sound.lines.right
+    sound.lines.right (lines_find mode script printed.lines lawful)

@@ -1,5 +1,5 @@
 -- A round of a collector between meetings of its pass with the sessions, as a reply.
-use Rattle.std.proofs.Common.{◌≡◌, inl, inr, ℕ, zero, suc, ◌+◌, ◌<◌, ◌≤◌, ◌≢◌, List, [], length, map, true, false, Option, Some, None, refl, sym, ap, ◌∙◌, subst, arith}
+use Rattle.std.proofs.Common.{◌≡◌, inl, inr, ℕ, zero, suc, ◌+◌, ◌<◌, ◌≤◌, ◌≢◌, List, [], length, map, Bool, true, false, Option, Some, None, refl, sym, ap, ◌∙◌, subst, arith}
 use Rattle.std.specs.Prelude.{get_or, is_some, IfSome, ◌&&◌}
 use Rattle.hg_base.specs.declared.scope.Snapshot.{Snapshot}
 use Rattle.hg_base.specs.declared.report.Kind.{Kind}
@@ -9,7 +9,7 @@ use Rattle.hg_base.specs.declared.statement.Statement.TheVariants.{Gc}
 use Rattle.hg_base.specs.declared.line.Answer.TheVariants.{Swept}
 use Rattle.hg_base.specs.Lists.{Each}
 use Rattle.hg_base.specs.Shape.{same_kind}
-use Rattle.hg_base.specs.Transcript.{stored_by}
+use Rattle.hg_base.specs.Transcript.{Rest, stored_by}
 use Rattle.hg_core.specs.declared.log.LogEntry.{LogEntry}
 use Rattle.hg_core.specs.declared.loaded.Loaded.{Loaded}
 use Rattle.hg_core.specs.Events.{put}
@@ -17,7 +17,7 @@ use Rattle.hg_core.specs.Logs.{current}
 use Rattle.hg_core.specs.Passes.{found}
 use Rattle.hg_core.specs.Phases.{IsEntering}
 use Rattle.hg_core.specs.Reach.{StandsIn}
-use Rattle.hg_core.specs.Reading.{Unprinted, Fits, FitsScope, is_alone, log_with, log_after}
+use Rattle.hg_core.specs.Reading.{Unprinted, Fits, FitsIn, FitsScope, is_alone, log_with, log_after}
 use Rattle.hg_rule.specs.declared.view.Part.{Part}
 use Rattle.hg_rule.specs.declared.view.View.{View}
 use Rattle.hg_rule.specs.Agreed.{RecordAgrees}
@@ -33,13 +33,14 @@ use Rattle.hg_session.specs.declared.session.Session.{Session}
 use Rattle.hg_session.specs.Engines.{engine_sizes}
 use Rattle.hg_session.specs.Finished.{logs_of, AreAmong}
 use Rattle.hg_session.specs.Replies.{inside}
-use Rattle.hg_session.specs.Sessions.{IsOf, view_of, number_of, log_of, left_of, opened_of}
+use Rattle.hg_session.specs.Sessions.{IsOf, view_of, number_of, log_of, left_of, cursor_of, opened_of}
 use Rattle.hg_session.specs.Ties.{IsHeard}
 use Rattle.hg_session.proofs.Quiet.{heard_whole}
 use Rattle.hg_run.specs.Asked.{HasReplied}
 use Rattle.hg_run.specs.Heard.{HasHeard, HasSeen}
-use Rattle.hg_run.specs.Listed.{IsPlaced, AreReady, SawAt, none_left}
+use Rattle.hg_run.specs.Listed.{IsPlaced, AreReady, HaveCursors, KeepCursors, SawAt, none_left}
 use Rattle.hg_run.specs.Swept.{HasSwept, HasMetSessions, HasMetPass}
+use Rattle.hg_run.proofs.Cursors.{cursors_kept, cursors_same}
 use Rattle.hg_run.proofs.Gathering.{ShowsLog, ShowLogs, reached, at_rest, all_show, none_enters, held_are, moved_are}
 use Rattle.hg_run.proofs.Hearing.{heard_kept, over_at_most, seen_among, among_left}
 use Rattle.hg_run.proofs.Listing.{by_two, log_at, logs_same}
@@ -93,6 +94,7 @@ met_back v u s t h m = record {
   kept = m.kept;
   seen = λ a i. m.seen a (subst (IsAmong a) (sym h.kept.1) (among_left a v.sights h.kept.0 i));
   left = m.left;
+  cursor = m.cursor;
   agrees = subst (λ (ps : List Part). RecordAgrees (number_of s) (session (view_of s)) (pass_there (first_in ps))) h.parts m.agrees;
 }
 
@@ -227,7 +229,7 @@ module _ (e : Engine) (kind : Kind) (i : ℕ) (v v1 w : View) (sweep : Sweep) (o
   -- ---- as a reply
 
   abbrev none : Unprinted
-  none = record { found = []; part = λ b. []; undone = [] }
+  none = record { found = []; part = λ b. []; undone = []; rest = None; looked = 0 }
 
   alone : is_alone (current (logs (suc i))) (Gc kind) ≡ false
   alone = not_alone (current (logs (suc i))) (Gc kind) refl
@@ -238,8 +240,12 @@ module _ (e : Engine) (kind : Kind) (i : ℕ) (v v1 w : View) (sweep : Sweep) (o
     number = sym (ap (λ b. b && is_some (stored_by (Gc kind) (Swept sweep))) alone);
     answer = tt;
     scope = go (current (logs (suc i)));
+    inside = no_fetch (current (logs (suc i)));
   }
     where
+      no_fetch : (o : Option Snapshot) → FitsIn o (Gc kind)
+      no_fetch o = tt
+
       go : (o : Option Snapshot) → IfSome o (λ snapshot. FitsScope snapshot.scope (Gc kind) (Swept sweep))
       go None = tt
       go (Some snapshot) = tt
@@ -252,8 +258,20 @@ module _ (e : Engine) (kind : Kind) (i : ℕ) (v v1 w : View) (sweep : Sweep) (o
       logs_all e w i mid new there.within all ∙ (logs_one e v v1 i old mid ready.within one
       ∙ (sym (put_same logs (suc i)) ∙ ap (put logs (suc i)) (sym log_stays)))
 
-  pub swept_reply : (seen : ℕ) → SawAt seen i old → HasReplied e seen old i (Gc kind) (inside (Swept sweep)) new
-  swept_reply seen saw =
+  -- each session keeps its cursor
+  kept_one : KeepCursors old mid
+  kept_one d k within = by_two i i k (λ k. cursor_of (get_or mid k d) ≡ cursor_of (get_or old k d)) (one.met d).cursor (one.met d).cursor (λ p q. ap cursor_of (one.rest d k p))
+
+  kept_all : KeepCursors mid new
+  kept_all d k within = (all.met d k within).cursor
+
+  cursors : (reads : ℕ → Bool) (rest : ℕ → Option Rest) → HaveCursors reads rest old → HaveCursors (put reads (suc i) (reads (suc i))) (put rest (suc i) (rest (suc i))) new
+  cursors reads rest have =
+      cursors_same reads (put reads (suc i) (reads (suc i))) rest (put rest (suc i) (rest (suc i))) new (λ j. ap (λ f. f j) (sym (put_same reads (suc i)))) (λ j. ap (λ f. f j) (sym (put_same rest (suc i))))
+      (cursors_kept reads rest mid new all.many kept_all (cursors_kept reads rest old mid one.many kept_one have))
+
+  pub swept_reply : (seen : ℕ) (reads : ℕ → Bool) (rest : ℕ → Option Rest) → SawAt seen i old → HaveCursors reads rest old → HasReplied e seen reads rest old i (Gc kind) (inside (Swept sweep)) new
+  swept_reply seen reads rest saw have =
       let before : HasSeen seen v1.sights = seen_among seen (view_of (get_or old i d)).sights v1.sights (one.heard d) (saw d) in
       let over = over_at_most logs seen v1 sweep.mark pass_heard before round.most in
       record {
@@ -261,10 +279,12 @@ module _ (e : Engine) (kind : Kind) (i : ℕ) (v v1 w : View) (sweep : Sweep) (o
         replied = record {
           u = none;
           fits = fits;
+          rest_is = tt;
           met = met_report;
           fresh = record { grows = over.groups; snapshot = tt; mark = (over, omega arith); newer = tt; commit = tt };
           logs = same_logs;
         };
+        cursors = cursors reads rest have;
         saw = λ d. seen_among sweep.mark w.sights (view_of (get_or new i d)).sights (all.met d i there.within).seen (inr round.saw);
       }
 

@@ -5,8 +5,6 @@ use Rattle.std.specs.List.{cons_option, flat_map}
 use Rattle.std.specs.Option.{option_map_or}
 use Rattle.std.proofs.lemmas.List.Elements.{filter_map-append}
 use Rattle.std.proofs.lemmas.List.Sums.{sum_by-cons, sum_by-append}
-use Rattle.hg_base.specs.declared.line.Answer.{Answer}
-use Rattle.hg_base.specs.declared.line.Answer.TheVariants.{Swept}
 use Rattle.hg_base.specs.declared.line.Line.{Line}
 use Rattle.hg_base.specs.declared.line.Totals.{Totals}
 use Rattle.hg_base.specs.declared.report.Kind.{Kind}
@@ -15,14 +13,13 @@ use Rattle.hg_base.specs.declared.report.Report.{Report}
 use Rattle.hg_base.specs.declared.report.Sweep.{Sweep}
 use Rattle.hg_base.specs.declared.statement.Record.{Record}
 use Rattle.hg_base.specs.declared.statement.Statement.{Statement}
-use Rattle.hg_base.specs.declared.statement.Statement.TheVariants.{Begin, Get, Put, Del, Scan, Commit, Rollback, Gc}
 use Rattle.hg_base.specs.Counts.{removed_by}
 use Rattle.hg_base.specs.History.{Write}
 use Rattle.hg_base.specs.Lists.{Each, greatest, numbers_from}
 use Rattle.hg_base.specs.Script.{Script, run}
 use Rattle.hg_base.specs.Shape.{HasShape, report_of, same_kind}
 use Rattle.hg_base.specs.Sound.{IsSound}
-use Rattle.hg_base.specs.Transcript.{of_session, said_from, in_order}
+use Rattle.hg_base.specs.Transcript.{Rest, of_session, rest_after, said_from, in_order}
 use Rattle.hg_base.proofs.ListFacts.{append_nil}
 use Rattle.hg_core.specs.declared.log.LogEntry.{LogEntry}
 use Rattle.hg_core.specs.Logs.{own_writes}
@@ -34,6 +31,7 @@ use Rattle.hg_headline.specs.Ran.{LeavesGc, AreReports, report_lines, run_lines,
 use Rattle.hg_headline.proofs.Before.{logged_before}
 use Rattle.hg_headline.proofs.Counting.{run_whole}
 use Rattle.hg_headline.proofs.Removed.{removed_said}
+use Rattle.hg_headline.proofs.Reports.{no_report}
 use Rattle.hg_headline.proofs.Rounds.{run_shape}
 use Rattle.hg_headline.proofs.Running.{in_order_is, none_over}
 use Rattle.hg_session.specs.declared.engine.Engine.{Engine}
@@ -52,33 +50,19 @@ use Rattle.hg_run.proofs.Reported.{rounds_map, reported, lines_removed}
 
 -- ---- a session's lines tell of no round
 
-none_swept : (buckets : ℕ) (u : Unprinted) (own : List Write) (s : Statement) (sweep : Sweep) → FitsAnswer buckets u own s (Swept sweep) → LeavesGc s (Swept sweep) → ⊥
-none_swept buckets u own (Begin scope) sweep h l = h
-none_swept buckets u own (Get r) sweep h l = h
-none_swept buckets u own (Put r row) sweep h l = h
-none_swept buckets u own (Del r) sweep h l = h
-none_swept buckets u own (Scan table low high) sweep h l = h
-none_swept buckets u own Commit sweep h l = h
-none_swept buckets u own Rollback sweep h l = h.0
-none_swept buckets u own (Gc kind) sweep h l = l
-
 none_reported : (buckets : ℕ) (u : Unprinted) (own : List Write) (s : Statement) (line : Line) → FitsAnswer buckets u own s line.reply.answer → LeavesGc s line.reply.answer → report_of line.reply ≡ None
-none_reported buckets u own s line h l = go line.reply.answer h l
-  where
-    go : (a : Answer) → FitsAnswer buckets u own s a → LeavesGc s a → report_of (record line.reply { answer = a }) ≡ None
-    go (Swept sweep) h l = absurd (none_swept buckets u own s sweep h l)
-    go _ h l = refl
+none_reported buckets u own s line h l = no_report buckets u own s line.reply.answer l h
 
 none_told : (k : Kind) (buckets : ℕ) (u : Unprinted) (own : List Write) (s : Statement) (line : Line) → FitsAnswer buckets u own s line.reply.answer → LeavesGc s line.reply.answer → told_by k line ≡ 0
 none_told k buckets u own s line h l = ap (λ o. option_map_or (swept_by k) o 0) (none_reported buckets u own s line h l)
 
-tells_none : (k : Kind) (buckets : ℕ) (rs : List Record) (lines : List Line) (log final : List LogEntry) → Tells buckets (λ r line. LeavesGc r.statement line.reply.answer) log rs lines final → told_removed k lines ≡ 0
-tells_none k buckets [] [] log final t = refl
-tells_none k buckets [] (line ∷ lines) log final t = absurd t
-tells_none k buckets (r ∷ rs) [] log final t = absurd t
-tells_none k buckets (r ∷ rs) (line ∷ lines) log final t =
+tells_none : (k : Kind) (buckets : ℕ) (rs : List Record) (lines : List Line) (log final : List LogEntry) (left : Option Rest) → Tells buckets (λ r line. LeavesGc r.statement line.reply.answer) log left rs lines final → told_removed k lines ≡ 0
+tells_none k buckets [] [] log final left t = refl
+tells_none k buckets [] (line ∷ lines) log final left t = absurd t
+tells_none k buckets (r ∷ rs) [] log final left t = absurd t
+tells_none k buckets (r ∷ rs) (line ∷ lines) log final left t =
     let here = none_told k buckets t.1.0 (own_writes log) r.statement line t.1.1.answer t.0 in
-    let later = tells_none k buckets rs lines (log_after buckets t.1.0 r.statement line.reply log) final t.1.2 in
+    let later = tells_none k buckets rs lines (log_after buckets t.1.0 r.statement line.reply log) final (rest_after r.statement line.reply.answer left) t.1.2 in
     let sum = sum_by-cons (told_by k) line lines in
     omega (arith, here, later, sum)
 
@@ -93,12 +77,12 @@ flat_none k lines none i (suc n) =
 abbrev report : Line → Option Sweep
 report line = report_of line.reply
 
-no_reports : (buckets : ℕ) (rs : List Record) (lines : List Line) (log final : List LogEntry) → Tells buckets (λ r line. LeavesGc r.statement line.reply.answer) log rs lines final → filter_map report lines ≡ []
-no_reports buckets [] [] log final t = refl
-no_reports buckets [] (line ∷ lines) log final t = absurd t
-no_reports buckets (r ∷ rs) [] log final t = absurd t
-no_reports buckets (r ∷ rs) (line ∷ lines) log final t =
-    ap (λ o. cons_option o (filter_map report lines)) (none_reported buckets t.1.0 (own_writes log) r.statement line t.1.1.answer t.0) ∙ no_reports buckets rs lines (log_after buckets t.1.0 r.statement line.reply log) final t.1.2
+no_reports : (buckets : ℕ) (rs : List Record) (lines : List Line) (log final : List LogEntry) (left : Option Rest) → Tells buckets (λ r line. LeavesGc r.statement line.reply.answer) log left rs lines final → filter_map report lines ≡ []
+no_reports buckets [] [] log final left t = refl
+no_reports buckets [] (line ∷ lines) log final left t = absurd t
+no_reports buckets (r ∷ rs) [] log final left t = absurd t
+no_reports buckets (r ∷ rs) (line ∷ lines) log final left t =
+    ap (λ o. cons_option o (filter_map report lines)) (none_reported buckets t.1.0 (own_writes log) r.statement line t.1.1.answer t.0) ∙ no_reports buckets rs lines (log_after buckets t.1.0 r.statement line.reply log) final (rest_after r.statement line.reply.answer left) t.1.2
 
 flat_reports : (lines : ℕ → List Line) → ((j : ℕ) → filter_map report (lines j) ≡ []) → (i n : ℕ) → filter_map report (flat_map lines (numbers_from i n)) ≡ []
 flat_reports lines none i zero = refl
@@ -125,7 +109,7 @@ module _ (e : Engine) (long rounds : ℕ) (script : Script) (old new : List Sess
       i = sweep_lines 1 (d.sweeps Interval)
 
       flat_told : sweeps_of k flat ≡ []
-      flat_told = ap (filter (λ (s : Sweep). same_kind s.kind k)) (flat_reports d.lines (λ j. no_reports sizes.buckets (of_session j script.records) (d.lines j) (logs_of old j) (d.worked j).log (d.worked j).tells) 1 sizes.sessions)
+      flat_told = ap (filter (λ (s : Sweep). same_kind s.kind k)) (flat_reports d.lines (λ j. no_reports sizes.buckets (of_session j script.records) (d.lines j) (logs_of old j) (d.worked j).log None (d.worked j).tells) 1 sizes.sessions)
 
       of_kind : (kind : Kind) → sweeps_of k (sweep_lines 1 (d.sweeps kind)) ≡ cond (same_kind kind k) (d.sweeps kind) []
       of_kind kind = told_lines kind k sizes long (view_in kind before) (view_in kind after) (d.sweeps kind) (d.made kind)
@@ -183,7 +167,7 @@ module _ (e : Engine) (long rounds : ℕ) (script : Script) (old new : List Sess
     logged = logged_before z.buckets t.history logs (logs_of new) closes t.logged;
     numbered = numbered;
     shape = λ j. (d.worked j).shape;
-    tells = λ j. subst (λ l. Tells z.buckets (λ (r : Record) (line : Line). LeavesGc r.statement line.reply.answer) l (of_session j script.records) (d.lines j) (logs j)) (none j) (d.worked j).tells;
+    tells = λ j. subst (λ l. Tells z.buckets (λ (r : Record) (line : Line). LeavesGc r.statement line.reply.answer) l None (of_session j script.records) (d.lines j) (logs j)) (none j) (d.worked j).tells;
     of_group = (told_of Group).1.0;
     of_table = (told_of Table).1.0;
     of_interval = (told_of Interval).1.0;
@@ -212,7 +196,7 @@ module _ (e : Engine) (long rounds : ℕ) (script : Script) (old new : List Sess
       let g_lines : List Line = sweep_lines 1 (d.sweeps Group) in
       let t_lines : List Line = sweep_lines 1 (d.sweeps Table) in
       let i_lines : List Line = sweep_lines 1 (d.sweeps Interval) in
-      let first : told_removed k flat ≡ 0 = flat_none k d.lines (λ j. tells_none k z.buckets (of_session j script.records) (d.lines j) (logs_of old j) (logs j) (d.worked j).tells) 1 z.sessions in
+      let first : told_removed k flat ≡ 0 = flat_none k d.lines (λ j. tells_none k z.buckets (of_session j script.records) (d.lines j) (logs_of old j) (logs j) None (d.worked j).tells) 1 z.sessions in
       let x : told_removed k g_lines ≡ sum_by (swept_by k) (d.sweeps Group) = lines_removed k 1 (d.sweeps Group) in
       let y : told_removed k t_lines ≡ sum_by (swept_by k) (d.sweeps Table) = lines_removed k 1 (d.sweeps Table) in
       let w : told_removed k i_lines ≡ sum_by (swept_by k) (d.sweeps Interval) = lines_removed k 1 (d.sweeps Interval) in

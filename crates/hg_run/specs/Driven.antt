@@ -1,5 +1,5 @@
 -- What the two drivers make of an engine's sessions and collectors.
-use Rattle.std.specs.Prelude.{◌≡◌, ℕ, ◌≤◌, ◌++◌, List, [], length, map, max, filter, filter_map, ⊤}
+use Rattle.std.specs.Prelude.{◌≡◌, ℕ, ◌≤◌, ◌++◌, List, [], length, map, max, filter, filter_map, None, ⊤}
 use Rattle.std.specs.List.{cons_option, flat_map}
 use Rattle.hg_base.specs.declared.line.Line.{Line}
 use Rattle.hg_base.specs.declared.line.Reply.{Reply}
@@ -46,12 +46,13 @@ sweeps_in kind reply = filter (λ sweep. same_kind sweep.kind kind) (cons_option
 abbrev pub sweeps_of : Kind → List Line → List Sweep
 sweeps_of kind lines = filter (λ sweep. same_kind sweep.kind kind) (filter_map (λ line. report_of line.reply) lines)
 
--- On one thread: the lines are the replies that the logs give, record by record, and each log gained their entries alone, and
--- then what rolls an open transaction back. Each collector made a round for each `gc` of its kind, and no other.
+-- On one thread: the lines are the replies that the logs give, record by record, where no cursor is open at first, and each log
+-- gained their entries alone, and then what rolls an open transaction back or closes a cursor. Each collector made a round for each
+-- `gc` of its kind, and no other.
 pub record HasDrivenOne (z : Sizes) (long : ℕ) (records : List Record) (old : List Session) (before : Collectors) (lines : List Line) (new : List Session) (after : Collectors) : Type 0 where
   pub logs : ℕ → List LogEntry
   pub shape : HasShape records lines
-  pub follows : Follows z.buckets (λ _ _ _. ⊤) (logs_of old) records lines logs
+  pub follows : Follows z.buckets (λ _ _ _. ⊤) (logs_of old) (λ j. None) records lines logs
   pub closes : (j : ℕ) → Closes (logs j) (logs_of new j)
   pub rounds : (kind : Kind) → AreRounds (IsRoundBy kind z long) (view_in kind before) (sweeps_of kind lines) (view_in kind after)
 

@@ -1,9 +1,11 @@
 -- The sessions of a replay in the order of their numbers: session j stands at j - 1.
-use Rattle.std.specs.Prelude.{◌≡◌, ℕ, suc, ◌≤◌, ◌<◌, List, length, get_or, cond, ◌==◌}
+use Rattle.std.specs.Prelude.{◌≡◌, ℕ, suc, ◌≤◌, ◌<◌, List, length, get_or, Bool, true, false, cond, ◌==◌, Option, is_some}
+use Rattle.hg_base.specs.Transcript.{Rest}
 use Rattle.hg_session.specs.declared.engine.Engine.{Engine}
 use Rattle.hg_session.specs.declared.session.Session.{Session}
+use Rattle.hg_session.specs.Cursors.{HasLeft}
 use Rattle.hg_session.specs.Engines.{engine_sizes}
-use Rattle.hg_session.specs.Sessions.{view_of, number_of, left_of, IsOf}
+use Rattle.hg_session.specs.Sessions.{view_of, number_of, left_of, cursor_of, IsOf}
 use Rattle.hg_session.specs.Finished.{logs_of}
 use Rattle.hg_run.specs.Heard.{HasHeard, HasSeen}
 
@@ -36,3 +38,25 @@ pub record AreReady (e : Engine) (last : ℕ) (left : ℕ → ℕ) (list : List 
 -- the one at a place has seen so many groups
 abbrev pub SawAt : ℕ → ℕ → List Session → Type 0
 SawAt n i list = (d : Session) → HasSeen n (view_of (get_or list i d)).sights
+
+-- ---- cursors
+
+-- whether a transaction is open and whether a cursor is, of which no two are at once; and whether anything is
+abbrev pub AreOpen : Bool → Bool → Bool → Type 0
+AreOpen false false held = held ≡ false
+AreOpen true false held = held ≡ true
+AreOpen false true held = held ≡ true
+AreOpen true true held = ⊥
+
+-- its cursor is open or not, and if it is, it has this left
+pub record HasCursor (reads : Bool) (rest : Option Rest) (s : Session) : Type 0 where
+  pub reads_is : is_some (cursor_of s) ≡ reads
+  pub left : HasLeft s rest
+
+-- the same of each session, by its number
+abbrev pub HaveCursors : (ℕ → Bool) → (ℕ → Option Rest) → List Session → Type 0
+HaveCursors reads rest list = (d : Session) (k : ℕ) → k < length list → HasCursor (reads (suc k)) (rest (suc k)) (get_or list k d)
+
+-- each has the cursor that it had
+abbrev pub KeepCursors : List Session → List Session → Type 0
+KeepCursors old new = (d : Session) (k : ℕ) → k < length old → cursor_of (get_or new k d) ≡ cursor_of (get_or old k d)

@@ -27,7 +27,7 @@ pub record HasPlayed (e : Engine) (long : ℕ) (before after : Collectors) (list
   pub told : (k : Kind) → removed_of k after ≡ removed_of k before + told_removed k lines
   pub rounds : HaveMade (engine_sizes e) long before (λ k. sweeps_of k lines) after
 
--- the same of the logs as they were before what was open was rolled back
+-- the same of the logs as they were before what was open was rolled back or closed
 pub record HasPlayedOut (e : Engine) (before after : Collectors) (list : List Session) (script : Script) (lines : List Line) : Type 0 where
   pub logs : ℕ → List LogEntry
   pub closes : (j : ℕ) → Closes (logs j) (logs_of list j)

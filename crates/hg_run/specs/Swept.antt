@@ -18,7 +18,7 @@ use Rattle.hg_tracker.specs.Entries.{down_from}
 use Rattle.hg_tracker.specs.Gathers.{IsFull}
 use Rattle.hg_core.specs.Counters.{removed_all}
 use Rattle.hg_session.specs.declared.session.Session.{Session}
-use Rattle.hg_session.specs.Sessions.{view_of, number_of, left_of}
+use Rattle.hg_session.specs.Sessions.{view_of, number_of, left_of, cursor_of}
 use Rattle.hg_session.specs.Finished.{AreAmong}
 
 -- how many versions of a kind a report tells
@@ -54,10 +54,11 @@ pub record HasMetSessions (v w : View) : Type 0 where
   pub events : w.events ≡ v.events
   pub kept : StartsWith w.sights v.sights
 
--- A session that met a collector's pass keeps its part, and has seen all that the pass had seen. The pass's record agrees with it.
+-- A session that met a collector's pass keeps its part and its cursor, and has seen all that the pass had seen. The pass's record agrees with it.
 pub record HasMetPass (v : View) (s t : Session) : Type 0 where
   pub parts : (view_of t).parts ≡ (view_of s).parts
   pub kept : StartsWith (view_of t).sights (view_of s).sights
   pub seen : AreAmong v.sights (view_of t).sights
   pub left : left_of t ≡ left_of s
+  pub cursor : cursor_of t ≡ cursor_of s
   pub agrees : RecordAgrees (number_of s) (session (view_of s)) (pass v)

@@ -1,5 +1,5 @@
 -- What a session's worker makes of its records.
-use Rattle.std.specs.Prelude.{◌≡◌, ℕ, suc, ◌+◌, ◌≤◌, List, [], ◌∷◌, ◌++◌, length, map, Bool, false, is_some, None, ⊤}
+use Rattle.std.specs.Prelude.{◌≡◌, ℕ, suc, ◌+◌, ◌≤◌, List, [], ◌∷◌, ◌++◌, length, map, Bool, false, Option, is_some, None, ⊤}
 use Rattle.std.specs.List.{flat_map}
 use Rattle.hg_base.specs.declared.report.Kind.{Kind}
 use Rattle.hg_base.specs.declared.report.Kind.TheVariants.{Group, Table, Interval}
@@ -11,32 +11,34 @@ use Rattle.hg_base.specs.declared.statement.Statement.{Statement}
 use Rattle.hg_base.specs.Lists.{Each}
 use Rattle.hg_base.specs.Script.{Script}
 use Rattle.hg_base.specs.Shape.{HasShape}
-use Rattle.hg_base.specs.Transcript.{of_session}
+use Rattle.hg_base.specs.Transcript.{Rest, of_session, rest_after}
 use Rattle.hg_core.specs.declared.log.LogEntry.{LogEntry}
-use Rattle.hg_core.specs.Reading.{Unprinted, Fits, Tells, log_after}
+use Rattle.hg_core.specs.Reading.{Unprinted, Fits, HasRest, Tells, log_after}
 use Rattle.hg_rule.specs.declared.view.Sizes.{Sizes}
 use Rattle.hg_script.specs.Lawful.{MayStand}
-use Rattle.hg_script.specs.Rules.{opened}
+use Rattle.hg_script.specs.Rules.{opened, reading}
 use Rattle.hg_headline.specs.Counted.{Closes}
 use Rattle.hg_headline.specs.Ran.{LeavesGc}
 use Rattle.hg_session.specs.declared.engine.Engine.{Engine}
 use Rattle.hg_session.specs.declared.session.Session.{Session}
+use Rattle.hg_session.specs.Cursors.{HasLeft}
 use Rattle.hg_session.specs.Engines.{engine_sizes}
-use Rattle.hg_session.specs.Sessions.{IsOf, number_of, log_of, open_of, left_of}
+use Rattle.hg_session.specs.Sessions.{IsOf, number_of, log_of, open_of, left_of, cursor_of}
 use Rattle.hg_run.specs.declared.beside.RoundLists.{RoundLists}
 use Rattle.hg_run.specs.declared.round_list.RoundList.{RoundList}
 use Rattle.hg_run.specs.declared.work.Worker.{Worker}
 use Rattle.hg_run.specs.declared.collecting.Collectors.{Collectors}
 use Rattle.hg_run.specs.Asked.{IsOnTables}
 use Rattle.hg_run.specs.Collecting.{view_in}
+use Rattle.hg_run.specs.Listed.{AreOpen}
 use Rattle.hg_run.specs.Rounding.{HasMadeAll}
 
 -- ---- what is asked
 
--- one session's records, each of which may stand after those before it, where a transaction is open at first or not
-abbrev pub MayFollow : Bool → List Record → Type 0
-MayFollow within [] = ⊤
-MayFollow within (r ∷ rs) = MayStand within r.statement × MayFollow (opened within r.statement) rs
+-- one session's records, each of which may stand after those before it, where a transaction is open at first or not, and a cursor
+abbrev pub MayFollow : Bool → Bool → List Record → Type 0
+MayFollow within reads [] = ⊤
+MayFollow within reads (r ∷ rs) = MayStand within reads r.statement × MayFollow (opened within r.statement) (reading reads r.statement) rs
 
 -- a record of a session, on tables that there are
 pub record IsAskedOf (tables : ℕ) (r : Record) : Type 0 where
@@ -45,19 +47,21 @@ pub record IsAskedOf (tables : ℕ) (r : Record) : Type 0 where
 
 -- ---- what is answered
 
--- One session answers a statement: the reply is what its log gives, and a `gc` is left to the collectors.
-pub record IsStep (buckets : ℕ) (old : List LogEntry) (statement : Statement) (reply : Reply) (new : List LogEntry) : Type 0 where
+-- One session, whose cursor has this left, answers a statement: the reply is what its log gives, and a `gc` is left to the
+-- collectors.
+pub record IsStep (buckets : ℕ) (rest : Option Rest) (old : List LogEntry) (statement : Statement) (reply : Reply) (new : List LogEntry) : Type 0 where
   pub u : Unprinted
   pub fits : Fits buckets u old statement reply
+  pub rest_is : HasRest statement u.rest rest
   pub leaves : LeavesGc statement reply.answer
   pub log : new ≡ log_after buckets u statement reply old
 
--- The lines of one session are the replies that its log gives to its records, with each `gc` left to the collectors. The log
--- gained their entries alone, and then what rolls an open transaction back.
+-- The lines of one session are the replies that its log gives to its records, with each `gc` left to the collectors, where its
+-- cursor is not open at first. The log gained their entries alone, and then what rolls an open transaction back or closes a cursor.
 pub record HasWorked (buckets : ℕ) (old : List LogEntry) (records : List Record) (lines : List Line) (new : List LogEntry) : Type 0 where
   pub log : List LogEntry
   pub shape : HasShape records lines
-  pub tells : Tells buckets (λ r line. LeavesGc r.statement line.reply.answer) old records lines log
+  pub tells : Tells buckets (λ r line. LeavesGc r.statement line.reply.answer) old None records lines log
   pub closes : Closes log new
 
 -- ---- a worker
@@ -66,21 +70,26 @@ pub record HasWorked (buckets : ℕ) (old : List LogEntry) (records : List Recor
 pub record IsReady (e : Engine) (w : Worker) : Type 0 where
   pub own : IsOf e w.session
   pub asked : Each (IsAskedOf (engine_sizes e).tables) w.records
-  pub may : MayFollow (is_some (open_of w.session)) w.records
+  pub within : Bool
+  pub opens : AreOpen within (is_some (cursor_of w.session)) (is_some (open_of w.session))
+  pub may : MayFollow within (is_some (cursor_of w.session)) w.records
   pub left : length w.records ≤ left_of w.session
 
--- and has written nothing yet
+-- and has written nothing yet, and its cursor is not open
 pub record IsHired (e : Engine) (w : Worker) : Type 0 where
   pub ready : IsReady e w
+  pub cursor : cursor_of w.session ≡ None
   pub most : length w.records ≤ MOST_RECORDS
   pub none : w.transcript.lines ≡ []
   pub willing : w.refused ≡ false
 
--- it answered a record, and wrote the line
+-- It answered a record, and wrote the line, whatever its session's cursor had left before.
 pub record HasAnswered (buckets : ℕ) (r : Record) (old new : Worker) : Type 0 where
   pub reply : Reply
   pub lines : new.transcript.lines ≡ old.transcript.lines ++ (record { session = r.session; place = r.place; reply = reply }) ∷ []
-  pub step : IsStep buckets (log_of old.session) r.statement reply (log_of new.session)
+  pub step : (rest : Option Rest) → HasLeft old.session rest → IsStep buckets rest (log_of old.session) r.statement reply (log_of new.session)
+  pub moved : (rest : Option Rest) → HasLeft old.session rest → HasLeft new.session (rest_after r.statement reply.answer rest)
+  pub reads : is_some (cursor_of new.session) ≡ reading (is_some (cursor_of old.session)) r.statement
 
 -- the first of its records
 pub record HasStepped (e : Engine) (r : Record) (old new : Worker) : Type 0 where
@@ -91,9 +100,9 @@ pub record HasStepped (e : Engine) (r : Record) (old new : Worker) : Type 0 wher
 -- it has run all of its records
 pub record HasRun (buckets : ℕ) (old new : Worker) : Type 0 where
   pub shape : HasShape old.records new.transcript.lines
-  pub tells : Tells buckets (λ r line. LeavesGc r.statement line.reply.answer) (log_of old.session) old.records new.transcript.lines (log_of new.session)
+  pub tells : Tells buckets (λ r line. LeavesGc r.statement line.reply.answer) (log_of old.session) None old.records new.transcript.lines (log_of new.session)
 
--- it is done: no transaction is open, and unless it was refused memory it has the lines of its records
+-- it is done: no transaction and no cursor is open, and unless it was refused memory it has the lines of its records
 pub record HasEnded (e : Engine) (old new : Worker) : Type 0 where
   pub own : IsOf e new.session
   pub number_is : number_of new.session ≡ number_of old.session

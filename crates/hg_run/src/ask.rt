@@ -1,11 +1,9 @@
 //! One statement of one session.
 
-ghost use Rattle.std.specs.Prelude.{◌≡◌, ◌+◌, ◌<◌, ◌≤◌, is_some, None, IfOk};
-ghost use Rattle.hg_script.specs.Lawful.{MayStand};
+ghost use Rattle.std.specs.Prelude.{◌≡◌, ◌+◌, ◌<◌, ◌≤◌, None, IfOk};
 ghost use Rattle.hg_session.specs.Engines.{engine_sizes};
-ghost use Rattle.hg_session.specs.Sessions.{IsOf, view_of, number_of, open_of, left_of};
-ghost use Rattle.hg_session.specs.Replies.{Answers};
-ghost use Rattle.hg_run.specs.Asked.{IsOnTables, collector_asked};
+ghost use Rattle.hg_session.specs.Sessions.{IsOf, number_of, left_of};
+ghost use Rattle.hg_run.specs.Asked.{IsAnswered, IsOnTables, MayAsk, collector_asked};
 
 use crate::reply::{commit_reply, del_reply, get_reply, inside, put_reply, scan_reply};
 use hg_base::{Answer, NoMemory, Reply, Statement};
@@ -21,10 +19,10 @@ pub(crate) fn ask<R: Wait>(
 ) -> Result<Reply, NoMemory>
     requires own { IsOf engine.now session.old }
     requires left { 0 < left_of session.old }
-    requires may { MayStand (is_some (open_of session.old)) statement.now }
+    requires may { MayAsk session.old statement.now }
     requires tables { IsOnTables (engine_sizes engine.now).tables statement.now }
     requires other { collector_asked statement.now ≡ None }
-    ensures answers { IfOk result (λ reply. Answers (engine_sizes engine.now) (view_of session.old) statement.now reply (view_of session.new)) }
+    ensures answers { IfOk result (λ reply. IsAnswered (engine_sizes engine.now) session.old statement.now reply session.new) }
     ensures left { left_of session.old ≤ left_of session.new + 1 }
     ensures number { number_of session.new ≡ number_of session.old }
     ensures own { IsOf engine.now session.new }
@@ -43,6 +41,18 @@ pub(crate) fn ask<R: Wait>(
         Statement::Del(rid) => del_reply(alone, session.del(rt, engine, *rid)),
         Statement::Scan { table, low, high } => {
             scan_reply(alone, session.scan(rt, engine, *table, *low, *high))
+        }
+        Statement::CursorOpen { table, low, high } => {
+            let at = session.open_cursor(engine, *table, *low, *high);
+            Ok(inside(Answer::Begun(at)))
+        }
+        Statement::Fetch(most) => {
+            let rows = session.fetch(rt, engine, *most)?;
+            Ok(inside(Answer::Rows(rows)))
+        }
+        Statement::CursorClose => {
+            session.close_cursor(engine);
+            Ok(inside(Answer::Ended))
         }
         Statement::Commit => {
             let ended = session.commit(rt, engine)?;

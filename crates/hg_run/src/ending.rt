@@ -1,6 +1,6 @@
 //! The end of a replay or a run.
 //!
-//!     roll back    each transaction that is open, in the order of sessions
+//!     roll back    each transaction that is open, in the order of sessions, or close its cursor
 //!     finish       every session's part goes to one pass, to which the others were joined
 //!     settle       a round of the table collector cuts each table of each bucket at the mark
 //!     count        each bucket
@@ -31,7 +31,7 @@ use hg_gc_table::TableCollector;
 use hg_session::{Engine, Session, finish_all, join_all, settle};
 use std::sync::Wait;
 
-/// Rolls the session's transaction back, if one is open.
+/// Closes the session's cursor, if one is open, or rolls its transaction back.
 pub(crate) fn close_one<R: Wait>(rt: &R, engine: &Engine, session: &mut Session)
     requires { IsOf engine.now session.old }
     ensures closed { open_of session.new ≡ None }
@@ -40,7 +40,9 @@ pub(crate) fn close_one<R: Wait>(rt: &R, engine: &Engine, session: &mut Session)
     ensures kept { StartsWith (seen_by session.new) (seen_by session.old) }
     ensures own { IsOf engine.now session.new }
 {
-    if session.is_open() {
+    if session.has_cursor() {
+        session.close_cursor(engine);
+    } else if session.is_open() {
         session.rollback(rt, engine);
     }
 }
@@ -60,7 +62,7 @@ fn close_at<R: Wait>(rt: &R, engine: &Engine, list: &mut Vec<Session>, i: usize)
     close_one(rt, engine, &mut list[i]);
 }
 
-/// Rolls every open transaction back, in the order of sessions.
+/// Closes every open cursor and rolls every open transaction back, in the order of sessions.
 pub(crate) fn close_all<R: Wait>(rt: &R, engine: &Engine, list: &mut Vec<Session>)
     requires { (d : Session) (k : ℕ) → k < length list.old.items → IsPlaced engine.now k (get_or list.old.items k d) }
     ensures many { length list.new.items ≡ length list.old.items }
@@ -105,7 +107,7 @@ fn bring_all(engine: &Engine, list: Vec<Session>, collectors: Collectors) -> Tab
     table
 }
 
-/// Ends a replay or a run once no transaction is open, and counts. It takes no memory.
+/// Ends a replay or a run once no transaction and no cursor is open, and counts. It takes no memory.
 pub fn close<R: Wait>(rt: &R, engine: &Engine, list: Vec<Session>, collectors: Collectors) -> Totals
     requires many { length list.items ≡ (engine_sizes engine.now).sessions }
     requires closed { EachFrom (IsClosed engine.now) 1 list.items }

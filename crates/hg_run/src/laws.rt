@@ -14,9 +14,9 @@ ghost use Rattle.hg_run.specs.Serving.{IsTextFor};
 ghost use Rattle.hg_run.specs.Words.{Settings};
 
 /// What is sound for a script prints rows that were put. So where each put has a value for each column, of the column's
-/// kind, each row that is printed has such values too.
+/// kind, each row that is printed has such values too: that of a fetch the columns of the table that its session's last `open` names.
 pub fn rows_have_their_columns()
-    ensures { (mode : Mode) (script : Script) (printed : Printed) → IsLawful script → IsSound mode script printed → Each (PrintsColumns script.tables) (all_said mode script printed.lines) }
+    ensures { (mode : Mode) (script : Script) (printed : Printed) → IsLawful script → IsSound mode script printed → Each (PrintsColumns script) (all_said mode script printed.lines) }
 {}
 
 /// What is sound for a script also fits it: each number has its width, each line answers the record of its place as the

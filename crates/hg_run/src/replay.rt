@@ -31,8 +31,8 @@ use std::alloc::Global;
 use std::mem;
 use std::sync::Wait;
 
-/// The driver of `replay`: answers a script on one thread, record by record, and rolls back what is open at its end. Running out of
-/// memory ends it early, and leaves no transaction open either.
+/// The driver of `replay`: answers a script on one thread, record by record, and rolls back what is open at its end, or closes its
+/// cursor. Running out of memory ends it early, and leaves no transaction and no cursor open either.
 pub fn replay_on<'a, R: Wait>(
     rt: &R,
     alloc: Global,

@@ -131,8 +131,9 @@ fn gather<'a>(
 }
 
 /// The driver of `run`: each session runs its own records in a thread of its own, and concurrently each collector makes its
-/// rounds. A `gc` is answered `beside`. At the end of its records a session rolls back what is open. The gate is asked before each
-/// statement and each round. A worker that runs out of memory ends early, and leaves no transaction open either.
+/// rounds. A `gc` is answered `beside`. At the end of its records a session rolls back what is open, or closes its cursor. The gate is
+/// asked before each statement and each round. A worker that runs out of memory ends early, and leaves no transaction and no cursor
+/// open either.
 pub fn run_on<'a, R: Threads + Wait + Sync, G: Gate + Sync>(
     rt: &R,
     alloc: Global,

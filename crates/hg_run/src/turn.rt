@@ -2,22 +2,21 @@
 //!
 //! A session knows of another what it heard at a meeting. Before its statement it meets the session that ran last, and so has
 //! heard every log as it stands: its snapshot and its commit number are then over all that was printed before. Where its write
-//! is refused for another's, it meets that other session, whose log shows that the write stands open.
+//! is refused for another's, it meets that other session, whose log shows that the write stands open. A meeting leaves cursors as
+//! they are.
 
-ghost use Rattle.std.specs.Prelude.{◌≡◌, ℕ, suc, ◌+◌, ◌-◌, ◌<◌, ◌≤◌, ◌≢◌, length, get_or, is_some, None, IfOk, OnOk};
+ghost use Rattle.std.specs.Prelude.{◌≡◌, ℕ, suc, ◌+◌, ◌-◌, ◌<◌, ◌≤◌, ◌≢◌, length, get_or, Bool, Option, None, IfOk, OnOk};
 ghost use Rattle.hg_base.specs.declared.writer.Writer.{Writer};
-ghost use Rattle.hg_core.specs.Logs.{current};
+ghost use Rattle.hg_base.specs.Transcript.{Rest};
 ghost use Rattle.hg_core.specs.Phases.{IsSession};
 ghost use Rattle.hg_rule.specs.Moves.{joined, meeting};
 ghost use Rattle.hg_rule.specs.Agreed.{IsMet};
-ghost use Rattle.hg_script.specs.Lawful.{MayStand};
 ghost use Rattle.hg_session.specs.declared.session.Session.{Session};
 ghost use Rattle.hg_session.specs.Engines.{engine_sizes};
-ghost use Rattle.hg_session.specs.Sessions.{IsOf, view_of, number_of, open_of, left_of};
-ghost use Rattle.hg_session.specs.Replies.{Answers};
+ghost use Rattle.hg_session.specs.Sessions.{IsOf, view_of, number_of, left_of, cursor_of};
 ghost use Rattle.hg_session.specs.Finished.{logs_of};
-ghost use Rattle.hg_run.specs.Listed.{ArePlaced, AreReady, SawAt, none_left, one_more};
-ghost use Rattle.hg_run.specs.Asked.{IsOnTables, HasReplied, collector_asked};
+ghost use Rattle.hg_run.specs.Listed.{ArePlaced, AreReady, HaveCursors, KeepCursors, SawAt, none_left, one_more};
+ghost use Rattle.hg_run.specs.Asked.{IsAnswered, IsOnTables, HasReplied, MayAsk, collector_asked};
 
 use crate::ask::ask;
 use hg_base::{Answer, NoMemory, Reply, Statement};
@@ -35,6 +34,7 @@ fn meet_two(engine: &Engine, list: &mut Vec<Session>, i: usize, j: usize)
     ensures this { (d : Session) → view_of (get_or list.new.items i d) ≡ meeting (view_of (get_or list.old.items i d)) (view_of (get_or list.old.items j d)) }
     ensures other { (d : Session) → view_of (get_or list.new.items j d) ≡ meeting (view_of (get_or list.old.items j d)) (meeting (view_of (get_or list.old.items i d)) (view_of (get_or list.old.items j d))) }
     ensures left { (d : Session) → (left_of (get_or list.new.items i d) ≡ left_of (get_or list.old.items i d)) × (left_of (get_or list.new.items j d) ≡ left_of (get_or list.old.items j d)) }
+    ensures cursor { (d : Session) → (cursor_of (get_or list.new.items i d) ≡ cursor_of (get_or list.old.items i d)) × (cursor_of (get_or list.new.items j d) ≡ cursor_of (get_or list.old.items j d)) }
     ensures rest { (d : Session) (k : ℕ) → k ≢ i → k ≢ j → get_or list.new.items k d ≡ get_or list.old.items k d }
     ensures own { (d : Session) → IsOf engine.now (get_or list.new.items i d) × IsOf engine.now (get_or list.new.items j d) }
 {
@@ -52,6 +52,7 @@ pub(crate) fn turn(engine: &Engine, list: &mut Vec<Session>, i: usize, last: usi
     requires ready { AreReady engine.now last none_left list.old.items }
     requires within { i < length list.old.items }
     ensures logs { logs_of list.new.items ≡ logs_of list.old.items }
+    ensures cursors { KeepCursors list.old.items list.new.items }
     ensures saw { (seen : ℕ) → SawAt seen last list.old.items → SawAt seen i list.new.items }
     ensures ready { (left : ℕ → ℕ) → AreReady engine.now last left list.old.items → AreReady engine.now i left list.new.items }
 {
@@ -71,12 +72,12 @@ fn ask_at<R: Wait>(
     requires within { i < length list.old.items }
     requires own { (d : Session) → IsOf engine.now (get_or list.old.items i d) }
     requires left { (d : Session) → 0 < left_of (get_or list.old.items i d) }
-    requires may { (d : Session) → MayStand (is_some (open_of (get_or list.old.items i d))) statement.now }
+    requires may { (d : Session) → MayAsk (get_or list.old.items i d) statement.now }
     requires tables { IsOnTables (engine_sizes engine.now).tables statement.now }
     requires other { collector_asked statement.now ≡ None }
     ensures many { length list.new.items ≡ length list.old.items }
     ensures number { (d : Session) → number_of (get_or list.new.items i d) ≡ number_of (get_or list.old.items i d) }
-    ensures answers { (d : Session) → IfOk result (λ reply. Answers (engine_sizes engine.now) (view_of (get_or list.old.items i d)) statement.now reply (view_of (get_or list.new.items i d))) }
+    ensures answers { (d : Session) → IfOk result (λ reply. IsAnswered (engine_sizes engine.now) (get_or list.old.items i d) statement.now reply (get_or list.new.items i d)) }
     ensures left { (d : Session) → left_of (get_or list.old.items i d) ≤ left_of (get_or list.new.items i d) + 1 }
     ensures rest { (d : Session) (k : ℕ) → k ≢ i → get_or list.new.items k d ≡ get_or list.old.items k d }
     ensures own { (d : Session) → IsOf engine.now (get_or list.new.items i d) }
@@ -90,6 +91,7 @@ fn show(engine: &Engine, list: &mut Vec<Session>, i: usize, answer: &Answer)
     requires other { (writer : Writer) → answer.now ≡ Answer.OpenBy writer → IsSession (engine_sizes engine.now).sessions writer.session × (writer.session ≢ suc i) }
     ensures backed { (d : Session) (writer : Writer) → answer.now ≡ Answer.OpenBy writer → IsMet (engine_sizes engine.now) (joined (view_of (get_or list.old.items i d)) (view_of (get_or list.old.items (writer.session - 1) d))) }
     ensures logs { logs_of list.new.items ≡ logs_of list.old.items }
+    ensures cursors { KeepCursors list.old.items list.new.items }
     ensures saw { (seen : ℕ) → SawAt seen i list.old.items → SawAt seen i list.new.items }
     ensures ready { (left : ℕ → ℕ) → AreReady engine.now i left list.old.items → AreReady engine.now i left list.new.items }
 {
@@ -108,10 +110,10 @@ pub(crate) fn answer<R: Wait>(
 ) -> Result<Reply, NoMemory>
     requires ready { AreReady engine.now i (one_more (suc i) none_left) list.old.items }
     requires some { 0 < (engine_sizes engine.now).buckets }
-    requires may { MayStand (is_some (current (logs_of list.old.items (suc i)))) statement.now }
+    requires may { (d : Session) → MayAsk (get_or list.old.items i d) statement.now }
     requires tables { IsOnTables (engine_sizes engine.now).tables statement.now }
     requires other { collector_asked statement.now ≡ None }
-    ensures replied { IfOk result (λ reply. (seen : ℕ) → SawAt seen i list.old.items → HasReplied engine.now seen list.old.items i statement.now reply list.new.items) }
+    ensures replied { IfOk result (λ reply. (seen : ℕ) (reads : ℕ → Bool) (rest : ℕ → Option Rest) → SawAt seen i list.old.items → HaveCursors reads rest list.old.items → HasReplied engine.now seen reads rest list.old.items i statement.now reply list.new.items) }
     ensures ready { OnOk result ((left : ℕ → ℕ) → AreReady engine.now i (one_more (suc i) left) list.old.items → AreReady engine.now i left list.new.items) }
     ensures placed { ArePlaced engine.now list.new.items }
 {

@@ -1,13 +1,15 @@
 //! A session's worker.
 //!
 //! It runs the records of its session in order, and asks the gate before each. A `gc` is left to the collectors. At the end it
-//! rolls back what is open. Where memory is wanting it goes no further, rolls back and says so.
+//! rolls back what is open, or closes its cursor. If it runs out of memory it goes no further, does the same and says so.
 
-ghost use Rattle.std.specs.Prelude.{◌≡◌, ◌+◌, ◌<◌, ◌≤◌, is_some, IfOk, OnOk};
-ghost use Rattle.hg_script.specs.Lawful.{MayStand};
+ghost use Rattle.std.specs.Prelude.{◌≡◌, ◌+◌, ◌<◌, ◌≤◌, Option, is_some, IfOk, OnOk};
+ghost use Rattle.hg_base.specs.Transcript.{Rest, rest_after};
+ghost use Rattle.hg_script.specs.Rules.{reading};
+ghost use Rattle.hg_session.specs.Cursors.{HasLeft};
 ghost use Rattle.hg_session.specs.Engines.{engine_sizes};
-ghost use Rattle.hg_session.specs.Sessions.{IsOf, log_of, number_of, open_of, left_of};
-ghost use Rattle.hg_run.specs.Asked.{IsOnTables};
+ghost use Rattle.hg_session.specs.Sessions.{IsOf, log_of, number_of, left_of, cursor_of};
+ghost use Rattle.hg_run.specs.Asked.{IsOnTables, MayAsk};
 ghost use Rattle.hg_run.specs.Working.{IsStep};
 
 use crate::ask::ask;
@@ -38,9 +40,11 @@ fn answer_beside<R: Wait>(
 ) -> Result<Reply, NoMemory>
     requires own { IsOf engine.now session.old }
     requires left { 0 < left_of session.old }
-    requires may { MayStand (is_some (open_of session.old)) statement.now }
+    requires may { MayAsk session.old statement.now }
     requires tables { IsOnTables (engine_sizes engine.now).tables statement.now }
-    ensures step { IfOk result (λ reply. IsStep (engine_sizes engine.now).buckets (log_of session.old) statement.now reply (log_of session.new)) }
+    ensures step { IfOk result (λ reply. (rest : Option Rest) → HasLeft session.old rest → IsStep (engine_sizes engine.now).buckets rest (log_of session.old) statement.now reply (log_of session.new)) }
+    ensures moved { IfOk result (λ reply. (rest : Option Rest) → HasLeft session.old rest → HasLeft session.new (rest_after statement.now reply.answer rest)) }
+    ensures reads { OnOk result (is_some (cursor_of session.new) ≡ reading (is_some (cursor_of session.old)) statement.now) }
     ensures left { left_of session.old ≤ left_of session.new + 1 }
     ensures number { number_of session.new ≡ number_of session.old }
     ensures own { IsOf engine.now session.new }
@@ -60,7 +64,7 @@ impl<'a> Worker<'a> {
     fn answer<R: Wait>(&mut self, rt: &R, engine: &Engine, asked: &Record) -> Result<(), NoMemory>
         requires own { IsOf engine.now self.old.session }
         requires left { 0 < left_of self.old.session }
-        requires may { MayStand (is_some (open_of self.old.session)) asked.now.statement }
+        requires may { MayAsk self.old.session asked.now.statement }
         requires tables { IsOnTables (engine_sizes engine.now).tables asked.now.statement }
         ensures answered { OnOk result (HasAnswered (engine_sizes engine.now).buckets asked.now self.old self.new) }
         ensures left { left_of self.old.session ≤ left_of self.new.session + 1 }
@@ -120,7 +124,7 @@ impl<'a> Worker<'a> {
         Ok(())
     }
 
-    /// Runs the records of its session, and rolls back what is open then.
+    /// Runs the records of its session, and rolls back what is open then, or closes its cursor.
     pub(crate) fn work<G: Gate, R: Wait>(&mut self, rt: &R, engine: &Engine, gate: &G)
         requires { IsHired engine.now self.old }
         ensures { HasEnded engine.now self.old self.new }

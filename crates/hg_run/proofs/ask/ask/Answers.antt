@@ -1,10 +1,14 @@
-use Rattle.std.proofs.Common.{◌≡◌, Some, sym, ap, ◌∙◌, subst}
-use Rattle.std.specs.Prelude.{not, IfOk}
-use Rattle.hg_base.specs.declared.statement.Statement.TheVariants.{Get, Put, Del, Scan}
+use Rattle.std.proofs.Common.{◌≡◌, Some, refl, sym, ap, ◌∙◌, subst}
+use Rattle.std.specs.Prelude.{not, is_some, IfOk}
+use Rattle.hg_base.specs.declared.statement.Statement.TheVariants.{Get, Put, Del, Scan, Fetch}
+use Rattle.hg_base.specs.declared.line.Reply.{Reply}
 use Rattle.hg_base.specs.History.{nothing}
 use Rattle.hg_session.specs.Engines.{engine_sizes}
-use Rattle.hg_session.specs.Sessions.{view_of, open_of, is_alone}
-use Rattle.hg_session.specs.Replies.{Answers, get_reply, put_reply, del_reply, scan_reply}
+use Rattle.hg_script.specs.Lawful.{MayStand}
+use Rattle.hg_session.specs.Sessions.{view_of, open_of, cursor_of, is_alone}
+use Rattle.hg_session.specs.Replies.{get_reply, put_reply, del_reply, scan_reply}
+use Rattle.hg_run.specs.Asked.{IsAnswered, MayAsk}
+use Rattle.hg_run.proofs.Cursors.{answered_fetch, any_rest, none_read, some_plain}
 use Rattle.hg_run.proofs.Refused.{number_got, number_scanned, number_put, number_deleted}
 use Rattle.hg_run.proofs.Told.{none_is, told}
 use Rattle.hg_run.proofs.ask.ask.Goals as goal
@@ -12,43 +16,60 @@ use Rattle.hg_run.proofs.ask.ask.Goals as goal
 pub returns-in-Get-clause-answers : goal.returns-in-Get-clause-answers
 returns-in-Get-clause-answers g c =
     let z = engine_sizes c.args.engine.now in
-    let v = view_of c.args.session.now in
-    let w = view_of c.get.new.self in
-    let alone : not c.is_open-alone.result ≡ is_alone c.args.session.now = ap not (c.is_open-alone.ensures c.args.engine.now c.requires.own) ∙ none_is (open_of c.args.session.now) in
-    subst (λ s. IfOk c.get_reply.result (λ reply. Answers z v s reply w)) (sym c.in-Get.is)
-    (told (get_reply (is_alone c.args.session.now) c.get.result) (λ reply. Answers z v (Get c.in-Get.rid) reply w) c.get_reply.result c.get.ensures.reply
+    let old = c.args.session.now in
+    let new = c.get.new.self in
+    let s = Get c.in-Get.rid in
+    let alone : not c.is_open-alone.result ≡ is_alone old = ap not (c.is_open-alone.ensures c.args.engine.now c.requires.own) ∙ none_is (open_of old) in
+    subst (λ s. IfOk c.get_reply.result (λ reply. IsAnswered z old s reply new)) (sym c.in-Get.is)
+    (told (get_reply (is_alone old) c.get.result) (λ reply. IsAnswered z old s reply new) c.get_reply.result (some_plain z old new s (get_reply (is_alone old) c.get.result) refl (none_read old s refl refl (subst (MayAsk old) c.in-Get.is c.requires.may)) c.get.ensures.cursor c.get.ensures.reply)
     (subst (λ b. IfOk c.get_reply.result (λ reply. get_reply b c.get.result ≡ Some reply)) alone c.get_reply.ensures))
 
 pub returns-in_ok-row-in-Put-clause-answers : goal.returns-in_ok-row-in-Put-clause-answers
 returns-in_ok-row-in-Put-clause-answers g c =
     let z = engine_sizes c.args.engine.now in
-    let v = view_of c.args.session.now in
-    let w = view_of c.put.new.self in
-    let alone : not c.is_open-alone.result ≡ is_alone c.args.session.now = ap not (c.is_open-alone.ensures c.args.engine.now c.requires.own) ∙ none_is (open_of c.args.session.now) in
+    let old = c.args.session.now in
+    let new = c.put.new.self in
+    let s = Put c.in-Put.rid c.in_ok-row-in-Put.row in
+    let alone : not c.is_open-alone.result ≡ is_alone old = ap not (c.is_open-alone.ensures c.args.engine.now c.requires.own) ∙ none_is (open_of old) in
     let same : c.args.statement.now ≡ Put c.in-Put.rid c.in_ok-row-in-Put.row = c.in-Put.is ∙ ap (Put c.in-Put.rid) (sym c.in_ok-row-in-Put.ensures.same) in
-    subst (λ s. IfOk c.put_reply.result (λ reply. Answers z v s reply w)) (sym same)
-    (told (put_reply (is_alone c.args.session.now) c.put.result) (λ reply. Answers z v (Put c.in-Put.rid c.in_ok-row-in-Put.row) reply w) c.put_reply.result c.put.ensures.reply
+    subst (λ s. IfOk c.put_reply.result (λ reply. IsAnswered z old s reply new)) (sym same)
+    (told (put_reply (is_alone old) c.put.result) (λ reply. IsAnswered z old s reply new) c.put_reply.result (some_plain z old new s (put_reply (is_alone old) c.put.result) refl (none_read old s refl refl (subst (MayAsk old) same c.requires.may)) c.put.ensures.cursor c.put.ensures.reply)
     (subst (λ b. IfOk c.put_reply.result (λ reply. put_reply b c.put.result ≡ Some reply)) alone c.put_reply.ensures))
 
 pub returns-in-Del-clause-answers : goal.returns-in-Del-clause-answers
 returns-in-Del-clause-answers g c =
     let z = engine_sizes c.args.engine.now in
-    let v = view_of c.args.session.now in
-    let w = view_of c.del.new.self in
-    let alone : not c.is_open-alone.result ≡ is_alone c.args.session.now = ap not (c.is_open-alone.ensures c.args.engine.now c.requires.own) ∙ none_is (open_of c.args.session.now) in
-    subst (λ s. IfOk c.del_reply.result (λ reply. Answers z v s reply w)) (sym c.in-Del.is)
-    (told (del_reply (is_alone c.args.session.now) c.del.result) (λ reply. Answers z v (Del c.in-Del.rid) reply w) c.del_reply.result c.del.ensures.reply
+    let old = c.args.session.now in
+    let new = c.del.new.self in
+    let s = Del c.in-Del.rid in
+    let alone : not c.is_open-alone.result ≡ is_alone old = ap not (c.is_open-alone.ensures c.args.engine.now c.requires.own) ∙ none_is (open_of old) in
+    subst (λ s. IfOk c.del_reply.result (λ reply. IsAnswered z old s reply new)) (sym c.in-Del.is)
+    (told (del_reply (is_alone old) c.del.result) (λ reply. IsAnswered z old s reply new) c.del_reply.result (some_plain z old new s (del_reply (is_alone old) c.del.result) refl (none_read old s refl refl (subst (MayAsk old) c.in-Del.is c.requires.may)) c.del.ensures.cursor c.del.ensures.reply)
     (subst (λ b. IfOk c.del_reply.result (λ reply. del_reply b c.del.result ≡ Some reply)) alone c.del_reply.ensures))
 
 pub returns-in-Scan-clause-answers : goal.returns-in-Scan-clause-answers
 returns-in-Scan-clause-answers g c =
     let z = engine_sizes c.args.engine.now in
-    let v = view_of c.args.session.now in
-    let w = view_of c.scan.new.self in
-    let alone : not c.is_open-alone.result ≡ is_alone c.args.session.now = ap not (c.is_open-alone.ensures c.args.engine.now c.requires.own) ∙ none_is (open_of c.args.session.now) in
-    subst (λ s. IfOk c.scan_reply.result (λ reply. Answers z v s reply w)) (sym c.in-Scan.is)
-    (told (scan_reply (is_alone c.args.session.now) c.scan.result) (λ reply. Answers z v (Scan c.in-Scan.table c.in-Scan.low c.in-Scan.high) reply w) c.scan_reply.result c.scan.ensures.reply
+    let old = c.args.session.now in
+    let new = c.scan.new.self in
+    let s = Scan c.in-Scan.table c.in-Scan.low c.in-Scan.high in
+    let alone : not c.is_open-alone.result ≡ is_alone old = ap not (c.is_open-alone.ensures c.args.engine.now c.requires.own) ∙ none_is (open_of old) in
+    subst (λ s. IfOk c.scan_reply.result (λ reply. IsAnswered z old s reply new)) (sym c.in-Scan.is)
+    (told (scan_reply (is_alone old) c.scan.result) (λ reply. IsAnswered z old s reply new) c.scan_reply.result (some_plain z old new s (scan_reply (is_alone old) c.scan.result) refl (none_read old s refl refl (subst (MayAsk old) c.in-Scan.is c.requires.may)) c.scan.ensures.cursor c.scan.ensures.reply)
     (subst (λ b. IfOk c.scan_reply.result (λ reply. scan_reply b c.scan.result ≡ Some reply)) alone c.scan_reply.ensures))
+
+pub returns-in_ok-rows-in-Fetch-clause-answers : goal.returns-in_ok-rows-in-Fetch-clause-answers
+returns-in_ok-rows-in-Fetch-clause-answers g c =
+    let z = engine_sizes c.args.engine.now in
+    let old = c.args.session.now in
+    let new = c.fetch.new.self in
+    let f = c.in_ok-rows-in-Fetch.ensures in
+    subst (λ s. IsAnswered z old s c.inside-in-Fetch.result new) (sym c.in-Fetch.is)
+    (subst (λ (reply : Reply). IsAnswered z old (Fetch c.in-Fetch.most) reply new) (sym c.inside-in-Fetch.ensures)
+    (answered_fetch z old new c.in-Fetch.most c.in_ok-rows-in-Fetch.rows (subst (MayStand c.requires.may.within (is_some (cursor_of old))) c.in-Fetch.is c.requires.may.may) f.cursor f.answers f.moved))
+
+pub returns-in_ok-rows-in-Fetch-clause-number : goal.returns-in_ok-rows-in-Fetch-clause-number
+returns-in_ok-rows-in-Fetch-clause-number g c = let any = any_rest c.args.session.now in (c.in_ok-rows-in-Fetch.ensures.answers any.0 any.1).answers.number_is
 
 pub returns-in-Get-clause-number : goal.returns-in-Get-clause-number
 returns-in-Get-clause-number g c =

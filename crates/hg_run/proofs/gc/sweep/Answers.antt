@@ -27,7 +27,7 @@ meet_all-requires-clause-own g c d k within =
     ((ready_one e _ _ c.args.i none_left c.args.list.now.items c.meet_at.new.list.items one c.requires.ready).placed d k within).own
 
 pub returns-clause-replied : goal.returns-clause-replied
-returns-clause-replied g c seen saw =
+returns-clause-replied g c seen reads rest saw have =
     let m = c.meet_at.ensures in
     let e = c.args.engine.now in
     let v = view_in c.args.kind c.args.collectors.now in
@@ -38,8 +38,8 @@ returns-clause-replied g c seen saw =
     let new = c.meet_all.new.list.items in
     let one : HasOneMet e v v1 c.args.i old mid = record { many = m.many; met = m.met; rest = m.rest; own = m.own; pass = m.pass c.args.kind; heard = m.heard } in
     let all : HaveAllMet e w mid new = record { many = c.meet_all.ensures.many; met = c.meet_all.ensures.met; own = c.meet_all.ensures.own } in
-    subst (λ (reply : Reply). HasReplied e seen old c.args.i (Gc c.args.kind) reply new) (sym c.inside.ensures)
-    (swept_reply e c.args.kind c.args.i v v1 w c.in_ok-swept.swept old mid new one c.in_ok-swept.ensures.swept all c.requires.ready seen saw)
+    subst (λ (reply : Reply). HasReplied e seen reads rest old c.args.i (Gc c.args.kind) reply new) (sym c.inside.ensures)
+    (swept_reply e c.args.kind c.args.i v v1 w c.in_ok-swept.swept old mid new one c.in_ok-swept.ensures.swept all c.requires.ready seen reads rest saw have)
 
 pub returns-clause-ready : goal.returns-clause-ready
 returns-clause-ready g c left ready =

@@ -1,20 +1,16 @@
 use Rattle.std.proofs.Common.{◌≡◌, ℕ, ◌≤◌, ◌<◌, ◌+◌, ◌-◌, ◌∷◌, [], List, length, drop, get_or, suc, refl, sym, ◌∙◌, subst, arith}
-use Rattle.std.specs.Prelude.{is_some}
 use Rattle.std.proofs.Math.Seq.{drop-cons}
 use Rattle.std.proofs.lemmas.List.{drop_all}
 use Rattle.hg_base.specs.declared.line.Line.{Line}
 use Rattle.hg_base.specs.declared.statement.Record.{Record}
 use Rattle.hg_base.specs.Script.{Script}
-use Rattle.hg_core.specs.Logs.{current}
-use Rattle.hg_script.specs.Lawful.{MayStand}
 use Rattle.hg_session.specs.declared.engine.Engine.{Engine}
 use Rattle.hg_session.specs.declared.session.Session.{Session}
-use Rattle.hg_session.specs.Finished.{logs_of}
 use Rattle.hg_report.specs.LinesText.{Shown}
 use Rattle.hg_run.specs.Asked.{IsOnTables}
 use Rattle.hg_run.specs.Listed.{none_left}
 use Rattle.hg_run.specs.declared.collecting.Collectors.{Collectors}
-use Rattle.hg_run.proofs.Going.{Going, going_first, going_turned, going_on, going_last, ready_less, ready_one_more, may_stand, on_tables}
+use Rattle.hg_run.proofs.Going.{Going, going_first, going_turned, going_on, going_last, ready_less, ready_one_more, may_ask, on_tables}
 use Rattle.hg_run.proofs.play.play.Goals as goal
 
 -- the next record, and those behind it
@@ -62,20 +58,23 @@ reply_at-requires-clause-ready g c =
     ready_one_more c.args.engine.now (r.session - 1) c.turn.new.list.items r (drop (c.loop-next.next + 1) c.args.script.now.records) is (c.turn.ensures.ready _ going.ready)
 
 pub reply_at-requires-clause-may : goal.reply_at-requires-clause-may
-reply_at-requires-clause-may g c =
+reply_at-requires-clause-may g c d =
+    let e = c.args.engine.now in
+    let first = c.args.collectors.now in
     let r = c.in_ok-record.record in
-    let going = at c.args.engine.now c.args.long c.args.collectors.now c.loop-next.collectors c.loop-next.list.items c.loop-next.last c.loop-next.transcript.lines c.args.script.now c.loop-next.next c.in_ok-record.record c.loop-next.invariant.going (omega (arith, c.loop-next-test.true, c.record_count-next-end.ensures.same)) c.in_ok-record.ensures in
+    let mid = c.turn.new.list.items in
+    let rest = drop (c.loop-next.next + 1) c.args.script.now.records in
+    let going = at e c.args.long first c.loop-next.collectors c.loop-next.list.items c.loop-next.last c.loop-next.transcript.lines c.args.script.now c.loop-next.next r c.loop-next.invariant.going (omega (arith, c.loop-next-test.true, c.record_count-next-end.ensures.same)) c.in_ok-record.ensures in
     let some = going.coming.0.stands.some in
     let is : suc (r.session - 1) ≡ r.session = omega (arith, some) in
-    subst (λ logs. MayStand (is_some (current (logs (suc (r.session - 1))))) r.statement) (sym c.turn.ensures.logs)
-    (subst (λ j. MayStand (is_some (current (logs_of c.loop-next.list.items j))) r.statement) (sym is)
-    (may_stand c.args.engine.now c.args.long c.args.collectors.now c.loop-next.collectors c.loop-next.list.items c.loop-next.last c.loop-next.transcript.lines r (drop (c.loop-next.next + 1) c.args.script.now.records) c.args.script.now going))
+    let turned = going_turned e c.args.long first c.loop-next.collectors c.loop-next.list.items mid c.loop-next.last (r.session - 1) c.loop-next.transcript.lines (r ∷ rest) c.args.script.now going c.turn.ensures.logs c.turn.ensures.cursors c.turn.ensures.saw c.turn.ensures.ready in
+    may_ask e c.args.long first c.loop-next.collectors mid (r.session - 1) (r.session - 1) c.loop-next.transcript.lines r rest c.args.script.now turned is turned.ready.within d
 
 pub reply_at-requires-clause-tables : goal.reply_at-requires-clause-tables
 reply_at-requires-clause-tables g c =
     let r = c.in_ok-record.record in
     let going = at c.args.engine.now c.args.long c.args.collectors.now c.loop-next.collectors c.loop-next.list.items c.loop-next.last c.loop-next.transcript.lines c.args.script.now c.loop-next.next c.in_ok-record.record c.loop-next.invariant.going (omega (arith, c.loop-next-test.true, c.record_count-next-end.ensures.same)) c.in_ok-record.ensures in
-    subst (λ n. IsOnTables n r.statement) (sym c.requires.tables) (on_tables c.args.script.now.tables r.statement going.coming.0.stands.fits)
+    subst (λ n. IsOnTables n r.statement) (sym c.requires.tables) (on_tables c.args.script.now.tables r.statement going.coming.0.stands.fits going.coming.0.stands.widths)
 
 pub loop-next-preserved : goal.loop-next-preserved
 loop-next-preserved g c =
@@ -91,13 +90,13 @@ loop-next-preserved g c =
     let some = going.coming.0.stands.some in
     let is : suc (r.session - 1) ≡ r.session = omega (arith, some) in
     let line : Line = record { session = r.session; place = r.place; reply = c.in_ok-reply.reply } in
-    let turned = going_turned e c.args.long first before c.loop-next.list.items c.turn.new.list.items c.loop-next.last (r.session - 1) c.loop-next.transcript.lines (r ∷ rest) script going c.turn.ensures.logs c.turn.ensures.saw c.turn.ensures.ready in
+    let turned = going_turned e c.args.long first before c.loop-next.list.items c.turn.new.list.items c.loop-next.last (r.session - 1) c.loop-next.transcript.lines (r ∷ rest) script going c.turn.ensures.logs c.turn.ensures.cursors c.turn.ensures.saw c.turn.ensures.ready in
     record {
       tables = subst (λ (t : Shown). t.tables ≡ script.tables) (sym c.in_ok-push.ensures.ok) c.loop-next.invariant.tables;
       collectors = c.reply_at.ensures.collectors;
       going =
           subst (λ (t : Shown). Going e c.args.long first later c.reply_at.new.list.items (r.session - 1) t.lines rest script) (sym c.in_ok-push.ensures.ok)
-          (going_on e c.args.long first before later c.turn.new.list.items c.reply_at.new.list.items (r.session - 1) c.loop-next.transcript.lines r rest script line turned is refl refl (c.in_ok-reply.ensures.replied turned.seen turned.saw) c.in_ok-reply.ensures.ready c.in_ok-reply.ensures.removed c.in_ok-reply.ensures.rounds);
+          (going_on e c.args.long first before later c.turn.new.list.items c.reply_at.new.list.items (r.session - 1) c.loop-next.transcript.lines r rest script line turned is refl refl (c.in_ok-reply.ensures.replied turned.seen _ _ turned.saw turned.cursors) c.in_ok-reply.ensures.ready c.in_ok-reply.ensures.removed c.in_ok-reply.ensures.rounds);
     }
 
 pub returns-clause-played : goal.returns-clause-played

@@ -1,12 +1,13 @@
-use Rattle.std.proofs.Common.{suc, sym, subst, arith}
-use Rattle.std.specs.Prelude.{is_some}
-use Rattle.hg_core.specs.Logs.{current}
-use Rattle.hg_script.specs.Lawful.{MayStand}
+use Rattle.std.proofs.Common.{◌≡◌, suc, length, Option, sym, subst, arith}
+use Rattle.std.specs.Prelude.{get_or}
+use Rattle.hg_base.specs.Transcript.{Rest}
+use Rattle.hg_session.specs.declared.session.Session.{Session}
+use Rattle.hg_session.specs.Cursors.{HasLeft}
 use Rattle.hg_session.specs.Engines.{engine_sizes}
 use Rattle.hg_session.specs.Finished.{logs_of}
 use Rattle.hg_run.specs.Asked.{IsReplied}
 use Rattle.hg_run.specs.Listed.{none_left, one_more}
-use Rattle.hg_run.proofs.Listing.{log_at}
+use Rattle.hg_run.proofs.Cursors.{any_rest_at, cursors_kept, cursors_moved}
 use Rattle.hg_run.proofs.Going.{are_placed}
 use Rattle.hg_run.proofs.Turns.{HasAsked, more_here, some_of, ready_asked, placed_asked, other_asked, replied, saw_asked}
 use Rattle.hg_run.proofs.turn.answer.Goals as goal
@@ -20,36 +21,47 @@ ask_at-requires-clause-own g c d = (c.requires.ready.placed d c.args.i c.require
 pub ask_at-requires-clause-left : goal.ask_at-requires-clause-left
 ask_at-requires-clause-left g c d = let left = c.requires.ready.left_is d c.args.i c.requires.ready.within in let one = more_here (suc c.args.i) none_left in omega (arith, left, one)
 
-pub ask_at-requires-clause-may : goal.ask_at-requires-clause-may
-ask_at-requires-clause-may g c d = subst (λ l. MayStand (is_some (current l)) c.args.statement.now) (log_at d c.args.list.now.items c.args.i c.requires.ready.within) c.requires.may
+-- what the session's answer says, whose cursor had this left
+asked : (c : goal.In_ok-reply) (rest : Option Rest) → ((d : Session) → HasLeft (get_or c.args.list.now.items c.args.i d) rest) → HasAsked c.args.engine.now c.args.i rest c.args.statement.now c.in_ok-reply.reply c.args.list.now.items c.ask_at.new.list.items
+asked c rest left = let m = c.in_ok-reply.ensures in record { many = m.many; answers = λ d. ((m.answers d).answers rest (left d)).answers; rest_is = λ d. ((m.answers d).answers rest (left d)).rest_is; left = m.left; rest = m.rest; own = m.own }
 
 pub show-requires-clause-ready : goal.show-requires-clause-ready
 show-requires-clause-ready g c =
-    let h : HasAsked c.args.engine.now c.args.i c.args.statement.now c.in_ok-reply.reply c.args.list.now.items c.ask_at.new.list.items = (let m = c.in_ok-reply.ensures in record { many = m.many; answers = m.answers; left = m.left; rest = m.rest; own = m.own }) in
-    ready_asked c.args.engine.now c.args.i none_left c.args.statement.now c.in_ok-reply.reply c.args.list.now.items c.ask_at.new.list.items h c.requires.ready
+    let any = any_rest_at c.args.list.now.items c.args.i c.requires.ready.within in
+    ready_asked c.args.engine.now c.args.i any.0 none_left c.args.statement.now c.in_ok-reply.reply c.args.list.now.items c.ask_at.new.list.items (asked c any.0 any.1) c.requires.ready
 
 pub show-requires-clause-other : goal.show-requires-clause-other
 show-requires-clause-other g c writer is =
-    let h : HasAsked c.args.engine.now c.args.i c.args.statement.now c.in_ok-reply.reply c.args.list.now.items c.ask_at.new.list.items = (let m = c.in_ok-reply.ensures in record { many = m.many; answers = m.answers; left = m.left; rest = m.rest; own = m.own }) in
-    other_asked c.args.engine.now c.args.i c.args.statement.now c.in_ok-reply.reply c.args.list.now.items c.ask_at.new.list.items (one_more (suc c.args.i) none_left) h c.requires.ready writer is
+    let any = any_rest_at c.args.list.now.items c.args.i c.requires.ready.within in
+    other_asked c.args.engine.now c.args.i any.0 c.args.statement.now c.in_ok-reply.reply c.args.list.now.items c.ask_at.new.list.items (one_more (suc c.args.i) none_left) (asked c any.0 any.1) c.requires.ready writer is
 
 pub returns-clause-replied : goal.returns-clause-replied
-returns-clause-replied g c seen saw =
-    let z = engine_sizes c.args.engine.now in
-    let h : HasAsked c.args.engine.now c.args.i c.args.statement.now c.in_ok-reply.reply c.args.list.now.items c.ask_at.new.list.items = (let m = c.in_ok-reply.ensures in record { many = m.many; answers = m.answers; left = m.left; rest = m.rest; own = m.own }) in
+returns-clause-replied g c seen reads rest saw have =
+    let e = c.args.engine.now in
+    let z = engine_sizes e in
+    let old = c.args.list.now.items in
+    let mid = c.ask_at.new.list.items in
+    let new = c.show.new.list.items in
+    let s = c.args.statement.now in
+    let reply = c.in_ok-reply.reply in
+    let m = c.in_ok-reply.ensures in
     let r = c.requires.ready in
-    let d = some_of c.args.list.now.items c.args.i r.within in
-    let told = replied c.args.engine.now c.args.i none_left seen c.args.statement.now c.in_ok-reply.reply c.args.list.now.items c.ask_at.new.list.items d c.requires.some c.requires.other h r saw (λ w is. c.show.ensures.backed d w is) in
+    let d = some_of old c.args.i r.within in
+    let h = asked c (rest (suc c.args.i)) (λ d. (have d c.args.i r.within).left) in
+    let told = replied e c.args.i (rest (suc c.args.i)) none_left seen s reply old mid d c.requires.some c.requires.other h r saw (λ w is. c.show.ensures.backed d w is) in
+    let many = c.show.ensures.ready none_left (ready_asked e c.args.i (rest (suc c.args.i)) none_left s reply old mid h r) in
+    let same : length new ≡ length mid = (let a = many.many in let b = m.many in let e = r.many in omega (arith, a, b, e)) in
     record {
       later = seen;
-      replied = subst (λ new. IsReplied z.buckets z.sessions (logs_of c.args.list.now.items) seen seen (suc c.args.i) c.args.statement.now c.in_ok-reply.reply new) (sym c.show.ensures.logs) told;
-      saw = c.show.ensures.saw seen (saw_asked c.args.engine.now c.args.i seen c.args.statement.now c.in_ok-reply.reply c.args.list.now.items c.ask_at.new.list.items h saw);
+      replied = subst (λ new. IsReplied z.buckets z.sessions (logs_of old) seen seen (suc c.args.i) (rest (suc c.args.i)) s reply new) (sym c.show.ensures.logs) told;
+      cursors = cursors_kept _ _ mid new same c.show.ensures.cursors (cursors_moved z reads rest old mid c.args.i s reply m.many r.within m.answers m.rest have);
+      saw = c.show.ensures.saw seen (saw_asked e c.args.i seen (rest (suc c.args.i)) s reply old mid h saw);
     }
 
 pub returns-clause-ready : goal.returns-clause-ready
 returns-clause-ready g c left r =
-    let h : HasAsked c.args.engine.now c.args.i c.args.statement.now c.in_ok-reply.reply c.args.list.now.items c.ask_at.new.list.items = (let m = c.in_ok-reply.ensures in record { many = m.many; answers = m.answers; left = m.left; rest = m.rest; own = m.own }) in
-    c.show.ensures.ready left (ready_asked c.args.engine.now c.args.i left c.args.statement.now c.in_ok-reply.reply c.args.list.now.items c.ask_at.new.list.items h r)
+    let any = any_rest_at c.args.list.now.items c.args.i c.requires.ready.within in
+    c.show.ensures.ready left (ready_asked c.args.engine.now c.args.i any.0 left c.args.statement.now c.in_ok-reply.reply c.args.list.now.items c.ask_at.new.list.items (asked c any.0 any.1) r)
 
 pub returns-in_err-reply-clause-placed : goal.returns-in_err-reply-clause-placed
 returns-in_err-reply-clause-placed g c =

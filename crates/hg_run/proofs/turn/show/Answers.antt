@@ -1,13 +1,17 @@
 use Rattle.std.proofs.Common.{◌<◌, ◌-◌, length, arith}
-use Rattle.hg_run.proofs.Turns.{HaveMet, logs_met, ready_shown, saw_shown}
+use Rattle.hg_run.proofs.Turns.{HaveMet, cursors_met, logs_met, ready_shown, saw_shown}
 use Rattle.hg_run.proofs.turn.show.Goals as goal
 
 met : (c : goal.After-meet_two) → HaveMet c.args.engine.now c.args.i (c.in-OpenBy.writer.session - 1) c.args.list.now.items c.meet_two.new.list.items
-met c = let m = c.meet_two.ensures in record { many = m.many; this = m.this; other = m.other; left = m.left; rest = m.rest; own = m.own }
+met c = let m = c.meet_two.ensures in record { many = m.many; this = m.this; other = m.other; left = m.left; cursor = m.cursor; rest = m.rest; own = m.own }
 
 pub returns-in-OpenBy-clause-logs : goal.returns-in-OpenBy-clause-logs
 unfolding met
 returns-in-OpenBy-clause-logs c = logs_met c.args.engine.now c.args.i (c.in-OpenBy.writer.session - 1) c.args.list.now.items c.meet_two.new.list.items c.requires.ready.within (met c)
+
+pub returns-in-OpenBy-clause-cursors : goal.returns-in-OpenBy-clause-cursors
+unfolding met
+returns-in-OpenBy-clause-cursors c = cursors_met c.args.engine.now c.args.i (c.in-OpenBy.writer.session - 1) c.args.list.now.items c.meet_two.new.list.items (met c)
 
 pub returns-in-OpenBy-clause-ready : goal.returns-in-OpenBy-clause-ready
 unfolding met

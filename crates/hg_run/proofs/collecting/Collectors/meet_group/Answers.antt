@@ -12,7 +12,7 @@ pub returns-clause-met : goal.returns-clause-met
 returns-clause-met c =
     met_pass 0 (pass_view c.args.self.now.group.pass) (pass_view c.meet_pass.new.pass) c.args.session.now c.meet_pass.new.self c.requires.own.0.alone.group.only
     (subst (λ (p : CollectorPass). AgreesWith (pass_view p) (number_of c.args.session.now) (session (view_of c.args.session.now))) c.lend.ensures.pass c.meet_pass.ensures.agrees)
-    (subst (λ (p : CollectorPass). pass_view c.meet_pass.new.pass ≡ meeting (pass_view p) (view_of c.args.session.now)) c.lend.ensures.pass c.meet_pass.ensures.pass) c.meet_pass.ensures.view c.meet_pass.ensures.kept
+    (subst (λ (p : CollectorPass). pass_view c.meet_pass.new.pass ≡ meeting (pass_view p) (view_of c.args.session.now)) c.lend.ensures.pass c.meet_pass.ensures.pass) c.meet_pass.ensures.view c.meet_pass.ensures.kept c.meet_pass.ensures.cursor
 
 pub returns-clause-heard : goal.returns-clause-heard
 returns-clause-heard c =
