@@ -33,7 +33,7 @@ use Rattle.hg_session.specs.declared.engine.Engine.{Engine}
 use Rattle.hg_session.specs.declared.session.Session.{Session}
 use Rattle.hg_session.specs.Engines.{engine_board_id, engine_sizes}
 use Rattle.hg_session.specs.Sessions.{IsOf, view_of, number_of, log_of, open_of, seen_by, cursor_of}
-use Rattle.hg_session.proofs.Cursors.{reads_at, some_cursor}
+use Rattle.hg_session.proofs.Cursors.{no_cursor, reads_at, some_cursor}
 use Rattle.hg_session.specs.Opened.{IsNewOf}
 use Rattle.hg_session.specs.declared.opening.Passes.{Passes}
 use Rattle.hg_session.specs.Ended.{logs_in, visits_in}
@@ -187,6 +187,11 @@ partly_logs e old now n most p = by_place (λ j. Closes (logs_of old j) (logs_of
         let inside : k < length now = omega (arith, within, many) in
         let less : k < n = omega (arith, within, most) in
         subst (λ l. Closes l (logs_of now (suc k))) (sym (log_at d old k within)) (subst (λ l. Closes (log_of (get_or old k d)) l) (sym (log_at d now k inside)) (p.below d k less within).1)
+
+-- so no cursor is open
+pub closed_cursors : (e : Engine) (j : ℕ) (list : List Session) → EachFrom (IsClosed e) j list → Each (λ s. cursor_of s ≡ None) list
+closed_cursors e j [] row = tt
+closed_cursors e j (s ∷ list) row = (no_cursor e s row.0.own row.0.closed, closed_cursors e (suc j) list row.1)
 
 -- ---- counting
 

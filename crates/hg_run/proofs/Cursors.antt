@@ -147,6 +147,10 @@ cursors_kept reads rest old new many kept have d k within =
 pub cursors_same : (r r2 : ℕ → Bool) (x x2 : ℕ → Option Rest) (list : List Session) → ((j : ℕ) → r j ≡ r2 j) → ((j : ℕ) → x j ≡ x2 j) → HaveCursors r x list → HaveCursors r2 x2 list
 cursors_same r r2 x x2 list a b have d k within = let h = have d k within in record { reads_is = h.reads_is ∙ a (suc k); left = subst (HasLeft (get_or list k d)) (b (suc k)) h.left }
 
+-- a function given at one number what it has there
+pub put_still : {A : Type 0} (f : ℕ → A) (j k : ℕ) → f k ≡ put f j (f j) k
+put_still f j k = at_index j (λ k. f k ≡ put f j (f j) k) (sym (put_here f j (f j))) (λ k z. sym (put_else f j k (f j) z)) k
+
 -- the session at i answered a statement
 pub cursors_moved : (z : Sizes) (reads : ℕ → Bool) (rest : ℕ → Option Rest) (old new : List Session) (i : ℕ) (s : Statement) (reply : Reply) → length new ≡ length old → i < length old → ((d : Session) → IsAnswered z (get_or old i d) s reply (get_or new i d)) → ((d : Session) (k : ℕ) → k ≢ i → get_or new k d ≡ get_or old k d) →
     HaveCursors reads rest old → HaveCursors (put reads (suc i) (reading (reads (suc i)) s)) (put rest (suc i) (rest_after s reply.answer (rest (suc i)))) new

@@ -40,7 +40,7 @@ use Rattle.hg_run.specs.Asked.{HasReplied}
 use Rattle.hg_run.specs.Heard.{HasHeard, HasSeen}
 use Rattle.hg_run.specs.Listed.{IsPlaced, AreReady, HaveCursors, KeepCursors, SawAt, none_left}
 use Rattle.hg_run.specs.Swept.{HasSwept, HasMetSessions, HasMetPass}
-use Rattle.hg_run.proofs.Cursors.{cursors_kept, cursors_same}
+use Rattle.hg_run.proofs.Cursors.{cursors_kept, cursors_same, put_still}
 use Rattle.hg_run.proofs.Gathering.{ShowsLog, ShowLogs, reached, at_rest, all_show, none_enters, held_are, moved_are}
 use Rattle.hg_run.proofs.Hearing.{heard_kept, over_at_most, seen_among, among_left}
 use Rattle.hg_run.proofs.Listing.{by_two, log_at, logs_same}
@@ -267,7 +267,7 @@ module _ (e : Engine) (kind : Kind) (i : ℕ) (v v1 w : View) (sweep : Sweep) (o
 
   cursors : (reads : ℕ → Bool) (rest : ℕ → Option Rest) → HaveCursors reads rest old → HaveCursors (put reads (suc i) (reads (suc i))) (put rest (suc i) (rest (suc i))) new
   cursors reads rest have =
-      cursors_same reads (put reads (suc i) (reads (suc i))) rest (put rest (suc i) (rest (suc i))) new (λ j. ap (λ f. f j) (sym (put_same reads (suc i)))) (λ j. ap (λ f. f j) (sym (put_same rest (suc i))))
+      cursors_same reads (put reads (suc i) (reads (suc i))) rest (put rest (suc i) (rest (suc i))) new (put_still reads (suc i)) (put_still rest (suc i))
       (cursors_kept reads rest mid new all.many kept_all (cursors_kept reads rest old mid one.many kept_one have))
 
   pub swept_reply : (seen : ℕ) (reads : ℕ → Bool) (rest : ℕ → Option Rest) → SawAt seen i old → HaveCursors reads rest old → HasReplied e seen reads rest old i (Gc kind) (inside (Swept sweep)) new

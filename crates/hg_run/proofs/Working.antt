@@ -40,7 +40,7 @@ use Rattle.hg_run.specs.declared.work.Worker.{Worker}
 use Rattle.hg_run.specs.Asked.{IsAnswered, IsOnTables, MayAsk, collector_asked}
 use Rattle.hg_run.specs.Collecting.{AreCollectors}
 use Rattle.hg_run.specs.Listed.{AreOpen}
-use Rattle.hg_run.specs.Working.{HaveMadeAll, MayFollow, IsAskedOf, IsStep, IsReady, IsHired, HasStepped, HasRun}
+use Rattle.hg_run.specs.Working.{HaveMadeAll, MayFollow, IsAskedOf, IsStep, IsReady, IsHired, HasStepped, HasTaken, HasRun}
 use Rattle.hg_run.proofs.Cursors.{nothing_left}
 use Rattle.hg_run.proofs.Driving.{alone_rounds}
 use Rattle.hg_run.proofs.OpenAfter.{held, open_after, open_step}
@@ -51,7 +51,7 @@ nothing_unprinted : Unprinted
 nothing_unprinted = record { found = []; part = λ b. []; undone = []; rest = None; looked = 0 }
 
 -- a `gc` is left to the collectors
-pub beside_step : (buckets : ℕ) (rest : Option Rest) (log : List LogEntry) (s : Statement) (kind : Kind) → collector_asked s ≡ Some kind → IsStep buckets rest log s (inside Beside) log
+beside_step : (buckets : ℕ) (rest : Option Rest) (log : List LogEntry) (s : Statement) (kind : Kind) → collector_asked s ≡ Some kind → IsStep buckets rest log s (inside Beside) log
 beside_step buckets rest log (Gc k) kind e = record {
   u = nothing_unprinted;
   fits = record {
@@ -79,24 +79,21 @@ beside_step buckets rest log (Gc k) kind e = record {
 beside_step buckets rest log _ kind e = absurd (let z : Some kind ≡ None = sym e in cc)
 
 -- which leaves the session's cursor as it was
-pub beside_rest : (s : Statement) (a : Answer) (kind : Kind) (rest : Option Rest) → collector_asked s ≡ Some kind → rest ≡ rest_after s a rest
-beside_rest (Gc k) a kind rest e = refl
-beside_rest _ a kind rest e = absurd (let z : Some kind ≡ None = sym e in cc)
-
-pub beside_reads : (s : Statement) (kind : Kind) (reads : Bool) → collector_asked s ≡ Some kind → reads ≡ reading reads s
-beside_reads (Gc k) kind reads e = refl
-beside_reads _ kind reads e = absurd (let z : Some kind ≡ None = sym e in cc)
+pub beside_taken : (buckets : ℕ) (s : Session) (it : Statement) (kind : Kind) → collector_asked it ≡ Some kind → HasTaken buckets s it (inside Beside) s
+beside_taken buckets s (Gc k) kind e = record { step = λ rest left. beside_step buckets rest (log_of s) (Gc k) kind e; moved = λ rest left. left; reads = refl }
+beside_taken buckets s _ kind e = absurd (let z : Some kind ≡ None = sym e in cc)
 
 leaves_none : (s : Statement) (a : Answer) → collector_asked s ≡ None → LeavesGc s a
 leaves_none (Gc kind) a h = absurd (let z : Some kind ≡ None = h in cc)
 leaves_none _ a h = tt
 
-pub asked_step : (z : Sizes) (old new : Session) (s : Statement) (reply : Reply) → collector_asked s ≡ None → IsAnswered z old s reply new → (rest : Option Rest) → HasLeft old rest → IsStep z.buckets rest (log_of old) s reply (log_of new)
-asked_step z old new s reply none h rest left = let a = h.answers rest left in record { u = a.answers.u; fits = a.answers.fits; rest_is = a.rest_is; leaves = leaves_none s reply.answer none; log = a.answers.log }
-
-pub asked_steps : (z : Sizes) (old new : Session) (s : Statement) (result : Result Reply NoMemory) → collector_asked s ≡ None → IfOk result (λ reply. IsAnswered z old s reply new) → IfOk result (λ reply. (rest : Option Rest) → HasLeft old rest → IsStep z.buckets rest (log_of old) s reply (log_of new))
-asked_steps z old new s (Ok reply) none h = asked_step z old new s reply none h
-asked_steps z old new s (Err e) none h = tt
+pub asked_taken : (z : Sizes) (old new : Session) (s : Statement) (result : Result Reply NoMemory) → collector_asked s ≡ None → IfOk result (λ reply. IsAnswered z old s reply new) → IfOk result (λ reply. HasTaken z.buckets old s reply new)
+asked_taken z old new s (Ok reply) none h = record {
+  step = λ rest left. (let a = h.answers rest left in record { u = a.answers.u; fits = a.answers.fits; rest_is = a.rest_is; leaves = leaves_none s reply.answer none; log = a.answers.log });
+  moved = h.moved;
+  reads = h.reads;
+}
+asked_taken z old new s (Err e) none h = tt
 
 -- ---- one record after the other
 
@@ -140,15 +137,15 @@ running_more e r first old new h own number tables refused g =
         own = own;
         asked = asked.1;
         within = opened g.ready.within r.statement;
-        opens = subst (λ p. p) (λ i. AreOpen (opened g.ready.within r.statement) (sym h.answered.reads i) (sym now i)) (open_step r.statement g.ready.within reads (is_some (open_of old.session)) g.ready.opens may.0);
-        may = subst (λ b. MayFollow (opened g.ready.within r.statement) b new.records) (sym h.answered.reads) may.1;
+        opens = subst (λ p. p) (λ i. AreOpen (opened g.ready.within r.statement) (sym h.answered.taken.reads i) (sym now i)) (open_step r.statement g.ready.within reads (is_some (open_of old.session)) g.ready.opens may.0);
+        may = subst (λ b. MayFollow (opened g.ready.within r.statement) b new.records) (sym h.answered.taken.reads) may.1;
         left = (let a = g.ready.left in let b = h.left in omega (arith, a, b, many));
       };
       number_is = number ∙ g.number_is;
       tables = tables ∙ g.tables;
       willing = refused ∙ g.willing;
       rest = rest_after r.statement line.reply.answer g.rest;
-      left = h.answered.moved g.rest g.left;
+      left = h.answered.taken.moved g.rest g.left;
       shape = λ more s. subst (HasShape first.records) (joins more) (g.shape (line ∷ more) (subst (λ rs. HasShape rs (line ∷ more)) (sym h.records) (line_of r line asked.0.some refl refl, s)));
       tells = λ more final t. subst (λ lines. Tells (engine_sizes e).buckets P (log_of first.session) None first.records lines final) (joins more)
           (g.tells (line ∷ more) final (subst (λ rs. Tells (engine_sizes e).buckets P (log_of old.session) g.rest rs (line ∷ more) final) (sym h.records)
@@ -159,7 +156,7 @@ running_more e r first old new h own number tables refused g =
     line = record { session = r.session; place = r.place; reply = h.answered.reply }
 
     step : IsStep (engine_sizes e).buckets g.rest (log_of old.session) r.statement h.answered.reply (log_of new.session)
-    step = h.answered.step g.rest g.left
+    step = h.answered.taken.step g.rest g.left
 
     P : Record → Line → Type 0
     P q l = LeavesGc q.statement l.reply.answer

@@ -71,3 +71,7 @@ pub record HasReplied (e : Engine) (seen : ℕ) (reads : ℕ → Bool) (rest : �
   pub replied : IsReplied (engine_sizes e).buckets (engine_sizes e).sessions (logs_of old) seen later (suc i) (rest (suc i)) statement reply (logs_of new)
   pub cursors : HaveCursors (put reads (suc i) (reading (reads (suc i)) statement)) (put rest (suc i) (rest_after statement reply.answer (rest (suc i)))) new
   pub saw : SawAt later i new
+
+-- the same whatever it had seen, and whichever cursors were open
+abbrev pub Replies : Engine → List Session → ℕ → Statement → Reply → List Session → Type 0
+Replies e old i statement reply new = (seen : ℕ) (reads : ℕ → Bool) (rest : ℕ → Option Rest) → SawAt seen i old → HaveCursors reads rest old → HasReplied e seen reads rest old i statement reply new

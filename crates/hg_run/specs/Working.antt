@@ -56,6 +56,12 @@ pub record IsStep (buckets : ℕ) (rest : Option Rest) (old : List LogEntry) (st
   pub leaves : LeavesGc statement reply.answer
   pub log : new ≡ log_after buckets u statement reply old
 
+-- A session answers it, whatever its cursor had left before.
+pub record HasTaken (buckets : ℕ) (old : Session) (statement : Statement) (reply : Reply) (new : Session) : Type 0 where
+  pub step : (rest : Option Rest) → HasLeft old rest → IsStep buckets rest (log_of old) statement reply (log_of new)
+  pub moved : (rest : Option Rest) → HasLeft old rest → HasLeft new (rest_after statement reply.answer rest)
+  pub reads : is_some (cursor_of new) ≡ reading (is_some (cursor_of old)) statement
+
 -- The lines of one session are the replies that its log gives to its records, with each `gc` left to the collectors, where its
 -- cursor is not open at first. The log gained their entries alone, and then what rolls an open transaction back or closes a cursor.
 pub record HasWorked (buckets : ℕ) (old : List LogEntry) (records : List Record) (lines : List Line) (new : List LogEntry) : Type 0 where
@@ -83,13 +89,11 @@ pub record IsHired (e : Engine) (w : Worker) : Type 0 where
   pub none : w.transcript.lines ≡ []
   pub willing : w.refused ≡ false
 
--- It answered a record, and wrote the line, whatever its session's cursor had left before.
+-- it answered a record, and wrote the line
 pub record HasAnswered (buckets : ℕ) (r : Record) (old new : Worker) : Type 0 where
   pub reply : Reply
   pub lines : new.transcript.lines ≡ old.transcript.lines ++ (record { session = r.session; place = r.place; reply = reply }) ∷ []
-  pub step : (rest : Option Rest) → HasLeft old.session rest → IsStep buckets rest (log_of old.session) r.statement reply (log_of new.session)
-  pub moved : (rest : Option Rest) → HasLeft old.session rest → HasLeft new.session (rest_after r.statement reply.answer rest)
-  pub reads : is_some (cursor_of new.session) ≡ reading (is_some (cursor_of old.session)) r.statement
+  pub taken : HasTaken buckets old.session r.statement reply new.session
 
 -- the first of its records
 pub record HasStepped (e : Engine) (r : Record) (old new : Worker) : Type 0 where

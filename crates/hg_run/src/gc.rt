@@ -4,16 +4,15 @@
 //!     the round                     its record reaches to the end of each log
 //!     each session meets the pass   what was loaded of its register is what its log shows open, and it has seen the mark
 
-ghost use Rattle.std.specs.Prelude.{◌≡◌, ℕ, ◌+◌, ◌<◌, ◌≢◌, length, get_or, Bool, Option, IfOk, OnOk};
+ghost use Rattle.std.specs.Prelude.{◌≡◌, ℕ, ◌+◌, ◌<◌, ◌≢◌, length, get_or, IfOk, OnOk};
 ghost use Rattle.hg_base.specs.declared.report.Kind.{Kind};
 ghost use Rattle.hg_base.specs.declared.statement.Statement.TheVariants as say;
-ghost use Rattle.hg_base.specs.Transcript.{Rest};
 ghost use Rattle.hg_session.specs.declared.session.Session.{Session};
 ghost use Rattle.hg_session.specs.Engines.{engine_sizes};
 ghost use Rattle.hg_session.specs.Finished.{AreAmong};
 ghost use Rattle.hg_session.specs.Sessions.{IsOf, seen_by};
-ghost use Rattle.hg_run.specs.Listed.{ArePlaced, AreReady, HaveCursors, SawAt, none_left};
-ghost use Rattle.hg_run.specs.Asked.{HasReplied};
+ghost use Rattle.hg_run.specs.Listed.{ArePlaced, AreReady, none_left};
+ghost use Rattle.hg_run.specs.Asked.{Replies};
 ghost use Rattle.hg_run.specs.Swept.{HasMetSessions, HasMetPass, told_of};
 ghost use Rattle.hg_run.specs.Collecting.{AreCollectors, HaveMade, removed_of, view_in};
 ghost use Rattle.hg_run.specs.Driven.{sweeps_in};
@@ -75,7 +74,7 @@ pub(crate) fn sweep<R: Wait>(
 ) -> Result<Reply, NoMemory>
     requires ready { AreReady engine.now i none_left list.old.items }
     requires collectors { AreCollectors engine.now collectors.old }
-    ensures replied { IfOk result (λ reply. (seen : ℕ) (reads : ℕ → Bool) (rest : ℕ → Option Rest) → SawAt seen i list.old.items → HaveCursors reads rest list.old.items → HasReplied engine.now seen reads rest list.old.items i (say.Gc kind) reply list.new.items) }
+    ensures replied { IfOk result (λ reply. Replies engine.now list.old.items i (say.Gc kind) reply list.new.items) }
     ensures ready { OnOk result ((left : ℕ → ℕ) → AreReady engine.now i left list.old.items → AreReady engine.now i left list.new.items) }
     ensures removed { IfOk result (λ reply. (k : Kind) → removed_of k collectors.new ≡ removed_of k collectors.old + told_of k reply) }
     ensures rounds { IfOk result (λ reply. HaveMade (engine_sizes engine.now) long collectors.old (λ k. sweeps_in k reply) collectors.new) }

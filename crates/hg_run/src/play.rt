@@ -1,15 +1,15 @@
 //! All records of a script.
 
-ghost use Rattle.std.specs.Prelude.{◌≡◌, ℕ, suc, ◌+◌, ◌<◌, [], length, get_or, map, max, Bool, Option, IfOk, OnOk};
+ghost use Rattle.std.specs.Prelude.{◌≡◌, ℕ, suc, ◌+◌, ◌<◌, [], length, get_or, map, max, IfOk, OnOk};
 ghost use Rattle.hg_base.specs.declared.report.Kind.{Kind};
 ghost use Rattle.hg_base.specs.Lists.{greatest};
-ghost use Rattle.hg_base.specs.Transcript.{Rest, of_session};
+ghost use Rattle.hg_base.specs.Transcript.{of_session};
 ghost use Rattle.hg_script.specs.Lawful.{IsLawful};
 ghost use Rattle.hg_session.specs.declared.session.Session.{Session};
 ghost use Rattle.hg_session.specs.Engines.{engine_sizes};
 ghost use Rattle.hg_session.specs.Finished.{logs_of};
-ghost use Rattle.hg_run.specs.Listed.{ArePlaced, AreReady, HaveCursors, SawAt, none_left, one_more};
-ghost use Rattle.hg_run.specs.Asked.{IsOnTables, HasReplied, MayAsk, collector_asked};
+ghost use Rattle.hg_run.specs.Listed.{ArePlaced, AreReady, none_left, one_more};
+ghost use Rattle.hg_run.specs.Asked.{IsOnTables, MayAsk, Replies, collector_asked};
 ghost use Rattle.hg_run.specs.Swept.{told_of};
 ghost use Rattle.hg_run.specs.Collecting.{AreCollectors, HaveMade, removed_of};
 ghost use Rattle.hg_run.specs.Driven.{sweeps_in};
@@ -59,7 +59,7 @@ fn reply_at<R: Wait>(
     requires may { (d : Session) → MayAsk (get_or list.old.items i d) statement.now }
     requires tables { IsOnTables (engine_sizes engine.now).tables statement.now }
     requires collectors { AreCollectors engine.now collectors.old }
-    ensures replied { IfOk result (λ reply. (seen : ℕ) (reads : ℕ → Bool) (rest : ℕ → Option Rest) → SawAt seen i list.old.items → HaveCursors reads rest list.old.items → HasReplied engine.now seen reads rest list.old.items i statement.now reply list.new.items) }
+    ensures replied { IfOk result (λ reply. Replies engine.now list.old.items i statement.now reply list.new.items) }
     ensures ready { OnOk result ((left : ℕ → ℕ) → AreReady engine.now i (one_more (suc i) left) list.old.items → AreReady engine.now i left list.new.items) }
     ensures removed { IfOk result (λ reply. (k : Kind) → removed_of k collectors.new ≡ removed_of k collectors.old + told_of k reply) }
     ensures rounds { IfOk result (λ reply. HaveMade (engine_sizes engine.now) long collectors.old (λ k. sweeps_in k reply) collectors.new) }

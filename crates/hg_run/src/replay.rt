@@ -1,7 +1,7 @@
 //! The run of a script on one thread.
 
-ghost use Rattle.std.specs.Prelude.{◌≡◌, ℕ, ◌<◌, ◌≤◌, length, map, max, IfOk};
-ghost use Rattle.hg_base.specs.Lists.{greatest};
+ghost use Rattle.std.specs.Prelude.{◌≡◌, ℕ, ◌<◌, ◌≤◌, length, map, max, None, IfOk};
+ghost use Rattle.hg_base.specs.Lists.{Each, greatest};
 ghost use Rattle.hg_base.specs.Script.{replay};
 ghost use Rattle.hg_base.specs.Sound.{IsSound};
 ghost use Rattle.hg_base.specs.Text.{IsFit};
@@ -11,6 +11,7 @@ ghost use Rattle.hg_script.specs.Lawful.{IsLawful};
 ghost use Rattle.hg_session.specs.Engines.{engine_sizes};
 ghost use Rattle.hg_session.specs.Finished.{IsClosed};
 ghost use Rattle.hg_session.specs.Opened.{IsNewOf};
+ghost use Rattle.hg_session.specs.Sessions.{cursor_of};
 ghost use Rattle.hg_words.specs.Options.{AreWithin};
 ghost use Rattle.hg_run.specs.Collecting.{AreCollectors};
 ghost use Rattle.hg_run.specs.Driven.{HasDrivenOne};
@@ -55,6 +56,7 @@ pub fn replay_on<'a, R: Wait>(
     ensures tables { IfOk result (λ transcript. transcript.tables ≡ script.now.tables) }
     ensures many { length sessions.new ≡ length sessions.old }
     ensures closed { EachFrom (IsClosed engine.now) 1 sessions.new }
+    ensures cursors { Each (λ s. cursor_of s ≡ None) sessions.new }
     ensures collectors { AreCollectors engine.now collectors.new }
 {
     let mut list = mem::replace(sessions, SessionList::from(Vec::new(alloc))).into_vec();

@@ -5,7 +5,7 @@
 //!     gather     the lines of each session by number, and then of each collector's rounds
 //!     retire     the sessions go back to their list
 
-ghost use Rattle.std.specs.Prelude.{◌≡◌, ℕ, ◌+◌, ◌++◌, ◌<◌, ◌≤◌, ◌^◌, length, map, max, false, vec_capacity, IfOk, IfErr, OnOk};
+ghost use Rattle.std.specs.Prelude.{◌≡◌, ℕ, ◌+◌, ◌++◌, ◌<◌, ◌≤◌, ◌^◌, length, map, max, None, false, vec_capacity, IfOk, IfErr, OnOk};
 ghost use Rattle.hg_base.specs.Lists.{Each, greatest};
 ghost use Rattle.hg_base.specs.Script.{run};
 ghost use Rattle.hg_run.specs.declared.work.Worker.{Worker};
@@ -15,6 +15,7 @@ ghost use Rattle.hg_script.specs.Lawful.{IsLawful};
 ghost use Rattle.hg_session.specs.Engines.{engine_sizes};
 ghost use Rattle.hg_session.specs.Finished.{IsClosed};
 ghost use Rattle.hg_session.specs.Opened.{IsNewOf};
+ghost use Rattle.hg_session.specs.Sessions.{cursor_of};
 ghost use Rattle.hg_words.specs.Options.{AreWithin};
 ghost use Rattle.hg_run.specs.Collecting.{AreCollectors};
 ghost use Rattle.hg_run.specs.Driven.{HasDrivenAll};
@@ -156,6 +157,7 @@ pub fn run_on<'a, R: Threads + Wait + Sync, G: Gate + Sync>(
     ensures tables { IfOk result (λ transcript. transcript.tables ≡ script.now.tables) }
     ensures many { length sessions.new ≡ length sessions.old }
     ensures closed { EachFrom (IsClosed engine.now) 1 sessions.new }
+    ensures cursors { Each (λ s. cursor_of s ≡ None) sessions.new }
     ensures collectors { AreCollectors engine.now collectors.new }
 {
     let mut told = RoundLists::with_places(alloc, options.rounds)?;

@@ -5,9 +5,8 @@
 //! is refused for another's, it meets that other session, whose log shows that the write stands open. A meeting leaves cursors as
 //! they are.
 
-ghost use Rattle.std.specs.Prelude.{◌≡◌, ℕ, suc, ◌+◌, ◌-◌, ◌<◌, ◌≤◌, ◌≢◌, length, get_or, Bool, Option, None, IfOk, OnOk};
+ghost use Rattle.std.specs.Prelude.{◌≡◌, ℕ, suc, ◌+◌, ◌-◌, ◌<◌, ◌≤◌, ◌≢◌, length, get_or, None, IfOk, OnOk};
 ghost use Rattle.hg_base.specs.declared.writer.Writer.{Writer};
-ghost use Rattle.hg_base.specs.Transcript.{Rest};
 ghost use Rattle.hg_core.specs.Phases.{IsSession};
 ghost use Rattle.hg_rule.specs.Moves.{joined, meeting};
 ghost use Rattle.hg_rule.specs.Agreed.{IsMet};
@@ -15,8 +14,8 @@ ghost use Rattle.hg_session.specs.declared.session.Session.{Session};
 ghost use Rattle.hg_session.specs.Engines.{engine_sizes};
 ghost use Rattle.hg_session.specs.Sessions.{IsOf, view_of, number_of, left_of, cursor_of};
 ghost use Rattle.hg_session.specs.Finished.{logs_of};
-ghost use Rattle.hg_run.specs.Listed.{ArePlaced, AreReady, HaveCursors, KeepCursors, SawAt, none_left, one_more};
-ghost use Rattle.hg_run.specs.Asked.{IsAnswered, IsOnTables, HasReplied, MayAsk, collector_asked};
+ghost use Rattle.hg_run.specs.Listed.{ArePlaced, AreReady, KeepCursors, SawAt, none_left, one_more};
+ghost use Rattle.hg_run.specs.Asked.{IsAnswered, IsOnTables, MayAsk, Replies, collector_asked};
 
 use crate::ask::ask;
 use hg_base::{Answer, NoMemory, Reply, Statement};
@@ -113,7 +112,7 @@ pub(crate) fn answer<R: Wait>(
     requires may { (d : Session) → MayAsk (get_or list.old.items i d) statement.now }
     requires tables { IsOnTables (engine_sizes engine.now).tables statement.now }
     requires other { collector_asked statement.now ≡ None }
-    ensures replied { IfOk result (λ reply. (seen : ℕ) (reads : ℕ → Bool) (rest : ℕ → Option Rest) → SawAt seen i list.old.items → HaveCursors reads rest list.old.items → HasReplied engine.now seen reads rest list.old.items i statement.now reply list.new.items) }
+    ensures replied { IfOk result (λ reply. Replies engine.now list.old.items i statement.now reply list.new.items) }
     ensures ready { OnOk result ((left : ℕ → ℕ) → AreReady engine.now i (one_more (suc i) left) list.old.items → AreReady engine.now i left list.new.items) }
     ensures placed { ArePlaced engine.now list.new.items }
 {

@@ -3,14 +3,11 @@
 //! It runs the records of its session in order, and asks the gate before each. A `gc` is left to the collectors. At the end it
 //! rolls back what is open, or closes its cursor. If it runs out of memory it goes no further, does the same and says so.
 
-ghost use Rattle.std.specs.Prelude.{◌≡◌, ◌+◌, ◌<◌, ◌≤◌, Option, is_some, IfOk, OnOk};
-ghost use Rattle.hg_base.specs.Transcript.{Rest, rest_after};
-ghost use Rattle.hg_script.specs.Rules.{reading};
-ghost use Rattle.hg_session.specs.Cursors.{HasLeft};
+ghost use Rattle.std.specs.Prelude.{◌≡◌, ◌+◌, ◌<◌, ◌≤◌, IfOk, OnOk};
 ghost use Rattle.hg_session.specs.Engines.{engine_sizes};
-ghost use Rattle.hg_session.specs.Sessions.{IsOf, log_of, number_of, left_of, cursor_of};
+ghost use Rattle.hg_session.specs.Sessions.{IsOf, number_of, left_of};
 ghost use Rattle.hg_run.specs.Asked.{IsOnTables, MayAsk};
-ghost use Rattle.hg_run.specs.Working.{IsStep};
+ghost use Rattle.hg_run.specs.Working.{HasTaken};
 
 use crate::ask::ask;
 use crate::ending::close_one;
@@ -42,9 +39,7 @@ fn answer_beside<R: Wait>(
     requires left { 0 < left_of session.old }
     requires may { MayAsk session.old statement.now }
     requires tables { IsOnTables (engine_sizes engine.now).tables statement.now }
-    ensures step { IfOk result (λ reply. (rest : Option Rest) → HasLeft session.old rest → IsStep (engine_sizes engine.now).buckets rest (log_of session.old) statement.now reply (log_of session.new)) }
-    ensures moved { IfOk result (λ reply. (rest : Option Rest) → HasLeft session.old rest → HasLeft session.new (rest_after statement.now reply.answer rest)) }
-    ensures reads { OnOk result (is_some (cursor_of session.new) ≡ reading (is_some (cursor_of session.old)) statement.now) }
+    ensures taken { IfOk result (λ reply. HasTaken (engine_sizes engine.now).buckets session.old statement.now reply session.new) }
     ensures left { left_of session.old ≤ left_of session.new + 1 }
     ensures number { number_of session.new ≡ number_of session.old }
     ensures own { IsOf engine.now session.new }

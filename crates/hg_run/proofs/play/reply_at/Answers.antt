@@ -1,11 +1,10 @@
-use Rattle.std.proofs.Common.{◌≡◌, ℕ, suc, ◌+◌, Bool, Option, None, inl, refl, arith, rules}
+use Rattle.std.proofs.Common.{◌≡◌, ℕ, suc, ◌+◌, None, inl, refl, arith, rules}
 use Rattle.hg_base.specs.declared.report.Kind.{Kind}
-use Rattle.hg_base.specs.Transcript.{Rest}
-use Rattle.hg_run.specs.Asked.{HasReplied, collector_asked}
+use Rattle.hg_run.specs.Asked.{Replies, collector_asked}
 use Rattle.hg_session.specs.Engines.{engine_sizes}
 use Rattle.hg_run.specs.Collecting.{HaveMade, removed_of}
 use Rattle.hg_run.specs.Driven.{sweeps_in}
-use Rattle.hg_run.specs.Listed.{AreReady, HaveCursors, SawAt, one_more}
+use Rattle.hg_run.specs.Listed.{AreReady, one_more}
 use Rattle.hg_run.specs.Swept.{told_of}
 use Rattle.hg_run.proofs.Asking.{none_told, none_reported, ready_fewer, if_ok, on_ok}
 use Rattle.hg_run.proofs.Cursors.{any_cursors, reads_in, rests_in}
@@ -25,7 +24,7 @@ returns-in-None-clause-removed g c =
     let old = c.args.list.now.items in
     let new = c.answer.new.list.items in
     let other : collector_asked c.args.statement.now ≡ None = search rules in
-    if_ok (λ reply. (seen : ℕ) (reads : ℕ → Bool) (rest : ℕ → Option Rest) → SawAt seen c.args.i old → HaveCursors reads rest old → HasReplied e seen reads rest old c.args.i c.args.statement.now reply new) (λ reply. (k : Kind) → removed_of k c.args.collectors.now ≡ removed_of k c.args.collectors.now + told_of k reply) c.answer.result
+    if_ok (λ reply. Replies e old c.args.i c.args.statement.now reply new) (λ reply. (k : Kind) → removed_of k c.args.collectors.now ≡ removed_of k c.args.collectors.now + told_of k reply) c.answer.result
     (λ reply h k. let none = none_told e 0 (reads_in old) (rests_in old) old c.args.i c.args.statement.now reply new other (h 0 (reads_in old) (rests_in old) (λ d. inl refl) (any_cursors old)) k in omega (arith, none)) c.answer.ensures.replied
 
 pub returns-in-None-clause-rounds : goal.returns-in-None-clause-rounds
@@ -35,5 +34,5 @@ returns-in-None-clause-rounds g c =
     let old = c.args.list.now.items in
     let new = c.answer.new.list.items in
     let other : collector_asked c.args.statement.now ≡ None = search rules in
-    if_ok (λ reply. (seen : ℕ) (reads : ℕ → Bool) (rest : ℕ → Option Rest) → SawAt seen c.args.i old → HaveCursors reads rest old → HasReplied e seen reads rest old c.args.i c.args.statement.now reply new) (λ reply. HaveMade z c.args.long c.args.collectors.now (λ k. sweeps_in k reply) c.args.collectors.now) c.answer.result
+    if_ok (λ reply. Replies e old c.args.i c.args.statement.now reply new) (λ reply. HaveMade z c.args.long c.args.collectors.now (λ k. sweeps_in k reply) c.args.collectors.now) c.answer.result
     (λ reply h. made_none z c.args.long c.args.collectors.now reply (none_reported e 0 (reads_in old) (rests_in old) old c.args.i c.args.statement.now reply new other (h 0 (reads_in old) (rests_in old) (λ d. inl refl) (any_cursors old)))) c.answer.ensures.replied

@@ -1,5 +1,6 @@
 use Rattle.std.proofs.Common.{◌≡◌, ℕ, ◌<◌, List, length, sym, ap, ◌∙◌, subst, arith, rules}
-use Rattle.std.specs.Prelude.{get_or, IfOk}
+use Rattle.std.specs.Prelude.{None, get_or, IfOk}
+use Rattle.hg_base.specs.Lists.{Each}
 use Rattle.hg_base.specs.Transcript.{of_session}
 use Rattle.hg_rule.specs.New.{EachFrom}
 use Rattle.hg_headline.specs.Counted.{Closes}
@@ -8,11 +9,11 @@ use Rattle.hg_session.specs.declared.session.Session.{Session}
 use Rattle.hg_session.specs.Engines.{engine_sizes}
 use Rattle.hg_session.specs.Finished.{logs_of}
 use Rattle.hg_session.specs.Opened.{IsNewOf}
-use Rattle.hg_session.specs.Sessions.{seen_by}
+use Rattle.hg_session.specs.Sessions.{seen_by, cursor_of}
 use Rattle.hg_run.specs.Driven.{HasDrivenOne}
 use Rattle.hg_run.specs.Played.{HasPlayed, HasPlayedOut}
 use Rattle.hg_run.proofs.Asking.{if_ok}
-use Rattle.hg_run.proofs.Closes.{new_logs, new_ready}
+use Rattle.hg_run.proofs.Closes.{closed_cursors, new_logs, new_ready}
 use Rattle.hg_run.proofs.Going.{ready_less, driven_one, played_out}
 use Rattle.hg_run.proofs.Hearing.{seen_kept}
 use Rattle.hg_run.proofs.replay.replay_on.Goals as goal
@@ -64,3 +65,7 @@ returns-clause-played g c =
     (if_ok (λ (t : Shown). HasPlayed e long before after played script t.lines) (λ (t : Shown). HasPlayedOut e before after closed script t.lines) c.play-transcript.result
     (λ t p. played_out e long before after played closed script t.lines p c.close_all.ensures.closes c.close_all.ensures.many
     (λ seen saw d. seen_kept seen (seen_by (get_or played p.last d)) (seen_by (get_or closed p.last d)) (c.close_all.ensures.kept d p.last p.ready.within) (saw d))) c.play-transcript.ensures.played)
+
+pub returns-clause-cursors : goal.returns-clause-cursors
+returns-clause-cursors g c =
+    subst (λ (list : List Session). Each (λ s. cursor_of s ≡ None) list) (sym c.from-2.ensures) (closed_cursors c.args.engine.now 1 c.close_all.new.list.items c.close_all.ensures.closed)

@@ -11,21 +11,31 @@ use Rattle.hg_run.specs.declared.work.Worker.{Worker}
 use Rattle.hg_run.specs.Driven.{HasDrivenAll}
 use Rattle.hg_run.specs.Rounding.{sweep_lines}
 use Rattle.hg_run.specs.Working.{AreEnded, AreWilling, HasEnded, IsHired, hired, lines_in, sessions_in}
+use Rattle.hg_run.proofs.Closes.{closed_cursors}
 use Rattle.hg_run.proofs.Hiring.{closed_from, driven_all, ended_each, hired_all, hired_many, new_closed, on_gathered, sessions_many, tables_from, take_whole}
 use Rattle.hg_run.proofs.run.run_on.Goals as goal
 
 pub returns-in_err-told-clause-closed : goal.returns-in_err-told-clause-closed
 returns-in_err-told-clause-closed g c = new_closed c.args.engine.now (engine_sizes c.args.engine.now).quota 1 c.args.sessions.now c.requires.new
 
+pub returns-in_err-told-clause-cursors : goal.returns-in_err-told-clause-cursors
+returns-in_err-told-clause-cursors g c = closed_cursors c.args.engine.now 1 c.args.sessions.now (returns-in_err-told-clause-closed g c)
+
 pub returns-in_default-clause-closed : goal.returns-in_default-clause-closed
 returns-in_default-clause-closed g c =
     let same : c.from-in_default.result ≡ c.args.sessions.now = search rules in
     subst (EachFrom (IsClosed c.args.engine.now) 1) (sym same) (new_closed c.args.engine.now (engine_sizes c.args.engine.now).quota 1 c.args.sessions.now c.requires.new)
 
+pub returns-in_default-clause-cursors : goal.returns-in_default-clause-cursors
+returns-in_default-clause-cursors g c = closed_cursors c.args.engine.now 1 c.from-in_default.result (returns-in_default-clause-closed g c)
+
 pub returns-in-Err-clause-closed : goal.returns-in-Err-clause-closed
 returns-in-Err-clause-closed g c =
     let same : c.from-in-Err.result ≡ c.args.sessions.now = search rules in
     subst (EachFrom (IsClosed c.args.engine.now) 1) (sym same) (new_closed c.args.engine.now (engine_sizes c.args.engine.now).quota 1 c.args.sessions.now c.requires.new)
+
+pub returns-in-Err-clause-cursors : goal.returns-in-Err-clause-cursors
+returns-in-Err-clause-cursors g c = closed_cursors c.args.engine.now 1 c.from-in-Err.result (returns-in-Err-clause-closed g c)
 
 pub run_beside-requires-clause-hired : goal.run_beside-requires-clause-hired
 run_beside-requires-clause-hired g c κs within =
@@ -159,3 +169,6 @@ returns-clause-closed g c =
     let none : c.in-Ok.back.items ≡ [] = search rules in
     let new_is : c.from-2.result ≡ sessions_in now = c.from-2.ensures ∙ (c.retire.ensures ∙ (ap (λ (l : List Session). l ++ sessions_in taken) none ∙ ap (λ (ws : List Worker). sessions_in ws) all)) in
     subst (EachFrom (IsClosed e) 1) (sym new_is) (closed_from e z.quota script 1 old now c.requires.new ended)
+
+pub returns-clause-cursors : goal.returns-clause-cursors
+returns-clause-cursors g c = closed_cursors c.args.engine.now 1 c.from-2.result (returns-clause-closed g c)

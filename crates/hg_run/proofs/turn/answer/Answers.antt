@@ -11,6 +11,7 @@ use Rattle.hg_run.proofs.Cursors.{any_rest_at, cursors_kept, cursors_moved}
 use Rattle.hg_run.proofs.Going.{are_placed}
 use Rattle.hg_run.proofs.Turns.{HasAsked, more_here, some_of, ready_asked, placed_asked, other_asked, replied, saw_asked}
 use Rattle.hg_run.proofs.turn.answer.Goals as goal
+use Rattle.hg_run.proofs.turn.answer.Goals.{In_ok-reply}
 
 pub ask_at-requires-clause-within : goal.ask_at-requires-clause-within
 ask_at-requires-clause-within g c = c.requires.ready.within
@@ -22,7 +23,7 @@ pub ask_at-requires-clause-left : goal.ask_at-requires-clause-left
 ask_at-requires-clause-left g c d = let left = c.requires.ready.left_is d c.args.i c.requires.ready.within in let one = more_here (suc c.args.i) none_left in omega (arith, left, one)
 
 -- what the session's answer says, whose cursor had this left
-asked : (c : goal.In_ok-reply) (rest : Option Rest) → ((d : Session) → HasLeft (get_or c.args.list.now.items c.args.i d) rest) → HasAsked c.args.engine.now c.args.i rest c.args.statement.now c.in_ok-reply.reply c.args.list.now.items c.ask_at.new.list.items
+asked : (c : In_ok-reply) (rest : Option Rest) → ((d : Session) → HasLeft (get_or c.args.list.now.items c.args.i d) rest) → HasAsked c.args.engine.now c.args.i rest c.args.statement.now c.in_ok-reply.reply c.args.list.now.items c.ask_at.new.list.items
 asked c rest left = let m = c.in_ok-reply.ensures in record { many = m.many; answers = λ d. ((m.answers d).answers rest (left d)).answers; rest_is = λ d. ((m.answers d).answers rest (left d)).rest_is; left = m.left; rest = m.rest; own = m.own }
 
 pub show-requires-clause-ready : goal.show-requires-clause-ready
