@@ -22,6 +22,7 @@ use Rattle.hg_headline.specs.Following.{KnowsOpen, IsMetIfGc}
 use Rattle.hg_headline.proofs.OpenWrites.{met_answer}
 use Rattle.hg_session.specs.declared.engine.Engine.{Engine}
 use Rattle.hg_session.specs.declared.session.Session.{Session}
+use Rattle.hg_session.specs.Cursors.{HasLeft}
 use Rattle.hg_session.specs.Engines.{engine_sizes}
 use Rattle.hg_session.specs.Sessions.{IsOf, view_of, number_of, log_of, left_of, cursor_of}
 use Rattle.hg_session.specs.Ties.{IsHeard}
@@ -29,7 +30,7 @@ use Rattle.hg_session.specs.Replies.{Answers, GoesOn}
 use Rattle.hg_run.specs.Heard.{HasHeard}
 use Rattle.hg_session.specs.Finished.{logs_of}
 use Rattle.hg_run.specs.Listed.{IsPlaced, ArePlaced, AreReady, KeepCursors, SawAt, one_more}
-use Rattle.hg_run.specs.Asked.{IsReplied, collector_asked}
+use Rattle.hg_run.specs.Asked.{IsAnswered, IsReplied, collector_asked}
 use Rattle.hg_run.proofs.Hearing.{among_right, heard_met, heard_kept, heard_more, heard_goes, met_open, seen_among, seen_kept}
 use Rattle.hg_run.proofs.Listing.{by_two, log_at, logs_same, logs_put}
 use Rattle.hg_run.proofs.FreshNumbers.{fresh_heard}
@@ -108,6 +109,11 @@ pub record HasAsked (e : Engine) (i : ℕ) (x : Option Rest) (s : Statement) (re
   pub left : (d : Session) → left_of (get_or old i d) ≤ left_of (get_or new i d) + 1
   pub rest : (d : Session) (k : ℕ) → k ≢ i → get_or new k d ≡ get_or old k d
   pub own : (d : Session) → IsOf e (get_or new i d)
+
+-- which its cursor says
+pub has_asked : (e : Engine) (i : ℕ) (x : Option Rest) (s : Statement) (reply : Reply) (old new : List Session) → length new ≡ length old → ((d : Session) → IsAnswered (engine_sizes e) (get_or old i d) s reply (get_or new i d)) → ((d : Session) → left_of (get_or old i d) ≤ left_of (get_or new i d) + 1) →
+    ((d : Session) (k : ℕ) → k ≢ i → get_or new k d ≡ get_or old k d) → ((d : Session) → IsOf e (get_or new i d)) → ((d : Session) → HasLeft (get_or old i d) x) → HasAsked e i x s reply old new
+has_asked e i x s reply old new many answers left rest own had = record { many = many; answers = λ d. ((answers d).answers x (had d)).answers; rest_is = λ d. ((answers d).answers x (had d)).rest_is; left = left; rest = rest; own = own }
 
 pub logs_asked : (e : Engine) (i : ℕ) (x : Option Rest) (s : Statement) (reply : Reply) (old new : List Session) (d : Session) (within : i < length old) (h : HasAsked e i x s reply old new) → logs_of new ≡ put (logs_of old) (suc i) (log_after (engine_sizes e).buckets (h.answers d).u s reply (logs_of old (suc i)))
 logs_asked e i x s reply old new d within h =

@@ -1,4 +1,5 @@
-use Rattle.std.proofs.Common.{◌≡◌, ℕ, suc, ◌+◌, None, inl, refl, arith, rules}
+use Rattle.std.proofs.Common.{◌≡◌, ℕ, suc, ◌+◌, None, inl, refl, sym, ◌∙◌, subst, arith, rules}
+use Rattle.std.specs.Prelude.{IfOk}
 use Rattle.hg_base.specs.declared.report.Kind.{Kind}
 use Rattle.hg_run.specs.Asked.{Replies, collector_asked}
 use Rattle.hg_session.specs.Engines.{engine_sizes}
@@ -6,10 +7,14 @@ use Rattle.hg_run.specs.Collecting.{HaveMade, removed_of}
 use Rattle.hg_run.specs.Driven.{sweeps_in}
 use Rattle.hg_run.specs.Listed.{AreReady, one_more}
 use Rattle.hg_run.specs.Swept.{told_of}
-use Rattle.hg_run.proofs.Asking.{none_told, none_reported, ready_fewer, if_ok, on_ok}
+use Rattle.hg_run.proofs.Asking.{gc_is, none_told, none_reported, ready_fewer, if_ok, on_ok}
 use Rattle.hg_run.proofs.Cursors.{any_cursors, reads_in, rests_in}
 use Rattle.hg_run.proofs.Driving.{made_none}
 use Rattle.hg_run.proofs.play.reply_at.Goals as goal
+
+pub returns-in-Some-clause-replied : goal.returns-in-Some-clause-replied
+returns-in-Some-clause-replied g c =
+    subst (λ s. IfOk c.sweep.result (λ reply. Replies c.args.engine.now c.args.list.now.items c.args.i s reply c.sweep.new.list.items)) (sym (gc_is c.args.statement.now c.in-Some.kind (sym c.asked.ensures ∙ c.in-Some.is))) c.sweep.ensures.replied
 
 pub returns-in-Some-clause-ready : goal.returns-in-Some-clause-ready
 returns-in-Some-clause-ready g c =

@@ -1,17 +1,12 @@
-use Rattle.std.proofs.Common.{◌≡◌, suc, length, Option, sym, subst, arith}
-use Rattle.std.specs.Prelude.{get_or}
-use Rattle.hg_base.specs.Transcript.{Rest}
-use Rattle.hg_session.specs.declared.session.Session.{Session}
-use Rattle.hg_session.specs.Cursors.{HasLeft}
+use Rattle.std.proofs.Common.{◌≡◌, suc, length, sym, subst, arith}
 use Rattle.hg_session.specs.Engines.{engine_sizes}
 use Rattle.hg_session.specs.Finished.{logs_of}
 use Rattle.hg_run.specs.Asked.{IsReplied}
 use Rattle.hg_run.specs.Listed.{none_left, one_more}
 use Rattle.hg_run.proofs.Cursors.{any_rest_at, cursors_kept, cursors_moved}
 use Rattle.hg_run.proofs.Going.{are_placed}
-use Rattle.hg_run.proofs.Turns.{HasAsked, more_here, some_of, ready_asked, placed_asked, other_asked, replied, saw_asked}
+use Rattle.hg_run.proofs.Turns.{has_asked, more_here, some_of, ready_asked, placed_asked, other_asked, replied, saw_asked}
 use Rattle.hg_run.proofs.turn.answer.Goals as goal
-use Rattle.hg_run.proofs.turn.answer.Goals.{In_ok-reply}
 
 pub ask_at-requires-clause-within : goal.ask_at-requires-clause-within
 ask_at-requires-clause-within g c = c.requires.ready.within
@@ -22,19 +17,17 @@ ask_at-requires-clause-own g c d = (c.requires.ready.placed d c.args.i c.require
 pub ask_at-requires-clause-left : goal.ask_at-requires-clause-left
 ask_at-requires-clause-left g c d = let left = c.requires.ready.left_is d c.args.i c.requires.ready.within in let one = more_here (suc c.args.i) none_left in omega (arith, left, one)
 
--- what the session's answer says, whose cursor had this left
-asked : (c : In_ok-reply) (rest : Option Rest) → ((d : Session) → HasLeft (get_or c.args.list.now.items c.args.i d) rest) → HasAsked c.args.engine.now c.args.i rest c.args.statement.now c.in_ok-reply.reply c.args.list.now.items c.ask_at.new.list.items
-asked c rest left = let m = c.in_ok-reply.ensures in record { many = m.many; answers = λ d. ((m.answers d).answers rest (left d)).answers; rest_is = λ d. ((m.answers d).answers rest (left d)).rest_is; left = m.left; rest = m.rest; own = m.own }
-
 pub show-requires-clause-ready : goal.show-requires-clause-ready
 show-requires-clause-ready g c =
+    let m = c.in_ok-reply.ensures in
     let any = any_rest_at c.args.list.now.items c.args.i c.requires.ready.within in
-    ready_asked c.args.engine.now c.args.i any.0 none_left c.args.statement.now c.in_ok-reply.reply c.args.list.now.items c.ask_at.new.list.items (asked c any.0 any.1) c.requires.ready
+    ready_asked c.args.engine.now c.args.i any.0 none_left c.args.statement.now c.in_ok-reply.reply c.args.list.now.items c.ask_at.new.list.items (has_asked c.args.engine.now c.args.i any.0 c.args.statement.now c.in_ok-reply.reply c.args.list.now.items c.ask_at.new.list.items m.many m.answers m.left m.rest m.own any.1) c.requires.ready
 
 pub show-requires-clause-other : goal.show-requires-clause-other
 show-requires-clause-other g c writer is =
+    let m = c.in_ok-reply.ensures in
     let any = any_rest_at c.args.list.now.items c.args.i c.requires.ready.within in
-    other_asked c.args.engine.now c.args.i any.0 c.args.statement.now c.in_ok-reply.reply c.args.list.now.items c.ask_at.new.list.items (one_more (suc c.args.i) none_left) (asked c any.0 any.1) c.requires.ready writer is
+    other_asked c.args.engine.now c.args.i any.0 c.args.statement.now c.in_ok-reply.reply c.args.list.now.items c.ask_at.new.list.items (one_more (suc c.args.i) none_left) (has_asked c.args.engine.now c.args.i any.0 c.args.statement.now c.in_ok-reply.reply c.args.list.now.items c.ask_at.new.list.items m.many m.answers m.left m.rest m.own any.1) c.requires.ready writer is
 
 pub returns-clause-replied : goal.returns-clause-replied
 returns-clause-replied g c seen reads rest saw have =
@@ -48,7 +41,7 @@ returns-clause-replied g c seen reads rest saw have =
     let m = c.in_ok-reply.ensures in
     let r = c.requires.ready in
     let d = some_of old c.args.i r.within in
-    let h = asked c (rest (suc c.args.i)) (λ d. (have d c.args.i r.within).left) in
+    let h = has_asked e c.args.i (rest (suc c.args.i)) s reply old mid m.many m.answers m.left m.rest m.own (λ d. (have d c.args.i r.within).left) in
     let told = replied e c.args.i (rest (suc c.args.i)) none_left seen s reply old mid d c.requires.some c.requires.other h r saw (λ w is. c.show.ensures.backed d w is) in
     let many = c.show.ensures.ready none_left (ready_asked e c.args.i (rest (suc c.args.i)) none_left s reply old mid h r) in
     let same : length new ≡ length mid = (let a = many.many in let b = m.many in let e = r.many in omega (arith, a, b, e)) in
@@ -61,8 +54,9 @@ returns-clause-replied g c seen reads rest saw have =
 
 pub returns-clause-ready : goal.returns-clause-ready
 returns-clause-ready g c left r =
+    let m = c.in_ok-reply.ensures in
     let any = any_rest_at c.args.list.now.items c.args.i c.requires.ready.within in
-    c.show.ensures.ready left (ready_asked c.args.engine.now c.args.i any.0 left c.args.statement.now c.in_ok-reply.reply c.args.list.now.items c.ask_at.new.list.items (asked c any.0 any.1) r)
+    c.show.ensures.ready left (ready_asked c.args.engine.now c.args.i any.0 left c.args.statement.now c.in_ok-reply.reply c.args.list.now.items c.ask_at.new.list.items (has_asked c.args.engine.now c.args.i any.0 c.args.statement.now c.in_ok-reply.reply c.args.list.now.items c.ask_at.new.list.items m.many m.answers m.left m.rest m.own any.1) r)
 
 pub returns-in_err-reply-clause-placed : goal.returns-in_err-reply-clause-placed
 returns-in_err-reply-clause-placed g c =
