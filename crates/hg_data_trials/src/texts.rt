@@ -57,9 +57,11 @@ fn rewritten(alloc: Global, script: &str, text: &str) -> Result<(usize, Vec<u8>)
 #[test]
 fn writes_what_was_read(rt: HostRuntime) -> Result<(), Fail> {
     let (lines, text) = rewritten(rt.alloc(), EACH, EACH_TEXT)?;
-    assert_eq!(rt; (lines, text.as_slice()), (15, EACH_TEXT.as_bytes()));
+    assert_eq!(rt; lines, 15);
+    assert_eq!(rt; text.as_slice(), EACH_TEXT.as_bytes());
     let (lines, text) = rewritten(rt.alloc(), PARTS, PARTS_TEXT)?;
-    assert_eq!(rt; (lines, text.as_slice()), (10, PARTS_TEXT.as_bytes()));
+    assert_eq!(rt; lines, 10);
+    assert_eq!(rt; text.as_slice(), PARTS_TEXT.as_bytes());
     Ok(())
 }
 

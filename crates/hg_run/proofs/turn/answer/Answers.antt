@@ -1,4 +1,7 @@
 use Rattle.std.proofs.Common.{◌≡◌, suc, length, sym, subst, arith}
+use Rattle.hg_base.specs.Transcript.{rest_after}
+use Rattle.hg_core.specs.Events.{put}
+use Rattle.hg_script.specs.Rules.{reading}
 use Rattle.hg_session.specs.Engines.{engine_sizes}
 use Rattle.hg_session.specs.Finished.{logs_of}
 use Rattle.hg_run.specs.Asked.{IsReplied}
@@ -48,7 +51,7 @@ returns-clause-replied g c seen reads rest saw have =
     record {
       later = seen;
       replied = subst (λ new. IsReplied z.buckets z.sessions (logs_of old) seen seen (suc c.args.i) (rest (suc c.args.i)) s reply new) (sym c.show.ensures.logs) told;
-      cursors = cursors_kept _ _ mid new same c.show.ensures.cursors (cursors_moved z reads rest old mid c.args.i s reply m.many r.within m.answers m.rest have);
+      cursors = cursors_kept (put reads (suc c.args.i) (reading (reads (suc c.args.i)) s)) (put rest (suc c.args.i) (rest_after s reply.answer (rest (suc c.args.i)))) mid new same c.show.ensures.cursors (cursors_moved z reads rest old mid c.args.i s reply m.many r.within m.answers m.rest have);
       saw = c.show.ensures.saw seen (saw_asked e c.args.i seen (rest (suc c.args.i)) s reply old mid h saw);
     }
 
