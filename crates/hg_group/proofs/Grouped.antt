@@ -84,7 +84,7 @@ module _ (z : Sizes) (n : ℕ) (v : View) (k : IsBacked z n v) (first : Part) (c
       let h1 : a ≡ x + (0 + b) = ap (count (session_key j)) is in let h2 : a ≤ 1 = subst (λ m. a ≤ m) refl (most j) in omega arith)
     where
       most : (j : ℕ) → count (session_key j) v.parts ≤ 1
-      most j = let e = k.most (session_key j) in let f = expected_small z k.state.passes (session_key j) in omega (arith, e, f)
+      most j = let e = k.most (session_key j) in let f = expected_small z k.used (session_key j) in omega (arith, e, f)
 
   module _ (txs : List OpenTx) (taken : AreTaken txs ms) (popped : Pairs) (follows : FollowsQueue c.history.list popped) where
     none : Each (λ p. IsNone p (map pair_of (group_of ms))) (map pair_of (flat c.history.list))

@@ -54,12 +54,16 @@ one_small : (b : Bool) → one b ≤ 1
 one_small true = le_refl _
 one_small false = omega arith
 
-pub expected_small : (z : Sizes) (n : ℕ) (k : Key) → expected z n k ≤ 1
-expected_small z n (session_key j) = one_small (both (ltb 0 j) (ltb j (suc z.sessions)))
-expected_small z n (bucket_key j) = one_small (ltb j z.buckets)
-expected_small z n commit_key = le_refl _
-expected_small z n (pass_key j) = one_small (ltb j n)
-expected_small z n (home_key j) = one_small (both (ltb 0 j) (ltb j (suc z.sessions)))
+pub expected_small : (z : Sizes) (used : ℕ → Bool) (k : Key) → expected z used k ≤ 1
+expected_small z used (session_key j) = one_small (both (ltb 0 j) (ltb j (suc z.sessions)))
+expected_small z used (bucket_key j) = one_small (ltb j z.buckets)
+expected_small z used commit_key = le_refl _
+expected_small z used (pass_key j) = one_small (used j)
+expected_small z used (home_key j) = one_small (both (ltb 0 j) (ltb j (suc z.sessions)))
+
+pub one_true : (b : Bool) → 0 < one b → b ≡ true
+one_true true l = refl
+one_true false l = absurd (omega arith)
 
 pub count_append : (k : Key) (ps qs : List Part) → count k (ps ++ qs) ≡ count k ps + count k qs
 count_append k [] qs = omega arith

@@ -1,6 +1,6 @@
 -- The state of the rule is the one that is read.
 use Rattle.std.proofs.Common.{◌≡◌, ℕ, zero, suc, ◌+◌, ◌<◌, ◌≤◌, Bool, true, false, eqb, ltb, List, [], ◌∷◌, length, refl, sym, ap, ◌∙◌, subst, arith, true≢false, eq-eqb}
-use Rattle.std.proofs.lemmas.Bool.{lt-ltb, le-ltb}
+use Rattle.std.proofs.lemmas.Bool.{le-ltb}
 use Rattle.std.specs.Prelude.{max, slice_index, if◌then◌else◌, IfSome, ⊤}
 use mathlib.Core.Option.{some}
 use native.Mathlib.Decide.{dec_le}
@@ -23,10 +23,10 @@ use Rattle.hg_rule.specs.declared.view.Sizes.{Sizes}
 use Rattle.hg_rule.specs.Keys.{Key, session_key, bucket_key, commit_key, pass_key, home_key, both, has, one, count, tally, expected}
 use Rattle.hg_rule.specs.Facts.{record_of, Shown, new_part}
 use Rattle.hg_rule.specs.Words.{register_at, mask_at}
-use Rattle.hg_rule.specs.Rules.{IsSized, HasRoom, Rule, IsBacked}
+use Rattle.hg_rule.specs.Rules.{IsSized, HasRoom, AreUsed, Rule, IsBacked}
 use Rattle.hg_rule.specs.Views.{session_there, bucket_there, commit_there, pass_there}
 use Rattle.hg_rule.specs.Reading.{chosen, seek, passes_in, state_of, all_parts, registers_in, read, HasAll, AllRest, own_state}
-use Rattle.hg_rule.proofs.Counts.{same_number, has_new, count_append}
+use Rattle.hg_rule.proofs.Counts.{same_number, has_new, one_true, count_append}
 use Rattle.hg_rule.proofs.Lists.{each_append}
 use Rattle.hg_rule.proofs.Registers.{word_back, register_small}
 
@@ -130,18 +130,18 @@ ltb_less p n l = go (dec_le (suc p) n)
     go (yes h) = omega arith
     go (no h) = absurd (let x : ℕ = one (ltb p n) in let e : x ≡ 0 = ap one (le-ltb p n (omega arith)) in let l' : 0 < x = l in omega arith)
 
-passes_are : (n : ℕ) (ps : List Part) → ((q : ℕ) → count (pass_key q) ps ≡ one (ltb q n)) → passes_in ps ≡ n
-passes_are n ps f = go n refl
+passes_are : (n : ℕ) (used : ℕ → Bool) (ps : List Part) → AreUsed n used → ((q : ℕ) → count (pass_key q) ps ≡ one (used q)) → passes_in ps ≡ n
+passes_are n used ps a f = go n refl
   where
     most : passes_in ps ≤ n
-    most = pass_most n ps (λ q l. ltb_less q n (let x : ℕ = one (ltb q n) in let y : ℕ = count (pass_key q) ps in let e : y ≡ x = f q in let l' : 0 < y = l in omega arith))
+    most = pass_most n ps (λ q l. a.below q (one_true (used q) (let x : ℕ = one (used q) in let y : ℕ = count (pass_key q) ps in let e : y ≡ x = f q in let l' : 0 < y = l in omega arith)))
 
     go : (m : ℕ) → m ≡ n → passes_in ps ≡ n
-    go zero e = let a : ℕ = passes_in ps in let b : a ≤ n = most in omega arith
+    go zero e = let x : ℕ = passes_in ps in let b : x ≤ n = most in omega arith
     go (suc m) e =
-        let a : ℕ = passes_in ps in
-        let b : a ≤ n = most in
-        let c : m < a = pass_below ps m (let x : ℕ = one (ltb m n) in let y : ℕ = count (pass_key m) ps in let h : y ≡ x = f m in let g : x ≡ 1 = ap one (lt-ltb m n (omega arith)) in omega arith) in
+        let x : ℕ = passes_in ps in
+        let b : x ≤ n = most in
+        let c : m < x = pass_below ps m (let x : ℕ = one (used m) in let y : ℕ = count (pass_key m) ps in let h : y ≡ x = f m in let g : x ≡ 1 = ap one (a.last m e) in omega arith) in
         omega arith
 
 -- ---- the whole state
@@ -154,16 +154,16 @@ HasPart commit_key = ⊤
 HasPart (pass_key p) = ⊤
 HasPart (home_key j) = ⊥
 
-pub state_is : (z : Sizes) (s : CoreState) (n : ℕ) (register : ℕ → Register) (mask : ℕ → ℕ) (ps : List Part) → IsSized z s → Each (Shown s) ps
-    → ((k : Key) → HasPart k → count k ps ≡ expected z s.passes k)
-    → ((k : Key) → expected z s.passes k ≡ 0 → Shown s (new_part k))
+pub state_is : (z : Sizes) (s : CoreState) (used : ℕ → Bool) (n : ℕ) (register : ℕ → Register) (mask : ℕ → ℕ) (ps : List Part) → IsSized z s → AreUsed s.passes used → Each (Shown s) ps
+    → ((k : Key) → HasPart k → count k ps ≡ expected z used k)
+    → ((k : Key) → expected z used k ≡ 0 → Shown s (new_part k))
     → s.mark ≡ n → ((j : ℕ) → s.register j ≡ register j) → ((j : ℕ) → s.mask j ≡ mask j) → s ≡ state_of z n register mask ps
-state_is z s n register mask ps sized shown counts outside mark registers masks = λ i. record {
+state_is z s used n register mask ps sized all shown counts outside mark registers masks = λ i. record {
   sessions = sized.sessions i;
   tables = sized.tables i;
   buckets = sized.buckets i;
   quota = sized.quota i;
-  passes = sym (passes_are s.passes ps (λ q. counts (pass_key q) tt)) i;
+  passes = sym (passes_are s.passes used ps all (λ q. counts (pass_key q) tt)) i;
   mark = mark i;
   register = λ j. registers j i;
   mask = λ j. masks j i;
@@ -212,7 +212,7 @@ outside_idle : (z : Sizes) (t : State ℕ View) (r : Rule z t) (j : ℕ) → bot
 outside_idle z t r j e = idle_shows (r.state.register j) (r.state.phase j) (r.steady.registers_agree.shows j) (r.outside (session_key j) (ap one e)).0
 
 pub reads : (z : Sizes) (t : State ℕ View) → HasRoom z → (r : Rule z t) → r.state ≡ read z t.words t.views
-reads z t room r = state_is z r.state (slice_index t.words 0) (registers_in z t.words) (λ j. slice_index t.words (mask_at j)) (all_parts t.views) r.sized (all_shown r.state t.views (λ i v e. (r.shown i v e).parts))
+reads z t room r = state_is z r.state r.used (slice_index t.words 0) (registers_in z t.words) (λ j. slice_index t.words (mask_at j)) (all_parts t.views) r.sized r.passes (all_shown r.state t.views (λ i v e. (r.shown i v e).parts))
     (λ k part. tally_all k t.views ∙ r.exact k) r.outside (sym r.words.mark) (λ j. go j (both (ltb 0 j) (ltb j (suc z.sessions))) refl) (λ j. sym (r.words.masks j))
   where
     go : (j : ℕ) (b : Bool) → both (ltb 0 j) (ltb j (suc z.sessions)) ≡ b → r.state.register j ≡ (if b then register_of (slice_index t.words (register_at j)) else registers.Idle)
@@ -225,10 +225,10 @@ pub full : (c : ℕ) (b : Bool) → c ≤ one b → (b ≡ true → 0 < c) → c
 full c true l f = let p : 0 < c = f refl in omega arith
 full c false l f = omega arith
 
-less_is : (i n : ℕ) → ltb i n ≡ true → i < n
+pub less_is : (i n : ℕ) → ltb i n ≡ true → i < n
 less_is i n e = ltb_less i n (let x : ℕ = one (ltb i n) in let f : x ≡ 1 = ap one e in omega arith)
 
-has_all : (z : Sizes) (n : ℕ) (v : View) (b : IsBacked z n v) → HasAll z v → (k : Key) → HasPart k → count k v.parts ≡ expected z b.state.passes k
+has_all : (z : Sizes) (n : ℕ) (v : View) (b : IsBacked z n v) → HasAll z v → (k : Key) → HasPart k → count k v.parts ≡ expected z b.used k
 has_all z n v b h (home_key j) part = absurd part
 has_all z n v b h (session_key j) part = full (count (session_key j) v.parts) (both (ltb 0 j) (ltb j (suc z.sessions))) (b.most (session_key j)) (λ e. h.sessions j (inside_is z j e))
 has_all z n v b h (bucket_key i) part = full (count (bucket_key i) v.parts) (ltb i z.buckets) (b.most (bucket_key i)) (λ e. h.buckets i (less_is i z.buckets e))
@@ -266,7 +266,7 @@ owned z n v b h rest = (subst IsSteady same (steady_unmasked s b.steady resting)
     s : CoreState
     s = b.state
 
-    counts : (k : Key) → HasPart k → count k v.parts ≡ expected z s.passes k
+    counts : (k : Key) → HasPart k → count k v.parts ≡ expected z b.used k
     counts = has_all z n v b h
 
     right : (k : Key) → HasPart k → Right s k (seek k v.parts)
@@ -279,5 +279,5 @@ owned z n v b h rest = (subst IsSteady same (steady_unmasked s b.steady resting)
     resting j = (session_right s j _ (right (session_key j) tt)).0 ∙ rest j
 
     same : unmasked s ≡ own_state z v
-    same = ap unmasked (state_is z s _ (λ _. registers.Idle) s.mask v.parts b.sized b.true_of.parts counts b.outside mark
+    same = ap unmasked (state_is z s b.used _ (λ _. registers.Idle) s.mask v.parts b.sized b.passes b.true_of.parts counts b.outside mark
         (λ j. idle_shows (s.register j) (s.phase j) (b.steady.registers_agree.shows j) (resting j)) (λ j. refl))

@@ -297,7 +297,7 @@ may_publish z slots id x m room is has_it far next may t r deep at small =
     let plain : (k : ℕ) → is_in js k ≡ true → is_plain (c.log k) ≡ true = (λ k e. each_part (λ k p. is_plain (c.log k) ≡ true) ms k (logs_plain c ms all.1.1 may.plain) e) in
     let more : List Sight = sights.Saw part.history ∷ hears x ms in
     let small_counts : (k : ℕ) → count (session_key k) (lent ms) ≤ 1 = (λ k. let a : ℕ = count (session_key k) v.parts in let b : ℕ = count (session_key k) (lent ms) in let f : ℕ = tally (session_key k) t.views in
-    let h1 : a ≡ 0 + (0 + b) = ap (count (session_key k)) parts in let h2 : a ≤ f = tally_one (session_key k) t.views id v at in let h3 : f ≤ 1 = subst (λ n. n ≤ 1) (sym (r.exact (session_key k))) (expected_small z c.passes (session_key k)) in omega arith) in (
+    let h1 : a ≡ 0 + (0 + b) = ap (count (session_key k)) parts in let h2 : a ≤ f = tally_one (session_key k) t.views id v at in let h3 : f ≤ 1 = subst (λ n. n ≤ 1) (sym (r.exact (session_key k))) (expected_small z r.used (session_key k)) in omega arith) in (
       then_has v qs' more (events.Publish x),
       keeps,
       tt,

@@ -15,7 +15,7 @@ use Rattle.hg_rule.specs.declared.view.View.{View}
 use Rattle.hg_rule.specs.declared.view.Sizes.{Sizes}
 use Rattle.hg_rule.specs.Keys.{Key, pass_key, count, tally, shares, all_shares, whole_share, expected}
 use Rattle.hg_rule.specs.Facts.{Shown, Known, Stands, new_part}
-use Rattle.hg_rule.specs.Rules.{IsSized, ShowsWords, IsTrueOf, Rule, IsBacked}
+use Rattle.hg_rule.specs.Rules.{IsSized, ShowsWords, IsTrueOf, AreUsed, Rule, IsBacked}
 use Rattle.hg_rule.specs.Views.{seeing, then_has}
 use Rattle.hg_rule.proofs.Counts.{count_append, new_key, expected_small, sum, sum_set, sum_snoc, sum_one, sum_two, sum_alone, tally_is, all_shares_is, shares_append, no_share, Only, stay}
 use Rattle.hg_rule.proofs.Lists.{each_append, each_right, each_map}
@@ -26,7 +26,7 @@ Table = State ℕ View
 
 -- ---- tallies and shares of views that change
 
-tally_set : (k : Key) (vs : List View) (i : ℕ) (v w : View) → get_elem? vs i ≡ some v → tally k (set vs i w) + count k v.parts ≡ tally k vs + count k w.parts
+pub tally_set : (k : Key) (vs : List View) (i : ℕ) (v w : View) → get_elem? vs i ≡ some v → tally k (set vs i w) + count k v.parts ≡ tally k vs + count k w.parts
 tally_set k vs i v w e = let a : ℕ = tally k (set vs i w) in let b : ℕ = tally k vs in let a' : ℕ = sum (λ v. count k v.parts) (set vs i w) in let b' : ℕ = sum (λ v. count k v.parts) vs in let x : ℕ = count k v.parts in let y : ℕ = count k w.parts in
     let p : a ≡ a' = tally_is k (set vs i w) in let q : b ≡ b' = tally_is k vs in let h : a' + x ≡ b' + y = sum_set (λ v. count k v.parts) vs i v w e in omega arith
 
@@ -37,10 +37,10 @@ tally_snoc k vs w = let a : ℕ = tally k (vs ++ w ∷ []) in let b : ℕ = tall
 pub tally_one : (k : Key) (vs : List View) (i : ℕ) (v : View) → get_elem? vs i ≡ some v → count k v.parts ≤ tally k vs
 tally_one k vs i v e = subst (λ n. count k v.parts ≤ n) (sym (tally_is k vs)) (sum_one (λ v. count k v.parts) vs i v e)
 
-tally_two : (k : Key) (vs : List View) (i j : ℕ) (v w : View) → i ≢ j → get_elem? vs i ≡ some v → get_elem? vs j ≡ some w → count k v.parts + count k w.parts ≤ tally k vs
+pub tally_two : (k : Key) (vs : List View) (i j : ℕ) (v w : View) → i ≢ j → get_elem? vs i ≡ some v → get_elem? vs j ≡ some w → count k v.parts + count k w.parts ≤ tally k vs
 tally_two k vs i j v w n e g = subst (λ n. count k v.parts + count k w.parts ≤ n) (sym (tally_is k vs)) (sum_two (λ v. count k v.parts) vs i j v w n e g)
 
-shares_set : (vs : List View) (i : ℕ) (v w : View) → get_elem? vs i ≡ some v → all_shares (set vs i w) + shares v.parts ≡ all_shares vs + shares w.parts
+pub shares_set : (vs : List View) (i : ℕ) (v w : View) → get_elem? vs i ≡ some v → all_shares (set vs i w) + shares v.parts ≡ all_shares vs + shares w.parts
 shares_set vs i v w e = let a : ℕ = all_shares (set vs i w) in let b : ℕ = all_shares vs in let a' : ℕ = sum (λ v. shares v.parts) (set vs i w) in let b' : ℕ = sum (λ v. shares v.parts) vs in let x : ℕ = shares v.parts in let y : ℕ = shares w.parts in
     let p : a ≡ a' = all_shares_is (set vs i w) in let q : b ≡ b' = all_shares_is vs in let h : a' + x ≡ b' + y = sum_set (λ v. shares v.parts) vs i v w e in omega arith
 
@@ -90,14 +90,15 @@ turn z t r id v w qs qs' ps words d at is is' h own = record {
   steady = h.steady;
   sized = h.sized;
   words = h.shows;
+  used = r.used;
+  passes = subst (λ n. AreUsed n r.used) (sym h.passes) r.passes;
   exact = λ k. let a : ℕ = tally k (set t.views id w) in let b : ℕ = count k v.parts in let f : ℕ = tally k t.views in let g : ℕ = count k w.parts in let q : ℕ = count k qs in let q' : ℕ = count k qs' in let p : ℕ = count k ps in
       let h0 : a + b ≡ f + g = tally_set k t.views id v w at in let h1 : g ≡ q' + p = ap (count k) is' ∙ count_append k qs' ps in let h2 : b ≡ q + p = parted k in let h3 : q' ≡ q = h.counts k in let h4 : a ≡ f = omega arith in
-      h4 ∙ (r.exact k ∙ ap (λ n. expected z n k) (sym h.passes));
+      h4 ∙ r.exact k;
   shared = let a : ℕ = all_shares (set t.views id w) in let b : ℕ = shares v.parts in let f : ℕ = all_shares t.views in let g : ℕ = shares w.parts in let q : ℕ = shares qs in let q' : ℕ = shares qs' in let p : ℕ = shares ps in
       let h0 : a + b ≡ f + g = shares_set t.views id v w at in let h1 : g ≡ q' + p = ap shares is' ∙ shares_append qs' ps in let h2 : b ≡ q + p = ap shares is ∙ shares_append qs ps in let h3 : q' ≡ q = h.shared in let h4 : a ≡ f = omega arith in h4 ∙ r.shared;
-  outside = λ k none. let none' : expected z c.passes k ≡ 0 = ap (λ n. expected z n k) (sym h.passes) ∙ none in
-      h.only (new_part k) (ap (λ k'. count k' qs) (new_key k) ∙ (let b : ℕ = count k v.parts in let q : ℕ = count k qs in let p : ℕ = count k ps in let f : ℕ = tally k t.views in let y : ℕ = expected z c.passes k in
-      let h2 : b ≡ q + p = parted k in let h3 : b ≤ f = tally_one k t.views id v at in let h4 : f ≡ y = r.exact k in let h5 : y ≡ 0 = none' in omega arith)) (r.outside k none');
+  outside = λ k none. h.only (new_part k) (ap (λ k'. count k' qs) (new_key k) ∙ (let b : ℕ = count k v.parts in let q : ℕ = count k qs in let p : ℕ = count k ps in let f : ℕ = tally k t.views in let y : ℕ = expected z r.used k in
+      let h2 : b ≡ q + p = parted k in let h3 : b ≤ f = tally_one k t.views id v at in let h4 : f ≡ y = r.exact k in let h5 : y ≡ 0 = none in omega arith)) (r.outside k none);
   shown = λ j y at'. ⊎_elim
       (λ (u : (j ≡ id) × (w ≡ y)). subst (IsTrueOf d) u.1 mine)
       (λ (u : (j ≢ id) × (get_elem? t.views j ≡ some y)). other j y u.0 u.1)
@@ -111,7 +112,7 @@ turn z t r id v w qs qs' ps words d at is is' h own = record {
     parted k = ap (count k) is ∙ count_append k qs ps
 
     small : (k : Key) → tally k t.views ≤ 1
-    small k = subst (λ n. n ≤ 1) (sym (r.exact k)) (expected_small z c.passes k)
+    small k = subst (λ n. n ≤ 1) (sym (r.exact k)) (expected_small z r.used k)
 
     mine : IsTrueOf d w
     mine = own (stay c d qs ps h.only (λ k. let b : ℕ = count k v.parts in let q : ℕ = count k qs in let p : ℕ = count k ps in let f : ℕ = tally k t.views in
@@ -147,6 +148,8 @@ may_split z id v l o h t r at = record {
   steady = r.steady;
   sized = r.sized;
   words = r.words;
+  used = r.used;
+  passes = r.passes;
   exact = λ k. let a : ℕ = tally k (set t.views id l ++ o ∷ []) in let b : ℕ = tally k (set t.views id l) in let x : ℕ = count k o.parts in let d : ℕ = count k v.parts in let e : ℕ = tally k t.views in let f : ℕ = count k l.parts in
       let h1 : a ≡ b + x = tally_snoc k (set t.views id l) o in let h2 : b + d ≡ e + f = tally_set k t.views id v l at in let h3 : f + x ≡ d = h.counts k in let h4 : a ≡ e = omega arith in h4 ∙ r.exact k;
   shared = let a : ℕ = all_shares (set t.views id l ++ o ∷ []) in let b : ℕ = all_shares (set t.views id l) in let x : ℕ = shares o.parts in let d : ℕ = shares v.parts in let e : ℕ = all_shares t.views in let f : ℕ = shares l.parts in
@@ -174,6 +177,8 @@ may_join z id v other w b o h t r at apart at2 = record {
   steady = r.steady;
   sized = r.sized;
   words = r.words;
+  used = r.used;
+  passes = r.passes;
   exact = λ k. let a1 : ℕ = tally k (set (set t.views id b) other o) in let a2 : ℕ = tally k (set t.views id b) in let a3 : ℕ = tally k t.views in let cb : ℕ = count k b.parts in let co : ℕ = count k o.parts in let cv : ℕ = count k v.parts in let cw : ℕ = count k w.parts in
       let h1 : a1 + cw ≡ a2 + co = tally_set k (set t.views id b) other w o at2 in let h2 : a2 + cv ≡ a3 + cb = tally_set k t.views id v b at in let h3 : cb + co ≡ cv + cw = h.counts k in let h4 : a1 ≡ a3 = omega arith in h4 ∙ r.exact k;
   shared = let a1 : ℕ = all_shares (set (set t.views id b) other o) in let a2 : ℕ = all_shares (set t.views id b) in let a3 : ℕ = all_shares t.views in let cb : ℕ = shares b.parts in let co : ℕ = shares o.parts in let cv : ℕ = shares v.parts in let cw : ℕ = shares w.parts in
@@ -199,6 +204,8 @@ backs z t r id v n at is = record {
   steady = r.steady;
   sized = r.sized;
   mark_is = is;
+  used = r.used;
+  passes = r.passes;
   most = λ k. subst (λ n. count k v.parts ≤ n) (r.exact k) (tally_one k t.views id v at);
   alone = λ all p. sym (tally_is (pass_key p) t.views ∙ sum_alone (λ v. count (pass_key p) v.parts) t.views id v at (λ j w apart at'. no_share r.state p w.parts (r.shown j w at').parts (none j w apart at' all))) ∙ r.exact (pass_key p);
   outside = r.outside;

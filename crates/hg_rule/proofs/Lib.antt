@@ -20,6 +20,7 @@ pub mod Grouping
 pub mod Shifts
 pub mod Turning
 pub mod Handing
+pub mod Halving
 -- A new board, boards at rest, and a round.
 pub mod Opening
 pub mod Rounds

@@ -21,6 +21,7 @@ use Rattle.hg_rule.specs.Moves.{first_of, run, session_part, bucket_part, pass_p
 use Rattle.hg_rule.specs.New.{EachFrom}
 use Rattle.hg_rule.proofs.Counts.{count_append, shares_append}
 use Rattle.hg_rule.proofs.Lists.{each_append}
+use Rattle.hg_rule.proofs.Found.{less_is}
 
 -- ---- each part once
 
@@ -77,7 +78,7 @@ first_count : (z : Sizes) (k : Key) → count k (first_view z).parts ≡ count k
 first_count z k = let s = run session_part 1 z.sessions in let b = run bucket_part 0 z.buckets in let p = run pass_part 0 3 in let c = new_part commit_key ∷ [] in
     count_append k s (b ++ (p ++ c)) ∙ ap (λ (m : ℕ). count k s + m) (count_append k b (p ++ c) ∙ ap (λ (m : ℕ). count k b + m) (count_append k p c))
 
-all_once : (z : Sizes) (k : Key) → count k (first_view z).parts ≡ expected z 3 k
+all_once : (z : Sizes) (k : Key) → count k (first_view z).parts ≡ expected z (λ p. ltb p 3) k
 all_once z (session_key j) = let k = session_key j in let t : ℕ = count k (first_view z).parts in let a : ℕ = count k (run session_part 1 z.sessions) in let b : ℕ = count k (run bucket_part 0 z.buckets) in let c : ℕ = count k (run pass_part 0 3) in let x : ℕ = one (both (ltb 0 j) (ltb j (suc z.sessions))) in
     let e : t ≡ a + (b + (c + 0)) = first_count z k in let f : b ≡ 0 = run_none k bucket_part (λ i. refl) 0 z.buckets in let g : c ≡ 0 = run_none k pass_part (λ i. refl) 0 3 in let h : a ≡ x = from_one j z.sessions in omega arith
 all_once z (home_key j) = let k = home_key j in let t : ℕ = count k (first_view z).parts in let a : ℕ = count k (run session_part 1 z.sessions) in let b : ℕ = count k (run bucket_part 0 z.buckets) in let c : ℕ = count k (run pass_part 0 3) in let x : ℕ = one (both (ltb 0 j) (ltb j (suc z.sessions))) in
@@ -116,7 +117,9 @@ opens z = record {
   steady = steady_after z.sessions z.tables z.buckets 3 z.quota [] tt;
   sized = record { sessions = refl; tables = refl; buckets = refl; quota = refl };
   words = record { count = length-replicate (words_for z.sessions) 0; mark = get_or-replicate (words_for z.sessions) 0 0 0 (omega arith); registers = λ j inside. get_or-replicate (words_for z.sessions) (register_at j) 0 0 (let l = inside.last in omega arith); masks = λ j. zeros (words_for z.sessions) (mask_at j) };
-  exact = λ k. let a : ℕ = count k (first_view z).parts in let b : ℕ = expected z 3 k in let e : a ≡ b = all_once z k in omega arith;
+  used = λ p. ltb p 3;
+  passes = record { below = λ p e. less_is p 3 e; last = λ p e. lt-ltb p 3 (omega (arith, e)) };
+  exact = λ k. let a : ℕ = count k (first_view z).parts in let b : ℕ = expected z (λ p. ltb p 3) k in let e : a ≡ b = all_once z k in omega arith;
   shared = let a : ℕ = shares (first_view z).parts in let b : ℕ = whole_share in let e : a ≡ b = all_shared z in omega arith;
   outside = λ k none. new_shown k;
   shown = only_one;

@@ -18,11 +18,11 @@ use Rattle.hg_rule.proofs.Keeps.{may_split, may_join}
 
 -- ---- joins
 
-put_in_count : (k : Key) (ps qs : List Part) → count k (put_in ps qs) + 0 ≡ count k ps + count k qs
+pub put_in_count : (k : Key) (ps qs : List Part) → count k (put_in ps qs) + 0 ≡ count k ps + count k qs
 put_in_count k [] qs = let a : ℕ = count k qs in omega arith
 put_in_count k (p ∷ ps) qs = let a : ℕ = one (has k p) in let b : ℕ = count k (qs ++ ps) in let c : ℕ = count k ps in let d : ℕ = count k qs in let h : b ≡ d + c = count_append k qs ps in omega arith
 
-put_in_shares : (ps qs : List Part) → shares (put_in ps qs) + 0 ≡ shares ps + shares qs
+pub put_in_shares : (ps qs : List Part) → shares (put_in ps qs) + 0 ≡ shares ps + shares qs
 put_in_shares [] qs = let a : ℕ = shares qs in omega arith
 put_in_shares (p ∷ ps) qs = let a : ℕ = share_of p in let b : ℕ = shares (qs ++ ps) in let c : ℕ = shares ps in let d : ℕ = shares qs in let h : b ≡ d + c = shares_append qs ps in omega arith
 

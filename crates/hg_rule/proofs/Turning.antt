@@ -31,7 +31,7 @@ use Rattle.hg_rule.specs.Views.{seeing, first_in, others, part_number}
 use Rattle.hg_rule.specs.Moves.{put_in, joined, spent}
 use Rattle.hg_rule.specs.Holding.{bucket, bucket_number, beyond, commit}
 use Rattle.hg_rule.specs.Places.{HasFirst, arriving, arrive, arrive_first, with_bucket, departing, depart, without_bucket, IsThere, HoldsBucket, bucket_alone, without_commit, commit_alone, HoldsCommit}
-use Rattle.hg_rule.proofs.Counts.{another, count_self}
+use Rattle.hg_rule.proofs.Counts.{another, count_self, one_true}
 use Rattle.hg_rule.proofs.Found.{ltb_less}
 use Rattle.hg_rule.proofs.Growing.{Grows}
 use Rattle.hg_rule.proofs.Lists.{starts_same, ends_same, each_append}
@@ -50,10 +50,10 @@ set_twice [] id v w = refl
 set_twice (x ∷ views) zero v w = refl
 set_twice (x ∷ views) (suc id) v w = ap (λ l. x ∷ l) (set_twice views id v w)
 
-there : (z : Sizes) (t : Table) (r : Rule z t) (id : ℕ) (v : View) (k : Key) → get_elem? t.views id ≡ some v → 0 < count k v.parts → 0 < expected z r.state.passes k
-there z t r id v k at l = let a : ℕ = count k v.parts in let b : ℕ = tally k t.views in let c : ℕ = expected z r.state.passes k in let h : a ≤ b = tally_one k t.views id v at in let e : b ≡ c = r.exact k in omega arith
+pub there : (z : Sizes) (t : Table) (r : Rule z t) (id : ℕ) (v : View) (k : Key) → get_elem? t.views id ≡ some v → 0 < count k v.parts → 0 < expected z r.used k
+there z t r id v k at l = let a : ℕ = count k v.parts in let b : ℕ = tally k t.views in let c : ℕ = expected z r.used k in let h : a ≤ b = tally_one k t.views id v at in let e : b ≡ c = r.exact k in omega arith
 
-has_part : (p : Part) (ps qs : List Part) → qs ≡ p ∷ ps → 0 < count (key_of p) qs
+pub has_part : (p : Part) (ps qs : List Part) → qs ≡ p ∷ ps → 0 < count (key_of p) qs
 has_part p ps qs e = subst (λ l. 0 < count (key_of p) l) (sym e) (count_self p ps)
 
 -- ---- a collector's visits change
@@ -101,7 +101,7 @@ turned z t r id v p part ps visits at is steady = turn z t r id v (seeing (OfPas
 same_view : (z : Sizes) (t : Table) (id : ℕ) (v : View) (parts : List Part) → get_elem? t.views id ≡ some v → v.parts ≡ parts → Rule z t → Rule z record { words = t.words; homes = t.homes; views = set t.views id (seeing parts v.sights v.events) }
 same_view z t id v parts at is r = subst (λ (l : List View). Rule z record { words = t.words; homes = t.homes; views = l }) (sym (ap (λ (ps : List Part). set t.views id (seeing ps v.sights v.events)) (sym is) ∙ set_again t.views id v at)) r
 
-arrived : (z : Sizes) (t : Table) (id : ℕ) (v : View) (b : ℕ) (parts : List Part) → get_elem? t.views id ≡ some v → v.parts ≡ parts → (r : Rule z t) → 0 < expected z r.state.passes (bucket_key b)
+arrived : (z : Sizes) (t : Table) (id : ℕ) (v : View) (b : ℕ) (parts : List Part) → get_elem? t.views id ≡ some v → v.parts ≡ parts → (r : Rule z t) → 0 < expected z r.used (bucket_key b)
     → Rule z record { words = t.words; homes = t.homes; views = set t.views id (seeing (arrive_first b parts) v.sights v.events) }
 arrived z t id v b [] at is r l = same_view z t id v [] at is r
 arrived z t id v b (OfSession j s ∷ ps) at is r l = same_view z t id v (OfSession j s ∷ ps) at is r
@@ -112,7 +112,7 @@ arrived z t id v b (Lent j s ∷ ps) at is r l = same_view z t id v (Lent j s �
 arrived z t id v b (OfPass p part ∷ ps) at is r l =
     let c = r.state in
     let own : Shown c (OfPass p part) = (subst (Each (Shown c)) is (r.shown id v at).parts).0 in
-    let small : p < c.passes = ltb_less p c.passes (there z t r id v (pass_key p) at (has_part (OfPass p part) ps v.parts is)) in
+    let small : p < c.passes = r.passes.below p (one_true (r.used p) (there z t r id v (pass_key p) at (has_part (OfPass p part) ps v.parts is))) in
     let low : b < z.buckets = ltb_less b z.buckets l in
     let kept : IsSteady (step c (Arrive p b)) = arrive_kept c p b r.steady record { pass = small; bucket = subst (λ n. b < n) (sym r.sized.buckets) low } in
     turned z t r id v p part ps (arriving b part).visits at is
@@ -141,9 +141,9 @@ departed z t id v b part ps (OfPass p s) at is r l =
 pub arrives : (z : Sizes) (id : ℕ) (v : View) (other : ℕ) (w : View) (b : ℕ) (part : BucketPart) → w.parts ≡ OfBucket b part ∷ [] → Joins (Rule z) id v other w (with_bucket v w) spent
 arrives z id v other w b part only t r at apart at2 =
     let at3 : get_elem? t.views other ≡ some w = sym (set_else t.views id other (with_bucket v w) apart) ∙ at2 in
-    let low : 0 < expected z r.state.passes (bucket_key b) = there z t r other w (bucket_key b) at3 (has_part (OfBucket b part) [] w.parts only) in
+    let low : 0 < expected z r.used (bucket_key b) = there z t r other w (bucket_key b) at3 (has_part (OfBucket b part) [] w.parts only) in
     let number : part_number w.parts ≡ b = ap part_number only in
-    let r1 = arrived z t id v (part_number w.parts) v.parts at refl r (subst (λ n. 0 < expected z r.state.passes (bucket_key n)) (sym number) low) in
+    let r1 = arrived z t id v (part_number w.parts) v.parts at refl r (subst (λ n. 0 < expected z r.used (bucket_key n)) (sym number) low) in
     let views : List View = set t.views id mid in
     let at1 : get_elem? views id ≡ some mid = set_here t.views id mid (in_range 0 t.views id v at) in
     let at4 : get_elem? (set views id (with_bucket v w)) other ≡ some w = ap (λ (l : List View). get_elem? l other) (set_twice t.views id mid (with_bucket v w)) ∙ at2 in

@@ -101,10 +101,10 @@ first_share = 4294967296
 abbrev pub whole_share : ℕ
 whole_share = 12884901888
 
--- how many parts of a key there are at a board of these sizes with so many passes: sessions are counted from 1
-abbrev pub expected : Sizes → ℕ → Key → ℕ
-expected z passes (session_key j) = one (both (ltb 0 j) (ltb j (suc z.sessions)))
-expected z passes (bucket_key b) = one (ltb b z.buckets)
-expected z passes commit_key = 1
-expected z passes (pass_key p) = one (ltb p passes)
-expected z passes (home_key j) = one (both (ltb 0 j) (ltb j (suc z.sessions)))
+-- how many parts of a key there are at a board of these sizes, where these passes are in use: sessions are counted from 1
+abbrev pub expected : Sizes → (ℕ → Bool) → Key → ℕ
+expected z used (session_key j) = one (both (ltb 0 j) (ltb j (suc z.sessions)))
+expected z used (bucket_key b) = one (ltb b z.buckets)
+expected z used commit_key = 1
+expected z used (pass_key p) = one (used p)
+expected z used (home_key j) = one (both (ltb 0 j) (ltb j (suc z.sessions)))

@@ -13,6 +13,7 @@ pub mod Writes
 pub mod Removes
 pub mod Places
 pub mod Handing
+pub mod Sharing
 -- What a round of a collector's pass is, and what it reports.
 pub mod Rounds
 -- Seats.

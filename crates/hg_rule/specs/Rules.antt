@@ -1,5 +1,5 @@
 -- The rule of the board: its words and views show a state that meets the invariant.
-use Rattle.std.specs.Prelude.{◌≡◌, ℕ, ◌*◌, ◌^◌, ◌≤◌, List, length, slice_index}
+use Rattle.std.specs.Prelude.{◌≡◌, ℕ, suc, ◌*◌, ◌^◌, ◌<◌, ◌≤◌, Bool, true, List, length, slice_index}
 use mathlib.Core.Option.{some}
 use lib.ListN.{get_elem?}
 use Rattle.hg_base.specs.Lists.{Each}
@@ -39,16 +39,23 @@ pub record IsTrueOf (s : CoreState) (v : View) : Type 0 where
   pub sights : Each (Known s) v.sights
   pub events : Each (Stands s) v.events
 
+-- The passes in use are below this number, and the one before it is in use.
+pub record AreUsed (passes : ℕ) (used : ℕ → Bool) : Type 0 where
+  pub below : (p : ℕ) → used p ≡ true → p < passes
+  pub last : (p : ℕ) → suc p ≡ passes → used p ≡ true
+
 -- There is a state that words and views show, which meets the invariant. Each part is in exactly one view, once. Where no
--- view has a part, the state is as that of a new board.
+-- view has a part, the state is as that of a new board. A pass that was split off is in use until it is united with another.
 pub record Rule (z : Sizes) (t : State ℕ View) : Type 0 where
   pub state : CoreState
   pub steady : IsSteady state
   pub sized : IsSized z state
   pub words : ShowsWords z state t.words
-  pub exact : (k : Key) → tally k t.views ≡ expected z state.passes k
+  pub used : ℕ → Bool
+  pub passes : AreUsed state.passes used
+  pub exact : (k : Key) → tally k t.views ≡ expected z used k
   pub shared : all_shares t.views ≡ whole_share
-  pub outside : (k : Key) → expected z state.passes k ≡ 0 → Shown state (new_part k)
+  pub outside : (k : Key) → expected z used k ≡ 0 → Shown state (new_part k)
   pub shown : (i : ℕ) (v : View) → get_elem? t.views i ≡ some v → IsTrueOf state v
 
 -- What a load of the mark tells of a view: some state that meets the invariant has this mark, and is as the view says. Who
@@ -58,7 +65,9 @@ pub record IsBacked (z : Sizes) (mark : ℕ) (v : View) : Type 0 where
   pub steady : IsSteady state
   pub sized : IsSized z state
   pub mark_is : state.mark ≡ mark
-  pub most : (k : Key) → count k v.parts ≤ expected z state.passes k
-  pub alone : shares v.parts ≡ whole_share → (p : ℕ) → count (pass_key p) v.parts ≡ expected z state.passes (pass_key p)
-  pub outside : (k : Key) → expected z state.passes k ≡ 0 → Shown state (new_part k)
+  pub used : ℕ → Bool
+  pub passes : AreUsed state.passes used
+  pub most : (k : Key) → count k v.parts ≤ expected z used k
+  pub alone : shares v.parts ≡ whole_share → (p : ℕ) → count (pass_key p) v.parts ≡ expected z used (pass_key p)
+  pub outside : (k : Key) → expected z used k ≡ 0 → Shown state (new_part k)
   pub true_of : IsTrueOf state v

@@ -77,6 +77,7 @@ mod passes;
 mod picks;
 mod plays;
 mod seats;
+mod sharing;
 mod view;
 mod writing;
 

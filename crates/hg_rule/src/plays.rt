@@ -3,6 +3,7 @@
 ghost use Rattle.hg_rule.specs.Steps.{declared, probed, entered, fixed, went_live, ended, marked, sampled, masked, tried, looked};
 ghost use Rattle.hg_rule.specs.Writes.{asked, wrote, undid};
 ghost use Rattle.hg_rule.specs.Removes.{removed, took};
+ghost use Rattle.hg_rule.specs.Sharing.{budded, rejoined, unites};
 ghost use Rattle.hg_rule.specs.Places.{with_bucket, without_bucket, bucket_alone, without_commit, commit_alone};
 ghost use Rattle.hg_rule.specs.Handing.{lends, retakes, stamps, publishes, received, hands_back};
 ghost use Rattle.hg_rule.specs.Moves.{joined, merged, spent, left_bare, right_given, left_but_second, right_second, left_tail, right_first};
@@ -231,6 +232,29 @@ pub(crate) struct Stamping<A> {
 
 impl<A: Stamped> Play<u8, View> for Stamping<A> {
     ghost then = { stamps A.stamped_session A.stamped_rid };
+}
+
+/// A pass more stands behind the first, with its record.
+pub(crate) struct Budding;
+
+impl Play<u8, View> for Budding {
+    ghost then = { budded };
+}
+
+/// What was split off comes behind the first. What it did is the pass's own.
+pub(crate) struct Rejoining;
+
+impl Join<View> for Rejoining {
+    ghost both = { rejoined };
+
+    ghost spent = { spent };
+}
+
+/// The pass behind the first becomes one with it.
+pub(crate) struct Uniting;
+
+impl Play<u8, View> for Uniting {
+    ghost then = { unites };
 }
 
 pub(crate) struct Publishing;

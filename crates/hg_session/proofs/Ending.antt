@@ -145,7 +145,7 @@ module _ (z : Sizes) (n : ℕ) (v : View) (k : IsBacked z n v) (ended : IsEnded 
   sum_none : (a b : ℕ) → b ≡ 0 → a + b ≡ a
   sum_none a b e = omega (arith, e)
 
-  counted : (h : Key) → HasPart h → count h (v.parts ++ more) ≡ expected z s.passes h
+  counted : (h : Key) → HasPart h → count h (v.parts ++ more) ≡ expected z k.used h
   counted (home_key j) part = absurd part
   counted (session_key j) part = count_append (session_key j) v.parts more ∙ sum_none _ _ (buckets.sessions j).0 ∙ full (count (session_key j) v.parts) (both (ltb 0 j) (ltb j (suc z.sessions))) (k.most (session_key j)) (λ e. ended.sessions j (is_session z j e))
   counted (bucket_key i) part = count_append (bucket_key i) v.parts more ∙ go (ltb i z.buckets) refl (k.most (bucket_key i))
@@ -165,7 +165,7 @@ module _ (z : Sizes) (n : ℕ) (v : View) (k : IsBacked z n v) (ended : IsEnded 
 
   -- the state is the one that the view's parts are, with the buckets that it lacks
   state_read : s ≡ state_of z n s.register s.mask (v.parts ++ more)
-  state_read = state_is z s n s.register s.mask (v.parts ++ more) k.sized (each_append (Shown s) v.parts more k.true_of.parts (all_shown s v.parts z.buckets)) counted k.outside k.mark_is (λ j. refl) (λ j. refl)
+  state_read = state_is z s k.used n s.register s.mask (v.parts ++ more) k.sized k.passes (each_append (Shown s) v.parts more k.true_of.parts (all_shown s v.parts z.buckets)) counted k.outside k.mark_is (λ j. refl) (λ j. refl)
 
   pub logs_are : s.log ≡ logs_in v
   logs_are = ap (λ (c : CoreState). c.log) state_read ∙ (λ i j. (session_there (seek_same (session_key j) v.parts more (buckets.sessions j).1 i)).log)

@@ -136,7 +136,7 @@ module _ (z : Sizes) (n : ℕ) (v w : View) (h : Held) (r : Rid) (hold : Holds v
       owned : (o ≡ writer_of (begun_in backed.state.log) o.session) × (open_in r (backed.state.log o.session) ≡ Some out.0)
       owned = backed.steady.open_writes_stand.owned r o out.0 ((λ i. unpublished (backed.mark_is i) (same i)) ∙ out.1)
 
-      none : expected z backed.state.passes (session_key o.session) ≡ 0 → ⊥
+      none : expected z backed.used (session_key o.session) ≡ 0 → ⊥
       none e = none-some out.0 (sym (ap (open_in r) (backed.outside (session_key o.session) e).1.0) ∙ owned.1)
 
       is_there : (x y : Bool) → ltb 0 o.session ≡ x → ltb o.session (suc z.sessions) ≡ y → IsSession z.sessions o.session
