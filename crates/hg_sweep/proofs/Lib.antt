@@ -1,0 +1,7 @@
+-- Numbers that are drawn.
+pub mod Adding
+pub mod Word
+-- Helpers, and a team.
+pub mod Helped
+pub mod Joined
+pub mod Rounded

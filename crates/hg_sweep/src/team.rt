@@ -1,0 +1,159 @@
+//! The team: one pass, and room for its helpers.
+
+ghost use Rattle.std.specs.Prelude.{◌≡◌, ◌<◌, ◌≤◌, IfOk, IfErr};
+ghost use Rattle.hg_rule.specs.Views.{pass as own_pass};
+ghost use Rattle.hg_rule.specs.Sharing.{MaySplit};
+ghost use Rattle.hg_rule.specs.Seats.{BoardId, pass_view, IsPassOf};
+ghost use Rattle.hg_store.specs.Stores.{store_board_id, store_buckets};
+ghost use Rattle.hg_tracker.specs.Boards.{trackers_board_id, board_sizes};
+
+use crate::draws::{Drawer, Draws};
+use crate::helper::Helper;
+use crate::hiring::{hire, retire, work};
+use hg_base::{Gate, Kind, NoMemory, Report};
+use hg_rule::CollectorPass;
+use hg_store::Store;
+use hg_tracker::{Gathered, Trackers};
+use hg_visit::{new_report, rewrite};
+use std::alloc::Global;
+use std::sync::Wait;
+use std::thread::Threads;
+
+/// Makes rounds of the interval collector with a fixed number of helpers, each in a thread of its own.
+#[derive(Drop)]
+pub struct SweepTeam {
+    pub(crate) pass: CollectorPass,
+    pub(crate) gathered: Gathered,
+    pub(crate) report: Report,
+    pub(crate) count: u32,
+    pub(crate) helpers: Vec<Helper>,
+    pub(crate) draws: Draws,
+    pub(crate) drawer: Drawer,
+}
+
+impl SweepTeam {
+    ghost use Rattle.hg_rule.specs.declared.view.Sizes.{Sizes};
+    ghost use Rattle.std.specs.Borrow.{sem};
+    ghost use Rattle.hg_sweep.specs.Lending.{LendsPass, EndsAs};
+    ghost use Rattle.hg_sweep.specs.Teams.{pass_of, view_of, report_in, IsTeamOf, SweepsBeside};
+
+    /// Allocates all that rounds with so many helpers need on a board of so many sessions and tables. If memory runs out, the pass comes
+    /// back.
+    pub fn new(
+        alloc: Global,
+        pass: CollectorPass,
+        helpers: u32,
+        sessions: u32,
+        tables: u32,
+    ) -> Result<SweepTeam, (CollectorPass, NoMemory)>
+        requires tables { tables ≤ 64 }
+        requires helpers { (0 < helpers) × (helpers ≤ 16) }
+        ensures team { (t : BoardId) (z : Sizes) → IsPassOf t pass → MaySplit helpers (own_pass (pass_view pass)).share → z.sessions ≡ sessions → z.tables ≡ tables → IfOk result (IsTeamOf t z) }
+        ensures same { IfOk result (λ c. pass_of c ≡ pass) }
+        ensures refused { IfErr result (λ e. e.0 ≡ pass) }
+    {
+        let Ok(gathered) = Gathered::new(alloc, sessions, tables) else {
+            return Err((pass, NoMemory));
+        };
+        let Ok(report) = new_report(alloc, Kind::Interval, sessions) else {
+            return Err((pass, NoMemory));
+        };
+        let Ok(places) = Vec::with_capacity(alloc, helpers as usize) else {
+            return Err((pass, NoMemory));
+        };
+        let Ok((draws, drawer)) = Draws::new(alloc) else {
+            return Err((pass, NoMemory));
+        };
+        Ok(SweepTeam {
+            pass,
+            gathered,
+            report,
+            count: helpers,
+            helpers: places,
+            draws,
+            drawer,
+        })
+    }
+
+    /// Gives up the pass.
+    pub fn into_pass(self) -> CollectorPass
+        ensures { result ≡ pass_of self }
+    {
+        self.pass
+    }
+
+    /// Lends the pass between two rounds.
+    pub fn lend(&mut self) -> &mut CollectorPass
+        ensures* back { sem 𝓛 (LendsPass self.entry result) }
+        ensures pass { result.now ≡ pass_of self.old }
+    {
+        &mut self.pass
+    }
+
+    /// The report of the last round.
+    pub fn report(&self) -> &Report
+        ensures { result.now ≡ report_in self.now }
+    {
+        &self.report
+    }
+
+    /// One round. Helper h asks the gate as worker 200 + h before each of its buckets, counted from 1. It holds one bucket's lock at a time.
+    pub fn collect<R: Threads + Wait + Sync, G: Gate + Sync>(
+        &mut self,
+        rt: &R,
+        trackers: &Trackers,
+        store: &Store,
+        gate: &G,
+    )
+        requires own { IsTeamOf (trackers_board_id trackers.now) (board_sizes trackers.now) self.old }
+        requires board { store_board_id store.now ≡ trackers_board_id trackers.now }
+        requires buckets { store_buckets store.now ≡ (board_sizes trackers.now).buckets }
+        ensures sweeps { SweepsBeside (board_sizes trackers.now) (view_of self.old) (report_in self.new) (view_of self.new) }
+        ensures own { IsTeamOf (trackers_board_id trackers.now) (board_sizes trackers.now) self.new }
+    {
+        trackers.gather(&mut self.pass, &mut self.gathered);
+        let board = trackers.board();
+        hire(
+            board,
+            &mut self.pass,
+            &self.draws,
+            &mut self.drawer,
+            self.count,
+            &mut self.helpers,
+        );
+        work(
+            rt,
+            trackers,
+            store,
+            &self.gathered,
+            &self.draws,
+            gate,
+            self.helpers.as_mut_slice(),
+        );
+        let removed = retire(
+            board,
+            &mut self.pass,
+            &self.draws,
+            &mut self.drawer,
+            &mut self.helpers,
+        );
+        rewrite(&mut self.report, Kind::Interval, &self.gathered, removed);
+    }
+
+    /// One round, and its report.
+    pub fn pass<R: Threads + Wait + Sync, G: Gate + Sync>(
+        &mut self,
+        rt: &R,
+        trackers: &Trackers,
+        store: &Store,
+        gate: &G,
+    ) -> &Report
+        requires own { IsTeamOf (trackers_board_id trackers.now) (board_sizes trackers.now) self.old }
+        requires board { store_board_id store.now ≡ trackers_board_id trackers.now }
+        requires buckets { store_buckets store.now ≡ (board_sizes trackers.now).buckets }
+        ensures* ends { sem 𝓛 (EndsAs self.entry (λ c. SweepsBeside (board_sizes trackers.now) (view_of self.old) result.now (view_of c) × IsTeamOf (trackers_board_id trackers.now) (board_sizes trackers.now) c)) }
+    {
+        self.collect(rt, trackers, store, gate);
+        &self.report
+    }
+}
