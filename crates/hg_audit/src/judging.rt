@@ -89,8 +89,8 @@ fn find_in_run(
     Ok(Some(verdict))
 }
 
-/// The verdict on what was printed.
-pub fn find_verdict(alloc: Global, script: &Script, printed: &Printed) -> Result<Verdict, NoMemory>
+// The verdict on what was printed.
+fn find_verdict(alloc: Global, script: &Script, printed: &Printed) -> Result<Verdict, NoMemory>
     requires known { Each (λ r. OpensKnown r.statement) script.now.records }
     ensures { IfOk result (λ verdict. IsVerdict script.now printed.now verdict) }
 {

@@ -35,8 +35,8 @@ mod shape;
 mod totals;
 mod verdict;
 
-pub use judging::{audit, find_verdict};
+pub use judging::audit;
 pub use laws::what_is_right_is_sound;
-pub use lines::{Found, find_fault};
+pub use lines::Found;
 pub use reply::Command;
 pub use verdict::{Verdict, Why};

@@ -91,7 +91,7 @@ fn judge_lines(
 }
 
 /// What fails first of the lines of these records, and of totals.
-pub fn find_fault(
+pub(crate) fn find_fault(
     alloc: Global,
     command: Command,
     records: &Sequence<'_>,
