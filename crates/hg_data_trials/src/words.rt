@@ -14,16 +14,18 @@ fn read(alloc: Global, words: &str) -> Result<Result<Options, WordsRefusal>, Fai
 }
 
 const TAKEN: &str = "\
-replay = Replay, buckets: 64, long: 4, rounds: 8
-replay --buckets 1 = Replay, buckets: 1, long: 4, rounds: 8
-run --rounds=2 --long 4 = Run, buckets: 64, long: 4, rounds: 2
---long 1048576 run = Run, buckets: 64, long: 1048576, rounds: 8
-run --rounds 0 = Run, buckets: 64, long: 4, rounds: 0
-run --rounds 1000 --buckets 1024 = Run, buckets: 1024, long: 4, rounds: 1000
-load 7 = Load(7), buckets: 64, long: 4, rounds: 8
-load 18446744073709551615 --rounds 3 = Load(18446744073709551615), buckets: 64, long: 4, rounds: 3
-audit = Audit, buckets: 64, long: 4, rounds: 8
-audit --rounds 3 = Audit, buckets: 64, long: 4, rounds: 3
+replay = Replay, buckets: 64, long: 4, rounds: 8, sweepers: 1
+replay --buckets 1 = Replay, buckets: 1, long: 4, rounds: 8, sweepers: 1
+run --rounds=2 --long 4 = Run, buckets: 64, long: 4, rounds: 2, sweepers: 1
+--long 1048576 run = Run, buckets: 64, long: 1048576, rounds: 8, sweepers: 1
+run --rounds 0 = Run, buckets: 64, long: 4, rounds: 0, sweepers: 1
+run --rounds 1000 --buckets 1024 = Run, buckets: 1024, long: 4, rounds: 1000, sweepers: 1
+load 7 = Load(7), buckets: 64, long: 4, rounds: 8, sweepers: 1
+load 18446744073709551615 --rounds 3 = Load(18446744073709551615), buckets: 64, long: 4, rounds: 3, sweepers: 1
+audit = Audit, buckets: 64, long: 4, rounds: 8, sweepers: 1
+audit --rounds 3 = Audit, buckets: 64, long: 4, rounds: 3, sweepers: 1
+run --sweepers 16 = Run, buckets: 64, long: 4, rounds: 8, sweepers: 16
+replay --sweepers 2 = Replay, buckets: 64, long: 4, rounds: 8, sweepers: 2
 ";
 
 #[test]
@@ -43,6 +45,8 @@ replay --buckets 1025
 replay --long 0
 replay --long 1048577
 run --rounds 1001
+run --sweepers 0
+run --sweepers 17
 run --rounds -1
 load
 load 18446744073709551616

@@ -16,8 +16,8 @@ use Rattle.hg_gc_group.specs.Collectors as group
 use Rattle.hg_gc_group.specs.declared.collector.GroupCollector.{GroupCollector}
 use Rattle.hg_gc_table.specs.Collectors as table
 use Rattle.hg_gc_table.specs.declared.collector.TableCollector.{TableCollector}
-use Rattle.hg_gc_interval.specs.Collectors as interval
-use Rattle.hg_gc_interval.specs.declared.collector.IntervalCollector.{IntervalCollector}
+use Rattle.hg_run.specs.Workers as interval
+use Rattle.hg_run.specs.declared.interval.IntervalWorker.{IntervalWorker}
 use Rattle.hg_rule.specs.declared.passes.CollectorPass.{CollectorPass}
 use Rattle.hg_rule.specs.declared.view.Part.{Part}
 use Rattle.hg_rule.specs.declared.view.Part.TheVariants.{OfPass}
@@ -33,14 +33,15 @@ use Rattle.hg_run.specs.Driven.{sweeps_in, sweeps_of}
 use Rattle.hg_run.specs.Rounding.{IsRoundBy, AreRounds, sweep_lines}
 use Rattle.hg_run.specs.Swept.{HasSwept, HasMetSessions, swept_by}
 use Rattle.hg_run.proofs.Meetings.{met_none, met_more}
-use Rattle.hg_run.proofs.Rounds.{group_swept, table_swept, interval_swept}
+use Rattle.hg_run.proofs.Rounds.{group_swept, table_swept, interval_swept, team_swept}
 
 -- ---- one round
 
 pub swept_of : (kind : Kind) (z : Sizes) (long : ℕ) (v w : View) (sweep : Sweep) → IsRoundBy kind z long v sweep w → HasSwept kind z.sessions v sweep w
 swept_of Group z long v w sweep (report, (collects, is)) = subst (λ s. HasSwept Group z.sessions v s w) (sym is) (group_swept z v w report collects)
 swept_of Table z long v w sweep (report, (cuts, is)) = subst (λ s. HasSwept Table z.sessions v s w) (sym is) (table_swept z long v w report cuts)
-swept_of Interval z long v w sweep (report, (sweeps, is)) = subst (λ s. HasSwept Interval z.sessions v s w) (sym is) (interval_swept z v w report sweeps)
+swept_of Interval z long v w sweep (report, (inl sweeps, is)) = subst (λ s. HasSwept Interval z.sessions v s w) (sym is) (interval_swept z v w report sweeps)
+swept_of Interval z long v w sweep (report, (inr sweeps, is)) = subst (λ s. HasSwept Interval z.sessions v s w) (sym is) (team_swept z v w report sweeps)
 
 -- ---- rounds
 
@@ -176,5 +177,5 @@ removed_group z long c new sweep round k = let s = (swept_of Group z long (view_
 pub removed_table : (z : Sizes) (long : ℕ) (c : Collectors) (new : TableCollector) (sweep : Sweep) → IsRoundBy Table z long (view_in Table c) sweep (table.view_of new) → (k : Kind) → removed_of k (record c { table = new }) ≡ removed_of k c + swept_by k sweep
 removed_table z long c new sweep round k = let s = (swept_of Table z long (view_in Table c) (table.view_of new) sweep round).removed k in omega (arith, s)
 
-pub removed_interval : (z : Sizes) (long : ℕ) (c : Collectors) (new : IntervalCollector) (sweep : Sweep) → IsRoundBy Interval z long (view_in Interval c) sweep (interval.view_of new) → (k : Kind) → removed_of k (record c { interval = new }) ≡ removed_of k c + swept_by k sweep
+pub removed_interval : (z : Sizes) (long : ℕ) (c : Collectors) (new : IntervalWorker) (sweep : Sweep) → IsRoundBy Interval z long (view_in Interval c) sweep (interval.view_of new) → (k : Kind) → removed_of k (record c { interval = new }) ≡ removed_of k c + swept_by k sweep
 removed_interval z long c new sweep round k = let s = (swept_of Interval z long (view_in Interval c) (interval.view_of new) sweep round).removed k in omega (arith, s)

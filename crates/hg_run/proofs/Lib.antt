@@ -27,6 +27,7 @@ mod Begun
 mod Closes
 mod WholeRun
 -- A session's worker, and rounds beside it.
+mod Teams
 mod Working
 mod Hiring
 -- What is printed fits the script: how many there are of all, the records in the order of their lines, the rows, and each line.

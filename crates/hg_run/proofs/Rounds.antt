@@ -27,6 +27,7 @@ use Rattle.hg_visit.specs.Visits.{GoesOn}
 use Rattle.hg_visit.proofs.Going.{removed_append, removed_for}
 use Rattle.hg_gc_table.specs.Collectors.{Cuts}
 use Rattle.hg_gc_interval.specs.Collectors.{Sweeps}
+use Rattle.hg_sweep.specs.Teams.{SweepsBeside}
 use Rattle.hg_gc_group.specs.Collectors.{Collects}
 use Rattle.hg_core.specs.Counters.{removed_all}
 use Rattle.hg_run.specs.Swept.{HasSwept, swept_by}
@@ -101,3 +102,8 @@ pub interval_swept : (z : Sizes) (v w : View) (report : Report) → Sweeps z v r
 interval_swept z v w report c =
     let r = c.reports in
     swept Interval v c.gathered w report (pass c.gathered).mark z.sessions (pass c.gathered).loaded c.gathers.parts c.visits.on r.steps r.events r.round r.report_is r.most c.visits.gone_is (c.gathers.keys, c.gathers.registers) c.gathers.saw c.gathers.kept
+
+pub team_swept : (z : Sizes) (v w : View) (report : Report) → SweepsBeside z v report w → HasSwept Interval z.sessions v (sweep_of report) w
+team_swept z v w report c =
+    let r = c.reports in
+    swept Interval v c.gathered w report (pass c.gathered).mark z.sessions (pass c.gathered).loaded c.gathers.parts c.on r.steps r.events r.round r.report_is r.most c.gone_is (c.gathers.keys, c.gathers.registers) c.gathers.saw c.gathers.kept

@@ -26,7 +26,8 @@ use Rattle.hg_headline.proofs.Loops.{line_of}
 use Rattle.hg_session.specs.declared.engine.Engine.{Engine}
 use Rattle.hg_gc_group.specs.Collectors as groups
 use Rattle.hg_gc_table.specs.Collectors as tables
-use Rattle.hg_gc_interval.specs.Collectors as intervals
+use Rattle.hg_run.specs.Workers as intervals
+use Rattle.hg_run.proofs.Teams.{worker_pass}
 use Rattle.hg_session.specs.Engines.{engine_board_id, engine_sizes}
 use Rattle.hg_session.specs.declared.session.Session.{Session}
 use Rattle.hg_session.specs.Cursors.{HasLeft}
@@ -190,6 +191,6 @@ collectors_made e long rounds old new told own group table interval made = recor
   alone = record {
     group = alone_rounds (engine_board_id e) 0 Group (engine_sizes e) long (made Group).sweeps (groups.pass_of old.group) (groups.pass_of new.group) own.alone.group group.0 (made Group).made;
     table = alone_rounds (engine_board_id e) 1 Table (engine_sizes e) long (made Table).sweeps (tables.pass_of old.table) (tables.pass_of new.table) own.alone.table table.0 (made Table).made;
-    interval = alone_rounds (engine_board_id e) 2 Interval (engine_sizes e) long (made Interval).sweeps (intervals.pass_of old.interval) (intervals.pass_of new.interval) own.alone.interval interval.0 (made Interval).made;
+    interval = alone_rounds (engine_board_id e) 2 Interval (engine_sizes e) long (made Interval).sweeps (intervals.pass_of old.interval) (intervals.pass_of new.interval) own.alone.interval (worker_pass (engine_board_id e) (engine_sizes e) new.interval interval) (made Interval).made;
   };
 }

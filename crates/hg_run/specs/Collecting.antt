@@ -10,7 +10,7 @@ use Rattle.hg_rule.specs.Views.{pass}
 use Rattle.hg_rule.specs.Seats.{pass_view}
 use Rattle.hg_gc_group.specs.Collectors as group
 use Rattle.hg_gc_table.specs.Collectors as table
-use Rattle.hg_gc_interval.specs.Collectors as interval
+use Rattle.hg_run.specs.Workers as interval
 use Rattle.hg_core.specs.Counters.{removed_all}
 use Rattle.hg_session.specs.declared.engine.Engine.{Engine}
 use Rattle.hg_session.specs.declared.opening.Passes.{Passes}

@@ -5,6 +5,7 @@ pub mod Heard
 pub mod Listed
 pub mod Asked
 pub mod Swept
+pub mod Workers
 pub mod Rounding
 pub mod Collecting
 pub mod Working

@@ -1,5 +1,5 @@
 -- Rounds of a collector, one after the other.
-use Rattle.std.specs.Prelude.{◌≡◌, ℕ, suc, ◌≤◌, List, [], ◌∷◌, length, false, vec_capacity, ⊤}
+use Rattle.std.specs.Prelude.{◌≡◌, ◌⊎◌, ℕ, suc, ◌≤◌, List, [], ◌∷◌, length, false, vec_capacity, ⊤}
 use Rattle.hg_base.specs.declared.report.Kind.{Kind}
 use Rattle.hg_base.specs.declared.report.Kind.TheVariants.{Group, Table, Interval}
 use Rattle.hg_base.specs.declared.report.Report.{Report}
@@ -16,17 +16,18 @@ use Rattle.hg_rule.specs.Facts.{HasBegun}
 use Rattle.hg_gc_group.specs.Collectors.{Collects}
 use Rattle.hg_gc_table.specs.Collectors.{Cuts}
 use Rattle.hg_gc_interval.specs.Collectors.{Sweeps}
+use Rattle.hg_sweep.specs.Teams.{SweepsBeside}
 use Rattle.hg_session.specs.Replies.{inside}
 use Rattle.hg_run.specs.declared.beside.RoundLists.{RoundLists}
 use Rattle.hg_run.specs.declared.round_list.RoundList.{RoundList}
 use Rattle.hg_run.specs.Swept.{HasMetSessions}
 
--- One round of the collector of that kind, as its own contract has it, and what is printed of its report. A snapshot that is so
--- many commit numbers behind the mark is long in use.
+-- One round of the collector of that kind, as its own contract has it, and what is printed of its report. An interval round is made by
+-- one collector or by a team. A snapshot that is so many commit numbers behind the mark is long in use.
 abbrev pub IsRoundBy : Kind → Sizes → ℕ → View → Sweep → View → Type 0
 IsRoundBy Group z long v sweep w = (report : Report) × (Collects z v report w × (sweep ≡ sweep_of report))
 IsRoundBy Table z long v sweep w = (report : Report) × (Cuts z long v report w × (sweep ≡ sweep_of report))
-IsRoundBy Interval z long v sweep w = (report : Report) × (Sweeps z v report w × (sweep ≡ sweep_of report))
+IsRoundBy Interval z long v sweep w = (report : Report) × ((Sweeps z v report w ⊎ SweepsBeside z v report w) × (sweep ≡ sweep_of report))
 
 -- Rounds in their order, each as P has it with what is printed of it. Between two of them the pass may have met sessions.
 abbrev pub AreRounds : (View → Sweep → View → Type 0) → View → List Sweep → View → Type 0

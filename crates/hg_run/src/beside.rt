@@ -4,7 +4,7 @@ ghost use Rattle.std.specs.Prelude.{◌<◌, ℕ, length, slice_index_or, All};
 ghost use Rattle.hg_base.specs.declared.report.Kind.TheVariants as kinds;
 ghost use Rattle.hg_gc_group.specs.Collectors as groups;
 ghost use Rattle.hg_gc_table.specs.Collectors as tables;
-ghost use Rattle.hg_gc_interval.specs.Collectors as intervals;
+ghost use Rattle.hg_run.specs.Workers as intervals;
 ghost use Rattle.hg_session.specs.Engines.{engine_board_id, engine_sizes};
 ghost use Rattle.hg_run.specs.declared.work.Worker.{Worker};
 ghost use Rattle.hg_run.specs.Collecting.{AreCollectors};
@@ -13,7 +13,7 @@ ghost use Rattle.hg_run.specs.Working.{HaveMadeAll};
 ghost use Rattle.hg_run.specs.Working.{IsHired, HasEnded};
 
 use crate::collecting::Collectors;
-use crate::round_list::{Plan, RoundList, make_rounds};
+use crate::round_list::{Plan, RoundList, make_rounds, make_sweeps};
 use crate::work::Worker;
 use hg_base::{Gate, NoMemory};
 use hg_session::Engine;
@@ -117,7 +117,7 @@ fn run_collectors<G: Gate + Sync, R: Threads + Wait + Sync>(
                 &mut ||
                     requires { intervals.IsCollectorOf (engine_board_id engine.now) (engine_sizes engine.now) interval.now × HasPlaces plan.now.rounds interval_told.now }
                     ensures { HasMadeAll kinds.Interval (engine_sizes engine.entry.now) plan.entry.now.long plan.entry.now.rounds (intervals.view_of interval.entry.now) interval_told.exit.now (intervals.view_of interval.exit.now) × intervals.IsCollectorOf (engine_board_id engine.entry.now) (engine_sizes engine.entry.now) interval.exit.now }
-                { make_rounds(rt, engine, plan, INTERVAL, interval, interval_told) },
+                { make_sweeps(rt, engine, plan, INTERVAL, interval, interval_told) },
             );
         },
     );

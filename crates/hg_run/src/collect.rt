@@ -5,18 +5,23 @@ ghost use Rattle.hg_base.specs.declared.report.Kind.TheVariants as kinds;
 ghost use Rattle.hg_base.specs.declared.report.Sweep.{Sweep};
 ghost use Rattle.hg_gc_group.specs.Collectors as group;
 ghost use Rattle.hg_gc_table.specs.Collectors as table;
-ghost use Rattle.hg_gc_interval.specs.Collectors as interval;
+ghost use Rattle.hg_gc_interval.specs.Collectors as one;
+ghost use Rattle.hg_sweep.specs.Teams as teams;
+ghost use Rattle.hg_run.specs.Workers as interval;
 ghost use Rattle.hg_session.specs.Engines.{engine_board_id, engine_sizes};
 ghost use Rattle.hg_run.specs.Rounding.{IsRoundBy};
 
-use hg_base::{NoMemory, Steps, Sweep};
+use crate::interval::IntervalWorker;
+use hg_base::{Gate, NoMemory, Steps, Sweep};
 use hg_gc_group::GroupCollector;
 use hg_gc_interval::IntervalCollector;
 use hg_gc_table::TableCollector;
 use hg_session::Engine;
+use hg_sweep::SweepTeam;
 use std::marker::Brand;
 use std::sync::Wait;
 use std::sync::ledger::{Blank, Ledger};
+use std::thread::Threads;
 
 /// A collector of some kind, beside an engine. A snapshot that is `long` commit numbers behind the mark is long in use.
 pub(crate) trait Collect {
@@ -65,18 +70,6 @@ impl Collect for TableCollector {
     }
 }
 
-impl Collect for IntervalCollector {
-    ghost kind = { kinds.Interval };
-
-    ghost view_of = { interval.view_of };
-
-    ghost is_of = { λ e c. interval.IsCollectorOf (engine_board_id e) (engine_sizes e) c };
-
-    fn round<R: Wait>(&mut self, rt: &R, engine: &Engine, _long: u64) -> Result<Sweep, NoMemory> {
-        sweep_intervals::<R, Brand>(self, rt, engine, Blank::new(1))
-    }
-}
-
 // A round of the interval collector, whose steps nobody reads.
 fn sweep_intervals<R: Wait, L: Ledger>(
     collector: &mut IntervalCollector,
@@ -84,15 +77,50 @@ fn sweep_intervals<R: Wait, L: Ledger>(
     engine: &Engine,
     blank: Blank,
 ) -> Result<Sweep, NoMemory>
-    requires own { interval.IsCollectorOf (engine_board_id engine.now) (engine_sizes engine.now) collector.old }
+    requires own { one.IsCollectorOf (engine_board_id engine.now) (engine_sizes engine.now) collector.old }
     requires name { blank.name ≡ L.name }
     requires parts { blank.parts ≡ L.parts }
     requires some { 0 < blank.parts }
-    ensures round { IfOk result (λ sweep. IsRoundBy kinds.Interval (engine_sizes engine.now) 0 (interval.view_of collector.old) sweep (interval.view_of collector.new)) }
-    ensures made { (sweep : Sweep) × IsRoundBy kinds.Interval (engine_sizes engine.now) 0 (interval.view_of collector.old) sweep (interval.view_of collector.new) }
-    ensures own { interval.IsCollectorOf (engine_board_id engine.now) (engine_sizes engine.now) collector.new }
+    ensures round { IfOk result (λ sweep. IsRoundBy kinds.Interval (engine_sizes engine.now) 0 (one.view_of collector.old) sweep (one.view_of collector.new)) }
+    ensures made { (sweep : Sweep) × IsRoundBy kinds.Interval (engine_sizes engine.now) 0 (one.view_of collector.old) sweep (one.view_of collector.new) }
+    ensures own { one.IsCollectorOf (engine_board_id engine.now) (engine_sizes engine.now) collector.new }
 {
     let mut steps: Steps<L> = Steps::new(blank);
     collector.collect(rt, engine.trackers(), engine.store(), &mut steps);
     collector.report().told()
+}
+
+// A round of a team, whose helpers ask the gate before each bucket.
+fn sweep_beside<R: Threads + Wait + Sync, G: Gate + Sync>(
+    team: &mut SweepTeam,
+    rt: &R,
+    engine: &Engine,
+    gate: &G,
+) -> Result<Sweep, NoMemory>
+    requires own { teams.IsTeamOf (engine_board_id engine.now) (engine_sizes engine.now) team.old }
+    ensures round { IfOk result (λ sweep. IsRoundBy kinds.Interval (engine_sizes engine.now) 0 (teams.view_of team.old) sweep (teams.view_of team.new)) }
+    ensures made { (sweep : Sweep) × IsRoundBy kinds.Interval (engine_sizes engine.now) 0 (teams.view_of team.old) sweep (teams.view_of team.new) }
+    ensures own { teams.IsTeamOf (engine_board_id engine.now) (engine_sizes engine.now) team.new }
+{
+    team.collect(rt, engine.trackers(), engine.store(), gate);
+    team.report().told()
+}
+
+/// A round of the interval collector, or of its team, and what its report says. If memory for that runs out, the round was made all the
+/// same.
+pub(crate) fn sweep_round<R: Threads + Wait + Sync, G: Gate + Sync>(
+    rt: &R,
+    engine: &Engine,
+    gate: &G,
+    worker: &mut IntervalWorker,
+) -> Result<Sweep, NoMemory>
+    requires own { interval.IsCollectorOf (engine_board_id engine.now) (engine_sizes engine.now) worker.old }
+    ensures round { IfOk result (λ sweep. IsRoundBy kinds.Interval (engine_sizes engine.now) 0 (interval.view_of worker.old) sweep (interval.view_of worker.new)) }
+    ensures made { (sweep : Sweep) × IsRoundBy kinds.Interval (engine_sizes engine.now) 0 (interval.view_of worker.old) sweep (interval.view_of worker.new) }
+    ensures own { interval.IsCollectorOf (engine_board_id engine.now) (engine_sizes engine.now) worker.new }
+{
+    match worker {
+        IntervalWorker::One(one) => sweep_intervals::<R, Brand>(one, rt, engine, Blank::new(1)),
+        IntervalWorker::Team(team) => sweep_beside(team, rt, engine, gate),
+    }
 }

@@ -6,21 +6,22 @@ ghost use Rattle.hg_session.specs.Finished.{AreAmong};
 ghost use Rattle.hg_session.specs.Passing.{AreAlone};
 ghost use Rattle.hg_session.specs.Sessions.{IsOf, seen_by};
 
-use crate::collect::Collect;
-use hg_base::{Kind, NoMemory, Sweep};
+use crate::collect::{Collect, sweep_round};
+use crate::interval::IntervalWorker;
+use hg_base::{Kind, NoGate, NoMemory, Sweep};
 use hg_gc_group::GroupCollector;
-use hg_gc_interval::IntervalCollector;
 use hg_gc_table::TableCollector;
 use hg_session::{Engine, Passes, Session};
 use std::alloc::Global;
 use std::sync::Wait;
+use std::thread::Threads;
 
 /// Each with the room that its rounds need.
 #[derive(Drop)]
 pub struct Collectors {
     pub group: GroupCollector,
     pub table: TableCollector,
-    pub interval: IntervalCollector,
+    pub interval: IntervalWorker,
 }
 
 impl Collectors {
@@ -31,14 +32,16 @@ impl Collectors {
     ghost use Rattle.hg_run.specs.Rounding.{IsRoundBy};
     ghost use Rattle.hg_run.specs.Collecting.{AreCollectors, passes_of, removed_of, view_in};
 
-    /// The collectors of an engine.
+    /// The collectors of an engine. If `sweepers` is above 1, a team of that many helpers makes the interval rounds.
     pub fn new(
         alloc: Global,
         passes: Passes,
+        sweepers: u32,
         sessions: u32,
         tables: u32,
     ) -> Result<Collectors, NoMemory>
         requires tables { tables ≤ 64 }
+        requires sweepers { sweepers ≤ 16 }
         ensures same { IfOk result (λ c. passes_of c ≡ passes) }
         ensures own { (e : Engine) → AreAlone e passes → (engine_sizes e).sessions ≡ sessions → (engine_sizes e).tables ≡ tables → IfOk result (AreCollectors e) }
     {
@@ -53,9 +56,7 @@ impl Collectors {
         let Ok(table) = TableCollector::new(alloc, table, sessions, tables) else {
             return Err(NoMemory);
         };
-        let Ok(interval) = IntervalCollector::new(alloc, interval, sessions, tables) else {
-            return Err(NoMemory);
-        };
+        let interval = IntervalWorker::new(alloc, interval, sweepers, sessions, tables)?;
         Ok(Collectors {
             group,
             table,
@@ -112,11 +113,11 @@ impl Collectors {
         ensures removed { (k : Kind) → removed_of k self.new ≡ removed_of k self.old }
         ensures own { AreCollectors engine.now self.new × IsOf engine.now session.new }
     {
-        session.meet_pass(engine, self.interval.lend());
+        self.interval.meet(engine, session);
     }
 
     /// One round of the collector of that kind, as it is told.
-    pub(crate) fn collect<R: Wait>(
+    pub(crate) fn collect<R: Threads + Wait + Sync>(
         &mut self,
         rt: &R,
         engine: &Engine,
@@ -133,7 +134,7 @@ impl Collectors {
         match kind {
             Kind::Group => self.group.round(rt, engine, long),
             Kind::Table => self.table.round(rt, engine, long),
-            Kind::Interval => self.interval.round(rt, engine, long),
+            Kind::Interval => sweep_round(rt, engine, &NoGate, &mut self.interval),
         }
     }
 }

@@ -22,6 +22,7 @@ use crate::reply::inside;
 use hg_base::{Answer, Kind, NoMemory, Reply};
 use hg_session::{Engine, Session};
 use std::sync::Wait;
+use std::thread::Threads;
 
 // The session at i meets the pass of that kind of collector.
 fn meet_at(
@@ -63,7 +64,7 @@ fn meet_all(engine: &Engine, list: &mut Vec<Session>, collectors: &mut Collector
 }
 
 /// A round of a collector, which the session at i asks for.
-pub(crate) fn sweep<R: Wait>(
+pub(crate) fn sweep<R: Threads + Wait + Sync>(
     rt: &R,
     engine: &Engine,
     list: &mut Vec<Session>,

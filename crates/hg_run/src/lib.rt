@@ -29,6 +29,7 @@ mod collect;
 mod collecting;
 mod ending;
 mod gc;
+mod interval;
 mod laws;
 mod load;
 mod opening;
@@ -49,6 +50,7 @@ mod work;
 
 pub use collecting::Collectors;
 pub use ending::close;
+pub use interval::IntervalWorker;
 pub use laws::{rows_have_their_columns, text_determines_what_was_printed, what_is_sound_fits};
 pub use opening::open_for;
 pub use replay::replay_on;

@@ -13,9 +13,10 @@ use hg_script::make_script;
 use hg_words::Options;
 use std::alloc::Global;
 use std::sync::Wait;
+use std::thread::Threads;
 
 /// The text of the totals of a replay of the script that is made from a seed.
-pub(crate) fn load<R: Wait>(
+pub(crate) fn load<R: Threads + Wait + Sync>(
     rt: &R,
     alloc: Global,
     seed: u64,

@@ -1,6 +1,6 @@
 //! An engine for a script.
 
-ghost use Rattle.std.specs.Prelude.{◌≡◌, length, map, IfOk};
+ghost use Rattle.std.specs.Prelude.{◌≡◌, ◌≤◌, length, map, IfOk};
 ghost use Rattle.hg_script.specs.Lawful.{IsLawful};
 ghost use Rattle.hg_words.specs.Options.{AreWithin};
 ghost use Rattle.hg_run.specs.Driven.{IsOpenedFor};
@@ -9,7 +9,7 @@ use crate::collecting::Collectors;
 use hg_base::NoMemory;
 use hg_script::Script;
 use hg_session::{Engine, SessionList, TableDecl};
-use hg_words::Options;
+use hg_words::{Command, Options};
 use std::alloc::Global;
 
 // The tables that a script declares, each with its columns. An engine counts them, and reads no columns.
@@ -24,6 +24,17 @@ fn declared(alloc: Global, script: &Script) -> Result<Vec<TableDecl>, NoMemory>
         })?;
     }
     Ok(tables)
+}
+
+// How many threads share an interval round: only a `run` has more than one.
+fn sweepers_of(options: &Options) -> u32
+    requires within { AreWithin options.now }
+    ensures { result ≤ 16 }
+{
+    match options.command {
+        Command::Run => options.sweepers,
+        _ => 1,
+    }
 }
 
 /// An engine for the tables and the sessions of a script, with the sessions and the collectors. A session may run as many
@@ -42,6 +53,7 @@ pub fn open_for(
     // A session has at most all records, and each begins one transaction and stores one write at most.
     let quota = (script.record_count() as u64).max(1);
     let (engine, list, passes) = Engine::open(alloc, sessions, &tables, options.buckets, quota)?;
-    let collectors = Collectors::new(alloc, passes, sessions, tables.len() as u32)?;
+    let sweepers = sweepers_of(options);
+    let collectors = Collectors::new(alloc, passes, sweepers, sessions, tables.len() as u32)?;
     Ok((engine, list, collectors))
 }

@@ -24,6 +24,7 @@ use hg_script::Script;
 use hg_session::{Engine, Session};
 use std::alloc::Global;
 use std::sync::Wait;
+use std::thread::Threads;
 
 // The collector that a statement asks for.
 pub(crate) fn asked(statement: &Statement) -> Option<Kind>
@@ -45,7 +46,7 @@ pub(crate) fn asked(statement: &Statement) -> Option<Kind>
 }
 
 // The session at i answers a statement, or a collector does for it.
-fn reply_at<R: Wait>(
+fn reply_at<R: Threads + Wait + Sync>(
     rt: &R,
     engine: &Engine,
     list: &mut Vec<Session>,
@@ -73,7 +74,7 @@ fn reply_at<R: Wait>(
 }
 
 /// Answers the records of a script in their order. A reply is kept as its text alone.
-pub(crate) fn play<'a, R: Wait>(
+pub(crate) fn play<'a, R: Threads + Wait + Sync>(
     rt: &R,
     alloc: Global,
     engine: &Engine,

@@ -31,10 +31,11 @@ use hg_words::Options;
 use std::alloc::Global;
 use std::mem;
 use std::sync::Wait;
+use std::thread::Threads;
 
 /// The driver of `replay`: answers a script on one thread, record by record, and rolls back what is open at its end, or closes its
 /// cursor. Running out of memory ends it early, and leaves no transaction and no cursor open either.
-pub fn replay_on<'a, R: Wait>(
+pub fn replay_on<'a, R: Threads + Wait + Sync>(
     rt: &R,
     alloc: Global,
     script: &'a Script,
@@ -75,7 +76,7 @@ pub fn replay_on<'a, R: Wait>(
 }
 
 /// Runs a script on one thread, record by record, and gives its lines and its totals.
-pub(crate) fn replay_lines<'a, R: Wait>(
+pub(crate) fn replay_lines<'a, R: Threads + Wait + Sync>(
     rt: &R,
     alloc: Global,
     script: &'a Script,
@@ -105,7 +106,7 @@ pub(crate) fn replay_lines<'a, R: Wait>(
 }
 
 /// The text that is printed for a script that runs on one thread.
-pub(crate) fn replay<R: Wait>(
+pub(crate) fn replay<R: Threads + Wait + Sync>(
     rt: &R,
     alloc: Global,
     script: &Script,

@@ -3,14 +3,18 @@
 //! A collector's worker makes its rounds one after the other, and asks the gate before each. What its reports say is kept in places
 //! that were allocated before the first. If memory for a report runs out, the worker stops, and the list says so.
 
-ghost use Rattle.hg_session.specs.Engines.{engine_sizes};
+ghost use Rattle.hg_base.specs.declared.report.Kind.TheVariants as kinds;
+ghost use Rattle.hg_session.specs.Engines.{engine_board_id, engine_sizes};
+ghost use Rattle.hg_run.specs.Workers as interval;
 ghost use Rattle.hg_run.specs.Rounding.{HasPlaces, HasMadeAll};
 
-use crate::collect::Collect;
+use crate::collect::{Collect, sweep_round};
+use crate::interval::IntervalWorker;
 use hg_base::{Gate, NoMemory, Sweep};
 use hg_session::Engine;
 use std::alloc::Global;
 use std::sync::Wait;
+use std::thread::Threads;
 
 /// What a worker asks before each step, how many rounds each collector makes, and how far behind the mark a snapshot is long in
 /// use.
@@ -65,5 +69,29 @@ pub(crate) fn make_rounds<C: Collect, G: Gate, R: Wait>(
             return;
         };
         told.sweeps.push_reserved(sweep);
+    }
+}
+
+/// Makes the interval collector's rounds of a plan. A team's helpers ask the gate too.
+pub(crate) fn make_sweeps<G: Gate + Sync, R: Threads + Wait + Sync>(
+    rt: &R,
+    engine: &Engine,
+    plan: &Plan<G>,
+    worker: u32,
+    collector: &mut IntervalWorker,
+    told: &mut RoundList,
+)
+    requires own { interval.IsCollectorOf (engine_board_id engine.now) (engine_sizes engine.now) collector.old }
+    requires places { HasPlaces plan.now.rounds told.old }
+    ensures made { HasMadeAll kinds.Interval (engine_sizes engine.now) plan.now.long plan.now.rounds (interval.view_of collector.old) told.new (interval.view_of collector.new) }
+    ensures own { interval.IsCollectorOf (engine_board_id engine.now) (engine_sizes engine.now) collector.new }
+{
+    for round in 0..plan.rounds {
+        plan.gate.at(rt, worker, round + 1);
+        let Ok(swept) = sweep_round(rt, engine, plan.gate, collector) else {
+            told.refused = true;
+            return;
+        };
+        told.sweeps.push_reserved(swept);
     }
 }

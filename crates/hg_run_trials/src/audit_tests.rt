@@ -12,9 +12,14 @@ use std::alloc::Global;
 use std::process::Abort;
 use std::sync::Wait;
 use std::test::Fail;
+use std::thread::Threads;
 
 // What a replay of a script prints.
-pub(crate) fn replayed<R: Wait>(rt: &R, alloc: Global, script: &Script) -> Result<Vec<u8>, Fail>
+pub(crate) fn replayed<R: Threads + Wait + Sync>(
+    rt: &R,
+    alloc: Global,
+    script: &Script,
+) -> Result<Vec<u8>, Fail>
     requires { IsLawful script.now }
 {
     let options = Options {
@@ -22,6 +27,7 @@ pub(crate) fn replayed<R: Wait>(rt: &R, alloc: Global, script: &Script) -> Resul
         buckets: DEFAULT_BUCKETS,
         long: DEFAULT_LONG,
         rounds: DEFAULT_ROUNDS,
+        sweepers: 1,
     };
     let (engine, list, collectors) = open_for(alloc, script, &options)?;
     let (mut list, mut collectors) = (list, collectors);

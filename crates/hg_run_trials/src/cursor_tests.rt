@@ -217,7 +217,11 @@ fn readers_in_parts(alloc: Global) -> Result<String, Fail> {
 #[test]
 fn cursors_stay_beside_the_collectors(rt: HostRuntime) -> Result<(), Fail> {
     let script = readers_in_parts(rt.alloc())?;
-    for words in ["replay --long 1", "run --long 1 --rounds 50"] {
+    for words in [
+        "replay --long 1",
+        "run --long 1 --rounds 50",
+        "run --rounds 50 --sweepers 4",
+    ] {
         let (_, totals) = sound_totals(&rt, rt.alloc(), words, script.as_str())?;
         assert_eq!(rt; totals.left, 80, "at {words}");
     }

@@ -25,7 +25,7 @@ pub(crate) struct Order<'a> {
 impl<'a> Order<'a> {
     pub(crate) fn new(alloc: Global, holds: &'a [(Step, Step)]) -> Result<Order<'a>, NoMemory> {
         let mut come = Vec::new(alloc);
-        for _ in 0..104 {
+        for _ in 0..217 {
             come.push(AtomicU64::new(0))?;
         }
         Ok(Order {

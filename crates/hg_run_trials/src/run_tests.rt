@@ -80,6 +80,7 @@ run = 24
 run --rounds 0 = 0
 run --rounds=2 --long 4 = 6
 --buckets 1 run --rounds 1000 = 3000
+run --sweepers 16 --rounds 5 = 15
 ";
 
 // Each of three collectors reports each of its rounds, 8 where no word says how many. No round is made of 0.
@@ -155,6 +156,7 @@ fn driven<R: Threads + Wait + Sync + Abort>(
         buckets: DEFAULT_BUCKETS,
         long: DEFAULT_LONG,
         rounds: 0,
+        sweepers: 1,
     };
     let (engine, list, collectors) = open_for(alloc, script, &options)?;
     let (mut list, mut collectors) = (list, collectors);
@@ -179,6 +181,32 @@ fn two_workers_of_the_driver_are_held(rt: HostRuntime) -> Result<(), Fail> {
     let text = String::from_utf8(driven(&rt, rt.alloc(), &script, &order)?)?;
     assert!(rt; order.was_kept());
     assert!(rt; is_meeting(text.as_str()), "{text}");
+    Ok(())
+}
+
+// Two helpers of the interval collector each wait before their first bucket until the other has come to its own. If one thread made the
+// whole round, it would wait for itself.
+#[test]
+fn two_helpers_are_held(rt: HostRuntime) -> Result<(), Fail> {
+    let order = Order::new(rt.alloc(), &[((201, 1), (202, 1)), ((202, 1), (201, 1))])?;
+    let text = written_in_order(
+        &rt,
+        rt.alloc(),
+        "run --buckets 2 --rounds 1 --sweepers 2",
+        "",
+        &order,
+    )?;
+    let want = "0,1,swept,group,0,0,0
+0,1,swept,table,0,0,0
+0,1,swept,interval,0,0,0
+total,made,0
+total,undone,0
+total,group,0
+total,table,0
+total,interval,0
+total,left,0
+";
+    assert_eq!(rt; text.as_slice(), want.as_bytes());
     Ok(())
 }
 
@@ -343,8 +371,10 @@ fn long_readers(alloc: Global) -> Result<String, Fail> {
 #[test]
 fn long_readers_stay_beside_the_collectors(rt: HostRuntime) -> Result<(), Fail> {
     let script = long_readers(rt.alloc())?;
-    let (_, totals) = sound_totals(&rt, rt.alloc(), "run --rounds 50", script.as_str())?;
-    assert_eq!(rt; totals.left, 52);
+    for words in ["run --rounds 50", "run --rounds 50 --sweepers 4"] {
+        let (_, totals) = sound_totals(&rt, rt.alloc(), words, script.as_str())?;
+        assert_eq!(rt; totals.left, 52, "at {words}");
+    }
     Ok(())
 }
 

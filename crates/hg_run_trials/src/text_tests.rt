@@ -10,6 +10,7 @@ use hg_script::read_script;
 use std::alloc::Global;
 use std::sync::Wait;
 use std::test::Fail;
+use std::thread::Threads;
 
 // Adds a text in quotes, whatever it holds.
 fn push_quoted(script: &mut Vec<u8>, text: &[u8]) -> Result<(), Fail> {
@@ -56,7 +57,11 @@ fn head(version: u64) -> &'static [u8] {
 }
 
 // The rows that a scan at the end of a script finds.
-fn rows_left<R: Wait>(rt: &R, alloc: Global, script: &[u8]) -> Result<RowList, Fail> {
+fn rows_left<R: Threads + Wait + Sync>(
+    rt: &R,
+    alloc: Global,
+    script: &[u8],
+) -> Result<RowList, Fail> {
     let mut bytes = Vec::from_slice(alloc, script)?;
     bytes.extend_from_slice(b"1,scan,t,0,18446744073709551615\n")?;
     let script = read_script(alloc, &bytes)?;
@@ -150,7 +155,7 @@ fn any_script(alloc: Global, version: u64, chance: &mut u64) -> Result<Vec<u8>, 
 }
 
 // Whether what a script by chance leaves is left again by the script that is written of it.
-fn is_left_again<R: Wait>(
+fn is_left_again<R: Threads + Wait + Sync>(
     rt: &R,
     alloc: Global,
     version: u64,

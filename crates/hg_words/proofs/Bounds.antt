@@ -52,10 +52,10 @@ rules = command_line.top.rules
 
 -- the place of an option among the command's rules
 record StandsAt (k : ℕ) (name : Text) (low high : ℕ) : Type 0 where
-  within : k < 5
+  within : k < 6
   here : (d : Rule) → (slice_index_or rules k d).id ≡ name
   parser : (d : Rule) → (slice_index_or rules k d).parser ≡ Some (vp.Unsigned low high)
-  alone : (j : ℕ) (d : Rule) → j < 5 → bytes_eq (slice_index_or rules j d).id name ≡ true → j ≡ k
+  alone : (j : ℕ) (d : Rule) → j < 6 → bytes_eq (slice_index_or rules j d).id name ≡ true → j ≡ k
   named : name ≡ [] → ⊥
   own : (name ≡ codes "help" → ⊥) × (name ≡ codes "version" → ⊥)
 
@@ -64,9 +64,9 @@ module _ (old : Command) (m : ArgMatches) (app : app_of old ≡ command_line) (p
   unfolding rules
   are = ap (λ (a : App). a.top.rules) app
 
-  five : length (args_of old) ≡ 5
+  six : length (args_of old) ≡ 6
   unfolding rules
-  five = sym (length-map (args_of old) rule_of) ∙ ap length are
+  six = sym (length-map (args_of old) rule_of) ∙ ap length are
 
   rule_at : (k : ℕ) (d : Arg) → rule_of (slice_index_or (args_of old) k d) ≡ slice_index_or rules k (rule_of d)
   rule_at k d = sym (at_map rule_of (args_of old) k d) ∙ ap (λ rs. slice_index_or rs k (rule_of d)) are
@@ -88,7 +88,7 @@ module _ (old : Command) (m : ArgMatches) (app : app_of old ≡ command_line) (p
     one : (d : Arg) (j : ℕ) (e : Arg) → j < length (args_of old) → bytes_eq (slice_index_or (args_of old) j e).id.now (slice_index_or (args_of old) k d).id.now ≡ true → j ≡ k
     one d j e lt same =
         let id : (slice_index_or (args_of old) j e).id.now ≡ (slice_index_or rules j (rule_of e)).id = ap (λ (r : Rule). r.id) (rule_at j e) in
-        stands.alone j (rule_of e) (omega (arith, lt, five)) (subst (λ (t : Text). bytes_eq t name ≡ true) id (subst (λ (t : Text). bytes_eq (slice_index_or (args_of old) j e).id.now t ≡ true) (id_at d) same))
+        stands.alone j (rule_of e) (omega (arith, lt, six)) (subst (λ (t : Text). bytes_eq t name ≡ true) id (subst (λ (t : Text). bytes_eq (slice_index_or (args_of old) j e).id.now t ≡ true) (id_at d) same))
 
     none_auto : (d : Arg) → IsAuto (slice_index_or (args_of old) k d) → ⊥
     none_auto d (inl h) = stands.own.0 (sym (id_at d) ∙ h)
@@ -97,7 +97,7 @@ module _ (old : Command) (m : ArgMatches) (app : app_of old ≡ command_line) (p
     -- an argument of the name has the option's parser
     has_parser : (j : ℕ) (x : Arg) → j < length (args_of p.built) → slice_index_or (args_of p.built) j x ≡ x → bytes_eq x.id.now name ≡ true → parser_of x ≡ vp.Unsigned low high
     has_parser j x lt at same =
-        let s = same_rules_by_id old m p k x (omega (arith, stands.within, five)) (one x) (none_auto x) j x lt at (subst (λ (t : Text). bytes_eq x.id.now t ≡ true) (sym (id_at x)) same) in
+        let s = same_rules_by_id old m p k x (omega (arith, stands.within, six)) (one x) (none_auto x) j x lt at (subst (λ (t : Text). bytes_eq x.id.now t ≡ true) (sym (id_at x)) same) in
         ap parser_of_value (s.parser (vp.Unsigned low high) (parser_at x))
 
     accepted : (v : Text) → PassesArg p.built name v → IsUnsignedIn low high v
@@ -162,7 +162,7 @@ module _ (old : Command) (m : ArgMatches) (app : app_of old ≡ command_line) (p
             let value = is_value bits n t e in
             (subst (λ n. low ≤ n) value k.2, subst (λ n. n ≤ high) value k.3)
 
--- ---- the three options
+-- ---- the four options
 
 buckets_stand : StandsAt 2 (codes "buckets") 1 1024
 unfolding rules
@@ -175,13 +175,14 @@ buckets_stand = record {
   own = (apart (codes "buckets") (codes "help") refl, apart (codes "buckets") (codes "version") refl);
 }
   where
-    alone : (j : ℕ) (d : Rule) → j < 5 → bytes_eq (slice_index_or rules j d).id (codes "buckets") ≡ true → j ≡ 2
+    alone : (j : ℕ) (d : Rule) → j < 6 → bytes_eq (slice_index_or rules j d).id (codes "buckets") ≡ true → j ≡ 2
     alone zero d lt e = absurd (false_true e)
     alone (suc zero) d lt e = absurd (false_true e)
     alone (suc (suc zero)) d lt e = refl
     alone (suc (suc (suc zero))) d lt e = absurd (false_true e)
     alone (suc (suc (suc (suc zero)))) d lt e = absurd (false_true e)
-    alone (suc (suc (suc (suc (suc j))))) d lt e = absurd (omega (arith, lt))
+    alone (suc (suc (suc (suc (suc zero))))) d lt e = absurd (false_true e)
+    alone (suc (suc (suc (suc (suc (suc j)))))) d lt e = absurd (omega (arith, lt))
 
 long_stands : StandsAt 3 (codes "long") 1 1048576
 unfolding rules
@@ -194,13 +195,14 @@ long_stands = record {
   own = (apart (codes "long") (codes "help") refl, apart (codes "long") (codes "version") refl);
 }
   where
-    alone : (j : ℕ) (d : Rule) → j < 5 → bytes_eq (slice_index_or rules j d).id (codes "long") ≡ true → j ≡ 3
+    alone : (j : ℕ) (d : Rule) → j < 6 → bytes_eq (slice_index_or rules j d).id (codes "long") ≡ true → j ≡ 3
     alone zero d lt e = absurd (false_true e)
     alone (suc zero) d lt e = absurd (false_true e)
     alone (suc (suc zero)) d lt e = absurd (false_true e)
     alone (suc (suc (suc zero))) d lt e = refl
     alone (suc (suc (suc (suc zero)))) d lt e = absurd (false_true e)
-    alone (suc (suc (suc (suc (suc j))))) d lt e = absurd (omega (arith, lt))
+    alone (suc (suc (suc (suc (suc zero))))) d lt e = absurd (false_true e)
+    alone (suc (suc (suc (suc (suc (suc j)))))) d lt e = absurd (omega (arith, lt))
 
 rounds_stand : StandsAt 4 (codes "rounds") 0 1000
 unfolding rules
@@ -213,32 +215,61 @@ rounds_stand = record {
   own = (apart (codes "rounds") (codes "help") refl, apart (codes "rounds") (codes "version") refl);
 }
   where
-    alone : (j : ℕ) (d : Rule) → j < 5 → bytes_eq (slice_index_or rules j d).id (codes "rounds") ≡ true → j ≡ 4
+    alone : (j : ℕ) (d : Rule) → j < 6 → bytes_eq (slice_index_or rules j d).id (codes "rounds") ≡ true → j ≡ 4
     alone zero d lt e = absurd (false_true e)
     alone (suc zero) d lt e = absurd (false_true e)
     alone (suc (suc zero)) d lt e = absurd (false_true e)
     alone (suc (suc (suc zero))) d lt e = absurd (false_true e)
     alone (suc (suc (suc (suc zero)))) d lt e = refl
-    alone (suc (suc (suc (suc (suc j))))) d lt e = absurd (omega (arith, lt))
+    alone (suc (suc (suc (suc (suc zero))))) d lt e = absurd (false_true e)
+    alone (suc (suc (suc (suc (suc (suc j)))))) d lt e = absurd (omega (arith, lt))
+
+sweepers_stand : StandsAt 5 (codes "sweepers") 1 16
+unfolding rules
+sweepers_stand = record {
+  within = omega arith;
+  here = λ d. refl;
+  parser = λ d. refl;
+  alone = alone;
+  named = apart (codes "sweepers") [] refl;
+  own = (apart (codes "sweepers") (codes "help") refl, apart (codes "sweepers") (codes "version") refl);
+}
+  where
+    alone : (j : ℕ) (d : Rule) → j < 6 → bytes_eq (slice_index_or rules j d).id (codes "sweepers") ≡ true → j ≡ 5
+    alone zero d lt e = absurd (false_true e)
+    alone (suc zero) d lt e = absurd (false_true e)
+    alone (suc (suc zero)) d lt e = absurd (false_true e)
+    alone (suc (suc (suc zero))) d lt e = absurd (false_true e)
+    alone (suc (suc (suc (suc zero)))) d lt e = absurd (false_true e)
+    alone (suc (suc (suc (suc (suc zero))))) d lt e = refl
+    alone (suc (suc (suc (suc (suc (suc j)))))) d lt e = absurd (omega (arith, lt))
 
 -- the numbers of options that there are
-record HasNumbers (buckets long rounds : Option ℕ) (options : Options) : Type 0 where
+record HasNumbers (buckets long rounds sweepers : Option ℕ) (options : Options) : Type 0 where
   buckets_are : buckets ≡ Some options.buckets
   long_is : long ≡ Some options.long
   rounds_are : rounds ≡ Some options.rounds
+  sweepers_are : sweepers ≡ Some options.sweepers
 
-all_there : (command : Option Asked) (buckets long rounds : Option ℕ) (options : Options) → options_of_all command buckets long rounds ≡ Some options → HasNumbers buckets long rounds options
-all_there (Some c) (Some b) (Some l) (Some r) options e = record { buckets_are = ap (λ o. option_map (λ (x : Options). x.buckets) o) e; long_is = ap (λ o. option_map (λ (x : Options). x.long) o) e; rounds_are = ap (λ o. option_map (λ (x : Options). x.rounds) o) e }
-all_there None b l r options e = absurd (none_some options e)
-all_there (Some c) None l r options e = absurd (none_some options e)
-all_there (Some c) (Some b) None r options e = absurd (none_some options e)
-all_there (Some c) (Some b) (Some l) None options e = absurd (none_some options e)
+all_there : (command : Option Asked) (buckets long rounds sweepers : Option ℕ) (options : Options) → options_of_all command buckets long rounds sweepers ≡ Some options → HasNumbers buckets long rounds sweepers options
+all_there (Some c) (Some b) (Some l) (Some r) (Some w) options e = record {
+  buckets_are = ap (λ o. option_map (λ (x : Options). x.buckets) o) e;
+  long_is = ap (λ o. option_map (λ (x : Options). x.long) o) e;
+  rounds_are = ap (λ o. option_map (λ (x : Options). x.rounds) o) e;
+  sweepers_are = ap (λ o. option_map (λ (x : Options). x.sweepers) o) e;
+}
+all_there None b l r w options e = absurd (none_some options e)
+all_there (Some c) None l r w options e = absurd (none_some options e)
+all_there (Some c) (Some b) None r w options e = absurd (none_some options e)
+all_there (Some c) (Some b) (Some l) None w options e = absurd (none_some options e)
+all_there (Some c) (Some b) (Some l) (Some r) None options e = absurd (none_some options e)
 
 pub are_within : (old : Command) (m : ArgMatches) → app_of old ≡ command_line → IsParsedFrom old m → (options : Options) → options_in (rows_of (found_of m)) ≡ Some options → AreWithin options
 are_within old m app p options e =
     let rows = rows_of (found_of m) in
-    let all = all_there (command_in rows) (named_number 32 (codes "buckets") rows) (named_number 64 (codes "long") rows) (named_number 32 (codes "rounds") rows) options e in
+    let all = all_there (command_in rows) (named_number 32 (codes "buckets") rows) (named_number 64 (codes "long") rows) (named_number 32 (codes "rounds") rows) (named_number 32 (codes "sweepers") rows) options e in
     let buckets = in_range old m app p 2 (codes "buckets") 1 1024 buckets_stand 32 options.buckets all.buckets_are in
     let long = in_range old m app p 3 (codes "long") 1 1048576 long_stands 64 options.long all.long_is in
     let rounds = in_range old m app p 4 (codes "rounds") 0 1000 rounds_stand 32 options.rounds all.rounds_are in
-    record { some_buckets = buckets.0; most_buckets = buckets.1; some_long = long.0; most_long = long.1; most_rounds = rounds.1 }
+    let sweepers = in_range old m app p 5 (codes "sweepers") 1 16 sweepers_stand 32 options.sweepers all.sweepers_are in
+    record { some_buckets = buckets.0; most_buckets = buckets.1; some_long = long.0; most_long = long.1; most_rounds = rounds.1; some_sweepers = sweepers.0; most_sweepers = sweepers.1 }

@@ -32,6 +32,13 @@ rounds_rule = record (new_rule (codes "rounds")) {
   defaults = codes "8" ∷ [];
 }
 
+abbrev pub sweepers_rule : Rule
+sweepers_rule = record (new_rule (codes "sweepers")) {
+  long = Some (codes "sweepers");
+  parser = Some (parser.Unsigned 1 16);
+  defaults = codes "1" ∷ [];
+}
+
 -- it reads words without the program's name
 abbrev pub bare_line : App
 bare_line = let a = new_app (codes "hybridgc") in record a { top = record a.top { no_binary_name = true } }
@@ -40,5 +47,9 @@ bare_line = let a = new_app (codes "hybridgc") in record a { top = record a.top 
 abbrev pub placed_line : App
 placed_line = with_rule (with_rule bare_line mode_rule) seed_rule
 
+-- and what an engine is opened with
+abbrev pub engine_line : App
+engine_line = with_rule (with_rule placed_line buckets_rule) long_rule
+
 abbrev pub command_line : App
-command_line = with_rule (with_rule (with_rule placed_line buckets_rule) long_rule) rounds_rule
+command_line = with_rule (with_rule engine_line rounds_rule) sweepers_rule

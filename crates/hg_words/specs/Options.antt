@@ -27,13 +27,13 @@ named_number bits name rows = option_and_then (number_of bits) (one_of name rows
 abbrev pub command_in : List Row → Option Command
 command_in rows = option_and_then (λ mode. command_of mode (named_number 64 (codes "seed") rows)) (first_of (codes "mode") rows)
 
-abbrev pub options_of_all : Option Command → Option ℕ → Option ℕ → Option ℕ → Option Options
-options_of_all (Some command) (Some buckets) (Some long) (Some rounds) = Some (record { command = command; buckets = buckets; long = long; rounds = rounds })
-options_of_all _ _ _ _ = None
+abbrev pub options_of_all : Option Command → Option ℕ → Option ℕ → Option ℕ → Option ℕ → Option Options
+options_of_all (Some command) (Some buckets) (Some long) (Some rounds) (Some sweepers) = Some (record { command = command; buckets = buckets; long = long; rounds = rounds; sweepers = sweepers })
+options_of_all _ _ _ _ _ = None
 
 -- the options among what `clap` found
 abbrev pub options_in : List Row → Option Options
-options_in rows = options_of_all (command_in rows) (named_number 32 (codes "buckets") rows) (named_number 64 (codes "long") rows) (named_number 32 (codes "rounds") rows)
+options_in rows = options_of_all (command_in rows) (named_number 32 (codes "buckets") rows) (named_number 64 (codes "long") rows) (named_number 32 (codes "rounds") rows) (named_number 32 (codes "sweepers") rows)
 
 abbrev pub options_unless : Kinds → List Row → Option Options
 options_unless [] rows = options_in rows
@@ -50,3 +50,5 @@ pub record AreWithin (options : Options) : Type 0 where
   pub some_long : 1 ≤ options.long
   pub most_long : options.long ≤ 1048576
   pub most_rounds : options.rounds ≤ 1000
+  pub some_sweepers : 1 ≤ options.sweepers
+  pub most_sweepers : options.sweepers ≤ 16

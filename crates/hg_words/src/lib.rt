@@ -8,6 +8,7 @@
 //!     --buckets N   how many buckets a table's records are spread over     1 to 1,024        default 64
 //!     --long N      a declared snapshot so far below the mark is long      1 to 1,048,576    default 4
 //!     --rounds N    how many rounds each collector of `run` makes          0 to 1,000        default 8
+//!     --sweepers N  how many helpers the interval collector of `run` has   1 to 16           default 1
 //!
 //! An option may be anywhere among the words, and every mode accepts each. `clap` reads the words by one command without subcommands
 //! (`command_line`). Words are refused exactly if `clap` finds a fault in them, or if mode and seed do not go together (`options_of`).

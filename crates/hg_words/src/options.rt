@@ -22,6 +22,7 @@ pub struct Options {
     /// In commit numbers.
     pub long: u64,
     pub rounds: u32,
+    pub sweepers: u32,
 }
 
 #[derive(Clone, Copy, Debug, PartialEq, Eq)]

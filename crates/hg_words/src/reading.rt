@@ -55,11 +55,13 @@ fn options_from(matches: &ArgMatches) -> Option<Options>
     let buckets = short_number(matches, "buckets")?;
     let long = long_number(matches, "long")?;
     let rounds = short_number(matches, "rounds")?;
+    let sweepers = short_number(matches, "sweepers")?;
     Some(Options {
         command,
         buckets,
         long,
         rounds,
+        sweepers,
     })
 }
 

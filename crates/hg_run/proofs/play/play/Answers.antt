@@ -50,7 +50,7 @@ turn-requires-clause-within g c =
     omega (arith, some, most, many)
 
 pub reply_at-requires-clause-ready : goal.reply_at-requires-clause-ready
-reply_at-requires-clause-ready g c =
+reply_at-requires-clause-ready g c ks below =
     let going = at c.args.engine.now c.args.long c.args.collectors.now c.loop-next.collectors c.loop-next.list.items c.loop-next.last c.loop-next.transcript.lines c.args.script.now c.loop-next.next c.in_ok-record.record c.loop-next.invariant.going (omega (arith, c.loop-next-test.true, c.record_count-next-end.ensures.same)) c.in_ok-record.ensures in
     let r = c.in_ok-record.record in
     let some = going.coming.0.stands.some in
@@ -58,7 +58,7 @@ reply_at-requires-clause-ready g c =
     ready_one_more c.args.engine.now (r.session - 1) c.turn.new.list.items r (drop (c.loop-next.next + 1) c.args.script.now.records) is (c.turn.ensures.ready _ going.ready)
 
 pub reply_at-requires-clause-may : goal.reply_at-requires-clause-may
-reply_at-requires-clause-may g c d =
+reply_at-requires-clause-may g c ks below d =
     let e = c.args.engine.now in
     let first = c.args.collectors.now in
     let r = c.in_ok-record.record in
@@ -71,7 +71,7 @@ reply_at-requires-clause-may g c d =
     may_ask e c.args.long first c.loop-next.collectors mid (r.session - 1) (r.session - 1) c.loop-next.transcript.lines r rest c.args.script.now turned is turned.ready.within d
 
 pub reply_at-requires-clause-tables : goal.reply_at-requires-clause-tables
-reply_at-requires-clause-tables g c =
+reply_at-requires-clause-tables g c ks below =
     let r = c.in_ok-record.record in
     let going = at c.args.engine.now c.args.long c.args.collectors.now c.loop-next.collectors c.loop-next.list.items c.loop-next.last c.loop-next.transcript.lines c.args.script.now c.loop-next.next c.in_ok-record.record c.loop-next.invariant.going (omega (arith, c.loop-next-test.true, c.record_count-next-end.ensures.same)) c.in_ok-record.ensures in
     subst (λ n. IsOnTables n r.statement) (sym c.requires.tables) (on_tables c.args.script.now.tables r.statement going.coming.0.stands.fits going.coming.0.stands.widths)

@@ -19,7 +19,7 @@ use Rattle.hg_run.proofs.Hearing.{seen_kept}
 use Rattle.hg_run.proofs.replay.replay_on.Goals as goal
 
 pub play-transcript-requires-clause-ready : goal.play-transcript-requires-clause-ready
-play-transcript-requires-clause-ready g c =
+play-transcript-requires-clause-ready g c ks below =
     let e = c.args.engine.now in
     let z = engine_sizes e in
     let list : List Session = c.into_vec-list.result.items in
@@ -31,7 +31,7 @@ play-transcript-requires-clause-ready g c =
     ready_less e 0 (λ j. length (of_session j c.args.script.now.records)) (λ j. z.quota) list c.requires.quota (new_ready e z.quota list many some row)
 
 pub play-transcript-requires-clause-none : goal.play-transcript-requires-clause-none
-play-transcript-requires-clause-none g c =
+play-transcript-requires-clause-none g c ks below =
     let e = c.args.engine.now in
     let list : List Session = c.into_vec-list.result.items in
     let is : list ≡ c.args.sessions.now = search rules in

@@ -4,7 +4,7 @@ use Rattle.hg_base.specs.declared.report.Kind.{Kind}
 use Rattle.hg_base.specs.declared.report.Kind.TheVariants as kinds
 use Rattle.hg_gc_group.specs.Collectors as group
 use Rattle.hg_gc_table.specs.Collectors as table
-use Rattle.hg_gc_interval.specs.Collectors as interval
+use Rattle.hg_run.specs.Workers as interval
 use Rattle.hg_session.specs.Engines.{engine_sizes}
 use Rattle.hg_run.specs.Collecting.{removed_of, view_in}
 use Rattle.hg_run.specs.Rounding.{IsRoundBy}
@@ -47,13 +47,13 @@ pub returns-in-Interval-clause-swept : goal.returns-in-Interval-clause-swept
 returns-in-Interval-clause-swept g c =
     let z = engine_sizes c.args.engine.now in
     let old = c.args.self.now in
-    let new = c.round-in-Interval.new.self in
-    subst (λ kind. IfOk c.round-in-Interval.result (λ sweep. HasSwept kind z.sessions (view_in kind old) sweep (view_in kind (record old { interval = new })))) (sym c.in-Interval.is)
-    (if_ok (λ sweep. IsRoundBy kinds.Interval z c.args.long (view_in kinds.Interval old) sweep (interval.view_of new)) (λ sweep. HasSwept kinds.Interval z.sessions (view_in kinds.Interval old) sweep (interval.view_of new)) c.round-in-Interval.result (λ sweep round. swept_of kinds.Interval z c.args.long (view_in kinds.Interval old) (interval.view_of new) sweep round) c.round-in-Interval.ensures.round)
+    let new = c.sweep_round.new.worker in
+    subst (λ kind. IfOk c.sweep_round.result (λ sweep. HasSwept kind z.sessions (view_in kind old) sweep (view_in kind (record old { interval = new })))) (sym c.in-Interval.is)
+    (if_ok (λ sweep. IsRoundBy kinds.Interval z c.args.long (view_in kinds.Interval old) sweep (interval.view_of new)) (λ sweep. HasSwept kinds.Interval z.sessions (view_in kinds.Interval old) sweep (interval.view_of new)) c.sweep_round.result (λ sweep round. swept_of kinds.Interval z c.args.long (view_in kinds.Interval old) (interval.view_of new) sweep round) c.sweep_round.ensures.round)
 
 pub returns-in-Interval-clause-removed : goal.returns-in-Interval-clause-removed
 returns-in-Interval-clause-removed g c =
     let z = engine_sizes c.args.engine.now in
     let old = c.args.self.now in
-    let new = c.round-in-Interval.new.self in
-    if_ok (λ sweep. IsRoundBy kinds.Interval z c.args.long (view_in kinds.Interval old) sweep (interval.view_of new)) (λ sweep. (k : Kind) → removed_of k (record old { interval = new }) ≡ removed_of k old + swept_by k sweep) c.round-in-Interval.result (λ sweep round. removed_interval z c.args.long old new sweep round) c.round-in-Interval.ensures.round
+    let new = c.sweep_round.new.worker in
+    if_ok (λ sweep. IsRoundBy kinds.Interval z c.args.long (view_in kinds.Interval old) sweep (interval.view_of new)) (λ sweep. (k : Kind) → removed_of k (record old { interval = new }) ≡ removed_of k old + swept_by k sweep) c.sweep_round.result (λ sweep round. removed_interval z c.args.long old new sweep round) c.sweep_round.ensures.round

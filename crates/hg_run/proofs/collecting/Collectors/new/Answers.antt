@@ -9,10 +9,10 @@ returns-clause-own c e alone sessions tables =
     let z = engine_sizes e in record {
       group_is = c.in-Ok.ensures.collector t z alone.group.own sessions tables;
       table_is = c.in-Ok-new.ensures.collector t z alone.table.own sessions tables;
-      interval_is = c.in-Ok-new-2.ensures.collector t z alone.interval.own sessions tables;
+      interval_is = c.in_ok-interval.ensures.own e 2 alone.interval sessions tables;
       alone = record {
         group = subst (IsAlonePass t 0) (sym c.in-Ok.ensures.same) alone.group;
         table = subst (IsAlonePass t 1) (sym c.in-Ok-new.ensures.same) alone.table;
-        interval = subst (IsAlonePass t 2) (sym c.in-Ok-new-2.ensures.same) alone.interval;
+        interval = subst (IsAlonePass t 2) (sym c.in_ok-interval.ensures.same) alone.interval;
       };
     }
