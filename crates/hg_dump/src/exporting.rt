@@ -1,0 +1,64 @@
+//! The export of all tables.
+
+ghost use Rattle.std.specs.Prelude.{◌≡◌, ◌++◌, ℕ, List, IfOk, OnErr};
+ghost use Rattle.hg_base.specs.History.{History};
+ghost use Rattle.hg_base.specs.Lists.{Each};
+ghost use Rattle.hg_core.specs.declared.log.LogEntry.{LogEntry};
+ghost use Rattle.hg_rule.specs.Seats.{session_view, IsSessionOf};
+ghost use Rattle.hg_store.specs.Stores.{store_board_id, store_buckets};
+ghost use Rattle.hg_tracker.specs.Begun.{AtMost};
+ghost use Rattle.hg_tracker.specs.Boards.{trackers_board_id, board_sizes};
+ghost use Rattle.hg_cursor.specs.Logs.{GoesOn};
+ghost use Rattle.hg_source.specs.Records.{dump_text};
+ghost use Rattle.hg_source.specs.Rows.{rows_at};
+ghost use Rattle.hg_dump.specs.Exports.{HasRead, MayExport};
+
+use crate::reading::Reading;
+use hg_base::{NoMemory, Scope};
+use hg_rule::SessionPass;
+use hg_script::Script;
+use hg_store::Store;
+use hg_tracker::Trackers;
+use std::alloc::Global;
+use std::sync::Wait;
+
+/// Appends the dump of the script's tables at a snapshot, and returns the snapshot. A refusal leaves `into` as it was. In either
+/// case the transaction that read the tables is over.
+pub fn export<R: Wait>(
+    rt: &R,
+    alloc: Global,
+    trackers: &Trackers,
+    store: &Store,
+    script: &Script,
+    pass: &mut SessionPass,
+    into: &mut Vec<u8>,
+) -> Result<u64, NoMemory>
+    requires own { MayExport (trackers_board_id trackers.now) (board_sizes trackers.now) pass.old }
+    requires board { store_board_id store.now ≡ trackers_board_id trackers.now }
+    requires buckets { store_buckets store.now ≡ (board_sizes trackers.now).buckets }
+    // for each history in which the entries of this session's log are right
+    ensures text { IfOk result (λ s. (h : History) (logs : ℕ → List LogEntry) →
+        GoesOn (store_buckets store.now) (session_view pass.new) h logs →
+        into.new.items ≡ into.old.items ++ dump_text script.now (rows_at script.now.tables h s)) }
+    ensures fresh { IfOk result (λ s. Each (AtMost s) (session_view pass.old).sights) }
+    ensures refused { OnErr result (into.new.items ≡ into.old.items) }
+    ensures read { HasRead (session_view pass.old) result (session_view pass.new) }
+    ensures own { IsSessionOf (trackers_board_id trackers.now) (board_sizes trackers.now) pass.new }
+{
+    let before = into.len();
+    let at = trackers.begin(pass, Scope::All).at;
+    let reading = Reading {
+        alloc,
+        board: trackers.board(),
+        store,
+        script,
+        at,
+    };
+    let written = reading.write_all(rt, pass, into);
+    trackers.end(pass);
+    if written.is_err() {
+        into.truncate(before);
+        return Err(NoMemory);
+    }
+    Ok(at)
+}
