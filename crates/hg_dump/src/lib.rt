@@ -1,8 +1,8 @@
 //! A consistent export: all tables of an engine at one snapshot, as a script that puts their rows back.
 //!
 //! A session's pass begins a transaction of all tables, reads each table in turn by a cursor, and ends. It takes a bucket's lock only
-//! while it reads that bucket. So other sessions go on writing and collectors go on removing meanwhile, and no row of the export
-//! changes: the snapshot is in use until the end.
+//! while it reads that bucket. So other sessions may write and collectors may remove meanwhile, and no row of the export changes: the
+//! snapshot is in use until the end.
 //!
 //!     begin      a snapshot s of all tables
 //!     table 0    fetches of 1,024 rows each, until the cursor is done; the puts of each are appended at once
