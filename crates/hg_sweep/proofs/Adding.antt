@@ -2,7 +2,7 @@
 use Rattle.std.proofs.Common.{◌≡◌, ℕ, zero, suc, ◌+◌, ◌≤◌, List, [], ◌∷◌, ◌++◌, set, refl, sym, ap, arith}
 use mathlib.Core.Option.{some, some-injective, some-ne-none}
 use lib.ListN.{get_elem?}
-use Rattle.hg_sweep.specs.Drawing.{sum}
+use Rattle.hg_sweep.specs.Word.{sum}
 
 module _ {A : Type 0} (f : A → ℕ) where
   pub sum_set : (vs : List A) (i : ℕ) (v w : A) → get_elem? vs i ≡ some v → sum f (set vs i w) + f v ≡ sum f vs + f w

@@ -19,8 +19,8 @@ use Rattle.hg_visit.proofs.Going.{same_pass, visits_after, removed_append, goes_
 use Rattle.hg_gc_interval.specs.Sweeping.{IsCleanBy}
 use Rattle.hg_sweep.specs.declared.draws.Drawn.{Drawn}
 use Rattle.hg_sweep.specs.declared.helper.Helper.{Helper}
-use Rattle.hg_sweep.specs.Drawing.{Drew, top, helper_quota}
-use Rattle.hg_sweep.specs.Helping.{visited, AreVisits, IsHelperOf, IsReady, Helps, HasHelped}
+use Rattle.hg_sweep.specs.Word.{Drew, top, helper_quota}
+use Rattle.hg_sweep.specs.Helpers.{visited, AreVisits, IsHelperOf, IsReady, Helps, HasHelped}
 use Rattle.hg_sweep.specs.Seats.{drawn_by, IsDrawerOf}
 
 module _ (Q : Rid → List Version → Type 0) (buckets : ℕ) where

@@ -29,9 +29,9 @@ use Rattle.hg_visit.proofs.Going.{removed_append, works}
 use Rattle.hg_gc_interval.specs.Sweeping.{IsCleanBy}
 use Rattle.hg_sweep.specs.declared.draws.Drawn.{Drawn}
 use Rattle.hg_sweep.specs.declared.helper.Helper.{Helper}
-use Rattle.hg_sweep.specs.Drawing.{times, AreAll, fresh, hirer, together, whole_quota, helper_quota}
-use Rattle.hg_sweep.specs.Helping.{visited, AreVisits, IsHelperOf, HasHelped}
-use Rattle.hg_sweep.specs.Hired.{share_of, shares, branched, IsHiredBy, HasHired, IsWilling, IsBack, HasPast, Unites}
+use Rattle.hg_sweep.specs.Word.{times, AreAll, fresh, hirer, together, whole_quota, helper_quota}
+use Rattle.hg_sweep.specs.Helpers.{visited, AreVisits, IsHelperOf, HasHelped}
+use Rattle.hg_sweep.specs.Crew.{share_of, shares, branched, IsHiredBy, HasHired, IsWilling, IsBack, HasPast, Unites}
 use Rattle.hg_sweep.specs.Seats.{drawn_by}
 use Rattle.hg_sweep.specs.Teams.{VisitOnce}
 use Rattle.hg_sweep.proofs.Adding.{sum_snoc}
@@ -52,7 +52,7 @@ may_one (suc k) share l may = record { now = may.0; rest = (k, refl, may.1) }
 pub kept_share : (v w : View) → w ≡ halved v → (pass w).share ≡ kept_of (pass v).share
 kept_share v w e = ap (λ (u : View). (pass u).share) e
 
--- ---- hiring
+-- ---- a crew is hired
 
 module _ (t : BoardId) (d : TableId) (x : View) where
   pub hired_none : HasPass x → (drawn : Drawn) → drawn ≡ fresh → HasHired t d 0 x [] x drawn

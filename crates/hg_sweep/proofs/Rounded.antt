@@ -13,9 +13,9 @@ use Rattle.hg_visit.specs.Reports.{IsReportBy}
 use Rattle.hg_visit.proofs.Rounds.{reports}
 use Rattle.hg_sweep.specs.declared.draws.Drawn.{Drawn}
 use Rattle.hg_sweep.specs.declared.helper.Helper.{Helper}
-use Rattle.hg_sweep.specs.Drawing.{AreAll}
-use Rattle.hg_sweep.specs.Helping.{IsHelperOf, HasHelped}
-use Rattle.hg_sweep.specs.Hired.{HasHired, Unites}
+use Rattle.hg_sweep.specs.Word.{AreAll}
+use Rattle.hg_sweep.specs.Helpers.{IsHelperOf, HasHelped}
+use Rattle.hg_sweep.specs.Crew.{HasHired, Unites}
 use Rattle.hg_sweep.specs.Teams.{SweepsBeside}
 use Rattle.hg_sweep.proofs.Joined.{worked, unites_none, goes, visit_once}
 

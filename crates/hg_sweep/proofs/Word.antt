@@ -9,7 +9,7 @@ use Rattle.atomic_table.specs.Table.{State, Me, step, keeps, Allows, Splits, Joi
 use Rattle.hg_rule.specs.Keys.{one}
 use Rattle.hg_rule.proofs.Found.{ltb_less}
 use Rattle.hg_sweep.specs.declared.draws.Drawn.{Drawn}
-use Rattle.hg_sweep.specs.Drawing.{times, sum, many, quota, whole_quota, helper_quota, IsDrawn, fresh, hired, hirer, together, spent, top, draws, restarts}
+use Rattle.hg_sweep.specs.Word.{times, sum, many, quota, whole_quota, helper_quota, IsDrawn, fresh, hired, hirer, together, spent, top, draws, restarts}
 use Rattle.hg_sweep.proofs.Adding.{sum_set, sum_snoc, sum_one, sum_whole}
 
 abbrev Seated : Type 0

@@ -1,9 +1,9 @@
 -- The word from which helpers draw.
-pub mod Drawing
+pub mod Word
 pub mod Seats
 -- What helpers make of a round.
-pub mod Helping
-pub mod Hired
+pub mod Helpers
+pub mod Crew
 -- The team.
 pub mod Teams
 pub mod Lending

@@ -18,8 +18,8 @@ use Rattle.hg_visit.specs.Visits.{GoesOn}
 use Rattle.hg_visit.specs.Reports.{Reports}
 use Rattle.hg_gc_interval.specs.Sweeping.{IsCleanBy}
 use Rattle.hg_sweep.specs.declared.team.SweepTeam.{SweepTeam}
-use Rattle.hg_sweep.specs.Drawing.{times, fresh}
-use Rattle.hg_sweep.specs.Helping.{visited, AreVisits}
+use Rattle.hg_sweep.specs.Word.{times, fresh}
+use Rattle.hg_sweep.specs.Helpers.{visited, AreVisits}
 use Rattle.hg_sweep.specs.Seats.{draws_id, drawn_by, IsDrawerOf}
 
 -- its pass, and what that sees

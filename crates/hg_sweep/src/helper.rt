@@ -31,7 +31,7 @@ pub struct Helper {
 }
 
 impl Helper {
-    ghost use Rattle.hg_sweep.specs.Helping.{IsHelperOf, IsReady, HasHelped};
+    ghost use Rattle.hg_sweep.specs.Helpers.{IsHelperOf, IsReady, HasHelped};
 
     // Draws a number and visits that bucket, until a number is drawn that no bucket has.
     fn sweep<R: Wait, G: Gate, L: Ledger>(
@@ -48,7 +48,8 @@ impl Helper {
         requires ready { IsReady self.old }
         requires board { store_board_id store.now ≡ trackers_board_id trackers.now }
         requires tables { tables_in gathered.now ≡ (board_sizes trackers.now).tables }
-        requires shown { IsGatherOf (board_sizes trackers.now).sessions (own_pass (pass_view self.old.pass)) gathered.now }
+        requires shown { IsGatherOf (board_sizes trackers.now).sessions
+            (own_pass (pass_view self.old.pass)) gathered.now }
         ensures helped { HasHelped (store_buckets store.now) self.old self.new }
         ensures own { IsHelperOf (trackers_board_id trackers.now) (draws_id draws.now) self.new }
     {
@@ -84,7 +85,8 @@ impl Helper {
         requires ready { IsReady self.old }
         requires board { store_board_id store.now ≡ trackers_board_id trackers.now }
         requires tables { tables_in gathered.now ≡ (board_sizes trackers.now).tables }
-        requires shown { IsGatherOf (board_sizes trackers.now).sessions (own_pass (pass_view self.old.pass)) gathered.now }
+        requires shown { IsGatherOf (board_sizes trackers.now).sessions
+            (own_pass (pass_view self.old.pass)) gathered.now }
         requires name { blank.name ≡ L.name }
         requires parts { blank.parts ≡ L.parts }
         requires some { 0 < blank.parts }
@@ -109,7 +111,8 @@ impl Helper {
         requires ready { IsReady self.old }
         requires board { store_board_id store.now ≡ trackers_board_id trackers.now }
         requires tables { tables_in gathered.now ≡ (board_sizes trackers.now).tables }
-        requires shown { IsGatherOf (board_sizes trackers.now).sessions (own_pass (pass_view self.old.pass)) gathered.now }
+        requires shown { IsGatherOf (board_sizes trackers.now).sessions
+            (own_pass (pass_view self.old.pass)) gathered.now }
         ensures helped { HasHelped (store_buckets store.now) self.old self.new }
         ensures own { IsHelperOf (trackers_board_id trackers.now) (draws_id draws.now) self.new }
     {

@@ -15,10 +15,9 @@
 //! All memory is allocated with the team. A round allocates nothing for itself, and cannot be refused.
 #![tactic(auto)]
 
-mod drawing;
+mod crew;
 mod draws;
 mod helper;
-mod hiring;
 mod team;
 
 pub use draws::{Drawer, Drawn, Draws};

@@ -7,9 +7,9 @@ ghost use Rattle.hg_rule.specs.Seats.{BoardId, pass_view, IsPassOf};
 ghost use Rattle.hg_store.specs.Stores.{store_board_id, store_buckets};
 ghost use Rattle.hg_tracker.specs.Boards.{trackers_board_id, board_sizes};
 
+use crate::crew::{hire, retire, work};
 use crate::draws::{Drawer, Draws};
 use crate::helper::Helper;
-use crate::hiring::{hire, retire, work};
 use hg_base::{Gate, Kind, NoMemory, Report};
 use hg_rule::CollectorPass;
 use hg_store::Store;
@@ -48,7 +48,10 @@ impl SweepTeam {
     ) -> Result<SweepTeam, (CollectorPass, NoMemory)>
         requires tables { tables ≤ 64 }
         requires helpers { (0 < helpers) × (helpers ≤ 16) }
-        ensures team { (t : BoardId) (z : Sizes) → IsPassOf t pass → MaySplit helpers (own_pass (pass_view pass)).share → z.sessions ≡ sessions → z.tables ≡ tables → IfOk result (IsTeamOf t z) }
+        // for each board of which the pass is one, and which has so many sessions and tables
+        ensures team { (t : BoardId) (z : Sizes) →
+            IsPassOf t pass → MaySplit helpers (own_pass (pass_view pass)).share →
+            z.sessions ≡ sessions → z.tables ≡ tables → IfOk result (IsTeamOf t z) }
         ensures same { IfOk result (λ c. pass_of c ≡ pass) }
         ensures refused { IfErr result (λ e. e.0 ≡ pass) }
     {
@@ -105,11 +108,14 @@ impl SweepTeam {
         store: &Store,
         gate: &G,
     )
-        requires own { IsTeamOf (trackers_board_id trackers.now) (board_sizes trackers.now) self.old }
+        requires own { IsTeamOf (trackers_board_id trackers.now) (board_sizes trackers.now)
+            self.old }
         requires board { store_board_id store.now ≡ trackers_board_id trackers.now }
         requires buckets { store_buckets store.now ≡ (board_sizes trackers.now).buckets }
-        ensures sweeps { SweepsBeside (board_sizes trackers.now) (view_of self.old) (report_in self.new) (view_of self.new) }
-        ensures own { IsTeamOf (trackers_board_id trackers.now) (board_sizes trackers.now) self.new }
+        ensures sweeps { SweepsBeside (board_sizes trackers.now) (view_of self.old)
+            (report_in self.new) (view_of self.new) }
+        ensures own { IsTeamOf (trackers_board_id trackers.now) (board_sizes trackers.now)
+            self.new }
     {
         trackers.gather(&mut self.pass, &mut self.gathered);
         let board = trackers.board();
@@ -148,10 +154,14 @@ impl SweepTeam {
         store: &Store,
         gate: &G,
     ) -> &Report
-        requires own { IsTeamOf (trackers_board_id trackers.now) (board_sizes trackers.now) self.old }
+        requires own { IsTeamOf (trackers_board_id trackers.now) (board_sizes trackers.now)
+            self.old }
         requires board { store_board_id store.now ≡ trackers_board_id trackers.now }
         requires buckets { store_buckets store.now ≡ (board_sizes trackers.now).buckets }
-        ensures* ends { sem 𝓛 (EndsAs self.entry (λ c. SweepsBeside (board_sizes trackers.now) (view_of self.old) result.now (view_of c) × IsTeamOf (trackers_board_id trackers.now) (board_sizes trackers.now) c)) }
+        // what `collect` says, of the team as it is once the report is given back
+        ensures* ends { sem 𝓛 (EndsAs self.entry (λ c.
+            SweepsBeside (board_sizes trackers.now) (view_of self.old) result.now (view_of c)
+            × IsTeamOf (trackers_board_id trackers.now) (board_sizes trackers.now) c)) }
     {
         self.collect(rt, trackers, store, gate);
         &self.report

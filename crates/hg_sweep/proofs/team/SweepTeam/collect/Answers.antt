@@ -6,8 +6,8 @@ use Rattle.hg_rule.specs.Seats.{board_id, pass_view, IsPassOf}
 use Rattle.hg_store.specs.Stores.{store_buckets}
 use Rattle.hg_tracker.specs.Boards.{trackers_board_id, board_sizes}
 use Rattle.hg_sweep.specs.declared.helper.Helper.{Helper}
-use Rattle.hg_sweep.specs.Helping.{IsHelperOf, HasHelped}
-use Rattle.hg_sweep.specs.Hired.{IsWilling, Unites}
+use Rattle.hg_sweep.specs.Helpers.{IsHelperOf, HasHelped}
+use Rattle.hg_sweep.specs.Crew.{IsWilling, Unites}
 use Rattle.hg_sweep.specs.Seats.{draws_id, drawn_by}
 use Rattle.hg_sweep.proofs.Joined.{take_whole, willing}
 use Rattle.hg_sweep.proofs.Rounded.{all_back, round_made, round_share}

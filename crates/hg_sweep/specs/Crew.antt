@@ -20,8 +20,8 @@ use Rattle.hg_visit.specs.Visits.{IsOnlyFor}
 use Rattle.hg_gc_interval.specs.Sweeping.{IsCleanBy}
 use Rattle.hg_sweep.specs.declared.draws.Drawn.{Drawn}
 use Rattle.hg_sweep.specs.declared.helper.Helper.{Helper}
-use Rattle.hg_sweep.specs.Drawing.{times, sum, whole_quota, helper_quota}
-use Rattle.hg_sweep.specs.Helping.{visited, AreVisits, IsHelperOf, IsReady, HasHelped}
+use Rattle.hg_sweep.specs.Word.{times, sum, whole_quota, helper_quota}
+use Rattle.hg_sweep.specs.Helpers.{visited, AreVisits, IsHelperOf, IsReady, HasHelped}
 
 -- a helper's share, and those of helpers together
 abbrev pub share_of : Helper → ℕ

@@ -2,10 +2,10 @@ use Rattle.std.proofs.Common.{rules, ◌≡◌, ◌++◌, ◌∷◌, [], List, l
 use Rattle.std.specs.Prelude.{vec_capacity}
 use Rattle.hg_rule.specs.Seats.{board_id, pass_view}
 use Rattle.hg_sweep.specs.declared.helper.Helper.{Helper}
-use Rattle.hg_sweep.specs.Hired.{Unites}
+use Rattle.hg_sweep.specs.Crew.{Unites}
 use Rattle.hg_sweep.specs.Seats.{draws_id, drawn_by}
 use Rattle.hg_sweep.proofs.Joined.{back_alone, unites_more, last_unites, last_back, last_fits, all_quota}
-use Rattle.hg_sweep.proofs.hiring.retire.Goals as goal
+use Rattle.hg_sweep.proofs.crew.retire.Goals as goal
 
 pub unite-requires-clause-own : goal.unite-requires-clause-own
 unite-requires-clause-own c =

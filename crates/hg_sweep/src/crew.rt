@@ -10,9 +10,9 @@ ghost use Rattle.hg_tracker.specs.Gathers.{tables_in};
 ghost use Rattle.hg_store.specs.Stores.{store_board_id, store_buckets};
 ghost use Rattle.hg_sweep.specs.declared.helper.Helper.{Helper};
 ghost use Rattle.hg_sweep.specs.declared.draws.Drawn.{Drawn};
-ghost use Rattle.hg_sweep.specs.Drawing.{fresh, AreAll};
-ghost use Rattle.hg_sweep.specs.Helping.{IsHelperOf, HasHelped};
-ghost use Rattle.hg_sweep.specs.Hired.{IsWilling, HasHired, Unites};
+ghost use Rattle.hg_sweep.specs.Word.{fresh, AreAll};
+ghost use Rattle.hg_sweep.specs.Helpers.{IsHelperOf, HasHelped};
+ghost use Rattle.hg_sweep.specs.Crew.{IsWilling, HasHired, Unites};
 ghost use Rattle.hg_sweep.specs.Seats.{draws_id, drawn_by, IsDrawerOf};
 
 use crate::draws::{Drawer, Draws};
@@ -34,14 +34,17 @@ pub(crate) fn hire(
     count: u32,
     helpers: &mut Vec<Helper>,
 )
-    requires own { IsPassOf (board_id board.now) pass.old × IsDrawerOf (draws_id draws.now) drawer.old }
+    requires own { IsPassOf (board_id board.now) pass.old
+        × IsDrawerOf (draws_id draws.now) drawer.old }
     requires fresh { drawn_by drawer.old ≡ fresh }
     requires may { MaySplit count (own_pass (pass_view pass.old)).share }
     requires few { count ≤ 16 }
     requires none { helpers.old.items ≡ [] }
     requires places { count ≤ vec_capacity helpers.old }
-    ensures hired { HasHired (board_id board.now) (draws_id draws.now) count (pass_view pass.old) helpers.new.items (pass_view pass.new) (drawn_by drawer.new) }
-    ensures own { IsPassOf (board_id board.now) pass.new × IsDrawerOf (draws_id draws.now) drawer.new }
+    ensures hired { HasHired (board_id board.now) (draws_id draws.now) count
+        (pass_view pass.old) helpers.new.items (pass_view pass.new) (drawn_by drawer.new) }
+    ensures own { IsPassOf (board_id board.now) pass.new
+        × IsDrawerOf (draws_id draws.now) drawer.new }
     ensures places { vec_capacity helpers.old ≤ vec_capacity helpers.new }
 {
     for number in 0..count {
@@ -64,14 +67,26 @@ pub(crate) fn retire(
     drawer: &mut Drawer,
     helpers: &mut Vec<Helper>,
 ) -> u64
-    requires own { IsPassOf (board_id board.now) pass.old × IsDrawerOf (draws_id draws.now) drawer.old }
-    requires back { (buckets : ℕ) × (x : View) × Unites (board_id board.now) (draws_id draws.now) buckets (length helpers.old.items) x helpers.old.items (pass_view pass.old) (drawn_by drawer.old) 0 }
+    requires own { IsPassOf (board_id board.now) pass.old
+        × IsDrawerOf (draws_id draws.now) drawer.old }
+    // for some buckets and some pass that hired them, all helpers are back
+    requires back { (buckets : ℕ) × (x : View) ×
+        Unites (board_id board.now) (draws_id draws.now) buckets (length helpers.old.items) x
+        helpers.old.items (pass_view pass.old) (drawn_by drawer.old) 0 }
     requires few { length helpers.old.items ≤ 16 }
-    ensures united { (buckets : ℕ) (x : View) → Unites (board_id board.now) (draws_id draws.now) buckets (length helpers.old.items) x helpers.old.items (pass_view pass.old) (drawn_by drawer.old) 0 → (drawn : Drawn) × Unites (board_id board.now) (draws_id draws.now) buckets (length helpers.old.items) x [] (pass_view pass.new) drawn result × AreAll drawn.numbers }
+    // for the same buckets and pass, all are united with it, and each number was drawn once
+    ensures united { (buckets : ℕ) (x : View) →
+        Unites (board_id board.now) (draws_id draws.now) buckets (length helpers.old.items) x
+        helpers.old.items (pass_view pass.old) (drawn_by drawer.old) 0 →
+        (drawn : Drawn) ×
+        Unites (board_id board.now) (draws_id draws.now) buckets (length helpers.old.items) x
+        [] (pass_view pass.new) drawn result ×
+        AreAll drawn.numbers }
     ensures fresh { drawn_by drawer.new ≡ fresh }
     ensures none { helpers.new.items ≡ [] }
     ensures places { vec_capacity helpers.old ≤ vec_capacity helpers.new }
-    ensures own { IsPassOf (board_id board.now) pass.new × IsDrawerOf (draws_id draws.now) drawer.new }
+    ensures own { IsPassOf (board_id board.now) pass.new
+        × IsDrawerOf (draws_id draws.now) drawer.new }
 {
     let mut removed = 0;
     while let Some(helper) = helpers.pop() {
@@ -99,10 +114,16 @@ pub(crate) fn work<R: Threads + Wait + Sync, G: Gate + Sync>(
     gate: &G,
     helpers: &mut [Helper],
 )
-    requires hired { All (IsWilling (trackers_board_id trackers.now) (draws_id draws.now) (board_sizes trackers.now) gathered.now) helpers.old }
+    requires hired { All (IsWilling (trackers_board_id trackers.now) (draws_id draws.now)
+        (board_sizes trackers.now) gathered.now) helpers.old }
     requires board { store_board_id store.now ≡ trackers_board_id trackers.now }
     requires tables { tables_in gathered.now ≡ (board_sizes trackers.now).tables }
-    ensures helped { (i : ℕ) (d : Helper) → i < length helpers.old → HasHelped (store_buckets store.now) (slice_index_or helpers.old i d) (slice_index_or helpers.new i d) × IsHelperOf (trackers_board_id trackers.now) (draws_id draws.now) (slice_index_or helpers.new i d) }
+    // each helper, by its index in the list
+    ensures helped { (i : ℕ) (d : Helper) → i < length helpers.old →
+        HasHelped (store_buckets store.now) (slice_index_or helpers.old i d)
+        (slice_index_or helpers.new i d) ×
+        IsHelperOf (trackers_board_id trackers.now) (draws_id draws.now)
+        (slice_index_or helpers.new i d) }
 {
     let count = helpers.len().max(1);
     thread::for_each_mut(

@@ -3,9 +3,9 @@ use Rattle.std.specs.Prelude.{vec_capacity}
 use Rattle.hg_rule.specs.Sharing.{MaySplit}
 use Rattle.hg_rule.specs.Views.{pass as own_pass}
 use Rattle.hg_rule.specs.Seats.{board_id, pass_view, IsPassOf}
-use Rattle.hg_sweep.specs.Hired.{HasHired}
+use Rattle.hg_sweep.specs.Crew.{HasHired}
 use Rattle.hg_sweep.specs.Seats.{draws_id, drawn_by, IsDrawerOf}
-use Rattle.hg_sweep.proofs.hiring.hire.Given as goal
+use Rattle.hg_sweep.proofs.crew.hire.Given as goal
 
 abbrev pub invariant-loop-number : goal.invariant-loop-number
 invariant-loop-number l =

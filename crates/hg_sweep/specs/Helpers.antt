@@ -14,7 +14,7 @@ use Rattle.hg_rule.specs.Seats.{BoardId, pass_view, IsPassOf}
 use Rattle.hg_visit.specs.Visits.{IsVisitOf, GoesOn}
 use Rattle.hg_gc_interval.specs.Sweeping.{IsCleanBy}
 use Rattle.hg_sweep.specs.declared.helper.Helper.{Helper}
-use Rattle.hg_sweep.specs.Drawing.{hired, helper_quota}
+use Rattle.hg_sweep.specs.Word.{hired, helper_quota}
 use Rattle.hg_sweep.specs.Seats.{drawn_by, IsDrawerOf}
 
 -- its pass is of this board, and it draws from this word

@@ -2,9 +2,9 @@ use Rattle.std.proofs.Common.{ℕ, ◌≤◌, length}
 use Rattle.std.specs.Prelude.{vec_capacity}
 use Rattle.hg_rule.specs.declared.view.View.{View}
 use Rattle.hg_rule.specs.Seats.{board_id, pass_view, IsPassOf}
-use Rattle.hg_sweep.specs.Hired.{Unites}
+use Rattle.hg_sweep.specs.Crew.{Unites}
 use Rattle.hg_sweep.specs.Seats.{draws_id, drawn_by, IsDrawerOf}
-use Rattle.hg_sweep.proofs.hiring.retire.Given as goal
+use Rattle.hg_sweep.proofs.crew.retire.Given as goal
 
 abbrev pub invariant-loop-helper : goal.invariant-loop-helper
 invariant-loop-helper l =
