@@ -7,7 +7,7 @@ use Rattle.hg_base.specs.declared.rid.TableId.{TableId}
 use Rattle.hg_base.specs.Script.{Declaration, Script}
 use Rattle.hg_rule.specs.Facts.{StartsWith}
 use Rattle.hg_cursor.specs.Keys.{Rows}
-use Rattle.hg_source.specs.Bytes.{record_bytes}
+use Rattle.hg_csv.specs.Bytes.{record_bytes}
 use Rattle.hg_source.specs.Records.{dump_text, heading, put_fields}
 use Rattle.hg_source.specs.Rows.{Kept, kept_in}
 use Rattle.hg_dump.specs.Writes.{puts_bytes}

@@ -23,7 +23,7 @@ use Rattle.hg_base.specs.Text.{Field, Fits64, Fits32, Fits, FitTotals, IsFit, Fi
 use Rattle.hg_base.proofs.TextNumbers.{number_is_no_word}
 use Rattle.hg_base.proofs.TextReplies.{answer_begins, behind_at}
 use Rattle.hg_script.specs.Lawful.{IsLawful}
-use Rattle.hg_report.specs.Bytes.{field_bytes}
+use Rattle.hg_csv.specs.Bytes.{field_bytes}
 use Rattle.hg_report.specs.declared.piece.Piece.{Piece}
 use Rattle.hg_report.specs.declared.piece.Piece.TheVariants as piece
 use Rattle.hg_report.specs.declared.progress.Open.{Open}

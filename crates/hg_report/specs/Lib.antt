@@ -1,5 +1,4 @@
 -- What the bytes of a text are, and which bytes are read. A reader meets the definitions in this order.
-pub mod Bytes
 pub mod Readable
 -- What the reader keeps: what a record's fields may say, and how far it has come.
 pub mod Fields

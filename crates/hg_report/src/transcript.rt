@@ -3,7 +3,7 @@
 ghost use Rattle.std.specs.Prelude.{◌≡◌, ◌++◌, ◌∷◌, [], IfOk, OnErr, OnOk};
 ghost use Rattle.hg_base.specs.Script.{Script};
 ghost use Rattle.hg_base.specs.Text.{text_of};
-ghost use Rattle.hg_report.specs.Bytes.{record_bytes};
+ghost use Rattle.hg_csv.specs.Bytes.{record_bytes};
 ghost use Rattle.hg_report.specs.LinesText.{Shown, lines_text};
 
 use crate::told::ToldLines;

@@ -6,16 +6,15 @@ ghost use Rattle.std.specs.List.{flat_map, list_any};
 ghost use Rattle.csv.specs.Writing.{needs_byte};
 ghost use Rattle.hg_base.specs.declared.line.Answer.TheVariants.{Swept};
 ghost use Rattle.hg_base.specs.Text.{answer_fields, held_fields, kind_word, line_records, more_fields, name_of, of_line, row_fields, text_of, told_as, total_fields, totals_records, value_field};
-ghost use Rattle.hg_report.specs.Bytes.{flexible_writer, further_bytes, record_bytes};
+ghost use Rattle.hg_csv.specs.Bytes.{flexible_writer, further_bytes, record_bytes};
 ghost use Rattle.hg_report.specs.Guess.{behind};
 
-use crate::bytes::{
-    add_field, add_number, add_plain, add_value, begin_record, begin_reply, end_record,
-};
+use crate::bytes::{add_number, add_value, begin_reply};
 use crate::row_start::RowStart;
 use hg_base::{
     Answer, Kind, Line, NoMemory, Printed, Reply, Row, Sweep, TableId, Told, Totals, Value,
 };
+use hg_csv::{add_field, add_plain, begin_record, end_record};
 use hg_script::{Script, Table};
 use std::alloc::Global;
 

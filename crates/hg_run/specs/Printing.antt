@@ -6,7 +6,7 @@ use Rattle.hg_base.specs.declared.line.Printed.{Printed}
 use Rattle.hg_base.specs.Script.{Mode, Script, replay, run}
 use Rattle.hg_base.specs.Sound.{IsSound}
 use Rattle.hg_base.specs.Text.{IsFit, text_of, totals_records}
-use Rattle.hg_report.specs.Bytes.{record_bytes}
+use Rattle.hg_csv.specs.Bytes.{record_bytes}
 use Rattle.hg_script.specs.Generator.{IsMade}
 use Rattle.hg_session.specs.declared.engine.Engine.{Engine}
 use Rattle.hg_session.specs.declared.session.Session.{Session}

@@ -12,10 +12,10 @@ use Rattle.hg_base.specs.Lists.{Each}
 use Rattle.hg_base.specs.Script.{Declaration, Script}
 use Rattle.hg_base.specs.Text.{Field}
 use Rattle.hg_script.specs.Fields.{rows_of}
-use Rattle.hg_source.specs.Bytes.{flexible_writer, record_bytes}
+use Rattle.hg_csv.specs.Bytes.{flexible_writer, record_bytes}
 use Rattle.hg_source.specs.Records.{dump_records, dump_text, put_fields, table_fields, version_records}
 use Rattle.hg_source.specs.Rows.{Kept}
-use Rattle.hg_source.proofs.RecordBytes.{record_is}
+use Rattle.hg_csv.proofs.RecordBytes.{record_is}
 
 -- ---- flexible lengths change no byte
 

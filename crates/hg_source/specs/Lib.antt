@@ -2,5 +2,4 @@
 pub mod Rows
 pub mod Dumps
 -- The text of that script: its records as lists of fields, and their bytes.
-pub mod Bytes
 pub mod Records

@@ -5,7 +5,7 @@ use Rattle.hg_base.specs.declared.value.Column.{Column}
 use Rattle.hg_base.specs.declared.value.Column.TheVariants as columns
 use Rattle.hg_base.specs.Script.{Declaration, Script}
 use Rattle.hg_base.specs.Text.{Field, name_of, value_field}
-use Rattle.hg_source.specs.Bytes.{record_bytes}
+use Rattle.hg_csv.specs.Bytes.{record_bytes}
 use Rattle.hg_source.specs.Rows.{Kept}
 
 -- `n` for a column of numbers, `t` for one of texts

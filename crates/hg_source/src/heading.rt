@@ -2,11 +2,12 @@
 
 ghost use Rattle.std.specs.Prelude.{◌≡◌, ◌++◌, OnErr, OnOk, IfOk, map};
 ghost use Rattle.std.specs.List.{flat_map};
-ghost use Rattle.hg_source.specs.Bytes.{further_bytes, record_bytes};
+ghost use Rattle.hg_csv.specs.Bytes.{further_bytes, record_bytes};
 ghost use Rattle.hg_source.specs.Records.{columns_field, heading, letter_of, table_fields, version_records};
 
-use crate::bytes::{add_field, add_first, add_natural, end_record};
+use crate::digits::add_natural;
 use hg_base::{Column, NoMemory};
+use hg_csv::{add_field, add_first, end_record};
 use hg_script::{Script, Table};
 use std::alloc::Global;
 

@@ -16,7 +16,7 @@
 //! (`a_dump_is_read_back`).
 #![tactic(auto)]
 
-mod bytes;
+mod digits;
 mod heading;
 mod laws;
 mod puts;

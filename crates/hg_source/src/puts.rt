@@ -3,12 +3,13 @@
 ghost use Rattle.std.specs.Prelude.{◌≡◌, ◌++◌, ◌∷◌, OnErr, OnOk, codes, decimal, map};
 ghost use Rattle.std.specs.List.{flat_map};
 ghost use Rattle.hg_base.specs.Text.{name_of, value_field};
-ghost use Rattle.hg_source.specs.Bytes.{further_bytes, record_bytes};
+ghost use Rattle.hg_csv.specs.Bytes.{further_bytes, record_bytes};
 ghost use Rattle.hg_source.specs.Records.{put_fields};
 ghost use Rattle.hg_source.specs.Rows.{kept_in};
 
-use crate::bytes::{add_field, add_first, add_integer, add_natural, end_record};
+use crate::digits::{add_integer, add_natural};
 use hg_base::{NoMemory, Row, TableId, Value};
+use hg_csv::{add_field, add_first, end_record};
 use hg_script::{Script, Table};
 use std::alloc::Global;
 

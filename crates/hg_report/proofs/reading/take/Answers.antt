@@ -1,7 +1,7 @@
 use Rattle.std.proofs.Common.{◌≡◌, ◌∙◌, ◌++◌, List, ℕ, Some, None, sym, ap}
 use Rattle.std.proofs.lemmas.Bool.Decides.{Decides-eqb}
 use Rattle.std.proofs.lemmas.Slice.Eq.{strip_prefix_is}
-use Rattle.hg_report.specs.Bytes.{record_bytes}
+use Rattle.hg_csv.specs.Bytes.{record_bytes}
 use Rattle.hg_report.specs.Guess.{piece_fields}
 use Rattle.hg_report.specs.Progress.{guess_after}
 use Rattle.hg_report.specs.Fields.{fields_of}

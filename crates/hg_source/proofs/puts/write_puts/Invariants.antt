@@ -1,6 +1,6 @@
 use Rattle.std.proofs.Common.{◌≡◌, ◌++◌, map, take}
 use Rattle.std.specs.List.{flat_map}
-use Rattle.hg_source.specs.Bytes.{record_bytes}
+use Rattle.hg_csv.specs.Bytes.{record_bytes}
 use Rattle.hg_source.specs.Records.{put_fields}
 use Rattle.hg_source.specs.Rows.{kept_in}
 use Rattle.hg_source.proofs.puts.write_puts.Given as goal

@@ -1,0 +1,2 @@
+-- The bytes of records, and of fields byte by byte.
+pub mod RecordBytes
