@@ -34,7 +34,8 @@ fn target(statement: &Statement) -> Option<Rid>
 
 // Whether the transaction of a line stored the record before it.
 fn has_written(own: &Own, now: &Said, rid: Rid) -> bool
-    ensures { (earlier : List script.Said) → HasOwn own.now earlier (said_of now.now) → result ≡ is_some (image_in rid (own_writes earlier (said_of now.now))) }
+    ensures { (earlier : List script.Said) → HasOwn own.now earlier (said_of now.now) →
+        result ≡ is_some (image_in rid (own_writes earlier (said_of now.now))) }
 {
     let tx = Tx {
         session: now.session,
@@ -44,7 +45,8 @@ fn has_written(own: &Own, now: &Said, rid: Rid) -> bool
 }
 
 fn shows_newer(writes: &Writes, groups: u64, at: u64, rid: Rid, number: u64) -> bool
-    ensures { (h : History) → IsOfHistory h writes.now → length h ≡ groups → Decides result (ShowsNewer h at rid number) }
+    ensures { (h : History) → IsOfHistory h writes.now → length h ≡ groups →
+        Decides result (ShowsNewer h at rid number) }
 {
     if number <= at || number > groups {
         return false;
@@ -54,7 +56,11 @@ fn shows_newer(writes: &Writes, groups: u64, at: u64, rid: Rid, number: u64) -> 
 
 // Whether another session's transaction stores the record, and is not committed at or below the snapshot.
 fn shows_open(own: &Own, numbers: &Numbers, now: &Said, rid: Rid, writer: Writer) -> bool
-    ensures { (all : List script.Said) → AreOwn own.now (onto all []) → AreNumbers numbers.now (onto all []) → Decides result (ShowsOpen (stored_in writer.session writer.transaction all) (numbers_in writer.session writer.transaction all) now.now.session now.now.at rid writer) }
+    ensures { (all : List script.Said) → AreOwn own.now (onto all []) →
+        AreNumbers numbers.now (onto all []) →
+        Decides result (ShowsOpen (stored_in writer.session writer.transaction all)
+        (numbers_in writer.session writer.transaction all) now.now.session now.now.at
+        rid writer) }
 {
     let tx = Tx {
         session: writer.session,
@@ -71,7 +77,8 @@ fn shows_open(own: &Own, numbers: &Numbers, now: &Said, rid: Rid, writer: Writer
 
 // Whether the transaction stored the record before, and did not end: of one that did nothing is kept.
 fn is_still_open(own: &Own, rid: Rid, writer: Writer) -> bool
-    ensures { (earlier : List script.Said) → AreOpenOwn own.now earlier → ForgetsOver own.now earlier → Decides result (IsStillOpen earlier rid writer) }
+    ensures { (earlier : List script.Said) → AreOpenOwn own.now earlier →
+        ForgetsOver own.now earlier → Decides result (IsStillOpen earlier rid writer) }
 {
     let tx = Tx {
         session: writer.session,
@@ -100,7 +107,12 @@ fn shows_still_open(own: &Own, numbers: &Numbers, now: &Said, rid: Rid, writer: 
 
 // Whether the refusal of a write of that record shows its cause, where the transaction has not written it itself.
 fn shows_cause(facts: &Facts, own: &Own, now: &Said, rid: Rid) -> bool
-    ensures { (mode : Mode) (h : History) (all earlier : List script.Said) → IsOf facts.now.command mode → Knows h all facts.now → IsAsked all (said_of now.now) → IsPart earlier all → HasOwn own.now earlier (said_of now.now) → AreOpenOwn own.now earlier → ForgetsOver own.now earlier → Decides result (ShowsCause mode h all earlier (said_of now.now) rid now.now.reply.now.answer) }
+    ensures { (mode : Mode) (h : History) (all earlier : List script.Said) →
+        IsOf facts.now.command mode → Knows h all facts.now → IsAsked all (said_of now.now) →
+        IsPart earlier all → HasOwn own.now earlier (said_of now.now) → AreOpenOwn own.now earlier →
+        ForgetsOver own.now earlier →
+        Decides result
+        (ShowsCause mode h all earlier (said_of now.now) rid now.now.reply.now.answer) }
 {
     match &now.reply.answer {
         Answer::Newer(number) => {
@@ -124,7 +136,11 @@ fn shows_cause(facts: &Facts, own: &Own, now: &Said, rid: Rid) -> bool
 
 /// Whether a write that is refused for a conflict shows its cause.
 pub fn shows_conflict(facts: &Facts, own: &Own, now: &Said) -> bool
-    ensures { (mode : Mode) (h : History) (all earlier : List script.Said) → IsOf facts.now.command mode → Knows h all facts.now → IsAsked all (said_of now.now) → IsPart earlier all → HasOwn own.now earlier (said_of now.now) → AreOpenOwn own.now earlier → ForgetsOver own.now earlier → Decides result (ShowsConflict mode h all earlier (said_of now.now)) }
+    ensures { (mode : Mode) (h : History) (all earlier : List script.Said) →
+        IsOf facts.now.command mode → Knows h all facts.now → IsAsked all (said_of now.now) →
+        IsPart earlier all → HasOwn own.now earlier (said_of now.now) → AreOpenOwn own.now earlier →
+        ForgetsOver own.now earlier →
+        Decides result (ShowsConflict mode h all earlier (said_of now.now)) }
 {
     match target(&now.statement) {
         Some(rid) => shows_cause(facts, own, now, rid),

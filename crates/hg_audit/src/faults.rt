@@ -45,7 +45,11 @@ pub fn first_faults(
     all: &Lines<'_>,
 ) -> Result<Option<Faults>, NoMemory>
     requires { EachAfter IsOpen [] all.now }
-    ensures { IfOk result (λ found. (mode : Mode) → IsOf facts.now.command mode → IsWhole all.now → Knows (history_of all.now) all.now facts.now → (IsTrue (list_any tells_held all.now) → ArePoints points.now (onto all.now [])) → AreFaults mode all.now found) }
+    ensures { IfOk result (λ found.
+        (mode : Mode) → IsOf facts.now.command mode → IsWhole all.now →
+        Knows (history_of all.now) all.now facts.now →
+        (IsTrue (list_any tells_held all.now) → ArePoints points.now (onto all.now [])) →
+        AreFaults mode all.now found) }
 {
     let mut own = Own::new(alloc);
     let mut before = Before::new(alloc);

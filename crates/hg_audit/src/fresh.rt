@@ -25,7 +25,9 @@ use hg_known::{Before, Points, Said, newer_of, snapshot_of};
 
 // Whether a snapshot is at least every number that its session printed before.
 fn is_rising(before: &Before, now: &Said) -> bool
-    ensures { (earlier : List script.Said) → AreBefore before.now earlier → Decides result (IfSome (fresh.snapshot_of (said_of now.now)) (λ s. Each (λ n. n ≤ s) (known now.now.session earlier))) }
+    ensures { (earlier : List script.Said) → AreBefore before.now earlier →
+        Decides result (IfSome (fresh.snapshot_of (said_of now.now))
+        (λ s. Each (λ n. n ≤ s) (known now.now.session earlier))) }
 {
     match snapshot_of(now) {
         Some(at) => before.rises(now.session, at),
@@ -35,7 +37,9 @@ fn is_rising(before: &Before, now: &Said) -> bool
 
 // Whether a snapshot is the newest commit number that was printed before.
 fn is_newest(before: &Before, now: &Said) -> bool
-    ensures { (earlier : List script.Said) → AreBefore before.now earlier → Decides result (IfSome (fresh.snapshot_of (said_of now.now)) (λ s. s ≡ greatest_commit earlier)) }
+    ensures { (earlier : List script.Said) → AreBefore before.now earlier →
+        Decides result
+        (IfSome (fresh.snapshot_of (said_of now.now)) (λ s. s ≡ greatest_commit earlier)) }
 {
     match snapshot_of(now) {
         Some(at) => at == before.newest(),
@@ -45,7 +49,9 @@ fn is_newest(before: &Before, now: &Said) -> bool
 
 // Whether the number of a newer commit was printed before.
 fn is_told(before: &Before, now: &Said) -> bool
-    ensures { (earlier : List script.Said) → AreBefore before.now earlier → Decides result (IfSome (fresh.newer_of (said_of now.now)) (λ c. IsTrue (list_any (λ n. n == c) (filter_map script.committed earlier)))) }
+    ensures { (earlier : List script.Said) → AreBefore before.now earlier →
+        Decides result (IfSome (fresh.newer_of (said_of now.now))
+        (λ c. IsTrue (list_any (λ n. n == c) (filter_map script.committed earlier)))) }
 {
     match newer_of(now) {
         Some(number) => before.has_number(number),
@@ -55,7 +61,8 @@ fn is_told(before: &Before, now: &Said) -> bool
 
 // Whether a held snapshot was printed by its session, and one that was moved, by a transaction that declared its tables.
 fn is_held(points: &Points, told: Told) -> bool
-    ensures { (all : List script.Said) → ArePoints points.now (onto all []) → Decides result (IsHeld all told) }
+    ensures { (all : List script.Said) → ArePoints points.now (onto all []) →
+        Decides result (IsHeld all told) }
 {
     if !points.is_printed(told.session, told.number) {
         return false;
@@ -68,7 +75,10 @@ fn is_held(points: &Points, told: Told) -> bool
 
 // Whether held snapshots ascend by session, and each was printed.
 fn are_held(points: &Points, held: &[Told]) -> bool
-    ensures { (all : List script.Said) → (0 < length held.now → ArePoints points.now (onto all [])) → Decides result (Ascends (map (λ told. told.session) held.now) × Each (IsHeld all) held.now) }
+    ensures { (all : List script.Said) →
+        (0 < length held.now → ArePoints points.now (onto all [])) →
+        Decides result
+        (Ascends (map (λ told. told.session) held.now) × Each (IsHeld all) held.now) }
 {
     let mut least = 0u64;
     for k in 0..held.len() {
@@ -87,7 +97,9 @@ fn are_held(points: &Points, held: &[Told]) -> bool
 
 // Whether the marks of a collector did not fall, and a report's numbers and held snapshots are in order.
 fn is_reported(points: &Points, groups: u64, before: &Before, sweep: &Sweep) -> bool
-    ensures { (h : History) (all earlier : List script.Said) → length h ≡ groups → (0 < length sweep.now.held → ArePoints points.now (onto all [])) → AreBefore before.now earlier → Decides result (IsReported h all earlier sweep.now) }
+    ensures { (h : History) (all earlier : List script.Said) → length h ≡ groups →
+        (0 < length sweep.now.held → ArePoints points.now (onto all [])) →
+        AreBefore before.now earlier → Decides result (IsReported h all earlier sweep.now) }
 {
     if before.mark(sweep.kind) > sweep.mark {
         return false;
@@ -109,7 +121,9 @@ fn is_point(told: Told, session: u32, number: u64) -> bool
 
 // Whether these are the snapshots of the transactions that are open, by session.
 fn are_open(before: &Before, held: &[Told]) -> bool
-    ensures { (earlier : List script.Said) → AreBefore before.now earlier → Decides result (map (λ told. (told.session, told.number)) held.now ≡ open_snapshots earlier) }
+    ensures { (earlier : List script.Said) → AreBefore before.now earlier →
+        Decides result
+        (map (λ told. (told.session, told.number)) held.now ≡ open_snapshots earlier) }
 {
     let mut told = 0;
     for j in 0..before.sessions() {
@@ -128,7 +142,8 @@ fn are_open(before: &Before, held: &[Told]) -> bool
 }
 
 pub fn is_report_of(statement: &Statement, kind: Kind) -> bool
-    ensures { (sweep : base.Sweep) → sweep.kind ≡ kind → Decides result (IsReportOf statement.now (Swept sweep)) }
+    ensures { (sweep : base.Sweep) → sweep.kind ≡ kind →
+        Decides result (IsReportOf statement.now (Swept sweep)) }
 {
     match statement {
         Statement::Gc(asked) => *asked == kind,
@@ -138,7 +153,8 @@ pub fn is_report_of(statement: &Statement, kind: Kind) -> bool
 
 // Whether a report is that of its record, at the newest commit, with exactly the open snapshots.
 fn is_replayed(before: &Before, statement: &Statement, sweep: &Sweep) -> bool
-    ensures { (earlier : List script.Said) → AreBefore before.now earlier → Decides result (IsReplayed earlier statement.now sweep.now) }
+    ensures { (earlier : List script.Said) → AreBefore before.now earlier →
+        Decides result (IsReplayed earlier statement.now sweep.now) }
 {
     if !is_report_of(statement, sweep.kind) {
         return false;
@@ -154,7 +170,8 @@ fn is_replayed(before: &Before, statement: &Statement, sweep: &Sweep) -> bool
 
 // What a replay asks besides.
 fn is_exact(before: &Before, now: &Said) -> bool
-    ensures { (earlier : List script.Said) → AreBefore before.now earlier → Decides result (IsExact earlier (said_of now.now)) }
+    ensures { (earlier : List script.Said) → AreBefore before.now earlier →
+        Decides result (IsExact earlier (said_of now.now)) }
 {
     if !is_newest(before, now) {
         return false;
@@ -169,7 +186,9 @@ fn is_exact(before: &Before, now: &Said) -> bool
 }
 
 fn is_exact_on_replay(command: Command, before: &Before, now: &Said) -> bool
-    ensures { (mode : Mode) (earlier : List script.Said) → IsOf command mode → AreBefore before.now earlier → Decides result (OnReplay mode (IsExact earlier (said_of now.now))) }
+    ensures { (mode : Mode) (earlier : List script.Said) → IsOf command mode →
+        AreBefore before.now earlier →
+        Decides result (OnReplay mode (IsExact earlier (said_of now.now))) }
 {
     match command {
         Command::Replay => is_exact(before, now),
@@ -179,7 +198,10 @@ fn is_exact_on_replay(command: Command, before: &Before, now: &Said) -> bool
 
 // Whether a report that the line gives is in order.
 fn gives_order(points: &Points, groups: u64, before: &Before, now: &Said) -> bool
-    ensures { (h : History) (all earlier : List script.Said) → length h ≡ groups → (IsTrue (tells_held (said_of now.now)) → ArePoints points.now (onto all [])) → AreBefore before.now earlier → Decides result (IfSome (report_of now.now.reply.now) (IsReported h all earlier)) }
+    ensures { (h : History) (all earlier : List script.Said) → length h ≡ groups →
+        (IsTrue (tells_held (said_of now.now)) → ArePoints points.now (onto all [])) →
+        AreBefore before.now earlier →
+        Decides result (IfSome (report_of now.now.reply.now) (IsReported h all earlier)) }
 {
     match &now.reply.answer {
         Answer::Swept(sweep) => is_reported(points, groups, before, sweep),
@@ -189,7 +211,11 @@ fn gives_order(points: &Points, groups: u64, before: &Before, now: &Said) -> boo
 
 /// Whether the numbers of a line are in order with those before it.
 pub fn is_fresh(command: Command, points: &Points, groups: u64, before: &Before, now: &Said) -> bool
-    ensures { (mode : Mode) (h : History) (all earlier : List script.Said) → IsOf command mode → length h ≡ groups → (IsTrue (tells_held (said_of now.now)) → ArePoints points.now (onto all [])) → AreBefore before.now earlier → Decides result (IsFresh mode h all earlier (said_of now.now)) }
+    ensures { (mode : Mode) (h : History) (all earlier : List script.Said) → IsOf command mode →
+        length h ≡ groups →
+        (IsTrue (tells_held (said_of now.now)) → ArePoints points.now (onto all [])) →
+        AreBefore before.now earlier →
+        Decides result (IsFresh mode h all earlier (said_of now.now)) }
 {
     if !is_rising(before, now) {
         return false;

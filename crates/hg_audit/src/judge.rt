@@ -22,7 +22,8 @@ use hg_known::{LEAST, Own, Rest, Said, Tx, Writes};
 
 // Whether the transaction of a line stored anything before it.
 fn wrote(own: &Own, now: &Said) -> bool
-    ensures { (earlier : List script.Said) → HasOwn own.now earlier (said_of now.now) → result ≡ is_written (own_writes earlier (said_of now.now)) }
+    ensures { (earlier : List script.Said) → HasOwn own.now earlier (said_of now.now) →
+        result ≡ is_written (own_writes earlier (said_of now.now)) }
 {
     let tx = Tx {
         session: now.session,
@@ -48,7 +49,11 @@ fn is_numbered(now: &Said) -> bool
 }
 
 fn is_scan(writes: &Writes, own: &Own, now: &Said, table: TableId, low: u64, high: u64) -> bool
-    ensures { (h : History) (earlier : List script.Said) → IsOfHistory h writes.now → HasOwn own.now earlier (said_of now.now) → Decides result (IsScanned (λ key. seen h (own_writes earlier (said_of now.now)) now.now.at (record { table = table; key = key })) low high now.now.reply.now.answer) }
+    ensures { (h : History) (earlier : List script.Said) → IsOfHistory h writes.now →
+        HasOwn own.now earlier (said_of now.now) →
+        Decides result (IsScanned (λ key.
+        seen h (own_writes earlier (said_of now.now)) now.now.at
+        (record { table = table; key = key })) low high now.now.reply.now.answer) }
 {
     let range = Rest {
         table,

@@ -24,14 +24,18 @@ use hg_script::Script;
 use std::alloc::Global;
 
 fn at_line(lines: &[Line], k: usize, why: Why) -> Result<Verdict, NoMemory>
-    ensures { IfOk result (λ verdict. (script : Meaning) (printed : base.Printed) → printed.lines ≡ lines.now → verdict ≡ verdicts.Unsound (first_record script printed k) why) }
+    ensures { IfOk result (λ verdict.
+        (script : Meaning) (printed : base.Printed) → printed.lines ≡ lines.now →
+        verdict ≡ verdicts.Unsound (first_record script printed k) why) }
 {
     let line = first_of(lines, k)?;
     Ok(Verdict::Unsound { line, why })
 }
 
 fn at_end(lines: &[Line], why: Why) -> Result<Verdict, NoMemory>
-    ensures { IfOk result (λ verdict. (script : Meaning) (printed : base.Printed) → printed.lines ≡ lines.now → verdict ≡ verdicts.Unsound (last_record script printed) why) }
+    ensures { IfOk result (λ verdict.
+        (script : Meaning) (printed : base.Printed) → printed.lines ≡ lines.now →
+        verdict ≡ verdicts.Unsound (last_record script printed) why) }
 {
     let line = last_of(lines)?;
     Ok(Verdict::Unsound { line, why })
@@ -45,7 +49,9 @@ fn find(
     printed: &Printed,
 ) -> Result<Verdict, NoMemory>
     requires known { Each (λ r. OpensKnown r.statement) order.now }
-    ensures { IfOk result (λ verdict. (mode : Mode) (script : Meaning) → IsOf command mode → order.now ≡ in_order mode script.records → IsFinding mode script printed.now verdict) }
+    ensures { IfOk result (λ verdict.
+        (mode : Mode) (script : Meaning) → IsOf command mode →
+        order.now ≡ in_order mode script.records → IsFinding mode script printed.now verdict) }
 {
     let lines = printed.lines.as_slice();
     if lines.len() >= 1 << 61 {
@@ -107,7 +113,8 @@ fn find_verdict(alloc: Global, script: &Script, printed: &Printed) -> Result<Ver
 pub fn audit(alloc: Global, script: &Script, text: &[u8]) -> Result<Verdict, NoMemory>
     requires { IsLawful script.now }
     ensures verdict { IfOk result (λ verdict. IsAudit script.now text.now verdict) }
-    ensures sound { IfOk result (λ verdict. (verdict ≡ verdicts.Sound) ↔ IsSoundText script.now text.now) }
+    ensures sound { IfOk result
+        (λ verdict. (verdict ≡ verdicts.Sound) ↔ IsSoundText script.now text.now) }
 {
     let printed = match read_text(alloc, script, text) {
         Ok(printed) => printed,

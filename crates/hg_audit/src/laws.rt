@@ -9,6 +9,10 @@ ghost use Rattle.hg_audit.specs.Found.{IsFound};
 
 /// Nothing fails of what was printed exactly where it is sound.
 pub fn what_is_right_is_sound()
-    ensures sound { (mode : Mode) (script : Script) (printed : Printed) → IsFound mode (in_order mode script.records) printed.lines printed.totals Right → IsSound mode script printed }
-    ensures right { (mode : Mode) (script : Script) (printed : Printed) → IsSound mode script printed → IsFound mode (in_order mode script.records) printed.lines printed.totals Right }
+    ensures sound { (mode : Mode) (script : Script) (printed : Printed) →
+        IsFound mode (in_order mode script.records) printed.lines printed.totals Right →
+        IsSound mode script printed }
+    ensures right { (mode : Mode) (script : Script) (printed : Printed) →
+        IsSound mode script printed →
+        IsFound mode (in_order mode script.records) printed.lines printed.totals Right }
 {}

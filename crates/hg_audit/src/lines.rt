@@ -40,7 +40,8 @@ pub enum Found {
 
 // What each transaction stores. A replay asks only for what is open, and needs none of it.
 fn read_stored(alloc: Global, command: Command, all: &Lines<'_>) -> Result<Own, NoMemory>
-    ensures { IfOk result (λ own. command ≡ Run → IsTrue (list_any names_writer all.now) → AreOwn own (onto all.now [])) }
+    ensures { IfOk result (λ own.
+        command ≡ Run → IsTrue (list_any names_writer all.now) → AreOwn own (onto all.now [])) }
 {
     match command {
         Command::Replay => Ok(Own::new(alloc)),
@@ -63,7 +64,8 @@ fn judge_lines(
     requires whole { IsWhole all.now }
     requires groups { length (history_of all.now) ≡ groups }
     requires tally { IsTally tally all.now }
-    ensures { IfOk result (λ found. (mode : Mode) → IsOf command mode → IsDecided mode all.now totals found) }
+    ensures { IfOk result
+        (λ found. (mode : Mode) → IsOf command mode → IsDecided mode all.now totals found) }
 {
     let numbers = read_numbers(alloc, all)?;
     let own = read_stored(alloc, command, all)?;
@@ -100,7 +102,8 @@ pub(crate) fn find_fault(
 ) -> Result<Found, NoMemory>
     requires few { length lines.now < 2 ^ 62 }
     requires known { Each (λ r. OpensKnown r.statement) records.now }
-    ensures { IfOk result (λ found. (mode : Mode) → IsOf command mode → IsFound mode records.now lines.now totals found) }
+    ensures { IfOk result (λ found.
+        (mode : Mode) → IsOf command mode → IsFound mode records.now lines.now totals found) }
 {
     if let Some(k) = first_out_of_shape(records, lines)? {
         return Ok(Found::Shape(k));

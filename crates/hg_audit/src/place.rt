@@ -22,7 +22,9 @@ fn count_records(line: &Line) -> u64
 
 // How many records the first so many lines have. It answers no number past 64 bits, for which no memory would do.
 fn count_before(lines: &[Line], many: usize) -> Result<u64, NoMemory>
-    ensures { IfOk result (λ count. (tables : List Declaration) → count ≡ length (flat_map (line_records tables) (take many lines.now))) }
+    ensures { IfOk result (λ count.
+        (tables : List Declaration) →
+        count ≡ length (flat_map (line_records tables) (take many lines.now))) }
 {
     let mut count = 0u64;
     for k in 0..many.min(lines.len()) {
@@ -36,7 +38,9 @@ fn count_before(lines: &[Line], many: usize) -> Result<u64, NoMemory>
 
 /// The first record of line k, and the first of the totals where there is no such line.
 pub fn first_of(lines: &[Line], k: usize) -> Result<u64, NoMemory>
-    ensures { IfOk result (λ record_at. (script : Script) (printed : Printed) → printed.lines ≡ lines.now → record_at ≡ first_record script printed k) }
+    ensures { IfOk result (λ record_at.
+        (script : Script) (printed : Printed) → printed.lines ≡ lines.now →
+        record_at ≡ first_record script printed k) }
 {
     let before = count_before(lines, k)?;
     match before.checked_add(1) {
@@ -47,7 +51,9 @@ pub fn first_of(lines: &[Line], k: usize) -> Result<u64, NoMemory>
 
 /// The last record of the text.
 pub fn last_of(lines: &[Line]) -> Result<u64, NoMemory>
-    ensures { IfOk result (λ record_at. (script : Script) (printed : Printed) → printed.lines ≡ lines.now → record_at ≡ last_record script printed) }
+    ensures { IfOk result (λ record_at.
+        (script : Script) (printed : Printed) → printed.lines ≡ lines.now →
+        record_at ≡ last_record script printed) }
 {
     let before = count_before(lines, lines.len())?;
     match before.checked_add(6) {

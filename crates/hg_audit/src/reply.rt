@@ -26,7 +26,9 @@ pub enum Command {
 
 /// The row that a line's transaction sees of a record: its own last write, and else what its snapshot shows.
 pub fn see<'a>(writes: &'a Writes, own: &'a Own, now: &Said, rid: Rid) -> Option<&'a Row>
-    ensures { (h : History) (earlier : List script.Said) → IsOfHistory h writes.entry.now → HasOwn own.entry.now earlier (said_of now.now) → option_copied result ≡ (seen h (own_writes earlier (said_of now.now)) now.now.at rid).row }
+    ensures { (h : History) (earlier : List script.Said) → IsOfHistory h writes.entry.now →
+        HasOwn own.entry.now earlier (said_of now.now) →
+        option_copied result ≡ (seen h (own_writes earlier (said_of now.now)) now.now.at rid).row }
 {
     let tx = Tx {
         session: now.session,
@@ -54,7 +56,8 @@ pub fn is_begun(answer: &Answer) -> bool
 }
 
 pub fn is_got(seen: Option<&Row>, answer: &Answer) -> bool
-    ensures { (image : Image) → option_copied seen.entry ≡ image.row → Decides result (IsGot image answer.now) }
+    ensures { (image : Image) → option_copied seen.entry ≡ image.row →
+        Decides result (IsGot image answer.now) }
 {
     match answer {
         Answer::Found(row) => is_row(seen, row),
@@ -73,7 +76,8 @@ pub fn is_put(answer: &Answer) -> bool
 }
 
 pub fn is_deleted(seen: Option<&Row>, answer: &Answer) -> bool
-    ensures { (image : Image) → option_copied seen.entry ≡ image.row → Decides result (IsDeleted image answer.now) }
+    ensures { (image : Image) → option_copied seen.entry ≡ image.row →
+        Decides result (IsDeleted image answer.now) }
 {
     match answer {
         Answer::Nothing => seen.is_none(),
@@ -105,7 +109,8 @@ pub fn is_undone(answer: &Answer) -> bool
 }
 
 pub fn is_collected(command: Command, session: u32, answer: &Answer) -> bool
-    ensures { (mode : Mode) → IsOf command mode → Decides result (IsCollected mode session answer.now) }
+    ensures { (mode : Mode) → IsOf command mode →
+        Decides result (IsCollected mode session answer.now) }
 {
     if command == Command::Run && session != 0 {
         return matches!(answer, Answer::Beside);
@@ -124,7 +129,8 @@ pub fn is_undeclared(table: TableId, answer: &Answer) -> bool
 
 // Whether a line's transaction may name the table, which its statement names.
 pub fn is_within(now: &Said, table: TableId) -> bool
-    ensures { script.table_of now.now.statement ≡ Some table → result ≡ script.has (said_of now.now).scope table }
+    ensures { script.table_of now.now.statement ≡ Some table →
+        result ≡ script.has (said_of now.now).scope table }
 {
     now.alone || now.scope.has(table)
 }

@@ -57,14 +57,19 @@ fn none_stored(own: &Own, tx: Tx, table: TableId, from: u64, to: u64) -> bool
 
 // Whether a row that is visible of a record is seen by the transaction, which did not store the record.
 fn is_shown(own: &Own, tx: Tx, rid: Rid, row: Option<&Row>) -> bool
-    ensures { result ≡ is_some (if is_some (own_at own.now tx.session tx.number rid) then None else option_copied row.entry) }
+    ensures { result ≡
+        is_some (if is_some (own_at own.now tx.session tx.number rid) then None else option_copied
+        row.entry) }
 {
     row.is_some() && !own.has(tx, rid)
 }
 
 // Whether of no key from `from` to `to`, but for those that the transaction stored, a row is visible.
 fn none_shown(writes: &Writes, own: &Own, now: &Said, table: TableId, from: u64, to: u64) -> bool
-    ensures { (h : History) → IsOfHistory h writes.now → Decides result (NoneSeen (other_look h own.now now.now.session now.now.transaction now.now.at table) from to) }
+    ensures { (h : History) → IsOfHistory h writes.now →
+        Decides result (NoneSeen
+        (other_look h own.now now.now.session now.now.transaction now.now.at table) from
+        to) }
 {
     let tx = Tx {
         session: now.session,
@@ -88,7 +93,9 @@ fn none_shown(writes: &Writes, own: &Own, now: &Said, table: TableId, from: u64,
 
 // Whether no key from `from` to `to` is seen as a row.
 fn none_seen(writes: &Writes, own: &Own, now: &Said, table: TableId, from: u64, to: u64) -> bool
-    ensures { (h : History) (earlier : List script.Said) → IsOfHistory h writes.now → HasOwn own.now earlier (said_of now.now) → Decides result (NoneSeen (look h earlier (said_of now.now) table) from to) }
+    ensures { (h : History) (earlier : List script.Said) → IsOfHistory h writes.now →
+        HasOwn own.now earlier (said_of now.now) →
+        Decides result (NoneSeen (look h earlier (said_of now.now) table) from to) }
 {
     let tx = Tx {
         session: now.session,

@@ -35,7 +35,9 @@ fn is_line_of(asked: &Record, line: &Line) -> bool
 
 /// The first line that is not that of its record, or that is missing.
 pub fn first_out_of_shape(records: &Sequence<'_>, lines: &[Line]) -> Result<Option<usize>, NoMemory>
-    ensures { IfOk result (λ found. MatchOption found (HasShape records.now lines.now) (FirstOutOfShape records.now lines.now)) }
+    ensures { IfOk result (λ found.
+        MatchOption found (HasShape records.now lines.now)
+        (FirstOutOfShape records.now lines.now)) }
 {
     let count = records.len().min(lines.len());
     for k in 0..count {

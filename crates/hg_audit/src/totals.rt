@@ -25,7 +25,8 @@ fn removed(reply: &Reply, kind: Kind) -> u64
 
 // What is left of a number without what the reports of a collector say that they removed, if they say no more.
 fn without_removed(all: &Lines<'_>, kind: Kind, told: u64) -> Option<u64>
-    ensures { MatchOption result (told < sum_by (removed_by kind) all.now) (λ rest. rest + sum_by (removed_by kind) all.now ≡ told) }
+    ensures { MatchOption result (told < sum_by (removed_by kind) all.now)
+        (λ rest. rest + sum_by (removed_by kind) all.now ≡ told) }
 {
     let mut rest = told;
     for k in 0..all.len() {
@@ -54,7 +55,8 @@ fn is_removed_within(all: &Lines<'_>, kind: Kind, told: u64) -> bool
 
 // Whether the record is a row after that many groups.
 fn is_row(writes: &Writes, rid: Rid, groups: u64) -> bool
-    ensures { (h : History) → IsOfHistory h writes.now → length h ≡ groups → result ≡ is_some (visible h rid (length h)).row }
+    ensures { (h : History) → IsOfHistory h writes.now → length h ≡ groups →
+        result ≡ is_some (visible h rid (length h)).row }
 {
     writes.visible(rid, groups).is_some()
 }
@@ -62,7 +64,8 @@ fn is_row(writes: &Writes, rid: Rid, groups: u64) -> bool
 // Whether that many records are rows after the last group.
 fn are_left(writes: &Writes, groups: u64, told: u64) -> bool
     requires { HasHistory writes.now groups }
-    ensures { (h : History) → IsOfHistory h writes.now → length h ≡ groups → Decides result (told ≡ length (live h)) }
+    ensures { (h : History) → IsOfHistory h writes.now → length h ≡ groups →
+        Decides result (told ≡ length (live h)) }
 {
     let mut rest = told;
     let mut found = writes.next_rid(LEAST, 0);

@@ -98,7 +98,8 @@ pub(crate) fn packed_value(bytes: &[u8], i: usize) -> Value
 }
 
 fn add_number(bytes: &mut Vec<u8>, n: i64) -> Result<(), NoMemory>
-    ensures { OnOk result (bytes.new.items ≡ bytes.old.items ++ to_le_bytes w64 (cast_unsigned w64 n)) }
+    ensures { OnOk result
+        (bytes.new.items ≡ bytes.old.items ++ to_le_bytes w64 (cast_unsigned w64 n)) }
 {
     bytes.extend_from_slice(&n.to_le_bytes())?;
     Ok(())

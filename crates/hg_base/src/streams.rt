@@ -52,7 +52,9 @@ fn is_listed(failing: &[u64], call: u64) -> bool
 impl MemorySource {
     pub fn new(bytes: Vec<u8>, most: usize, failing: Vec<u64>) -> MemorySource
         requires { 0 < most }
-        ensures { result ≡ record { left = bytes.items; most = most; failing = failing.items; calls = 0; faults = 0 } }
+        ensures { result ≡
+            record
+            { left = bytes.items; most = most; failing = failing.items; calls = 0; faults = 0 } }
     {
         MemorySource {
             bytes,
@@ -76,10 +78,15 @@ impl Source for MemorySource {
         ensures cause { HasCause self.old.faults self.new.faults result }
 
         // Exactly the listed calls fail, and the others give as much as they may.
-        ensures listed { is_err result ≡ list_any (λ k. k == next_count self.old.calls) self.old.failing }
-        ensures count { IfOk result (λ n. n ≡ min (min (length self.old.left) self.old.most) (length into.old)) }
-        ensures given { OnOk result (self.new ≡ record self.old { left = self.new.left; calls = next_count self.old.calls }) }
-        ensures failed { OnErr result (self.new ≡ record self.old { calls = next_count self.old.calls; faults = next_count self.old.faults }) }
+        ensures listed { is_err result ≡
+            list_any (λ k. k == next_count self.old.calls) self.old.failing }
+        ensures count { IfOk result
+            (λ n. n ≡ min (min (length self.old.left) self.old.most) (length into.old)) }
+        ensures given { OnOk result (self.new ≡
+            record self.old { left = self.new.left; calls = next_count self.old.calls }) }
+        ensures failed { OnErr result (self.new ≡
+            record self.old
+            { calls = next_count self.old.calls; faults = next_count self.old.faults }) }
     {
         self.calls = self.calls.saturating_add(1);
         if is_listed(&self.failing, self.calls) {
@@ -118,7 +125,9 @@ impl Model for MemorySink {
 impl MemorySink {
     pub fn new(alloc: Global, most: usize, failing: Vec<u64>) -> MemorySink
         requires { 0 < most }
-        ensures { result ≡ record { taken = []; room = 0; most = most; failing = failing.items; calls = 0; faults = 0 } }
+        ensures { result ≡
+            record
+            { taken = []; room = 0; most = most; failing = failing.items; calls = 0; faults = 0 } }
     {
         MemorySink {
             bytes: Vec::new(alloc),
@@ -159,10 +168,18 @@ impl Sink for MemorySink {
         ensures cause { HasCause self.old.faults self.new.faults result }
 
         // Exactly the listed calls fail, and those past the room, and the others take as much as they may.
-        ensures listed { is_err result ≡ (list_any (λ k. k == next_count self.old.calls) self.old.failing || ((self.old.room == 0) && nat_lt 0 (length piece.now))) }
-        ensures count { IfOk result (λ n. n ≡ min (min (length piece.now) self.old.most) self.old.room) }
-        ensures taken { IfOk result (λ n. self.new ≡ record self.old { taken = self.new.taken; room = self.old.room - n; calls = next_count self.old.calls }) }
-        ensures failed { OnErr result (self.new ≡ record self.old { calls = next_count self.old.calls; faults = next_count self.old.faults }) }
+        ensures listed { is_err result ≡
+            (list_any (λ k. k == next_count self.old.calls) self.old.failing ||
+            ((self.old.room == 0) && nat_lt 0 (length piece.now))) }
+        ensures count { IfOk result
+            (λ n. n ≡ min (min (length piece.now) self.old.most) self.old.room) }
+        ensures taken { IfOk result (λ n.
+            self.new ≡
+            record self.old
+            { taken = self.new.taken; room = self.old.room - n; calls = next_count self.old.calls }) }
+        ensures failed { OnErr result (self.new ≡
+            record self.old
+            { calls = next_count self.old.calls; faults = next_count self.old.faults }) }
     {
         self.calls = self.calls.saturating_add(1);
         if is_listed(&self.failing, self.calls) || (self.room == 0 && !piece.is_empty()) {
@@ -217,7 +234,8 @@ impl Source for SteadySource {
         ensures cause { HasCause 0 0 result }
 
         // Each call gives as much as it may.
-        ensures given { result ≡ Ok (min (min (length self.old.left) self.old.most) (length into.old)) }
+        ensures given { result ≡
+            Ok (min (min (length self.old.left) self.old.most) (length into.old)) }
         ensures most { self.new.most ≡ self.old.most }
     {
         let count = copy_front(&self.bytes[self.at..], self.most, into);
@@ -299,9 +317,12 @@ impl Sink for SteadySink {
 
         // Each call takes as much as it may, and keeps of it what there is room for.
         ensures taken { result ≡ Ok (min (length piece.now) self.old.most) }
-        ensures kept { self.new.kept ≡ self.old.kept ++ take (min (min (length piece.now) self.old.most) self.old.room) piece.now }
+        ensures kept { self.new.kept ≡
+            self.old.kept ++
+            take (min (min (length piece.now) self.old.most) self.old.room) piece.now }
         ensures room { self.new.room ≡ self.old.room - min (length piece.now) self.old.most }
-        ensures past { self.new.past ≡ counted self.old.past (min (length piece.now) self.old.most - self.old.room) }
+        ensures past { self.new.past ≡
+            counted self.old.past (min (length piece.now) self.old.most - self.old.room) }
         ensures most { self.new.most ≡ self.old.most }
     {
         let count = piece.len().min(self.most);

@@ -27,7 +27,8 @@ impl Model for Text {
 impl Text {
     /// The text of these bytes, where they are not more than 64.
     pub fn from_slice(bytes: &[u8]) -> Option<Text>
-        ensures some { IfSome result (λ text. (text ≡ bytes.now) × (length bytes.now ≤ MOST_TEXT_BYTES)) }
+        ensures some { IfSome result
+            (λ text. (text ≡ bytes.now) × (length bytes.now ≤ MOST_TEXT_BYTES)) }
         ensures none { IfNone result (MOST_TEXT_BYTES < length bytes.now) }
     {
         if bytes.len() > MOST_TEXT_BYTES {

@@ -66,7 +66,9 @@ impl Arena {
     fn set_next(&mut self, at: u32, next: u32)
         requires { at < length self.old.nodes.items }
         ensures heads { self.new.heads.items ≡ self.old.heads.items }
-        ensures nodes { self.new.nodes.items ≡ slice_set self.old.nodes.items at (record (node_at self.old.nodes.items at) { next = next }) }
+        ensures nodes { self.new.nodes.items ≡
+            slice_set self.old.nodes.items at
+            (record (node_at self.old.nodes.items at) { next = next }) }
         ensures free { self.new.free ≡ self.old.free }
     {
         self.nodes[at as usize].next = next;
@@ -75,7 +77,9 @@ impl Arena {
     fn set_image_in(&mut self, at: u32, image: Image)
         requires { at < length self.old.nodes.items }
         ensures heads { self.new.heads.items ≡ self.old.heads.items }
-        ensures nodes { self.new.nodes.items ≡ slice_set self.old.nodes.items at (record (node_at self.old.nodes.items at) { image = image }) }
+        ensures nodes { self.new.nodes.items ≡
+            slice_set self.old.nodes.items at
+            (record (node_at self.old.nodes.items at) { image = image }) }
         ensures free { self.new.free ≡ self.old.free }
     {
         self.nodes[at as usize].image = image;
@@ -108,7 +112,9 @@ impl Arena {
     /// The number of the version before which the walk stands, if it has one.
     pub fn number(&self, head: Head, cursor: Cursor) -> Option<u64>
         requires { cursor.at < length self.now.nodes.items }
-        ensures { result ≡ number_in (stamp_in (head.is_open && (cursor.kept == 0)) (node_at self.now.nodes.items cursor.at)) }
+        ensures { result ≡
+            number_in (stamp_in (head.is_open && (cursor.kept == 0))
+            (node_at self.now.nodes.items cursor.at)) }
     {
         if head.is_open && cursor.kept == 0 {
             return None;
@@ -120,7 +126,9 @@ impl Arena {
     pub fn pass(&self, cursor: Cursor) -> Cursor
         requires there { cursor.at < length self.now.nodes.items }
         requires more { cursor.kept + 1 < 2 ^ 32 }
-        ensures { result ≡ record { kept = cursor.kept + 1; last = cursor.at; at = (node_at self.now.nodes.items cursor.at).next } }
+        ensures { result ≡
+            record
+            { kept = cursor.kept + 1; last = cursor.at; at = (node_at self.now.nodes.items cursor.at).next } }
     {
         Cursor {
             kept: cursor.kept + 1,
@@ -132,7 +140,10 @@ impl Arena {
     // Whether the walk stands before a version that isn't at the bound.
     fn is_newer(&self, head: Head, cursor: Cursor, bound: u64) -> bool
         requires { cursor.kept < head.strand.count → cursor.at < length self.now.nodes.items }
-        ensures { result ≡ (nat_lt cursor.kept head.strand.count && not (is_at_most bound (version_in (head.is_open && (cursor.kept == 0)) (node_at self.now.nodes.items cursor.at)))) }
+        ensures { result ≡
+            (nat_lt cursor.kept head.strand.count && not (is_at_most bound (version_in
+            (head.is_open && (cursor.kept == 0))
+            (node_at self.now.nodes.items cursor.at)))) }
     {
         if cursor.kept >= head.strand.count {
             return false;
@@ -165,9 +176,12 @@ impl Arena {
         requires there { at < length self.old.nodes.items }
         requires more { self.old.free.count + 1 < 2 ^ 32 }
         ensures heads { self.new.heads.items ≡ self.old.heads.items }
-        ensures nodes { self.new.nodes.items ≡ slice_set self.old.nodes.items at (freed self.old.free.first (node_at self.old.nodes.items at)) }
+        ensures nodes { self.new.nodes.items ≡
+            slice_set self.old.nodes.items at
+            (freed self.old.free.first (node_at self.old.nodes.items at)) }
         ensures free { self.new.free ≡ record { first = at; count = self.old.free.count + 1 } }
-        ensures held { result ≡ ((node_at self.old.nodes.items at).number, (node_at self.old.nodes.items at).image) }
+        ensures held { result ≡
+            ((node_at self.old.nodes.items at).number, (node_at self.old.nodes.items at).image) }
     {
         let node = &mut self.nodes[at as usize];
         node.next = self.free.first;
@@ -186,11 +200,15 @@ impl Arena {
         requires some { 0 < (head_in self.old place).strand.count }
         ensures arena { IsArena self.new }
         ensures here { list_in self.new place ≡ drop 1 (list_in self.old place) }
-        ensures first { (head_in self.new place).strand.first ≡ (node_at self.old.nodes.items (head_in self.old place).strand.first).next }
+        ensures first { (head_in self.new place).strand.first ≡
+            (node_at self.old.nodes.items (head_in self.old place).strand.first).next }
         ensures others { OthersStayIn place self.old self.new }
         ensures nodes { length self.new.nodes.items ≡ length self.old.nodes.items }
         ensures free { self.new.free.count ≡ self.old.free.count + 1 }
-        ensures held { result ≡ ((node_at self.old.nodes.items (head_in self.old place).strand.first).number, (node_at self.old.nodes.items (head_in self.old place).strand.first).image) }
+        ensures held { result ≡ (
+          (node_at self.old.nodes.items (head_in self.old place).strand.first).number,
+          (node_at self.old.nodes.items (head_in self.old place).strand.first).image,
+        ) }
     {
         let strand = self.head(place).strand;
         let head = Head {
@@ -211,12 +229,18 @@ impl Arena {
         requires behind { 0 < cursor.kept }
         requires some { cursor.kept < (head_in self.old place).strand.count }
         ensures arena { IsArena self.new }
-        ensures here { list_in self.new place ≡ take cursor.kept (list_in self.old place) ++ drop (cursor.kept + 1) (list_in self.old place) }
-        ensures at { IsAt self.new place (record cursor { at = (node_at self.old.nodes.items cursor.at).next }) }
+        ensures here { list_in self.new place ≡
+            take cursor.kept (list_in self.old place) ++
+            drop (cursor.kept + 1) (list_in self.old place) }
+        ensures at { IsAt self.new place
+            (record cursor { at = (node_at self.old.nodes.items cursor.at).next }) }
         ensures others { OthersStayIn place self.old self.new }
         ensures nodes { length self.new.nodes.items ≡ length self.old.nodes.items }
         ensures free { self.new.free.count ≡ self.old.free.count + 1 }
-        ensures held { result ≡ ((node_at self.old.nodes.items cursor.at).number, (node_at self.old.nodes.items cursor.at).image) }
+        ensures held { result ≡ (
+          (node_at self.old.nodes.items cursor.at).number,
+          (node_at self.old.nodes.items cursor.at).image,
+        ) }
     {
         let Head { strand, is_open } = self.head(place);
         let head = Head {
@@ -237,7 +261,8 @@ impl Arena {
         requires arena { IsArena self.old }
         requires some { 0 < (head_in self.old place).strand.count }
         ensures arena { IsArena self.new }
-        ensures here { list_in self.new place ≡ record { stamp = Numbered number by; image = image } ∷ drop 1 (list_in self.old place) }
+        ensures here { list_in self.new place ≡
+            record { stamp = Numbered number by; image = image } ∷ drop 1 (list_in self.old place) }
         ensures others { OthersStayIn place self.old self.new }
         ensures nodes { length self.new.nodes.items ≡ length self.old.nodes.items }
         ensures free { self.new.free ≡ self.old.free }
@@ -298,12 +323,17 @@ impl Arena {
         requires at { IsAt self.old place cursor.old }
         requires some { cursor.old.kept < (head_in self.old place).strand.count }
         ensures arena { IsArena self.new }
-        ensures here { list_in self.new place ≡ take cursor.old.kept (list_in self.old place) ++ drop (cursor.old.kept + 1) (list_in self.old place) }
+        ensures here { list_in self.new place ≡
+            take cursor.old.kept (list_in self.old place) ++
+            drop (cursor.old.kept + 1) (list_in self.old place) }
         ensures at { IsAt self.new place cursor.new }
         ensures kept { cursor.new.kept ≡ cursor.old.kept }
         ensures others { OthersStayIn place self.old self.new }
         ensures nodes { length self.new.nodes.items ≡ length self.old.nodes.items }
-        ensures held { result ≡ ((node_at self.old.nodes.items cursor.old.at).number, (node_at self.old.nodes.items cursor.old.at).image) }
+        ensures held { result ≡ (
+          (node_at self.old.nodes.items cursor.old.at).number,
+          (node_at self.old.nodes.items cursor.old.at).image,
+        ) }
     {
         let from = *cursor;
         cursor.at = self.next(from.at);
@@ -320,7 +350,10 @@ impl Arena {
         requires at { IsAt self.old place cursor.old }
         requires some { cursor.old.kept < (head_in self.old place).strand.count }
         ensures arena { IsArena self.new }
-        ensures here { list_in self.new place ≡ (if goes then take cursor.old.kept (list_in self.old place) ++ drop (cursor.old.kept + 1) (list_in self.old place) else list_in self.old place) }
+        ensures here { list_in self.new place ≡
+            (if goes then take cursor.old.kept (list_in self.old place) ++
+            drop (cursor.old.kept + 1) (list_in self.old place) else list_in self.old
+            place) }
         ensures at { IsAt self.new place cursor.new }
         ensures kept { cursor.new.kept ≡ cursor.old.kept + (if goes then 0 else 1) }
         ensures others { OthersStayIn place self.old self.new }
@@ -356,7 +389,9 @@ impl Arena {
         ensures heads { self.new.heads ≡ self.old.heads }
         ensures nodes { self.new.nodes.items ≡ self.old.nodes.items }
         ensures free { self.new.free ≡ self.old.free }
-        ensures room { OnOk result (self.old.free.count ≡ 0 → (vec_len self.new.nodes < vec_capacity self.new.nodes) × (vec_len self.new.nodes + 1 < 2 ^ 32)) }
+        ensures room { OnOk result (self.old.free.count ≡ 0 →
+            (vec_len self.new.nodes < vec_capacity self.new.nodes) ×
+            (vec_len self.new.nodes + 1 < 2 ^ 32)) }
         ensures enough { 0 < self.old.free.count → IsOk result }
     {
         if self.free.count > 0 {
@@ -379,7 +414,8 @@ impl Arena {
         ensures nodes { self.new.nodes.items ≡ self.old.nodes.items }
         ensures free { self.new.free ≡ self.old.free }
         ensures refused { OnErr result (self.new.heads.items ≡ self.old.heads.items) }
-        ensures enough { 0 < self.old.free.count → place < length self.old.heads.items → IsOk result }
+        ensures enough { 0 < self.old.free.count → place < length self.old.heads.items →
+            IsOk result }
     {
         self.reserve_node()?;
         self.reserve_head(place)
@@ -387,14 +423,25 @@ impl Arena {
 
     // Puts a node where the first free one is, and adds it only where none is free.
     fn take(&mut self, node: Node) -> u32
-        requires free { 0 < self.old.free.count → self.old.free.first < length self.old.nodes.items }
-        requires room { self.old.free.count ≡ 0 → (vec_len self.old.nodes < vec_capacity self.old.nodes) × (vec_len self.old.nodes + 1 < 2 ^ 32) }
+        requires free { 0 < self.old.free.count →
+            self.old.free.first < length self.old.nodes.items }
+        requires room { self.old.free.count ≡ 0 →
+            (vec_len self.old.nodes < vec_capacity self.old.nodes) ×
+            (vec_len self.old.nodes + 1 < 2 ^ 32) }
         ensures heads { self.new.heads.items ≡ self.old.heads.items }
         ensures here { node_at self.new.nodes.items result ≡ node }
         ensures within { result < length self.new.nodes.items }
-        ensures others { (j : ℕ) → j < length self.old.nodes.items → j ≢ result → node_at self.new.nodes.items j ≡ node_at self.old.nodes.items j }
-        ensures grown { self.old.free.count ≡ 0 → (result ≡ length self.old.nodes.items) × (length self.new.nodes.items ≡ length self.old.nodes.items + 1) × (self.new.free ≡ self.old.free) }
-        ensures reused { 0 < self.old.free.count → (result ≡ self.old.free.first) × (length self.new.nodes.items ≡ length self.old.nodes.items) × (self.new.free.first ≡ (node_at self.old.nodes.items self.old.free.first).next) × (self.new.free.count + 1 ≡ self.old.free.count) }
+        ensures others { (j : ℕ) → j < length self.old.nodes.items → j ≢ result →
+            node_at self.new.nodes.items j ≡ node_at self.old.nodes.items j }
+        ensures grown { self.old.free.count ≡ 0 →
+            (result ≡ length self.old.nodes.items) ×
+            (length self.new.nodes.items ≡ length self.old.nodes.items + 1) ×
+            (self.new.free ≡ self.old.free) }
+        ensures reused { 0 < self.old.free.count →
+            (result ≡ self.old.free.first) ×
+            (length self.new.nodes.items ≡ length self.old.nodes.items) ×
+            (self.new.free.first ≡ (node_at self.old.nodes.items self.old.free.first).next) ×
+            (self.new.free.count + 1 ≡ self.old.free.count) }
     {
         if self.free.count == 0 {
             let at = self.nodes.len() as u32;
@@ -432,7 +479,8 @@ impl Arena {
         ensures arena { IsArena self.new }
         ensures here { list_in self.new place ≡ open_write by image ∷ list_in self.old place }
         ensures others { OthersStayIn place self.old self.new }
-        ensures nodes { length self.new.nodes.items ≡ length self.old.nodes.items + (if self.old.free.count == 0 then 1 else 0) }
+        ensures nodes { length self.new.nodes.items ≡
+            length self.old.nodes.items + (if self.old.free.count == 0 then 1 else 0) }
         ensures free { self.new.free.count ≡ self.old.free.count - 1 }
     {
         let Strand { first, count } = self.head(place).strand;
@@ -464,7 +512,8 @@ impl Arena {
         ensures arena { IsArena self.new }
         ensures here { list_in self.new place ≡ open_write by image ∷ list_in self.old place }
         ensures others { OthersStayIn place self.old self.new }
-        ensures nodes { length self.new.nodes.items ≡ length self.old.nodes.items + (if self.old.free.count == 0 then 1 else 0) }
+        ensures nodes { length self.new.nodes.items ≡
+            length self.old.nodes.items + (if self.old.free.count == 0 then 1 else 0) }
         ensures free { self.new.free.count ≡ self.old.free.count - 1 }
     {
         let Strand { first, count } = self.head(place).strand;
@@ -499,7 +548,8 @@ impl Arena {
         ensures arena { IsArena self.new }
         ensures here { list_in self.new place ≡ open_write by image ∷ list_in self.old place }
         ensures others { OthersStayIn place self.old self.new }
-        ensures nodes { length self.new.nodes.items ≡ length self.old.nodes.items + (if self.old.free.count == 0 then 1 else 0) }
+        ensures nodes { length self.new.nodes.items ≡
+            length self.old.nodes.items + (if self.old.free.count == 0 then 1 else 0) }
         ensures free { self.new.free.count ≡ self.old.free.count - 1 }
     {
         if self.head(place).strand.count == 0 {
@@ -514,7 +564,8 @@ impl Arena {
         requires arena { IsArena self.old }
         requires some { 0 < (head_in self.old place).strand.count }
         ensures arena { IsArena self.new }
-        ensures here { (by : Writer) → IsTrue (is_open_by by (list_in self.old place)) → list_in self.new place ≡ installed by image (list_in self.old place) }
+        ensures here { (by : Writer) → IsTrue (is_open_by by (list_in self.old place)) →
+            list_in self.new place ≡ installed by image (list_in self.old place) }
         ensures others { OthersStayIn place self.old self.new }
         ensures nodes { length self.new.nodes.items ≡ length self.old.nodes.items }
         ensures free { self.new.free ≡ self.old.free }
@@ -528,7 +579,8 @@ impl Arena {
         requires arena { IsArena self.old }
         requires some { 0 < (head_in self.old place).strand.count }
         ensures arena { IsArena self.new }
-        ensures here { (by : Writer) → IsTrue (is_open_by by (list_in self.old place)) → list_in self.new place ≡ stamped by number (list_in self.old place) }
+        ensures here { (by : Writer) → IsTrue (is_open_by by (list_in self.old place)) →
+            list_in self.new place ≡ stamped by number (list_in self.old place) }
         ensures others { OthersStayIn place self.old self.new }
         ensures nodes { length self.new.nodes.items ≡ length self.old.nodes.items }
         ensures free { self.new.free ≡ self.old.free }

@@ -198,11 +198,15 @@ impl Chain {
         requires { Rises snapshots.now }
         ensures left { self.new ≡ swept horizon snapshots.now self.old }
         ensures gone { result.gone ≡ swept_away horizon snapshots.now self.old }
-        ensures base_gone { result.base_gone ≡ goes horizon snapshots.now (last_number self.old) base }
+        ensures base_gone { result.base_gone ≡
+            goes horizon snapshots.now (last_number self.old) base }
         ensures clean { IsClean horizon snapshots.now self.new }
-        ensures base_clean { OnFalse result.base_gone (MayStay horizon snapshots.now (last_number self.new) base) }
-        ensures seen { (s : ℕ) → IsGuarded horizon snapshots.now s → image_at s self.new ≡ image_at s self.old }
-        ensures cost { steps.new ≤ steps.old + length self.old + length (option_to_list base) + length snapshots.now }
+        ensures base_clean { OnFalse result.base_gone
+            (MayStay horizon snapshots.now (last_number self.new) base) }
+        ensures seen { (s : ℕ) → IsGuarded horizon snapshots.now s →
+            image_at s self.new ≡ image_at s self.old }
+        ensures cost { steps.new ≤
+            steps.old + length self.old + length (option_to_list base) + length snapshots.now }
     {
         sweep_all(&mut self.versions, base, horizon, snapshots, steps)
     }
@@ -220,8 +224,11 @@ fn sweep_all<L: Ledger>(
     requires rises { Rises snapshots.now }
     ensures left { versions.new.items ≡ swept horizon snapshots.now versions.old.items }
     ensures gone { result.gone ≡ swept_away horizon snapshots.now versions.old.items }
-    ensures base_gone { result.base_gone ≡ goes horizon snapshots.now (last_number versions.old.items) base }
-    ensures cost { steps.new ≤ steps.old + length versions.old.items + length (option_to_list base) + length snapshots.now }
+    ensures base_gone { result.base_gone ≡
+        goes horizon snapshots.now (last_number versions.old.items) base }
+    ensures cost { steps.new ≤
+        steps.old + length versions.old.items + length (option_to_list base) +
+        length snapshots.now }
 {
     let all = versions.len();
     let mut merge = Merge {

@@ -138,13 +138,18 @@ impl Chains {
     ) -> Result<bool, (Image, NoMemory)>
         requires place { place < 2 ^ 40 }
         requires own { NoOther by (list_at self.old place) }
-        ensures added { IfOk result (λ added. added ≡ not (is_open_by by (list_at self.old place))) }
-        ensures ok { OnOk result (list_at self.new place ≡ installed by image (list_at self.old place)) }
+        ensures added { IfOk result
+            (λ added. added ≡ not (is_open_by by (list_at self.old place))) }
+        ensures ok { OnOk result
+            (list_at self.new place ≡ installed by image (list_at self.old place)) }
         ensures others { OthersStay place self.old self.new }
 
         // A node is added only where none is free.
-        ensures nodes { IfOk result (λ added. nodes_of self.new ≡ nodes_of self.old + (if added && (self.old.free == 0) then 1 else 0)) }
-        ensures free { IfOk result (λ added. self.new.free ≡ self.old.free - (if added then 1 else 0)) }
+        ensures nodes { IfOk result (λ added.
+            nodes_of self.new ≡
+            nodes_of self.old + (if added && (self.old.free == 0) then 1 else 0)) }
+        ensures free { IfOk result
+            (λ added. self.new.free ≡ self.old.free - (if added then 1 else 0)) }
         ensures refused { IfErr result (λ e. e.0 ≡ image) }
         ensures same { OnErr result (self.new ≡ self.old) }
         ensures replaced { IsTrue (is_open_by by (list_at self.old place)) → IsOk result }
@@ -224,13 +229,19 @@ impl Chains {
         steps: &mut Steps<L>,
     ) -> Swept
         requires { Rises snapshots.now }
-        ensures left { list_at self.new place ≡ swept horizon snapshots.now (list_at self.old place) }
+        ensures left { list_at self.new place ≡
+            swept horizon snapshots.now (list_at self.old place) }
         ensures gone { result.gone ≡ swept_away horizon snapshots.now (list_at self.old place) }
-        ensures base_gone { result.base_gone ≡ goes horizon snapshots.now (last_number (list_at self.old place)) base }
+        ensures base_gone { result.base_gone ≡
+            goes horizon snapshots.now (last_number (list_at self.old place)) base }
         ensures clean { IsClean horizon snapshots.now (list_at self.new place) }
-        ensures base_clean { OnFalse result.base_gone (MayStay horizon snapshots.now (last_number (list_at self.new place)) base) }
-        ensures seen { (s : ℕ) → IsGuarded horizon snapshots.now s → image_at s (list_at self.new place) ≡ image_at s (list_at self.old place) }
-        ensures cost { steps.new ≤ steps.old + length (list_at self.old place) + length (option_to_list base) + length snapshots.now }
+        ensures base_clean { OnFalse result.base_gone
+            (MayStay horizon snapshots.now (last_number (list_at self.new place)) base) }
+        ensures seen { (s : ℕ) → IsGuarded horizon snapshots.now s →
+            image_at s (list_at self.new place) ≡ image_at s (list_at self.old place) }
+        ensures cost { steps.new ≤
+            steps.old + length (list_at self.old place) + length (option_to_list base) +
+            length snapshots.now }
         ensures others { OthersStay place self.old self.new }
         ensures nodes { nodes_of self.new ≡ nodes_of self.old }
     {
@@ -247,7 +258,10 @@ fn remove_behind(arena: &mut Arena, place: u64, cursor: Cursor, others: u32) -> 
     ensures left { list_in arena.new place ≡ take cursor.kept (list_in arena.old place) }
     ensures others { OthersStayIn place arena.old arena.new }
     ensures nodes { length arena.new.nodes.items ≡ length arena.old.nodes.items }
-    ensures held { result ≡ ((node_at arena.old.nodes.items cursor.at).number, (node_at arena.old.nodes.items cursor.at).image) }
+    ensures held { result ≡ (
+      (node_at arena.old.nodes.items cursor.at).number,
+      (node_at arena.old.nodes.items cursor.at).image,
+    ) }
 {
     let mut cursor = cursor;
     let first = arena.remove(place, &mut cursor);
@@ -274,8 +288,11 @@ fn sweep_all<L: Ledger>(
     ensures others { OthersStayIn place arena.old arena.new }
     ensures nodes { length arena.new.nodes.items ≡ length arena.old.nodes.items }
     ensures gone { result.gone ≡ swept_away horizon snapshots.now (list_in arena.old place) }
-    ensures base_gone { result.base_gone ≡ goes horizon snapshots.now (last_number (list_in arena.old place)) base }
-    ensures cost { steps.new ≤ steps.old + length (list_in arena.old place) + length (option_to_list base) + length snapshots.now }
+    ensures base_gone { result.base_gone ≡
+        goes horizon snapshots.now (last_number (list_in arena.old place)) base }
+    ensures cost { steps.new ≤
+        steps.old + length (list_in arena.old place) + length (option_to_list base) +
+        length snapshots.now }
 {
     let all = arena.head(place).strand.count;
     let mut merge = Merge {

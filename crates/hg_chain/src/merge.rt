@@ -32,7 +32,8 @@ impl Merge {
         ensures goes { result ≡ goes horizon snapshots.now self.old.successor number }
         ensures within { self.new.left ≤ length snapshots.now }
         ensures successor { self.new.successor ≡ number }
-        ensures passed { Follows self.old.successor number → HasPassed number self.new.left snapshots.now }
+        ensures passed { Follows self.old.successor number →
+            HasPassed number self.new.left snapshots.now }
         ensures cost { steps.new + self.new.left ≡ steps.old + self.old.left + 1 }
     {
         steps.tick();

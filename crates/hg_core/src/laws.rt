@@ -14,27 +14,32 @@ ghost use Rattle.hg_core.specs.Invariant.{IsSteady};
 
 /// A session at rest stores the mask word of the tables of its next transaction.
 pub fn declare_keeps()
-    ensures { (s : CoreState) (j : ℕ) (scope : Scope) → IsSteady s → May s (Declare j scope) → IsSteady (happens s (Declare j scope)) }
+    ensures { (s : CoreState) (j : ℕ) (scope : Scope) → IsSteady s → May s (Declare j scope) →
+        IsSteady (happens s (Declare j scope)) }
 {}
 
 /// A session loads the mark, of which nobody knows.
 pub fn probe_keeps()
-    ensures { (s : CoreState) (j : ℕ) → IsSteady s → May s (Probe j) → IsSteady (happens s (Probe j)) }
+    ensures { (s : CoreState) (j : ℕ) → IsSteady s → May s (Probe j) →
+        IsSteady (happens s (Probe j)) }
 {}
 
 /// It shows that it enters at the mark that it loaded.
 pub fn enter_keeps()
-    ensures { (s : CoreState) (j f : ℕ) → IsSteady s → May s (Enter j f) → IsSteady (happens s (Enter j f)) }
+    ensures { (s : CoreState) (j f : ℕ) → IsSteady s → May s (Enter j f) →
+        IsSteady (happens s (Enter j f)) }
 {}
 
 /// It loads the mark again. This one is at or over the mark of every record that there is.
 pub fn fix_keeps()
-    ensures { (s : CoreState) (j f : ℕ) → IsSteady s → May s (Fix j f) → IsSteady (happens s (Fix j f)) }
+    ensures { (s : CoreState) (j f : ℕ) → IsSteady s → May s (Fix j f) →
+        IsSteady (happens s (Fix j f)) }
 {}
 
 /// The second mark becomes its snapshot, with the tables that it declared.
 pub fn go_live_keeps()
-    ensures { (s : CoreState) (j m : ℕ) (scope : Scope) → IsSteady s → May s (GoLive j m scope) → IsSteady (happens s (GoLive j m scope)) }
+    ensures { (s : CoreState) (j m : ℕ) (scope : Scope) → IsSteady s → May s (GoLive j m scope) →
+        IsSteady (happens s (GoLive j m scope)) }
 {}
 
 /// Its transaction is over.
@@ -44,53 +49,63 @@ pub fn end_keeps()
 
 /// A pass loads the mark, and begins a record with it.
 pub fn mark_keeps()
-    ensures { (s : CoreState) (p : ℕ) (known : ℕ → ℕ) → IsSteady s → May s (Mark p known) → IsSteady (happens s (Mark p known)) }
+    ensures { (s : CoreState) (p : ℕ) (known : ℕ → ℕ) → IsSteady s → May s (Mark p known) →
+        IsSteady (happens s (Mark p known)) }
 {}
 
 /// A pass loads a register into its record.
 pub fn sample_keeps()
-    ensures { (s : CoreState) (p j : ℕ) → IsSteady s → May s (Sample p j) → IsSteady (happens s (Sample p j)) }
+    ensures { (s : CoreState) (p j : ℕ) → IsSteady s → May s (Sample p j) →
+        IsSteady (happens s (Sample p j)) }
 {}
 
 /// It loads the mask word of a session whose register it found live and declared. Where the session has begun anew since, the
 /// mask is that of a later transaction, which reads at the record's mark or over it.
 pub fn sample_mask_keeps()
-    ensures { (s : CoreState) (p j : ℕ) → IsSteady s → May s (SampleMask p j) → IsSteady (happens s (SampleMask p j)) }
+    ensures { (s : CoreState) (p j : ℕ) → IsSteady s → May s (SampleMask p j) →
+        IsSteady (happens s (SampleMask p j)) }
 {}
 
 /// A pass moves a long snapshot to the tables that it declared, in the register and in its own record.
 pub fn move_keeps()
-    ensures { (s : CoreState) (p j : ℕ) → IsSteady s → May s (Move p j) → IsSteady (happens s (Move p j)) }
+    ensures { (s : CoreState) (p j : ℕ) → IsSteady s → May s (Move p j) →
+        IsSteady (happens s (Move p j)) }
 {}
 
 /// A session stores a write, which is open until it is undone or published.
 pub fn install_keeps()
-    ensures { (s : CoreState) (j : ℕ) (r : Rid) (image : Image) → IsSteady s → May s (Install j r image) → IsSteady (happens s (Install j r image)) }
+    ensures { (s : CoreState) (j : ℕ) (r : Rid) (image : Image) → IsSteady s →
+        May s (Install j r image) → IsSteady (happens s (Install j r image)) }
 {}
 
 /// It takes an open write back.
 pub fn undo_keeps()
-    ensures { (s : CoreState) (j : ℕ) (r : Rid) → IsSteady s → May s (Undo j r) → IsSteady (happens s (Undo j r)) }
+    ensures { (s : CoreState) (j : ℕ) (r : Rid) → IsSteady s → May s (Undo j r) →
+        IsSteady (happens s (Undo j r)) }
 {}
 
 /// A committer gives an open write the number that the mark will have next.
 pub fn stamp_keeps()
-    ensures { (s : CoreState) (j : ℕ) (r : Rid) → IsSteady s → May s (Stamp j r) → IsSteady (happens s (Stamp j r)) }
+    ensures { (s : CoreState) (j : ℕ) (r : Rid) → IsSteady s → May s (Stamp j r) →
+        IsSteady (happens s (Stamp j r)) }
 {}
 
 /// The open transactions of some sessions join the history as one group, and the mark grows by one.
 pub fn publish_keeps()
-    ensures { (s : CoreState) (sessions : List ℕ) → IsSteady s → May s (Publish sessions) → IsSteady (happens s (Publish sessions)) }
+    ensures { (s : CoreState) (sessions : List ℕ) → IsSteady s → May s (Publish sessions) →
+        IsSteady (happens s (Publish sessions)) }
 {}
 
 /// A pass with a whole record takes away versions of a record, by its kind. No session reads them, or may come to.
 pub fn reclaim_keeps()
-    ensures { (s : CoreState) (p : ℕ) (kind : Kind) (r : Rid) → IsSteady s → May s (Reclaim p kind r) → IsSteady (happens s (Reclaim p kind r)) }
+    ensures { (s : CoreState) (p : ℕ) (kind : Kind) (r : Rid) → IsSteady s →
+        May s (Reclaim p kind r) → IsSteady (happens s (Reclaim p kind r)) }
 {}
 
 /// A session reads a range in a bucket, tries a write, or names a table outside. What it finds goes into its log.
 pub fn look_keeps()
-    ensures { (s : CoreState) (j : ℕ) (ask : Ask) (b : ℕ) (rows : List (ℕ × List Value)) → IsSteady s → May s (Look j ask b rows) → IsSteady (happens s (Look j ask b rows)) }
+    ensures { (s : CoreState) (j : ℕ) (ask : Ask) (b : ℕ) (rows : List (ℕ × List Value)) →
+        IsSteady s → May s (Look j ask b rows) → IsSteady (happens s (Look j ask b rows)) }
 {}
 
 /// The oldest group is taken out of the committer's list, for the group collector.
@@ -100,7 +115,8 @@ pub fn take_keeps()
 
 /// A pass takes a bucket, and its visit begins.
 pub fn arrive_keeps()
-    ensures { (s : CoreState) (p b : ℕ) → IsSteady s → Can s (Arrive p b) → IsSteady (step s (Arrive p b)) }
+    ensures { (s : CoreState) (p b : ℕ) → IsSteady s → Can s (Arrive p b) →
+        IsSteady (step s (Arrive p b)) }
 {}
 
 /// It gives the bucket back. What was cut or clean then stays so.

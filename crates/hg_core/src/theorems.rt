@@ -42,18 +42,31 @@ use hg_base::Kind;
 /// horizon of every whole record, or it stands in that record for each table of its scope. So no bound is over it that a
 /// collector takes from the record. A number that a session is about to go live at is at or over every horizon.
 pub fn no_gather_misses_a_snapshot()
-    ensures live { Always (λ s. (p : ℕ) → IsWhole s.sessions (s.pass p) → MissesNone (horizon (s.pass p)) (s.pass p) s.phase) }
-    ensures fixed { Always (λ s. (p j f m : ℕ) (scope : Scope) → IsWhole s.sessions (s.pass p) → s.phase j ≡ Phase.Fixed scope f m → horizon (s.pass p) ≤ m) }
-    ensures table { Always (λ s. (p j at : ℕ) (scope : Scope) (t : TableId) → IsWhole s.sessions (s.pass p) → s.phase j ≡ Phase.Live at scope → IsTrue (has scope t) → table_bound t (s.pass p) ≤ at) }
-    ensures group { Always (λ s. (p j at : ℕ) (scope : Scope) → IsWhole s.sessions (s.pass p) → s.phase j ≡ Phase.Live at scope → group_bound (s.pass p) ≤ at) }
+    ensures live { Always (λ s.
+        (p : ℕ) → IsWhole s.sessions (s.pass p) →
+        MissesNone (horizon (s.pass p)) (s.pass p) s.phase) }
+    ensures fixed { Always (λ s.
+        (p j f m : ℕ) (scope : Scope) → IsWhole s.sessions (s.pass p) →
+        s.phase j ≡ Phase.Fixed scope f m → horizon (s.pass p) ≤ m) }
+    ensures table { Always (λ s.
+        (p j at : ℕ) (scope : Scope) (t : TableId) → IsWhole s.sessions (s.pass p) →
+        s.phase j ≡ Phase.Live at scope → IsTrue (has scope t) →
+        table_bound t (s.pass p) ≤ at) }
+    ensures group { Always (λ s.
+        (p j at : ℕ) (scope : Scope) → IsWhole s.sessions (s.pass p) →
+        s.phase j ≡ Phase.Live at scope → group_bound (s.pass p) ≤ at) }
 {}
 
 /// No removal is seen. After every list of steps, each live session finds of each record of its tables what a table that
 /// never reclaims would show it at its snapshot. And so does, of each record of any table, one that is yet to go live at a number
 /// that it fixed, and one that will fix the mark.
 pub fn no_removal_is_seen()
-    ensures live { Always (λ s. (j at : ℕ) (scope : Scope) (r : Rid) → s.phase j ≡ Phase.Live at scope → IsTrue (has scope r.table) → held s r at ≡ visible s.history r at) }
-    ensures fixed { Always (λ s. (j f m : ℕ) (scope : Scope) (r : Rid) → s.phase j ≡ Phase.Fixed scope f m → held s r m ≡ visible s.history r m) }
+    ensures live { Always (λ s.
+        (j at : ℕ) (scope : Scope) (r : Rid) → s.phase j ≡ Phase.Live at scope →
+        IsTrue (has scope r.table) → held s r at ≡ visible s.history r at) }
+    ensures fixed { Always (λ s.
+        (j f m : ℕ) (scope : Scope) (r : Rid) → s.phase j ≡ Phase.Fixed scope f m →
+        held s r m ≡ visible s.history r m) }
     ensures mark { Always (λ s. (r : Rid) → held s r s.mark ≡ visible s.history r s.mark) }
 {}
 
@@ -61,32 +74,59 @@ pub fn no_removal_is_seen()
 /// a record's table, and the record's last write has a number over its snapshot, a version of that number is held still: so a write
 /// of the session finds it. And where the session reads a row, a version is held for it.
 pub fn no_conflict_is_lost()
-    ensures newer { Always (λ s. (j at n : ℕ) (scope : Scope) (r : Rid) (image : Image) → s.phase j ≡ Phase.Live at scope → IsTrue (has scope r.table) → last_pair (writes s.history r) ≡ Some (n, image) → at < n → newest_held s r ≡ Some n) }
-    ensures read { Always (λ s. (j at : ℕ) (scope : Scope) (r : Rid) → s.phase j ≡ Phase.Live at scope → IsTrue (has scope r.table) → IsSome (visible s.history r at).row → IsSome (newest_at at (versions s.buckets s.bucket r))) }
+    ensures newer { Always (λ s.
+        (j at n : ℕ) (scope : Scope) (r : Rid) (image : Image) →
+        s.phase j ≡ Phase.Live at scope → IsTrue (has scope r.table) →
+        last_pair (writes s.history r) ≡ Some (n, image) → at < n → newest_held s r ≡ Some n) }
+    ensures read { Always (λ s.
+        (j at : ℕ) (scope : Scope) (r : Rid) → s.phase j ≡ Phase.Live at scope →
+        IsTrue (has scope r.table) → IsSome (visible s.history r at).row →
+        IsSome (newest_at at (versions s.buckets s.bucket r))) }
 {}
 
 /// A removal is exact. After every list of steps, where a pass may take away versions of a record, a cut leaves all that are
 /// past its bound, and of the others the newest as the oldest image: so the record is cut there. A sweep leaves all that have
 /// no successor at or below the horizon, or a recorded number in their lifetime, and nothing else: so the record is clean.
 pub fn removal_is_exact()
-    ensures group { Always (λ s. (p : ℕ) (r : Rid) → MayReclaim s p r → IsCutAt (group_bound (s.pass p)) (left_by s p Kind.Group r)) }
-    ensures table { Always (λ s. (p : ℕ) (r : Rid) → MayReclaim s p r → IsCutAt (table_bound r.table (s.pass p)) (left_by s p Kind.Table r)) }
-    ensures interval { Always (λ s. (p : ℕ) (r : Rid) → MayReclaim s p r → IsClean (horizon (s.pass p)) (recorded r.table (s.pass p)) (left_by s p Kind.Interval r)) }
-    ensures by_group { Always (λ s. (p : ℕ) (r : Rid) → let vs = versions s.buckets s.bucket r in left_by s p Kind.Group r ≡ past (group_bound (s.pass p)) vs ++ as_oldest (first_at (group_bound (s.pass p)) vs)) }
-    ensures by_table { Always (λ s. (p : ℕ) (r : Rid) → let vs = versions s.buckets s.bucket r in left_by s p Kind.Table r ≡ past (table_bound r.table (s.pass p)) vs ++ as_oldest (first_at (table_bound r.table (s.pass p)) vs)) }
-    ensures by_interval { Always (λ s. (p : ℕ) (r : Rid) → left_by s p Kind.Interval r ≡ not_gone (horizon (s.pass p)) (recorded r.table (s.pass p)) (versions s.buckets s.bucket r)) }
+    ensures group { Always (λ s.
+        (p : ℕ) (r : Rid) → MayReclaim s p r →
+        IsCutAt (group_bound (s.pass p)) (left_by s p Kind.Group r)) }
+    ensures table { Always (λ s.
+        (p : ℕ) (r : Rid) → MayReclaim s p r →
+        IsCutAt (table_bound r.table (s.pass p)) (left_by s p Kind.Table r)) }
+    ensures interval { Always (λ s.
+        (p : ℕ) (r : Rid) → MayReclaim s p r →
+        IsClean (horizon (s.pass p)) (recorded r.table (s.pass p))
+        (left_by s p Kind.Interval r)) }
+    ensures by_group { Always (λ s.
+        (p : ℕ) (r : Rid) →
+        let vs = versions s.buckets s.bucket r in left_by s p Kind.Group r ≡
+        past (group_bound (s.pass p)) vs ++
+        as_oldest (first_at (group_bound (s.pass p)) vs)) }
+    ensures by_table { Always (λ s.
+        (p : ℕ) (r : Rid) →
+        let vs = versions s.buckets s.bucket r in left_by s p Kind.Table r ≡
+        past (table_bound r.table (s.pass p)) vs ++
+        as_oldest (first_at (table_bound r.table (s.pass p)) vs)) }
+    ensures by_interval { Always (λ s.
+        (p : ℕ) (r : Rid) →
+        left_by s p Kind.Interval r ≡
+        not_gone (horizon (s.pass p)) (recorded r.table (s.pass p))
+        (versions s.buckets s.bucket r)) }
 {}
 
 /// What a visit left stays. After every list of steps, each record of a bucket that was given back clean, or cut at a bound at
 /// or below the mark that the visit keeps, is so still.
 pub fn what_was_left_stays()
-    ensures { Always (λ s. VisitsStay s.passes s.buckets s.mark (versions s.buckets s.bucket) s.visits) }
+    ensures { Always
+        (λ s. VisitsStay s.passes s.buckets s.mark (versions s.buckets s.bucket) s.visits) }
 {}
 
 /// Counters balance. After every list of steps, of each bucket, what was made is what was undone, what each kind of collector
 /// removed, and what is held; and the logs and the visits tell all but the last.
 pub fn counters_balance()
-    ensures { Always (λ s. CountersBalance s.sessions s.buckets s.passes s.log s.bucket s.counters s.visits) }
+    ensures { Always (λ s.
+        CountersBalance s.sessions s.buckets s.passes s.log s.bucket s.counters s.visits) }
 {}
 
 /// Each record stands in its own bucket, once, and its table is there.
@@ -105,7 +145,11 @@ pub fn replies_are_right()
 /// one that `hg_base` defines over the history, commit and rollback among them. A refusal shows its cause, and a commit number is
 /// that of the group that has the transaction, with its snapshot and its images.
 pub fn every_answer_is_right()
-    ensures { Always (λ s. 0 < s.buckets → (j : ℕ) (later before : List LogEntry) (u : Unprinted) (now : Said) → s.log j ≡ later ++ log_after s.buckets u now.statement now.reply before → Fits s.buckets u before now.statement now.reply → StandsAt j before now → IsAnswered s.buckets s.history s.log j u before now) }
+    ensures { Always (λ s.
+        0 < s.buckets → (j : ℕ) (later before : List LogEntry) (u : Unprinted) (now : Said) →
+        s.log j ≡ later ++ log_after s.buckets u now.statement now.reply before →
+        Fits s.buckets u before now.statement now.reply → StandsAt j before now →
+        IsAnswered s.buckets s.history s.log j u before now) }
 {}
 
 /// A log is read. In the run of `every_event_happens`, the log of session 2 is what a begin, a put and a commit leave.
@@ -138,7 +182,9 @@ pub fn commits_are_bounded()
 /// What is open was not committed. After every list of steps, where a session has a transaction open, of which nothing was undone
 /// or published, each commit of that session in the history is of an earlier transaction.
 pub fn what_is_open_is_new()
-    ensures { Always (λ s. (j : ℕ) → IsSome (current (s.log j)) → IsTrue (is_plain (s.log j)) → Each (AreEarlier j (begans (s.log j))) s.history) }
+    ensures { Always (λ s.
+        (j : ℕ) → IsSome (current (s.log j)) → IsTrue (is_plain (s.log j)) →
+        Each (AreEarlier j (begans (s.log j))) s.history) }
 {}
 
 /// Nor does any count of versions: what was made in all buckets together is at most the number of sessions times how often each may write,
@@ -151,12 +197,25 @@ pub fn counts_are_bounded()
 /// sessions rest, no write is open. And of a record that is cut at the mark, with no open write, the row at the mark is left,
 /// if there is one, and nothing else. So a bucket of such records holds as many versions as records of its own are rows.
 pub fn what_is_live_is_left()
-    ensures table { (pass : PassRecord) (t : TableId) → Each (λ e. e.1.register ≡ Register.Idle) pass.loaded → table_bound t pass ≡ pass.mark }
-    ensures group { (pass : PassRecord) → Each (λ e. e.1.register ≡ Register.Idle) pass.loaded → group_bound pass ≡ pass.mark }
+    ensures table { (pass : PassRecord) (t : TableId) →
+        Each (λ e. e.1.register ≡ Register.Idle) pass.loaded → table_bound t pass ≡ pass.mark }
+    ensures group { (pass : PassRecord) → Each (λ e. e.1.register ≡ Register.Idle) pass.loaded →
+        group_bound pass ≡ pass.mark }
     ensures idle { Always (λ s. (j : ℕ) → s.phase j ≡ Phase.Idle → s.register j ≡ Register.Idle) }
-    ensures rest { Always (λ s. ((j : ℕ) → s.phase j ≡ Phase.Idle) → (r : Rid) → unpublished s.mark (versions s.buckets s.bucket r) ≡ None) }
-    ensures left { Always (λ s. (r : Rid) → unpublished s.mark (versions s.buckets s.bucket r) ≡ None → IsCutAt s.mark (versions s.buckets s.bucket r) → length (versions s.buckets s.bucket r) ≡ (if is_some (visible s.history r s.mark).row then 1 else 0)) }
-    ensures bucket { Always (λ s. (b : ℕ) → ((r : Rid) → bucket_of s.buckets r ≡ b → (unpublished s.mark (versions s.buckets s.bucket r) ≡ None) × IsCutAt s.mark (versions s.buckets s.bucket r)) → total (s.bucket b) ≡ length (filter (is_of s.buckets b) (live s.history))) }
+    ensures rest { Always (λ s.
+        ((j : ℕ) → s.phase j ≡ Phase.Idle) → (r : Rid) →
+        unpublished s.mark (versions s.buckets s.bucket r) ≡ None) }
+    ensures left { Always (λ s.
+        (r : Rid) → unpublished s.mark (versions s.buckets s.bucket r) ≡ None →
+        IsCutAt s.mark (versions s.buckets s.bucket r) →
+        length (versions s.buckets s.bucket r) ≡
+        (if is_some (visible s.history r s.mark).row then 1 else 0)) }
+    ensures bucket { Always (λ s.
+        (b : ℕ) →
+        ((r : Rid) → bucket_of s.buckets r ≡ b →
+        (unpublished s.mark (versions s.buckets s.bucket r) ≡ None) ×
+        IsCutAt s.mark (versions s.buckets s.bucket r)) →
+        total (s.bucket b) ≡ length (filter (is_of s.buckets b) (live s.history))) }
 {}
 
 /// Each kind of event can happen. In this run a session goes live below the mark of a whole record, at its horizon.
@@ -171,17 +230,23 @@ pub fn every_event_happens()
 /// A visit counts. In this run a sweep takes one of two versions that were made, and the visit is over.
 pub fn a_visit_counts()
     ensures run { Run (opened 2 1 1 1 2) swept_visit }
-    ensures bucket { (run (opened 2 1 1 1 2) swept_visit).counters 0 ≡ record { made = 2; undone = 0; removed = one_swept } }
+    ensures bucket { (run (opened 2 1 1 1 2) swept_visit).counters 0 ≡
+        record { made = 2; undone = 0; removed = one_swept } }
     ensures held { total ((run (opened 2 1 1 1 2) swept_visit).bucket 0) ≡ 1 }
-    ensures visit { map (λ v. v.removed) ((run (opened 2 1 1 1 2) swept_visit).visits 0) ≡ one_swept ∷ [] }
+    ensures visit { map (λ v. v.removed) ((run (opened 2 1 1 1 2) swept_visit).visits 0) ≡
+        one_swept ∷ [] }
 {}
 
 /// A word shows one register, and each register of a board has a word. So has each mask of one that isn't at rest, on a board of
 /// 64 tables at most, and it has the tables of the scope.
 pub fn words_are_exact()
-    ensures back { (register : Register) → IsRegister register → register_of (word_of register) ≡ register }
+    ensures back { (register : Register) → IsRegister register →
+        register_of (word_of register) ≡ register }
     ensures fits { (register : Register) → IsRegister register → word_of register < 2 ^ 64 }
-    ensures all { (s : CoreState) (j : ℕ) → IsSteady s → s.sessions * s.quota < 2 ^ 44 → IsRegister (s.register j) }
-    ensures mask { (s : CoreState) (j : ℕ) → IsSteady s → s.tables ≤ 64 → IsSome (scope_in (s.phase j)) → s.mask j < 2 ^ 64 }
-    ensures has { (scope : Scope) (t : TableId) → t.0 < 64 → has (Scope.Declared (mask_of scope)) t ≡ has scope t }
+    ensures all { (s : CoreState) (j : ℕ) → IsSteady s → s.sessions * s.quota < 2 ^ 44 →
+        IsRegister (s.register j) }
+    ensures mask { (s : CoreState) (j : ℕ) → IsSteady s → s.tables ≤ 64 →
+        IsSome (scope_in (s.phase j)) → s.mask j < 2 ^ 64 }
+    ensures has { (scope : Scope) (t : TableId) → t.0 < 64 →
+        has (Scope.Declared (mask_of scope)) t ≡ has scope t }
 {}

@@ -23,7 +23,8 @@ fn needs_quotes(field: &[u8]) -> bool
 // A quote within quotes is written twice.
 #[tactic(auto, unfolding(csv::specs::Writing::escaped))]
 fn add_byte(text: &mut Vec<u8>, b: u8) -> Result<(), NoMemory>
-    ensures added { OnOk result (text.new.items ≡ text.old.items ++ escaped flexible_writer (b ∷ [])) }
+    ensures added { OnOk result
+        (text.new.items ≡ text.old.items ++ escaped flexible_writer (b ∷ [])) }
     ensures kept { OnErr result (StartsWith text.new.items text.old.items) }
 {
     if b == b'"' {
@@ -34,7 +35,8 @@ fn add_byte(text: &mut Vec<u8>, b: u8) -> Result<(), NoMemory>
 }
 
 fn add_escaped(text: &mut Vec<u8>, field: &[u8]) -> Result<(), NoMemory>
-    ensures added { OnOk result (text.new.items ≡ text.old.items ++ escaped flexible_writer field.now) }
+    ensures added { OnOk result
+        (text.new.items ≡ text.old.items ++ escaped flexible_writer field.now) }
     ensures kept { OnErr result (StartsWith text.new.items text.old.items) }
 {
     for b in field {
@@ -44,7 +46,8 @@ fn add_escaped(text: &mut Vec<u8>, field: &[u8]) -> Result<(), NoMemory>
 }
 
 fn add_quoted(text: &mut Vec<u8>, field: &[u8]) -> Result<(), NoMemory>
-    ensures added { OnOk result (text.new.items ≡ text.old.items ++ quoted flexible_writer field.now) }
+    ensures added { OnOk result
+        (text.new.items ≡ text.old.items ++ quoted flexible_writer field.now) }
     ensures kept { OnErr result (StartsWith text.new.items text.old.items) }
 {
     text.push(b'"')?;

@@ -21,11 +21,13 @@ pub fn worked_examples_are_sound()
     ensures open_write { IsSound replay open_write.script open_write.printed }
     ensures middle_of_a_chain { IsSound replay middle_of_a_chain.script middle_of_a_chain.printed }
     ensures group_pass { IsSound replay group_pass.script group_pass.printed }
-    ensures equal_to_a_successor { IsSound replay equal_to_a_successor.script equal_to_a_successor.printed }
+    ensures equal_to_a_successor { IsSound replay equal_to_a_successor.script
+        equal_to_a_successor.printed }
     ensures moved { IsSound replay moved.script moved.printed }
     ensures not_long { IsSound replay not_long.script not_long.printed }
     ensures kept_deletion { IsSound replay kept_deletion.script kept_deletion.printed }
-    ensures kept_deletion_longer { IsSound replay kept_deletion_longer.script kept_deletion_longer.printed }
+    ensures kept_deletion_longer { IsSound replay kept_deletion_longer.script
+        kept_deletion_longer.printed }
     ensures cursor { IsSound replay cursor.script cursor.printed }
 {}
 

@@ -29,7 +29,10 @@ use hg_base::Kind;
 /// What a replay knows at its end makes its lines sound, and its totals with them, which it counts in the logs as they are
 /// closed.
 pub fn replay_is_sound()
-    ensures lines { (buckets sessions top : ℕ) (h : History) (logs : ℕ → List LogEntry) (script : Script) (lines : List Line) → HasReplayed buckets sessions h logs top script.records lines → LinesAreSound replay script lines }
+    ensures lines { (buckets sessions top : ℕ) (h : History) (logs : ℕ → List LogEntry)
+        (script : Script) (lines : List Line) →
+        HasReplayed buckets sessions h logs top script.records lines →
+        LinesAreSound replay script lines }
     ensures whole { (buckets sessions top : ℕ) (h : History) (logs closed : ℕ → List LogEntry) (script : Script) (printed : Printed) → HasReplayed buckets sessions h logs top script.records printed.lines →
         ((j : ℕ) → Closes (logs j) (closed j)) → IsCounted sessions h closed (all_said replay script printed.lines) printed.totals → IsSound replay script printed }
 {}
@@ -49,14 +52,29 @@ pub fn run_is_sound()
 /// record.
 pub fn states_are_logged()
     ensures logged { Always (λ s. 0 < s.buckets → Logged s.buckets s.history s.log) }
-    ensures made { Always (λ s. 0 < s.buckets → sum_below s.buckets (λ b. (s.counters b).made) ≡ made_in s.sessions s.log) }
-    ensures undone { Always (λ s. 0 < s.buckets → sum_below s.buckets (λ b. (s.counters b).undone) ≡ undone_in s.sessions s.log) }
-    ensures removed { Always (λ s. (kind : Kind) → sum_below s.buckets (λ b. removed_by kind (s.counters b).removed) ≡ sum_below s.passes (λ p. removed_all kind (s.visits p))) }
-    ensures left { Always (λ s. 0 < s.buckets → ((b : ℕ) → b < s.buckets → IsSettled s b) → sum_below s.buckets (λ b. total (s.bucket b)) ≡ length (live s.history)) }
+    ensures made { Always (λ s.
+        0 < s.buckets →
+        sum_below s.buckets (λ b. (s.counters b).made) ≡ made_in s.sessions s.log) }
+    ensures undone { Always (λ s.
+        0 < s.buckets →
+        sum_below s.buckets (λ b. (s.counters b).undone) ≡ undone_in s.sessions s.log) }
+    ensures removed { Always (λ s.
+        (kind : Kind) →
+        sum_below s.buckets (λ b. removed_by kind (s.counters b).removed) ≡
+        sum_below s.passes (λ p. removed_all kind (s.visits p))) }
+    ensures left { Always (λ s.
+        0 < s.buckets → ((b : ℕ) → b < s.buckets → IsSettled s b) →
+        sum_below s.buckets (λ b. total (s.bucket b)) ≡ length (live s.history)) }
 {}
 
 /// The premises can be met: by a replay with a conflict, a rollback and a collector's pass, and by a run.
 pub fn premises_are_met()
-    ensures replay { (logs : ℕ → List LogEntry) × HasReplayed 1 2 worked.history logs 1 worked.records worked.lines × ((j : ℕ) → Closes (logs j) (logs j)) × IsCounted 2 worked.history logs (said_from [] worked.records worked.lines) worked.totals }
-    ensures run { (logs : ℕ → List LogEntry) × HasRun 1 worked.history logs 1 worked.run_records worked.session_lines (worked.report Kind.Group ∷ []) (worked.report Kind.Table ∷ []) (worked.report Kind.Interval ∷ []) }
+    ensures replay { (logs : ℕ → List LogEntry) ×
+        HasReplayed 1 2 worked.history logs 1 worked.records worked.lines ×
+        ((j : ℕ) → Closes (logs j) (logs j)) ×
+        IsCounted 2 worked.history logs (said_from [] worked.records worked.lines) worked.totals }
+    ensures run { (logs : ℕ → List LogEntry) ×
+        HasRun 1 worked.history logs 1 worked.run_records worked.session_lines
+        (worked.report Kind.Group ∷ []) (worked.report Kind.Table ∷ [])
+        (worked.report Kind.Interval ∷ []) }
 {}

@@ -13,7 +13,10 @@ ghost use Rattle.hg_headline.specs.Totalled.{AreCounts, BucketTells, SumTells, T
 /// Where no transaction is open, the counters of one bucket tell of logs, visits and history alone. So do the sums of those of
 /// all buckets, taken one after the other. And the logs tell how long the history is.
 pub fn buckets_tell()
-    ensures bucket { Always (λ s. ((j : ℕ) → current (s.log j) ≡ None) → (b : ℕ) (counts : Totals) → AreCounts (s.counters b) counts → BucketTells s.sessions s.buckets s.passes s.log s.visits s.history b counts) }
+    ensures bucket { Always (λ s.
+        ((j : ℕ) → current (s.log j) ≡ None) → (b : ℕ) (counts : Totals) →
+        AreCounts (s.counters b) counts →
+        BucketTells s.sessions s.buckets s.passes s.log s.visits s.history b counts) }
     ensures more { (sessions buckets passes : ℕ) (logs : ℕ → List LogEntry) (visits : ℕ → List Visit) (h : History) (n : ℕ) (sums counts : Totals) →
         SumTells sessions buckets passes logs visits h n sums → BucketTells sessions buckets passes logs visits h n counts → SumTells sessions buckets passes logs visits h (suc n) (plus sums counts) }
     ensures all { (sessions buckets passes : ℕ) (logs : ℕ → List LogEntry) (visits : ℕ → List Visit) (h : History) (sums : Totals) → 0 < buckets →

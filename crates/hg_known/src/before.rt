@@ -30,7 +30,8 @@ pub struct Before {
 
 // The snapshot of a session's open transaction.
 fn left_open(lasts: &BTreeMap<u32, Last>, session: u32) -> Option<u64>
-    ensures { option_map (λ at. (session, at)) result ≡ open_left session (get nat_cmp lasts.now session) }
+    ensures { option_map (λ at. (session, at)) result ≡
+        open_left session (get nat_cmp lasts.now session) }
 {
     match lasts.get(&session)? {
         Last::Open { at, .. } => Some(*at),
@@ -54,7 +55,8 @@ impl Before {
 
     /// Keeps what a line prints and leaves.
     pub fn add(&mut self, said: &Said) -> Result<(), NoMemory>
-        ensures { OnOk result ((earlier : List script.Said) → AreBefore self.old earlier → AreBefore self.new (said_of said.now ∷ earlier)) }
+        ensures { OnOk result ((earlier : List script.Said) → AreBefore self.old earlier →
+            AreBefore self.new (said_of said.now ∷ earlier)) }
     {
         self.heard.add(said)?;
         self.committed.add(said)?;
@@ -66,42 +68,49 @@ impl Before {
 
     /// Whether a snapshot is at least every number that the session printed.
     pub fn rises(&self, session: u32, at: u64) -> bool
-        ensures { (earlier : List script.Said) → AreBefore self.now earlier → Decides result (Each (λ n. n ≤ at) (known session earlier)) }
+        ensures { (earlier : List script.Said) → AreBefore self.now earlier →
+            Decides result (Each (λ n. n ≤ at) (known session earlier)) }
     {
         self.heard.rises(session, at)
     }
 
     /// The greatest commit number that was printed, and 0 where there is none.
     pub fn newest(&self) -> u64
-        ensures { (earlier : List script.Said) → AreBefore self.now earlier → result ≡ greatest_commit earlier }
+        ensures { (earlier : List script.Said) → AreBefore self.now earlier →
+            result ≡ greatest_commit earlier }
     {
         self.committed.greatest()
     }
 
     /// Whether the commit number was printed.
     pub fn has_number(&self, number: u64) -> bool
-        ensures { (earlier : List script.Said) → AreBefore self.now earlier → result ≡ list_any (λ n. n == number) (filter_map script.committed earlier) }
+        ensures { (earlier : List script.Said) → AreBefore self.now earlier →
+            result ≡ list_any (λ n. n == number) (filter_map script.committed earlier) }
     {
         self.committed.has(number)
     }
 
     /// The greatest mark that a collector reported, and 0 where it reported none.
     pub fn mark(&self, kind: Kind) -> u64
-        ensures { (earlier : List script.Said) → AreBefore self.now earlier → result ≡ greatest (filter_map (mark_of kind) earlier) }
+        ensures { (earlier : List script.Said) → AreBefore self.now earlier →
+            result ≡ greatest (filter_map (mark_of kind) earlier) }
     {
         self.marks.of(kind)
     }
 
     /// The greatest session that printed a line, and 0 where there is none.
     pub fn sessions(&self) -> u32
-        ensures { (earlier : List script.Said) → AreBefore self.now earlier → result ≡ greatest (map (λ said. said.session) earlier) }
+        ensures { (earlier : List script.Said) → AreBefore self.now earlier →
+            result ≡ greatest (map (λ said. said.session) earlier) }
     {
         self.sessions
     }
 
     /// The snapshot of a session's open transaction.
     pub fn open_at(&self, session: u32) -> Option<u64>
-        ensures { (earlier : List script.Said) → AreBefore self.now earlier → option_map (λ at. (session, at)) result ≡ open_snapshot session (open_of session earlier) }
+        ensures { (earlier : List script.Said) → AreBefore self.now earlier →
+            option_map (λ at. (session, at)) result ≡
+            open_snapshot session (open_of session earlier) }
     {
         left_open(&self.lasts, session)
     }

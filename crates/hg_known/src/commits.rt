@@ -37,7 +37,9 @@ pub struct Commits {
 /// Adds what a transaction stored to what the group of a number writes. The answer is whether the group wrote none of it
 /// before.
 fn add_writes(writes: &mut Writes, own: &Own, tx: Tx, number: u64) -> Result<bool, NoMemory>
-    ensures { IfOk result (λ fresh. MatchBool fresh (IsJoined own.now tx.session tx.number number writes.old writes.new) (Clashes own.now tx.session tx.number number writes.old)) }
+    ensures { IfOk result (λ fresh.
+        MatchBool fresh (IsJoined own.now tx.session tx.number number writes.old writes.new)
+        (Clashes own.now tx.session tx.number number writes.old)) }
 {
     let mut found = own.next(tx, LEAST);
     while let Some(rid) = found {
@@ -67,7 +69,10 @@ impl Commits {
 
     /// The transaction of a line is committed with that number. The answer is whether it fits, and clashes with none before.
     pub fn add(&mut self, own: &Own, said: &Said, number: u64) -> Result<bool, NoMemory>
-        ensures { IfOk result (λ fits. (earlier : List script.Said) (ps : List (ℕ × Commit)) → HasOwn own.now (said_of said.now ∷ earlier) (said_of said.now) → Adds self.old self.new ps (printed number earlier (said_of said.now)) fits) }
+        ensures { IfOk result (λ fits.
+            (earlier : List script.Said) (ps : List (ℕ × Commit)) →
+            HasOwn own.now (said_of said.now ∷ earlier) (said_of said.now) →
+            Adds self.old self.new ps (printed number earlier (said_of said.now)) fits) }
     {
         let tx = Tx {
             session: said.session,

@@ -38,7 +38,8 @@ impl Numbers {
 
     /// Keeps the commit number that a line prints.
     pub fn add(&mut self, said: &Said) -> Result<(), NoMemory>
-        ensures { OnOk result ((earlier : List script.Said) → AreNumbers self.old earlier → AreNumbers self.new (said_of said.now ∷ earlier)) }
+        ensures { OnOk result ((earlier : List script.Said) → AreNumbers self.old earlier →
+            AreNumbers self.new (said_of said.now ∷ earlier)) }
     {
         let Some(number) = committed(said) else {
             return Ok(());
@@ -54,7 +55,8 @@ impl Numbers {
 
     /// Whether the transaction has no commit number at or below a snapshot.
     pub fn are_after(&self, tx: Tx, at: u64) -> bool
-        ensures { (earlier : List script.Said) → AreNumbers self.now earlier → Decides result (Each (λ c. at < c) (numbers_in tx.session tx.number earlier)) }
+        ensures { (earlier : List script.Said) → AreNumbers self.now earlier →
+            Decides result (Each (λ c. at < c) (numbers_in tx.session tx.number earlier)) }
     {
         match self.least.get(&tx) {
             Some(least) => at < *least,

@@ -36,7 +36,8 @@ fn do_name_writers(all: &Lines<'_>) -> bool
 
 /// The commit number of each transaction, where a line is refused for an open write: nothing else asks for it.
 pub fn read_numbers(alloc: Global, all: &Lines<'_>) -> Result<Numbers, NoMemory>
-    ensures { IfOk result (λ numbers. IsTrue (list_any asked.names_writer all.now) → AreNumbers numbers (onto all.now [])) }
+    ensures { IfOk result (λ numbers.
+        IsTrue (list_any asked.names_writer all.now) → AreNumbers numbers (onto all.now [])) }
 {
     let mut numbers = Numbers::new(alloc);
     if !do_name_writers(all) {
@@ -52,7 +53,8 @@ pub fn read_numbers(alloc: Global, all: &Lines<'_>) -> Result<Numbers, NoMemory>
 
 /// What each transaction stores, where a line is refused for an open write: nothing else asks for it.
 pub fn read_own(alloc: Global, all: &Lines<'_>) -> Result<Own, NoMemory>
-    ensures { IfOk result (λ own. IsTrue (list_any asked.names_writer all.now) → AreOwn own (onto all.now [])) }
+    ensures { IfOk result
+        (λ own. IsTrue (list_any asked.names_writer all.now) → AreOwn own (onto all.now [])) }
 {
     let mut own = Own::new(alloc);
     if !do_name_writers(all) {
@@ -89,7 +91,8 @@ fn do_tell_held(all: &Lines<'_>) -> bool
 
 /// Every snapshot that was printed, where a report tells held ones: nothing else asks for them.
 pub fn read_points(alloc: Global, all: &Lines<'_>) -> Result<Points, NoMemory>
-    ensures { IfOk result (λ points. IsTrue (list_any asked.tells_held all.now) → ArePoints points (onto all.now [])) }
+    ensures { IfOk result (λ points.
+        IsTrue (list_any asked.tells_held all.now) → ArePoints points (onto all.now [])) }
 {
     let mut points = Points::new(alloc);
     if !do_tell_held(all) {

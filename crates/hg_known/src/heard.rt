@@ -60,7 +60,8 @@ impl Heard {
 
     /// Keeps the numbers of a line.
     pub fn add(&mut self, said: &Said) -> Result<(), NoMemory>
-        ensures { OnOk result ((earlier : List script.Said) → AreHeard self.old earlier → AreHeard self.new (said_of said.now ∷ earlier)) }
+        ensures { OnOk result ((earlier : List script.Said) → AreHeard self.old earlier →
+            AreHeard self.new (said_of said.now ∷ earlier)) }
     {
         let before = self.most.get(&said.session).copied().unwrap_or(0);
         let most = raised(
@@ -73,7 +74,8 @@ impl Heard {
 
     /// Whether a snapshot is at least every number that the session printed before.
     pub fn rises(&self, session: u32, at: u64) -> bool
-        ensures { (earlier : List script.Said) → AreHeard self.now earlier → Decides result (Each (λ n. n ≤ at) (known session earlier)) }
+        ensures { (earlier : List script.Said) → AreHeard self.now earlier →
+            Decides result (Each (λ n. n ≤ at) (known session earlier)) }
     {
         self.most.get(&session).copied().unwrap_or(0) <= at
     }
@@ -99,7 +101,8 @@ impl Committed {
 
     /// Keeps the commit number of a line.
     pub fn add(&mut self, said: &Said) -> Result<(), NoMemory>
-        ensures { OnOk result ((earlier : List script.Said) → AreCommitted self.old earlier → AreCommitted self.new (said_of said.now ∷ earlier)) }
+        ensures { OnOk result ((earlier : List script.Said) → AreCommitted self.old earlier →
+            AreCommitted self.new (said_of said.now ∷ earlier)) }
     {
         let Some(number) = committed(said) else {
             return Ok(());
@@ -111,14 +114,16 @@ impl Committed {
 
     /// The greatest, and 0 where there is none.
     pub fn greatest(&self) -> u64
-        ensures { (earlier : List script.Said) → AreCommitted self.now earlier → result ≡ greatest_commit earlier }
+        ensures { (earlier : List script.Said) → AreCommitted self.now earlier →
+            result ≡ greatest_commit earlier }
     {
         self.greatest
     }
 
     /// Whether the number was printed.
     pub fn has(&self, number: u64) -> bool
-        ensures { (earlier : List script.Said) → AreCommitted self.now earlier → result ≡ list_any (λ n. n == number) (filter_map script.committed earlier) }
+        ensures { (earlier : List script.Said) → AreCommitted self.now earlier →
+            result ≡ list_any (λ n. n == number) (filter_map script.committed earlier) }
     {
         self.numbers.contains(&number)
     }

@@ -40,7 +40,10 @@ pub fn read_history(
     all: &Lines<'_>,
 ) -> Result<Option<(Writes, u64, Tally)>, NoMemory>
     requires { EachAfter IsOpen [] all.now }
-    ensures { IfOk result (λ found. MatchOption found (¬ IsWhole all.now) (λ p. IsWhole all.now × IsOfHistory (history_of all.now) p.0 × (length (history_of all.now) ≡ p.1) × IsTally p.2 all.now)) }
+    ensures { IfOk result (λ found.
+        MatchOption found (¬ IsWhole all.now) (λ p.
+        IsWhole all.now × IsOfHistory (history_of all.now) p.0 ×
+        (length (history_of all.now) ≡ p.1) × IsTally p.2 all.now)) }
 {
     let mut own = Own::new(alloc);
     let mut commits = Commits::new(alloc);

@@ -99,7 +99,8 @@ impl<'a> Reader<'a> {
     /// The next line.
     pub fn read(&mut self) -> Result<Said<'a>, NoMemory>
         requires { self.old.0 < length self.old.1 }
-        ensures said { IfOk result (λ said. said_of said ≡ get_or self.old.1 self.old.0 (said_of said)) }
+        ensures said { IfOk result
+            (λ said. said_of said ≡ get_or self.old.1 self.old.0 (said_of said)) }
         ensures rest { IfOk result (λ said. HasRest (onto (take self.old.0 self.old.1) []) said) }
         ensures next { OnOk result (self.new ≡ (self.old.0 + 1, self.old.1)) }
     {

@@ -37,7 +37,8 @@ impl Marks {
 
     /// Keeps the mark of a line's report, if it gives one.
     pub fn add(&mut self, said: &Said)
-        ensures { (earlier : List script.Said) → AreMarks self.old earlier → AreMarks self.new (said_of said.now ∷ earlier) }
+        ensures { (earlier : List script.Said) → AreMarks self.old earlier →
+            AreMarks self.new (said_of said.now ∷ earlier) }
     {
         if let Answer::Swept(sweep) = &said.reply.answer {
             match sweep.kind {
@@ -99,7 +100,8 @@ impl Points {
 
     /// Keeps the snapshot that a line prints, if it does.
     pub fn add(&mut self, said: &Said) -> Result<(), NoMemory>
-        ensures { OnOk result ((earlier : List script.Said) → ArePoints self.old earlier → ArePoints self.new (said_of said.now ∷ earlier)) }
+        ensures { OnOk result ((earlier : List script.Said) → ArePoints self.old earlier →
+            ArePoints self.new (said_of said.now ∷ earlier)) }
     {
         let Some(number) = snapshot_of(said) else {
             return Ok(());
@@ -118,7 +120,8 @@ impl Points {
 
     /// Whether the session printed that snapshot.
     pub fn is_printed(&self, session: u32, number: u64) -> bool
-        ensures { (lines : List script.Said) → ArePoints self.now lines → result ≡ list_any (prints_point session number) lines }
+        ensures { (lines : List script.Said) → ArePoints self.now lines →
+            result ≡ list_any (prints_point session number) lines }
     {
         let point = Point { session, number };
         self.printed.contains(&point)
@@ -126,7 +129,10 @@ impl Points {
 
     /// Whether a transaction of the session that declared its tables printed it.
     pub fn is_declared(&self, session: u32, number: u64) -> bool
-        ensures { (lines : List script.Said) → ArePoints self.now lines → result ≡ list_any (λ said. prints_point session number said && fresh.is_declared said.scope) lines }
+        ensures { (lines : List script.Said) → ArePoints self.now lines →
+            result ≡
+            list_any (λ said. prints_point session number said && fresh.is_declared said.scope)
+            lines }
     {
         let point = Point { session, number };
         self.declared.contains(&point)

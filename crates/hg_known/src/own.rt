@@ -85,9 +85,13 @@ impl Own {
 
     /// Keeps what a line stores. The answer is whether it is the first write of its record in its transaction.
     pub fn add(&mut self, said: &Said) -> Result<bool, NoMemory>
-        ensures first { IfOk result (λ first. (earlier : List script.Said) → HasOwn self.old earlier (said_of said.now) → first ≡ is_some (first_write earlier (said_of said.now))) }
-        ensures added { OnOk result ((earlier : List script.Said) (j x : ℕ) (r : Rid) → IsOwn self.old earlier j x r → IsOwn self.new (said_of said.now ∷ earlier) j x r) }
-        ensures others { OnOk result ((j x : ℕ) (r : Rid) → IsFalse (is_of j x (said_of said.now)) → own_at self.new j x r ≡ own_at self.old j x r) }
+        ensures first { IfOk result (λ first.
+            (earlier : List script.Said) → HasOwn self.old earlier (said_of said.now) →
+            first ≡ is_some (first_write earlier (said_of said.now))) }
+        ensures added { OnOk result ((earlier : List script.Said) (j x : ℕ) (r : Rid) →
+            IsOwn self.old earlier j x r → IsOwn self.new (said_of said.now ∷ earlier) j x r) }
+        ensures others { OnOk result ((j x : ℕ) (r : Rid) → IsFalse (is_of j x (said_of said.now)) →
+            own_at self.new j x r ≡ own_at self.old j x r) }
     {
         let Some((rid, image)) = stored(said)? else {
             return Ok(false);
@@ -102,7 +106,10 @@ impl Own {
 
     // Forgets what a transaction stored of a record.
     fn remove(&mut self, tx: Tx, rid: Rid)
-        ensures { (j x : ℕ) (r : Rid) → own_at self.new j x r ≡ (if ((tx.session == j) && (tx.number == x)) && same_rid rid r then None else own_at self.old j x r) }
+        ensures { (j x : ℕ) (r : Rid) →
+            own_at self.new j x r ≡
+            (if ((tx.session == j) && (tx.number == x)) && same_rid rid r then None else own_at
+            self.old j x r) }
     {
         let spot = Spot { tx, rid };
         self.images.remove(&spot);
@@ -110,7 +117,8 @@ impl Own {
 
     // Forgets all that a transaction stored.
     fn forget(&mut self, tx: Tx)
-        ensures others { (j x : ℕ) (r : Rid) → IsFalse ((tx.session == j) && (tx.number == x)) → own_at self.new j x r ≡ own_at self.old j x r }
+        ensures others { (j x : ℕ) (r : Rid) → IsFalse ((tx.session == j) && (tx.number == x)) →
+            own_at self.new j x r ≡ own_at self.old j x r }
         ensures gone { (r : Rid) → own_at self.new tx.session tx.number r ≡ None }
     {
         let mut found = self.next(tx, LEAST);
@@ -122,8 +130,12 @@ impl Own {
 
     /// Forgets what the transaction of a line stored, where the line ends it: no later line stands in it.
     pub fn close(&mut self, said: &Said)
-        ensures kept { (earlier : List script.Said) → ((j x : ℕ) → IsFalse (is_over j x earlier) → (r : Rid) → IsOwn self.old (said_of said.now ∷ earlier) j x r) → AreOpenOwn self.new (said_of said.now ∷ earlier) }
-        ensures over { (earlier : List script.Said) → ForgetsOver self.old earlier → ForgetsOver self.new (said_of said.now ∷ earlier) }
+        ensures kept { (earlier : List script.Said) →
+            ((j x : ℕ) → IsFalse (is_over j x earlier) → (r : Rid) →
+            IsOwn self.old (said_of said.now ∷ earlier) j x r) →
+            AreOpenOwn self.new (said_of said.now ∷ earlier) }
+        ensures over { (earlier : List script.Said) → ForgetsOver self.old earlier →
+            ForgetsOver self.new (said_of said.now ∷ earlier) }
     {
         if !ends(said) {
             return;

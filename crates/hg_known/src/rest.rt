@@ -44,7 +44,9 @@ impl Rest {
 
 /// What the cursor of a line's transaction has left after the line.
 pub(crate) fn rest_after(now: &Said) -> Option<Rest>
-    ensures { option_map rest_of result ≡ script.rest_after now.now.statement now.now.reply.now.answer (option_map rest_of now.now.rest) }
+    ensures { option_map rest_of result ≡
+        script.rest_after now.now.statement now.now.reply.now.answer
+        (option_map rest_of now.now.rest) }
 {
     match &now.statement {
         Statement::Begin(_) => None,

@@ -78,7 +78,8 @@ pub fn ends(said: &Said) -> bool
 // The number of a session's next transaction.
 fn next_after(last: Option<Last>) -> u64
     requires { IfSome last (λ l. number_of l + 1 < 2 ^ 64) }
-    ensures next { (o : Option script.Said) → option_map left_by o ≡ option_map without_rest last → result ≡ script.next_after o }
+    ensures next { (o : Option script.Said) → option_map left_by o ≡ option_map without_rest last →
+        result ≡ script.next_after o }
     ensures reach { IfSome last (λ l. result ≡ number_of l + 1) }
     ensures first { last ≡ None → result ≡ 1 }
 {
@@ -188,7 +189,8 @@ fn left(now: &Said) -> Last
 
 /// Keeps what a line leaves to its session's next.
 pub fn keep(lasts: &mut BTreeMap<u32, Last>, now: &Said) -> Result<(), NoMemory>
-    ensures { OnOk result ((earlier : List script.Said) → AreLasts lasts.old earlier → AreLasts lasts.new (said_of now.now ∷ earlier)) }
+    ensures { OnOk result ((earlier : List script.Said) → AreLasts lasts.old earlier →
+        AreLasts lasts.new (said_of now.now ∷ earlier)) }
 {
     if now.transaction == 0 {
         return Ok(());
@@ -205,10 +207,14 @@ pub fn read_line<'a>(
 ) -> Result<Said<'a>, NoMemory>
     requires reach { ReachTo (2 ^ 63) lasts.old }
     requires known { OpensKnown asked.statement }
-    ensures said { IfOk result (λ now. (earlier : List script.Said) → AreLasts lasts.old earlier → said_of now ≡ script.said earlier asked reply.entry.now) }
+    ensures said { IfOk result (λ now.
+        (earlier : List script.Said) → AreLasts lasts.old earlier →
+        said_of now ≡ script.said earlier asked reply.entry.now) }
     ensures rest { IfOk result (λ now. (earlier : List script.Said) → AreLasts lasts.old earlier → AreRests lasts.old earlier →
         HasRest earlier now) }
-    ensures lasts { IfOk result (λ now. (earlier : List script.Said) → AreLasts lasts.old earlier → AreLasts lasts.new (said_of now ∷ earlier)) }
+    ensures lasts { IfOk result (λ now.
+        (earlier : List script.Said) → AreLasts lasts.old earlier →
+        AreLasts lasts.new (said_of now ∷ earlier)) }
     ensures rests { IfOk result (λ now. (earlier : List script.Said) → AreLasts lasts.old earlier → AreRests lasts.old earlier →
         AreRests lasts.new (said_of now ∷ earlier)) }
     ensures reach { OnOk result ((n : ℕ) → ReachTo n lasts.old → ReachTo (n + 1) lasts.new) }

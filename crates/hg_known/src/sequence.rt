@@ -52,8 +52,10 @@ fn index_of(script: &Script, asked: &Record) -> u32
 fn add_session(into: &mut Vec<u32>, script: &Script, session: u32) -> Result<(), NoMemory>
     requires places { AreNumbered script.now }
     requires few { length script.now.records < 2 ^ 32 }
-    ensures records { OnOk result (map (record_at script.now) into.new.items ≡ map (record_at script.now) into.old.items ++ of_session session script.now.records) }
-    ensures indices { OnOk result (Each (IsIndex script.now) into.old.items → Each (IsIndex script.now) into.new.items) }
+    ensures records { OnOk result (map (record_at script.now) into.new.items ≡
+        map (record_at script.now) into.old.items ++ of_session session script.now.records) }
+    ensures indices { OnOk result
+        (Each (IsIndex script.now) into.old.items → Each (IsIndex script.now) into.new.items) }
 {
     let mut list = script.records_of(session);
     while let Some(record) = list.take_next()? {
@@ -64,7 +66,8 @@ fn add_session(into: &mut Vec<u32>, script: &Script, session: u32) -> Result<(),
 
 // Where the records of each session stand, by session number.
 fn by_session(alloc: Global, script: &Script) -> Result<Vec<u32>, NoMemory>
-    ensures records { IfOk result (λ indices. map (record_at script.now) indices.items ≡ shown_of script.now.records) }
+    ensures records { IfOk result
+        (λ indices. map (record_at script.now) indices.items ≡ shown_of script.now.records) }
     ensures indices { IfOk result (λ indices. Each (IsIndex script.now) indices.items) }
 {
     let mut indices = Vec::with_capacity(alloc, script.record_count())?;
@@ -76,7 +79,8 @@ fn by_session(alloc: Global, script: &Script) -> Result<Vec<u32>, NoMemory>
 
 // How many rounds a run has that prints so many lines, where its sessions print so many.
 fn count_rounds(shown: usize, lines: usize) -> Option<usize>
-    ensures { MatchOption result ((n : ℕ) → shown + 3 * n ≡ lines → ⊥) (λ n. shown + 3 * n ≡ lines) }
+    ensures { MatchOption result ((n : ℕ) → shown + 3 * n ≡ lines → ⊥)
+        (λ n. shown + 3 * n ≡ lines) }
 {
     let reports = lines.checked_sub(shown)?;
     if reports % 3 != 0 {

@@ -44,7 +44,10 @@ impl Versions {
 
     /// Counts the version that a line makes where it is the first write of its record in its transaction.
     pub fn add(&mut self, said: &Said, first: bool) -> Result<(), NoMemory>
-        ensures { OnOk result ((earlier : List script.Said) → AreTallied self.old earlier → IsOpen earlier (said_of said.now) → first ≡ is_some (first_write earlier (said_of said.now)) → length earlier < 2 ^ 62 → AreTallied self.new (said_of said.now ∷ earlier)) }
+        ensures { OnOk result ((earlier : List script.Said) → AreTallied self.old earlier →
+            IsOpen earlier (said_of said.now) →
+            first ≡ is_some (first_write earlier (said_of said.now)) → length earlier < 2 ^ 62 →
+            AreTallied self.new (said_of said.now ∷ earlier)) }
     {
         let ended = ends(said);
         if !ended && !first {
@@ -70,7 +73,8 @@ impl Versions {
 
     /// What all lines made.
     pub fn tally(&self) -> Tally
-        ensures { (all : List script.Said) → AreTallied self.now (onto all []) → IsTally result all }
+        ensures { (all : List script.Said) → AreTallied self.now (onto all []) →
+            IsTally result all }
     {
         Tally {
             made: self.made,

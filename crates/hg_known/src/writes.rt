@@ -48,7 +48,10 @@ impl Writes {
     /// The group of that number writes the record. The answer is whether it did not before.
     pub fn add(&mut self, rid: Rid, number: u64, image: Image) -> Result<bool, NoMemory>
         ensures first { IfOk result (λ first. first ≡ is_none (image_at self.old rid number)) }
-        ensures added { OnOk result ((q : Rid) (n : ℕ) → image_at self.new q n ≡ (if same_rid rid q && (number == n) then Some image else image_at self.old q n)) }
+        ensures added { OnOk result ((q : Rid) (n : ℕ) →
+            image_at self.new q n ≡
+            (if same_rid rid q && (number == n) then Some image else image_at self.old q
+            n)) }
     {
         let slot = Slot { rid, number };
         let before = self.images.insert(slot, image)?;
@@ -84,7 +87,8 @@ impl Writes {
 
     /// What a table that never reclaims shows of the record at a snapshot.
     pub fn visible(&self, rid: Rid, at: u64) -> Option<&Row>
-        ensures { (h : History) → IsOfHistory h self.now → option_copied result ≡ (visible h rid at).row }
+        ensures { (h : History) → IsOfHistory h self.now →
+            option_copied result ≡ (visible h rid at).row }
     {
         let (_, image) = self.last(rid, at)?;
         image.row.as_ref()
@@ -94,7 +98,8 @@ impl Writes {
     /// is a row visible, and of none at all where there is no such key.
     pub fn last_shown(&self, table: TableId, key: u64, at: u64) -> Option<(u64, Option<&Row>)>
         ensures within { IfSome result (λ found. found.0 ≤ key) }
-        ensures shown { (h : History) → IsOfHistory h self.now → IsLastShown h table key at (shown result) }
+        ensures shown { (h : History) → IsOfHistory h self.now →
+            IsLastShown h table key at (shown result) }
     {
         let end = Slot {
             rid: Rid { table, key },

@@ -261,7 +261,10 @@ fn answered_guess(
     place: u64,
     row: &[&[u8]],
 ) -> Result<Option<Piece>, NoMemory>
-    ensures { IfOk result (λ o. o ≡ answered_guess tables.now asked session place (at_guess asked (fields_of row.now)) (fields_of row.now)) }
+    ensures { IfOk result (λ o.
+        o ≡
+        answered_guess tables.now asked session place (at_guess asked (fields_of row.now))
+        (fields_of row.now)) }
 {
     let at = at_guess(asked, row);
     let i = answer_place(at);
@@ -273,9 +276,11 @@ fn answered_guess(
 
 // The index of the record of that place. Places go on from the records before the statements.
 fn index_of(script: &Script, place: u64) -> Option<usize>
-    ensures found { IfSome result (λ i. (i < length script.now.records) × (place ≡ records_before script.now + i + 1)) }
+    ensures found { IfSome result
+        (λ i. (i < length script.now.records) × (place ≡ records_before script.now + i + 1)) }
     ensures places { AreNumbered script.now }
-    ensures none { IfNone result ((i : ℕ) → i < length script.now.records → place ≢ records_before script.now + i + 1) }
+    ensures none { IfNone result
+        ((i : ℕ) → i < length script.now.records → place ≢ records_before script.now + i + 1) }
 {
     let count = script.record_count();
     let behind = place.checked_sub(script.records_before() as u64)?;

@@ -10,7 +10,8 @@ ghost use Rattle.hg_report.specs.Readable.{IsRefusedAt};
 
 /// One record alone is the first with which the bytes do not begin a text.
 pub fn one_record_is_refused()
-    ensures { (script : Script) (bytes : List ℕ) (a b : ℕ) → IsRefusedAt script bytes a → IsRefusedAt script bytes b → a ≡ b }
+    ensures { (script : Script) (bytes : List ℕ) (a b : ℕ) → IsRefusedAt script bytes a →
+        IsRefusedAt script bytes b → a ≡ b }
 {}
 
 /// The bytes of a text determine what was printed: two printed values that fit one script and have the same bytes are equal.

@@ -42,7 +42,8 @@ pub(crate) fn put_number(n: u64, bytes: &mut [u8], end: usize) -> usize
 /// Writes a value's field with its comma so that it ends at `end`, and returns where it starts.
 pub(crate) fn put_value(n: i64, bytes: &mut [u8], end: usize) -> usize
     requires { (22 ≤ end) × (end ≤ length bytes.old) }
-    ensures written { drop result bytes.new ≡ further_bytes (signed_decimal n) ++ drop end bytes.old }
+    ensures written { drop result bytes.new ≡
+        further_bytes (signed_decimal n) ++ drop end bytes.old }
     ensures near { end ≤ result + 22 }
     ensures within { result ≤ end }
     ensures long { length bytes.new ≡ length bytes.old }
@@ -55,7 +56,8 @@ pub(crate) fn put_value(n: i64, bytes: &mut [u8], end: usize) -> usize
 /// Writes the fields of a row's values with their commas so that they end at `end`, and returns where they start.
 pub(crate) fn put_values(values: &[i64], bytes: &mut [u8], end: usize) -> usize
     requires { (22 * length values.now ≤ end) × (end ≤ length bytes.old) }
-    ensures written { drop result bytes.new ≡ flat_map further_bytes (map signed_decimal values.now) ++ drop end bytes.old }
+    ensures written { drop result bytes.new ≡
+        flat_map further_bytes (map signed_decimal values.now) ++ drop end bytes.old }
     ensures near { end ≤ result + 22 * length values.now }
     ensures within { result ≤ end }
     ensures long { length bytes.new ≡ length bytes.old }

@@ -61,7 +61,8 @@ fn total_word(index: u8) -> &'static [u8]
 impl Piece {
     /// Adds the record to a text.
     pub(crate) fn write(&self, text: &mut Vec<u8>, tables: &[Table]) -> Result<(), NoMemory>
-        ensures { OnOk result (text.new.items ≡ text.old.items ++ record_bytes (piece_fields tables.now self.now)) }
+        ensures { OnOk result (text.new.items ≡
+            text.old.items ++ record_bytes (piece_fields tables.now self.now)) }
     {
         match self {
             Piece::Line(line) => write_head(text, tables, line)?,

@@ -175,7 +175,8 @@ impl Progress {
 
     // Ends the line that is open.
     fn close(&mut self) -> Result<(), NoMemory>
-        ensures { OnOk result (self.new ≡ record { lines = lines_of self.old; last = opens.Nothing }) }
+        ensures { OnOk result
+            (self.new ≡ record { lines = lines_of self.old; last = opens.Nothing }) }
     {
         match mem::replace(&mut self.last, Open::Nothing) {
             Open::Nothing => {}

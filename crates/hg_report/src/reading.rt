@@ -26,7 +26,9 @@ fn take<'a>(
     text: &mut Vec<u8>,
     bytes: &'a [u8],
 ) -> Result<Option<&'a [u8]>, NoMemory>
-    ensures { IfOk result (λ o. Takes script.now progress.old (fields_of row.now) bytes.now progress.new (option_map (λ s. s.now) o)) }
+    ensures { IfOk result (λ o.
+        Takes script.now progress.old (fields_of row.now) bytes.now progress.new
+        (option_map (λ s. s.now) o)) }
 {
     let Some(piece) = progress.last.guess(alloc, script, row)? else {
         return Ok(None);
@@ -49,7 +51,9 @@ fn refused(line: u64) -> TextRefusal
 // What was printed, where all totals were told.
 fn finish(progress: Progress, line: u64) -> Result<Printed, TextRefusal>
     ensures done { IfOk result (λ printed. progress ≡ finished printed.lines printed.totals) }
-    ensures refused { IfErr result (λ e. (e ≡ refusal.At line) × ((lines : List Line) (totals : Totals) → progress ≡ finished lines totals → ⊥)) }
+    ensures refused { IfErr result (λ e.
+        (e ≡ refusal.At line) ×
+        ((lines : List Line) (totals : Totals) → progress ≡ finished lines totals → ⊥)) }
 {
     if let Open::Totals { index, totals } = progress.last {
         if index == 6 {
@@ -74,7 +78,8 @@ fn usual_lines(script: &Script, bytes: &[u8]) -> usize {
 pub fn read_text(alloc: Global, script: &Script, bytes: &[u8]) -> Result<Printed, TextRefusal>
     requires lawful { IsLawful script.now }
     ensures text { IfOk result (λ printed. IsTextOf script.now bytes.now printed) }
-    ensures only { IfOk result (λ printed. (other : Printed) → IsTextOf script.now bytes.now other → other ≡ printed) }
+    ensures only { IfOk result
+        (λ printed. (other : Printed) → IsTextOf script.now bytes.now other → other ≡ printed) }
     ensures refused { IfErr result (TellsRefusal script.now bytes.now) }
 {
     let mut progress = Progress::with_room(alloc, usual_lines(script, bytes))?;

@@ -46,7 +46,9 @@ impl RowStart {
     // Writes itself so that it ends at `end`, and returns where it starts.
     fn put(&self, bytes: &mut [u8], end: usize) -> usize
         requires { (48 ≤ end) × (end ≤ length bytes.old) }
-        ensures written { drop result bytes.new ≡ ((field_bytes (decimal self.now.session) ++ further_bytes (decimal self.now.place)) ++ further_bytes (codes "row")) ++ drop end bytes.old }
+        ensures written { drop result bytes.new ≡
+            ((field_bytes (decimal self.now.session) ++ further_bytes (decimal self.now.place)) ++
+            further_bytes (codes "row")) ++ drop end bytes.old }
         ensures within { result ≤ end }
         ensures long { length bytes.new ≡ length bytes.old }
     {
@@ -57,7 +59,10 @@ impl RowStart {
     // Adds the record of one row of so few numbers that the record lies on the stack.
     fn write_short(&self, text: &mut Vec<u8>, key: u64, values: &[i64]) -> Result<(), NoMemory>
         requires { length values.now ≤ 2 }
-        ensures { OnOk result (text.new.items ≡ text.old.items ++ record_bytes (behind self.now.session self.now.place (row_fields (key, map Number values.now)))) }
+        ensures { OnOk result (text.new.items ≡
+            text.old.items ++
+            record_bytes (behind self.now.session self.now.place
+            (row_fields (key, map Number values.now)))) }
     {
         let mut record = [0; RECORD_ROOM];
         record[RECORD_ROOM - 1] = b'\n';
@@ -70,7 +75,10 @@ impl RowStart {
 
     /// Adds the record of one row.
     pub fn write(&self, text: &mut Vec<u8>, key: u64, row: &Row) -> Result<(), NoMemory>
-        ensures { OnOk result (text.new.items ≡ text.old.items ++ record_bytes (behind self.now.session self.now.place (row_fields (key, row.now)))) }
+        ensures { OnOk result (text.new.items ≡
+            text.old.items ++
+            record_bytes
+            (behind self.now.session self.now.place (row_fields (key, row.now)))) }
     {
         match row.numbers() {
             Some(values) if values.len() <= 2 => self.write_short(text, key, values),

@@ -50,7 +50,8 @@ impl<'a> Transcript<'a> {
 
     /// Adds a line. A refusal leaves the lines as before.
     pub fn push(&mut self, line: &Line) -> Result<(), NoMemory>
-        ensures ok { OnOk result (self.new ≡ record self.old { lines = self.old.lines ++ line.now ∷ [] }) }
+        ensures ok { OnOk result
+            (self.new ≡ record self.old { lines = self.old.lines ++ line.now ∷ [] }) }
         ensures err { OnErr result (self.new ≡ self.old) }
     {
         self.scratch.clear();
@@ -63,7 +64,8 @@ impl<'a> Transcript<'a> {
     /// Adds the lines of another transcript over the same tables. A refusal leaves the lines as before.
     pub fn append(&mut self, other: &Transcript<'_>) -> Result<(), NoMemory>
         requires { other.now.tables ≡ self.old.tables }
-        ensures ok { OnOk result (self.new ≡ record self.old { lines = self.old.lines ++ other.now.lines }) }
+        ensures ok { OnOk result
+            (self.new ≡ record self.old { lines = self.old.lines ++ other.now.lines }) }
         ensures err { OnErr result (self.new ≡ self.old) }
     {
         self.text.extend_from_slice(&other.text)?;

@@ -38,7 +38,8 @@ fn kind_word(kind: Kind) -> &'static [u8]
 }
 
 fn add_numbers(text: &mut Vec<u8>, numbers: &[i64]) -> Result<(), NoMemory>
-    ensures { OnOk result (text.new.items ≡ text.old.items ++ flat_map further_bytes (map signed_decimal numbers.now)) }
+    ensures { OnOk result (text.new.items ≡
+        text.old.items ++ flat_map further_bytes (map signed_decimal numbers.now)) }
 {
     for n in numbers {
         add_value(text, *n)?;
@@ -47,7 +48,8 @@ fn add_numbers(text: &mut Vec<u8>, numbers: &[i64]) -> Result<(), NoMemory>
 }
 
 fn add_number_or_text(text: &mut Vec<u8>, value: &Value) -> Result<(), NoMemory>
-    ensures { OnOk result (text.new.items ≡ text.old.items ++ further_bytes (value_field value.now)) }
+    ensures { OnOk result
+        (text.new.items ≡ text.old.items ++ further_bytes (value_field value.now)) }
 {
     match value {
         Value::Number(n) => add_value(text, *n),
@@ -56,7 +58,8 @@ fn add_number_or_text(text: &mut Vec<u8>, value: &Value) -> Result<(), NoMemory>
 }
 
 fn add_values(text: &mut Vec<u8>, row: &Row) -> Result<(), NoMemory>
-    ensures { OnOk result (text.new.items ≡ text.old.items ++ flat_map further_bytes (map value_field row.now)) }
+    ensures { OnOk result
+        (text.new.items ≡ text.old.items ++ flat_map further_bytes (map value_field row.now)) }
 {
     for i in 0..row.len() {
         add_number_or_text(text, &row.value(i))?;
@@ -66,7 +69,8 @@ fn add_values(text: &mut Vec<u8>, row: &Row) -> Result<(), NoMemory>
 
 #[tactic(auto, using(crate::proofs::RecordBytes::numbers_are))]
 fn add_row(text: &mut Vec<u8>, row: &Row) -> Result<(), NoMemory>
-    ensures { OnOk result (text.new.items ≡ text.old.items ++ flat_map further_bytes (map value_field row.now)) }
+    ensures { OnOk result
+        (text.new.items ≡ text.old.items ++ flat_map further_bytes (map value_field row.now)) }
 {
     match row.numbers() {
         Some(numbers) => add_numbers(text, numbers),
@@ -77,7 +81,8 @@ fn add_row(text: &mut Vec<u8>, row: &Row) -> Result<(), NoMemory>
 // A number behind its word, where it is printed.
 fn add_told(text: &mut Vec<u8>, word: &[u8], number: Option<u64>) -> Result<(), NoMemory>
     requires { list_any (needs_byte flexible_writer) word.now ≡ false }
-    ensures { OnOk result (text.new.items ≡ text.old.items ++ flat_map further_bytes (told_as word.now number)) }
+    ensures { OnOk result
+        (text.new.items ≡ text.old.items ++ flat_map further_bytes (told_as word.now number)) }
 {
     if let Some(n) = number {
         add_plain(text, word)?;
@@ -87,7 +92,8 @@ fn add_told(text: &mut Vec<u8>, word: &[u8], number: Option<u64>) -> Result<(), 
 }
 
 fn add_sweep(text: &mut Vec<u8>, sweep: &Sweep) -> Result<(), NoMemory>
-    ensures { OnOk result (text.new.items ≡ text.old.items ++ flat_map further_bytes (answer_fields [] (Swept sweep.now))) }
+    ensures { OnOk result (text.new.items ≡
+        text.old.items ++ flat_map further_bytes (answer_fields [] (Swept sweep.now))) }
 {
     add_field(text, b"swept")?;
     add_field(text, kind_word(sweep.kind))?;
@@ -99,7 +105,9 @@ fn add_sweep(text: &mut Vec<u8>, sweep: &Sweep) -> Result<(), NoMemory>
 
 // The name of a table that is not declared.
 fn add_undeclared(text: &mut Vec<u8>, name: &[u8]) -> Result<(), NoMemory>
-    ensures { OnOk result (text.new.items ≡ text.old.items ++ flat_map further_bytes (codes "refused" ∷ codes "undeclared" ∷ name.now ∷ [])) }
+    ensures { OnOk result (text.new.items ≡
+        text.old.items ++
+        flat_map further_bytes (codes "refused" ∷ codes "undeclared" ∷ name.now ∷ [])) }
 {
     add_field(text, b"refused")?;
     add_field(text, b"undeclared")?;
@@ -108,7 +116,8 @@ fn add_undeclared(text: &mut Vec<u8>, name: &[u8]) -> Result<(), NoMemory>
 }
 
 fn add_answer(text: &mut Vec<u8>, tables: &[Table], answer: &Answer) -> Result<(), NoMemory>
-    ensures { OnOk result (text.new.items ≡ text.old.items ++ flat_map further_bytes (answer_fields tables.now answer.now)) }
+    ensures { OnOk result (text.new.items ≡
+        text.old.items ++ flat_map further_bytes (answer_fields tables.now answer.now)) }
 {
     match answer {
         Answer::Begun(snapshot) => {
@@ -156,7 +165,11 @@ fn add_answer(text: &mut Vec<u8>, tables: &[Table], answer: &Answer) -> Result<(
 }
 
 fn add_reply(text: &mut Vec<u8>, tables: &[Table], reply: &Reply) -> Result<(), NoMemory>
-    ensures { OnOk result (text.new.items ≡ text.old.items ++ flat_map further_bytes (told_as (codes "at") reply.now.at ++ answer_fields tables.now reply.now.answer ++ told_as (codes "committed") reply.now.number)) }
+    ensures { OnOk result (text.new.items ≡
+        text.old.items ++
+        flat_map further_bytes (told_as (codes "at") reply.now.at ++
+        answer_fields tables.now reply.now.answer ++
+        told_as (codes "committed") reply.now.number)) }
 {
     add_told(text, b"at", reply.at)?;
     add_answer(text, tables, &reply.answer)?;
@@ -165,7 +178,10 @@ fn add_reply(text: &mut Vec<u8>, tables: &[Table], reply: &Reply) -> Result<(), 
 }
 
 fn add_count(text: &mut Vec<u8>, at: Option<u64>, rows: u64) -> Result<(), NoMemory>
-    ensures { OnOk result (text.new.items ≡ text.old.items ++ flat_map further_bytes (told_as (codes "at") at ++ codes "rows" ∷ decimal rows ∷ [])) }
+    ensures { OnOk result (text.new.items ≡
+        text.old.items ++
+        flat_map further_bytes
+        (told_as (codes "at") at ++ codes "rows" ∷ decimal rows ∷ [])) }
 {
     add_told(text, b"at", at)?;
     add_plain(text, b"rows")?;
@@ -174,7 +190,8 @@ fn add_count(text: &mut Vec<u8>, at: Option<u64>, rows: u64) -> Result<(), NoMem
 }
 
 fn add_key(text: &mut Vec<u8>, key: u64, row: &Row) -> Result<(), NoMemory>
-    ensures { OnOk result (text.new.items ≡ text.old.items ++ flat_map further_bytes (row_fields (key, row.now))) }
+    ensures { OnOk result (text.new.items ≡
+        text.old.items ++ flat_map further_bytes (row_fields (key, row.now))) }
 {
     add_field(text, b"row")?;
     add_number(text, key)?;
@@ -189,7 +206,8 @@ fn moved_word(moved: bool) -> &'static [u8]
 }
 
 fn add_held(text: &mut Vec<u8>, told: Told) -> Result<(), NoMemory>
-    ensures { OnOk result (text.new.items ≡ text.old.items ++ flat_map further_bytes (held_fields told)) }
+    ensures { OnOk result
+        (text.new.items ≡ text.old.items ++ flat_map further_bytes (held_fields told)) }
 {
     add_field(text, b"held")?;
     add_number(text, u64::from(told.session))?;
@@ -201,7 +219,11 @@ fn add_held(text: &mut Vec<u8>, told: Told) -> Result<(), NoMemory>
 /// Adds the first record of a reply.
 #[tactic(auto, using(crate::proofs::RecordBytes::ended))]
 pub(crate) fn write_head(text: &mut Vec<u8>, tables: &[Table], line: &Line) -> Result<(), NoMemory>
-    ensures { OnOk result (text.new.items ≡ text.old.items ++ record_bytes (of_line line.now (told_as (codes "at") line.now.reply.at ++ answer_fields tables.now line.now.reply.answer ++ told_as (codes "committed") line.now.reply.number))) }
+    ensures { OnOk result (text.new.items ≡
+        text.old.items ++
+        record_bytes (of_line line.now (told_as (codes "at") line.now.reply.at ++
+        answer_fields tables.now line.now.reply.answer ++
+        told_as (codes "committed") line.now.reply.number))) }
 {
     begin_reply(text, line.session, line.place)?;
     add_reply(text, tables, &line.reply)?;
@@ -218,7 +240,10 @@ pub(crate) fn write_scan(
     at: Option<u64>,
     rows: u64,
 ) -> Result<(), NoMemory>
-    ensures { OnOk result (text.new.items ≡ text.old.items ++ record_bytes (behind session place (told_as (codes "at") at ++ codes "rows" ∷ decimal rows ∷ []))) }
+    ensures { OnOk result (text.new.items ≡
+        text.old.items ++
+        record_bytes (behind session place
+        (told_as (codes "at") at ++ codes "rows" ∷ decimal rows ∷ []))) }
 {
     begin_reply(text, session, place)?;
     add_count(text, at, rows)?;
@@ -234,7 +259,9 @@ pub(crate) fn write_sweep(
     place: u64,
     sweep: &Sweep,
 ) -> Result<(), NoMemory>
-    ensures { OnOk result (text.new.items ≡ text.old.items ++ record_bytes (behind session place (answer_fields [] (Swept sweep.now)))) }
+    ensures { OnOk result (text.new.items ≡
+        text.old.items ++
+        record_bytes (behind session place (answer_fields [] (Swept sweep.now)))) }
 {
     begin_reply(text, session, place)?;
     add_sweep(text, sweep)?;
@@ -251,7 +278,8 @@ pub(crate) fn write_row(
     key: u64,
     row: &Row,
 ) -> Result<(), NoMemory>
-    ensures { OnOk result (text.new.items ≡ text.old.items ++ record_bytes (behind session place (row_fields (key, row.now)))) }
+    ensures { OnOk result (text.new.items ≡
+        text.old.items ++ record_bytes (behind session place (row_fields (key, row.now)))) }
 {
     begin_reply(text, session, place)?;
     add_key(text, key, row)?;
@@ -267,7 +295,8 @@ pub(crate) fn write_held(
     place: u64,
     told: Told,
 ) -> Result<(), NoMemory>
-    ensures { OnOk result (text.new.items ≡ text.old.items ++ record_bytes (behind session place (held_fields told))) }
+    ensures { OnOk result (text.new.items ≡
+        text.old.items ++ record_bytes (behind session place (held_fields told))) }
 {
     begin_reply(text, session, place)?;
     add_held(text, told)?;
@@ -276,7 +305,8 @@ pub(crate) fn write_held(
 }
 
 fn add_total(text: &mut Vec<u8>, n: u64) -> Result<(), NoMemory>
-    ensures { OnOk result (text.new.items ≡ text.old.items ++ flat_map further_bytes (decimal n ∷ [])) }
+    ensures { OnOk result
+        (text.new.items ≡ text.old.items ++ flat_map further_bytes (decimal n ∷ [])) }
 {
     add_number(text, n)?;
     Ok(())
@@ -285,7 +315,8 @@ fn add_total(text: &mut Vec<u8>, n: u64) -> Result<(), NoMemory>
 /// Adds the record of one of the totals.
 #[tactic(auto, using(crate::proofs::RecordBytes::ended))]
 pub(crate) fn write_total(text: &mut Vec<u8>, word: &[u8], n: u64) -> Result<(), NoMemory>
-    ensures { OnOk result (text.new.items ≡ text.old.items ++ record_bytes (total_fields word.now n)) }
+    ensures { OnOk result
+        (text.new.items ≡ text.old.items ++ record_bytes (total_fields word.now n)) }
 {
     begin_record(text, b"total", word)?;
     add_total(text, n)?;
@@ -294,7 +325,9 @@ pub(crate) fn write_total(text: &mut Vec<u8>, word: &[u8], n: u64) -> Result<(),
 }
 
 fn write_rows(text: &mut Vec<u8>, line: &Line, rows: &[(u64, Row)]) -> Result<(), NoMemory>
-    ensures { OnOk result (text.new.items ≡ text.old.items ++ flat_map record_bytes (map (of_line line.now) (map row_fields rows.now))) }
+    ensures { OnOk result (text.new.items ≡
+        text.old.items ++
+        flat_map record_bytes (map (of_line line.now) (map row_fields rows.now))) }
 {
     let start = RowStart::new(line.session, line.place);
     for (key, row) in rows {
@@ -304,7 +337,9 @@ fn write_rows(text: &mut Vec<u8>, line: &Line, rows: &[(u64, Row)]) -> Result<()
 }
 
 fn write_all_held(text: &mut Vec<u8>, line: &Line, held: &[Told]) -> Result<(), NoMemory>
-    ensures { OnOk result (text.new.items ≡ text.old.items ++ flat_map record_bytes (map (of_line line.now) (map held_fields held.now))) }
+    ensures { OnOk result (text.new.items ≡
+        text.old.items ++
+        flat_map record_bytes (map (of_line line.now) (map held_fields held.now))) }
 {
     for told in held {
         write_held(text, line.session, line.place, *told)?;
@@ -314,7 +349,10 @@ fn write_all_held(text: &mut Vec<u8>, line: &Line, held: &[Told]) -> Result<(), 
 
 // The further records of a reply.
 fn write_more(text: &mut Vec<u8>, line: &Line) -> Result<(), NoMemory>
-    ensures { OnOk result (text.new.items ≡ text.old.items ++ flat_map record_bytes (map (of_line line.now) (more_fields line.now.reply.answer))) }
+    ensures { OnOk result (text.new.items ≡
+        text.old.items ++
+        flat_map record_bytes
+        (map (of_line line.now) (more_fields line.now.reply.answer))) }
 {
     match &line.reply.answer {
         Answer::Rows(rows) => write_rows(text, line, rows.as_slice()),
@@ -324,7 +362,8 @@ fn write_more(text: &mut Vec<u8>, line: &Line) -> Result<(), NoMemory>
 }
 
 pub(crate) fn write_line(text: &mut Vec<u8>, tables: &[Table], line: &Line) -> Result<(), NoMemory>
-    ensures { OnOk result (text.new.items ≡ text.old.items ++ flat_map record_bytes (line_records tables.now line.now)) }
+    ensures { OnOk result (text.new.items ≡
+        text.old.items ++ flat_map record_bytes (line_records tables.now line.now)) }
 {
     write_head(text, tables, line)?;
     write_more(text, line)?;
@@ -332,7 +371,9 @@ pub(crate) fn write_line(text: &mut Vec<u8>, tables: &[Table], line: &Line) -> R
 }
 
 fn write_lines(text: &mut Vec<u8>, tables: &[Table], lines: &[Line]) -> Result<(), NoMemory>
-    ensures { OnOk result (text.new.items ≡ text.old.items ++ flat_map record_bytes (flat_map (line_records tables.now) lines.now)) }
+    ensures { OnOk result (text.new.items ≡
+        text.old.items ++
+        flat_map record_bytes (flat_map (line_records tables.now) lines.now)) }
 {
     for line in lines {
         write_line(text, tables, line)?;
@@ -341,7 +382,8 @@ fn write_lines(text: &mut Vec<u8>, tables: &[Table], lines: &[Line]) -> Result<(
 }
 
 pub(crate) fn write_totals(text: &mut Vec<u8>, totals: &Totals) -> Result<(), NoMemory>
-    ensures { OnOk result (text.new.items ≡ text.old.items ++ flat_map record_bytes (totals_records totals.now)) }
+    ensures { OnOk result
+        (text.new.items ≡ text.old.items ++ flat_map record_bytes (totals_records totals.now)) }
 {
     write_total(text, b"made", totals.made)?;
     write_total(text, b"undone", totals.undone)?;
@@ -362,7 +404,8 @@ pub fn reply_text(
     line: &Line,
     into: &mut Vec<u8>,
 ) -> Result<(), NoMemory>
-    ensures text { OnOk result (into.new.items ≡ into.old.items ++ flat_map record_bytes (line_records script.now.tables line.now)) }
+    ensures text { OnOk result (into.new.items ≡
+        into.old.items ++ flat_map record_bytes (line_records script.now.tables line.now)) }
     ensures refused { OnErr result (into.new.items ≡ into.old.items) }
 {
     let mut text = Vec::with_capacity(alloc, USUAL_BYTES)?;
@@ -373,7 +416,8 @@ pub fn reply_text(
 
 /// Adds the records of the totals behind the bytes of `into`, which a refusal leaves as they were.
 pub fn totals_text(alloc: Global, totals: &Totals, into: &mut Vec<u8>) -> Result<(), NoMemory>
-    ensures text { OnOk result (into.new.items ≡ into.old.items ++ flat_map record_bytes (totals_records totals.now)) }
+    ensures text { OnOk result
+        (into.new.items ≡ into.old.items ++ flat_map record_bytes (totals_records totals.now)) }
     ensures refused { OnErr result (into.new.items ≡ into.old.items) }
 {
     let mut text = Vec::new(alloc);

@@ -81,7 +81,8 @@ impl Board {
     /// Loads the mark, of which nobody knows yet.
     pub fn probe(&self, pass: &mut SessionPass) -> u64
         requires own { IsSessionOf (board_id self.now) (sizes_of self.now) pass.old }
-        requires declared { (session (session_view pass.old)).phase ≡ Declared (declared_in (session (session_view pass.old)).phase) }
+        requires declared { (session (session_view pass.old)).phase ≡
+            Declared (declared_in (session (session_view pass.old)).phase) }
         ensures step { Probes (session_view pass.old) result (session_view pass.new) }
         ensures own { IsSessionOf (board_id self.now) (sizes_of self.now) pass.new }
     {
@@ -91,7 +92,8 @@ impl Board {
     /// Shows that the session enters at the mark that it loaded.
     pub fn enter(&self, pass: &mut SessionPass, f: u64)
         requires own { IsSessionOf (board_id self.now) (sizes_of self.now) pass.old }
-        requires probed { ((session (session_view pass.old)).phase ≡ Probed (declared_in (session (session_view pass.old)).phase) f) × IsNumber f }
+        requires probed { ((session (session_view pass.old)).phase ≡
+            Probed (declared_in (session (session_view pass.old)).phase) f) × IsNumber f }
         ensures step { Enters (session_view pass.old) f (session_view pass.new) }
         ensures own { IsSessionOf (board_id self.now) (sizes_of self.now) pass.new }
     {
@@ -104,7 +106,9 @@ impl Board {
     /// Loads the mark again.
     pub fn fix(&self, pass: &mut SessionPass) -> u64
         requires own { IsSessionOf (board_id self.now) (sizes_of self.now) pass.old }
-        requires entered { (session (session_view pass.old)).phase ≡ Entered (declared_in (session (session_view pass.old)).phase) (loaded_in (session (session_view pass.old)).phase) }
+        requires entered { (session (session_view pass.old)).phase ≡
+            Entered (declared_in (session (session_view pass.old)).phase)
+            (loaded_in (session (session_view pass.old)).phase) }
         ensures step { Fixes (session_view pass.old) result (session_view pass.new) }
         ensures own { IsSessionOf (board_id self.now) (sizes_of self.now) pass.new }
     {
@@ -117,7 +121,9 @@ impl Board {
     /// as begun.
     pub fn go_live(&self, pass: &mut SessionPass, m: u64, scope: Scope)
         requires own { IsSessionOf (board_id self.now) (sizes_of self.now) pass.old }
-        requires fixed { ((session (session_view pass.old)).phase ≡ Fixed scope (entered_in (session (session_view pass.old)).phase) m) × IsNumber m }
+        requires fixed { ((session (session_view pass.old)).phase ≡
+            Fixed scope (entered_in (session (session_view pass.old)).phase) m) ×
+            IsNumber m }
         requires room { begans (session (session_view pass.old)).log < (sizes_of self.now).quota }
         ensures step { GoesLive (session_view pass.old) m scope (session_view pass.new) }
         ensures own { IsSessionOf (board_id self.now) (sizes_of self.now) pass.new }

@@ -20,9 +20,13 @@ use std::marker::Brand;
 impl Board {
     fn reclaim_as<A: Removed>(&self, pass: &mut CollectorPass, _rid: Rid, _kind: Kind)
         requires own { IsPassOf (board_id self.now) pass.old }
-        requires whole { IsWhole (sizes_of self.now).sessions (record_of (own_pass (pass_view pass.old))) }
-        requires held { HasBucket (pass_view pass.old) × (bucket_of (sizes_of self.now).buckets A.removed_rid ≡ bucket_number (pass_view pass.old)) }
-        requires visits { IsVisiting (bucket_number (pass_view pass.old)) (own_pass (pass_view pass.old)).visits }
+        requires whole { IsWhole (sizes_of self.now).sessions
+            (record_of (own_pass (pass_view pass.old))) }
+        requires held { HasBucket (pass_view pass.old) ×
+            (bucket_of (sizes_of self.now).buckets A.removed_rid ≡
+            bucket_number (pass_view pass.old)) }
+        requires visits { IsVisiting (bucket_number (pass_view pass.old))
+            (own_pass (pass_view pass.old)).visits }
         ensures step { Reclaims (pass_view pass.old) A.removed_rid A.kind (pass_view pass.new) }
         ensures own { IsPassOf (board_id self.now) pass.new }
     {
@@ -32,9 +36,12 @@ impl Board {
     /// Takes away what the kind of collector removes of this record by the pass's record, which is whole, and counts it.
     pub fn reclaim(&self, pass: &mut CollectorPass, rid: Rid, kind: Kind)
         requires own { IsPassOf (board_id self.now) pass.old }
-        requires whole { IsWhole (sizes_of self.now).sessions (record_of (own_pass (pass_view pass.old))) }
-        requires held { HasBucket (pass_view pass.old) × (bucket_of (sizes_of self.now).buckets rid ≡ bucket_number (pass_view pass.old)) }
-        requires visits { IsVisiting (bucket_number (pass_view pass.old)) (own_pass (pass_view pass.old)).visits }
+        requires whole { IsWhole (sizes_of self.now).sessions
+            (record_of (own_pass (pass_view pass.old))) }
+        requires held { HasBucket (pass_view pass.old) ×
+            (bucket_of (sizes_of self.now).buckets rid ≡ bucket_number (pass_view pass.old)) }
+        requires visits { IsVisiting (bucket_number (pass_view pass.old))
+            (own_pass (pass_view pass.old)).visits }
         ensures step { Reclaims (pass_view pass.old) rid kind (pass_view pass.new) }
         ensures own { IsPassOf (board_id self.now) pass.new }
     {
@@ -45,7 +52,8 @@ impl Board {
     pub fn take_group(&self, pass: &mut CollectorPass) -> u64
         requires own { IsPassOf (board_id self.now) pass.old }
         requires held { HasCommit (pass_view pass.old) }
-        requires left { (commit (pass_view pass.old)).taken < length (commit (pass_view pass.old)).history.list }
+        requires left { (commit (pass_view pass.old)).taken <
+            length (commit (pass_view pass.old)).history.list }
         ensures step { Takes (pass_view pass.old) result (pass_view pass.new) }
         ensures own { IsPassOf (board_id self.now) pass.new }
     {

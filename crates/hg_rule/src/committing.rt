@@ -18,13 +18,21 @@ use std::marker::Brand;
 impl Board {
     fn stamp_as<A: Stamped>(&self, pass: &mut SessionPass, _session: u32, _rid: Rid, number: u64)
         requires own { IsAwayOf (board_id self.now) (sizes_of self.now) pass.old }
-        requires held { HasBoth (session_view pass.old) × (bucket_of (sizes_of self.now).buckets A.stamped_rid ≡ bucket_number (session_view pass.old)) }
-        requires received { AreLent (farther (session_view pass.old)) × IsTrue (is_in (who (members (farther (session_view pass.old)))) A.stamped_session) }
-        requires plain { IsTrue (is_plain (part_of A.stamped_session (members (farther (session_view pass.old)))).log) }
+        requires held { HasBoth (session_view pass.old) ×
+            (bucket_of (sizes_of self.now).buckets A.stamped_rid ≡
+            bucket_number (session_view pass.old)) }
+        requires received { AreLent (farther (session_view pass.old)) ×
+            IsTrue (is_in (who (members (farther (session_view pass.old)))) A.stamped_session) }
+        requires plain { IsTrue (is_plain
+            (part_of A.stamped_session (members (farther (session_view pass.old)))).log) }
         requires next { number ≡ suc (length (commit_behind (session_view pass.old)).history.list) }
-        requires mine { IsOpenBy (writer_at A.stamped_session (members (farther (session_view pass.old)))) (held (session_view pass.old) A.stamped_rid) }
-        ensures step { Stamps (session_view pass.old) A.stamped_session A.stamped_rid number (session_view pass.new) }
-        ensures own { IsAwayOf (board_id self.now) (sizes_of self.now) pass.new × (pass.new.number ≡ pass.old.number) }
+        requires mine { IsOpenBy
+            (writer_at A.stamped_session (members (farther (session_view pass.old))))
+            (held (session_view pass.old) A.stamped_rid) }
+        ensures step { Stamps (session_view pass.old) A.stamped_session A.stamped_rid number
+            (session_view pass.new) }
+        ensures own { IsAwayOf (board_id self.now) (sizes_of self.now) pass.new ×
+            (pass.new.number ≡ pass.old.number) }
     {
         self.table.shared.load::<Stamping<A>>(&mut pass.seat, 0);
     }
@@ -32,13 +40,18 @@ impl Board {
     /// Gives an open write of a session that handed over the next number. The committer's part was joined before the bucket's.
     pub fn stamp(&self, pass: &mut SessionPass, session: u32, rid: Rid, number: u64)
         requires own { IsAwayOf (board_id self.now) (sizes_of self.now) pass.old }
-        requires held { HasBoth (session_view pass.old) × (bucket_of (sizes_of self.now).buckets rid ≡ bucket_number (session_view pass.old)) }
-        requires received { AreLent (farther (session_view pass.old)) × IsTrue (is_in (who (members (farther (session_view pass.old)))) session) }
-        requires plain { IsTrue (is_plain (part_of session (members (farther (session_view pass.old)))).log) }
+        requires held { HasBoth (session_view pass.old) ×
+            (bucket_of (sizes_of self.now).buckets rid ≡ bucket_number (session_view pass.old)) }
+        requires received { AreLent (farther (session_view pass.old)) ×
+            IsTrue (is_in (who (members (farther (session_view pass.old)))) session) }
+        requires plain { IsTrue
+            (is_plain (part_of session (members (farther (session_view pass.old)))).log) }
         requires next { number ≡ suc (length (commit_behind (session_view pass.old)).history.list) }
-        requires mine { IsOpenBy (writer_at session (members (farther (session_view pass.old)))) (held (session_view pass.old) rid) }
+        requires mine { IsOpenBy (writer_at session (members (farther (session_view pass.old))))
+            (held (session_view pass.old) rid) }
         ensures step { Stamps (session_view pass.old) session rid number (session_view pass.new) }
-        ensures own { IsAwayOf (board_id self.now) (sizes_of self.now) pass.new × (pass.new.number ≡ pass.old.number) }
+        ensures own { IsAwayOf (board_id self.now) (sizes_of self.now) pass.new ×
+            (pass.new.number ≡ pass.old.number) }
     {
         self.stamp_as::<Brand>(pass, session, rid, number);
     }
@@ -50,9 +63,11 @@ impl Board {
         requires held { HasCommit (session_view pass.old) }
         requires received { AreLent (beyond (session_view pass.old)) }
         requires next { number ≡ suc (length (commit (session_view pass.old)).history.list) }
-        requires may { MayPublish (members (beyond (session_view pass.old))) (commit (session_view pass.old)).stamped }
+        requires may { MayPublish (members (beyond (session_view pass.old)))
+            (commit (session_view pass.old)).stamped }
         ensures step { Publishes (session_view pass.old) number (session_view pass.new) }
-        ensures own { IsAwayOf (board_id self.now) (sizes_of self.now) pass.new × (pass.new.number ≡ pass.old.number) }
+        ensures own { IsAwayOf (board_id self.now) (sizes_of self.now) pass.new ×
+            (pass.new.number ≡ pass.old.number) }
     {
         self.table
             .shared

@@ -20,9 +20,11 @@ impl Board {
         requires unstamped { (session (session_view pass.old)).stamped ≡ false }
         ensures step { HandsOver (session_view pass.old) result.0 (session_view pass.new) }
         ensures over { loaded_in (session (session_view pass.old)).phase ≤ result.0 }
-        ensures seat { tx_view result.1 ≡ lent_alone pass.old.number (session (session_view pass.old)) (session_view pass.new) }
+        ensures seat { tx_view result.1 ≡
+            lent_alone pass.old.number (session (session_view pass.old)) (session_view pass.new) }
         ensures tx { IsTxOf (board_id self.now) result.1 × (result.1.number ≡ pass.old.number) }
-        ensures own { IsAwayOf (board_id self.now) (sizes_of self.now) pass.new × (pass.new.number ≡ pass.old.number) }
+        ensures own { IsAwayOf (board_id self.now) (sizes_of self.now) pass.new ×
+            (pass.new.number ≡ pass.old.number) }
     {
         let mark = self.table.shared.load::<Lending>(&mut pass.seat, 0);
         let seat = self.table.shared.split_seat::<Returning>(&mut pass.seat);
@@ -34,9 +36,11 @@ impl Board {
     pub fn receive<P: Pass>(&self, pass: &mut P, seat: TxSeat) -> u64
         requires own { IsSeatOf (board_id self.now) (P.seat_of pass.old) }
         requires tx { IsTxOf (board_id self.now) seat }
-        ensures view { view (P.seat_of pass.new) ≡ received (view (P.seat_of pass.old)) (tx_view seat) }
+        ensures view { view (P.seat_of pass.new) ≡
+            received (view (P.seat_of pass.old)) (tx_view seat) }
         ensures backed { IsBacked (sizes_of self.now) result (view (P.seat_of pass.new)) }
-        ensures own { IsSeatOf (board_id self.now) (P.seat_of pass.new) × (P.rest_of pass.new ≡ P.rest_of pass.old) }
+        ensures own { IsSeatOf (board_id self.now) (P.seat_of pass.new) ×
+            (P.rest_of pass.new ≡ P.rest_of pass.old) }
     {
         let TxSeat { seat, .. } = seat;
         self.table.shared.join_seat::<Receiving>(pass.seat(), seat);
@@ -49,9 +53,11 @@ impl Board {
         requires next { HasLent session (view (P.seat_of pass.old)) }
         requires unstamped { (next_lent (view (P.seat_of pass.old))).stamped ≡ false }
         ensures view { view (P.seat_of pass.new) ≡ hands_back (view (P.seat_of pass.old)) }
-        ensures seat { tx_view result ≡ lent_alone session (next_lent (view (P.seat_of pass.old))) (view (P.seat_of pass.old)) }
+        ensures seat { tx_view result ≡
+            lent_alone session (next_lent (view (P.seat_of pass.old))) (view (P.seat_of pass.old)) }
         ensures tx { IsTxOf (board_id self.now) result × (result.number ≡ session) }
-        ensures own { IsSeatOf (board_id self.now) (P.seat_of pass.new) × (P.rest_of pass.new ≡ P.rest_of pass.old) }
+        ensures own { IsSeatOf (board_id self.now) (P.seat_of pass.new) ×
+            (P.rest_of pass.new ≡ P.rest_of pass.old) }
     {
         let seat = self.table.shared.split_seat::<HandingBack>(pass.seat());
         TxSeat {
@@ -65,8 +71,10 @@ impl Board {
         requires own { IsAwayOf (board_id self.now) (sizes_of self.now) pass.old }
         requires tx { IsTxOf (board_id self.now) seat × (seat.number ≡ pass.old.number) }
         ensures step { session_view pass.new ≡ resuming (session_view pass.old) (tx_view seat) }
-        ensures back { IsBack (since (session_view pass.old)) (session (session_view pass.old)) (session (tx_view seat)) }
-        ensures own { IsSessionOf (board_id self.now) (sizes_of self.now) pass.new × (pass.new.number ≡ pass.old.number) }
+        ensures back { IsBack (since (session_view pass.old)) (session (session_view pass.old))
+            (session (tx_view seat)) }
+        ensures own { IsSessionOf (board_id self.now) (sizes_of self.now) pass.new ×
+            (pass.new.number ≡ pass.old.number) }
     {
         let TxSeat { seat, .. } = seat;
         self.table.shared.join_seat::<Joining>(&mut pass.seat, seat);

@@ -31,8 +31,15 @@ impl Board {
         requires own { IsSeatOf (board_id self.now) maker.old × ((view maker.old).sights ≡ []) }
         requires parts { (r : List Part) × ((view maker.old).parts ≡ run T.part first count ++ r) }
         requires small { first + count ≤ 2 ^ 32 }
-        ensures dealt { IfOk result (λ v. (length v.items ≡ count) × EachFrom (λ i x. (T.rest_is x ≡ T.rest_for i) × IsNew (board_id self.now) (T.part i) (T.seat_is x)) first v.items) }
-        ensures left { IfOk result (λ v. IsSeatOf (board_id self.now) maker.new × (view maker.new ≡ seeing (drop count (view maker.old).parts) [] (view maker.old).events)) }
+        ensures dealt { IfOk result (λ v.
+            (length v.items ≡ count) ×
+            EachFrom (λ i x.
+            (T.rest_is x ≡ T.rest_for i) ×
+            IsNew (board_id self.now) (T.part i) (T.seat_is x)) first v.items) }
+        ensures left { IfOk result (λ v.
+            IsSeatOf (board_id self.now) maker.new ×
+            (view maker.new ≡
+            seeing (drop count (view maker.old).parts) [] (view maker.old).events)) }
     {
         let mut seats = Vec::new(alloc);
         for i in 0..count {
@@ -46,7 +53,8 @@ impl Board {
     fn deal_pass(&self, maker: &mut Seat<u8, View>) -> CollectorPass
         requires own { IsSeatOf (board_id self.now) maker.old × ((view maker.old).sights ≡ []) }
         ensures dealt { IsNewFirst (board_id self.now) (view maker.old).parts result.seat }
-        ensures left { IsSeatOf (board_id self.now) maker.new × (view maker.new ≡ seeing (drop 1 (view maker.old).parts) [] (view maker.old).events) }
+        ensures left { IsSeatOf (board_id self.now) maker.new ×
+            (view maker.new ≡ seeing (drop 1 (view maker.old).parts) [] (view maker.old).events) }
     {
         let seat = self.table.shared.split_seat::<Dealing>(maker);
         CollectorPass { seat }
@@ -63,11 +71,19 @@ impl Board {
         quota: u64,
     ) -> Result<(Board, Seats), NoMemory>
         requires room { (tables ≤ 64) × (sessions * quota ≤ 2 ^ 40) }
-        ensures sizes { IfOk result (λ b. sizes_of b.0 ≡ record { sessions = sessions; tables = tables; buckets = buckets; quota = quota }) }
-        ensures sessions { IfOk result (λ b. (length b.1.sessions ≡ sessions) × EachFrom (IsNewSession (board_id b.0)) 1 b.1.sessions) }
-        ensures buckets { IfOk result (λ b. (length b.1.buckets ≡ buckets) × EachFrom (IsNewBucket (board_id b.0)) 0 b.1.buckets) }
+        ensures sizes { IfOk result (λ b.
+            sizes_of b.0 ≡
+            record { sessions = sessions; tables = tables; buckets = buckets; quota = quota }) }
+        ensures sessions { IfOk result (λ b.
+            (length b.1.sessions ≡ sessions) ×
+            EachFrom (IsNewSession (board_id b.0)) 1 b.1.sessions) }
+        ensures buckets { IfOk result (λ b.
+            (length b.1.buckets ≡ buckets) ×
+            EachFrom (IsNewBucket (board_id b.0)) 0 b.1.buckets) }
         ensures commit { IfOk result (λ b. IsNewCommit (board_id b.0) b.1.commit) }
-        ensures passes { IfOk result (λ b. IsNewPass (board_id b.0) 0 b.1.group × IsNewPass (board_id b.0) 1 b.1.table × IsNewPass (board_id b.0) 2 b.1.interval) }
+        ensures passes { IfOk result (λ b.
+            IsNewPass (board_id b.0) 0 b.1.group × IsNewPass (board_id b.0) 1 b.1.table ×
+            IsNewPass (board_id b.0) 2 b.1.interval) }
     {
         let sizes = Sizes {
             sessions,

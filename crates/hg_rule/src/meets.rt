@@ -36,19 +36,25 @@ impl SessionPass {
 
     /// Afterwards each has seen what either had seen.
     pub fn meet(&mut self, board: &Board, other: &mut SessionPass)
-        requires own { IsSessionOf (board_id board.now) (sizes_of board.now) self.old × IsSessionOf (board_id board.now) (sizes_of board.now) other.old }
+        requires own { IsSessionOf (board_id board.now) (sizes_of board.now) self.old ×
+            IsSessionOf (board_id board.now) (sizes_of board.now) other.old }
         requires only { HasOnlySession (session_view other.old) }
-        ensures backed { IsMet (sizes_of board.now) (joined (session_view self.old) (session_view other.old)) }
-        ensures view { session_view self.new ≡ meeting (session_view self.old) (session_view other.old) }
-        ensures other { session_view other.new ≡ meeting (session_view other.old) (session_view self.new) }
-        ensures own { IsSessionOf (board_id board.now) (sizes_of board.now) self.new × IsSessionOf (board_id board.now) (sizes_of board.now) other.new }
+        ensures backed { IsMet (sizes_of board.now)
+            (joined (session_view self.old) (session_view other.old)) }
+        ensures view { session_view self.new ≡
+            meeting (session_view self.old) (session_view other.old) }
+        ensures other { session_view other.new ≡
+            meeting (session_view other.old) (session_view self.new) }
+        ensures own { IsSessionOf (board_id board.now) (sizes_of board.now) self.new ×
+            IsSessionOf (board_id board.now) (sizes_of board.now) other.new }
     {
         board.meet(self, other);
     }
 
     /// Its part of the state goes to a collector's pass for good, which then knows what it had seen and done.
     pub fn finish(self, board: &Board, pass: &mut CollectorPass)
-        requires own { IsSessionOf (board_id board.now) (sizes_of board.now) self × IsPassOf (board_id board.now) pass.old }
+        requires own { IsSessionOf (board_id board.now) (sizes_of board.now) self ×
+            IsPassOf (board_id board.now) pass.old }
         requires rests { (session (session_view self)).phase ≡ Idle }
         ensures backed { IsMet (sizes_of board.now) (pass_view pass.new) }
         ensures view { pass_view pass.new ≡ merged (pass_view pass.old) (session_view self) }
@@ -62,20 +68,26 @@ impl SessionPass {
 impl CollectorPass {
     /// Afterwards each has seen what either had seen. What this pass did and loaded agrees with the session's log and phase.
     pub fn meet(&mut self, board: &Board, other: &mut SessionPass)
-        requires own { IsPassOf (board_id board.now) self.old × IsSessionOf (board_id board.now) (sizes_of board.now) other.old }
+        requires own { IsPassOf (board_id board.now) self.old ×
+            IsSessionOf (board_id board.now) (sizes_of board.now) other.old }
         requires only { HasOnlySession (session_view other.old) }
-        ensures backed { IsMet (sizes_of board.now) (joined (pass_view self.old) (session_view other.old)) }
-        ensures agrees { AgreesWith (pass_view self.old) (number (session_view other.old)) (session (session_view other.old)) }
+        ensures backed { IsMet (sizes_of board.now)
+            (joined (pass_view self.old) (session_view other.old)) }
+        ensures agrees { AgreesWith (pass_view self.old) (number (session_view other.old))
+            (session (session_view other.old)) }
         ensures view { pass_view self.new ≡ meeting (pass_view self.old) (session_view other.old) }
-        ensures other { session_view other.new ≡ meeting (session_view other.old) (pass_view self.new) }
-        ensures own { IsPassOf (board_id board.now) self.new × IsSessionOf (board_id board.now) (sizes_of board.now) other.new }
+        ensures other { session_view other.new ≡
+            meeting (session_view other.old) (pass_view self.new) }
+        ensures own { IsPassOf (board_id board.now) self.new ×
+            IsSessionOf (board_id board.now) (sizes_of board.now) other.new }
     {
         board.meet(self, other);
     }
 
     /// The other's parts go to this pass, which then knows what that had seen and done. Its own record stays.
     pub fn join(&mut self, board: &Board, other: CollectorPass)
-        requires own { IsPassOf (board_id board.now) self.old × IsPassOf (board_id board.now) other }
+        requires own { IsPassOf (board_id board.now) self.old ×
+            IsPassOf (board_id board.now) other }
         ensures backed { IsMet (sizes_of board.now) (pass_view self.new) }
         ensures view { pass_view self.new ≡ merged (pass_view self.old) (pass_view other) }
         ensures own { IsPassOf (board_id board.now) self.new }
@@ -95,7 +107,8 @@ impl Board {
         ensures steady { IsSteady (own_state (sizes_of self.now) (view (P.seat_of pass.old))) }
         ensures mark { result ≡ (own_state (sizes_of self.now) (view (P.seat_of pass.old))).mark }
         ensures stays { view (P.seat_of pass.new) ≡ view (P.seat_of pass.old) }
-        ensures own { IsSeatOf (board_id self.now) (P.seat_of pass.new) × (P.rest_of pass.new ≡ P.rest_of pass.old) }
+        ensures own { IsSeatOf (board_id self.now) (P.seat_of pass.new) ×
+            (P.rest_of pass.new ≡ P.rest_of pass.old) }
     {
         self.look_at(pass)
     }
@@ -104,6 +117,8 @@ impl Board {
 /// The state under the rule is the one that words and views show, read by one function: each part from the first view that
 /// has it, and exactly one has.
 pub fn state_is_read()
-    ensures state { (z : Sizes) (t : State ℕ View) → HasRoom z → (r : Rule z t) → r.state ≡ read z t.words t.views }
-    ensures steady { (z : Sizes) (t : State ℕ View) → HasRoom z → Rule z t → IsSteady (read z t.words t.views) }
+    ensures state { (z : Sizes) (t : State ℕ View) → HasRoom z → (r : Rule z t) →
+        r.state ≡ read z t.words t.views }
+    ensures steady { (z : Sizes) (t : State ℕ View) → HasRoom z → Rule z t →
+        IsSteady (read z t.words t.views) }
 {}

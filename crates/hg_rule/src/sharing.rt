@@ -15,8 +15,10 @@ impl CollectorPass {
         requires own { IsPassOf (board_id board.now) self.old }
         requires share { 2 ≤ (own_pass (pass_view self.old)).share }
         ensures view { pass_view self.new ≡ halved (pass_view self.old) }
-        ensures branch { pass_view result ≡ branch (number (pass_view result)) (pass_view self.old) }
-        ensures own { IsPassOf (board_id board.now) self.new × IsPassOf (board_id board.now) result }
+        ensures branch { pass_view result ≡
+            branch (number (pass_view result)) (pass_view self.old) }
+        ensures own { IsPassOf (board_id board.now) self.new ×
+            IsPassOf (board_id board.now) result }
     {
         board.table.shared.load::<Budding>(&mut self.seat, 0);
         let seat = board.table.shared.split_seat::<Returning>(&mut self.seat);
@@ -26,7 +28,8 @@ impl CollectorPass {
     /// The other's visits, steps and share come to this pass, which has seen then what that had seen. Its own record stays, and the
     /// other's is forgotten: there is one pass less.
     pub fn unite(&mut self, board: &Board, other: CollectorPass)
-        requires own { IsPassOf (board_id board.now) self.old × IsPassOf (board_id board.now) other }
+        requires own { IsPassOf (board_id board.now) self.old ×
+            IsPassOf (board_id board.now) other }
         requires only { HasOnlyPass (pass_view other) }
         ensures view { pass_view self.new ≡ united (pass_view self.old) (pass_view other) }
         ensures own { IsPassOf (board_id board.now) self.new }

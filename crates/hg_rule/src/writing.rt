@@ -58,11 +58,17 @@ impl Board {
         requires live { IsSome (snapshot_in (session (session_view pass.old)).phase) }
         requires plain { IsTrue (is_plain (session (session_view pass.old)).log) }
         requires unstamped { (session (session_view pass.old)).stamped ≡ false }
-        requires held { HasBucket (session_view pass.old) × (bucket_of (sizes_of self.now).buckets A.written_rid ≡ bucket_number (session_view pass.old)) }
-        requires table { IsTrue (has (tables (session_view pass.old)) A.written_rid.table) × (A.written_rid.table.0 < (sizes_of self.now).tables) }
+        requires held { HasBucket (session_view pass.old) ×
+            (bucket_of (sizes_of self.now).buckets A.written_rid ≡
+            bucket_number (session_view pass.old)) }
+        requires table { IsTrue (has (tables (session_view pass.old)) A.written_rid.table) ×
+            (A.written_rid.table.0 < (sizes_of self.now).tables) }
         requires room { wrotes (session (session_view pass.old)).log < (sizes_of self.now).quota }
-        requires free { Each (IsOwnOrSeen (writer (session_view pass.old)) (snapshot (session_view pass.old))) (held (session_view pass.old) A.written_rid) }
-        ensures step { Installs (session_view pass.old) A.written_rid A.image (session_view pass.new) }
+        requires free { Each
+            (IsOwnOrSeen (writer (session_view pass.old)) (snapshot (session_view pass.old)))
+            (held (session_view pass.old) A.written_rid) }
+        ensures step { Installs (session_view pass.old) A.written_rid A.image
+            (session_view pass.new) }
         ensures own { IsSessionOf (board_id self.now) (sizes_of self.now) pass.new }
     {
         self.table.shared.load::<Installing<A>>(&mut pass.seat, 0);
@@ -75,10 +81,14 @@ impl Board {
         requires live { IsSome (snapshot_in (session (session_view pass.old)).phase) }
         requires plain { IsTrue (is_plain (session (session_view pass.old)).log) }
         requires unstamped { (session (session_view pass.old)).stamped ≡ false }
-        requires held { HasBucket (session_view pass.old) × (bucket_of (sizes_of self.now).buckets rid ≡ bucket_number (session_view pass.old)) }
-        requires table { IsTrue (has (tables (session_view pass.old)) rid.table) × (rid.table.0 < (sizes_of self.now).tables) }
+        requires held { HasBucket (session_view pass.old) ×
+            (bucket_of (sizes_of self.now).buckets rid ≡ bucket_number (session_view pass.old)) }
+        requires table { IsTrue (has (tables (session_view pass.old)) rid.table) ×
+            (rid.table.0 < (sizes_of self.now).tables) }
         requires room { wrotes (session (session_view pass.old)).log < (sizes_of self.now).quota }
-        requires free { Each (IsOwnOrSeen (writer (session_view pass.old)) (snapshot (session_view pass.old))) (held (session_view pass.old) rid) }
+        requires free { Each
+            (IsOwnOrSeen (writer (session_view pass.old)) (snapshot (session_view pass.old)))
+            (held (session_view pass.old) rid) }
         ensures step { Installs (session_view pass.old) rid image.value (session_view pass.new) }
         ensures own { IsSessionOf (board_id self.now) (sizes_of self.now) pass.new }
     {
@@ -88,8 +98,10 @@ impl Board {
     fn undo_as<A: Named>(&self, pass: &mut SessionPass, _rid: Rid)
         requires own { IsSessionOf (board_id self.now) (sizes_of self.now) pass.old }
         requires unstamped { (session (session_view pass.old)).stamped ≡ false }
-        requires held { HasBucket (session_view pass.old) × (bucket_of (sizes_of self.now).buckets A.rid ≡ bucket_number (session_view pass.old)) }
-        requires mine { IsOpenBy (writer (session_view pass.old)) (held (session_view pass.old) A.rid) }
+        requires held { HasBucket (session_view pass.old) ×
+            (bucket_of (sizes_of self.now).buckets A.rid ≡ bucket_number (session_view pass.old)) }
+        requires mine { IsOpenBy (writer (session_view pass.old))
+            (held (session_view pass.old) A.rid) }
         ensures step { Undoes (session_view pass.old) A.rid (session_view pass.new) }
         ensures own { IsSessionOf (board_id self.now) (sizes_of self.now) pass.new }
     {
@@ -100,8 +112,10 @@ impl Board {
     pub fn undo(&self, pass: &mut SessionPass, rid: Rid)
         requires own { IsSessionOf (board_id self.now) (sizes_of self.now) pass.old }
         requires unstamped { (session (session_view pass.old)).stamped ≡ false }
-        requires held { HasBucket (session_view pass.old) × (bucket_of (sizes_of self.now).buckets rid ≡ bucket_number (session_view pass.old)) }
-        requires mine { IsOpenBy (writer (session_view pass.old)) (held (session_view pass.old) rid) }
+        requires held { HasBucket (session_view pass.old) ×
+            (bucket_of (sizes_of self.now).buckets rid ≡ bucket_number (session_view pass.old)) }
+        requires mine { IsOpenBy (writer (session_view pass.old))
+            (held (session_view pass.old) rid) }
         ensures step { Undoes (session_view pass.old) rid (session_view pass.new) }
         ensures own { IsSessionOf (board_id self.now) (sizes_of self.now) pass.new }
     {

@@ -30,7 +30,9 @@ impl Cursors {
     /// Records the table of a cursor that the session opens. `None` changes nothing.
     pub(crate) fn note(&mut self, session: u32, opened: Option<TableId>)
         requires { session ≤ MOST_SESSIONS }
-        ensures { (j : ℕ) → get_or self.new.tables j None ≡ option_or (if session == j then opened else None) (get_or self.old.tables j None) }
+        ensures { (j : ℕ) →
+            get_or self.new.tables j None ≡
+            option_or (if session == j then opened else None) (get_or self.old.tables j None) }
     {
         if opened.is_some() {
             self.tables[session as usize] = opened;

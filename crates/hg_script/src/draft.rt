@@ -119,7 +119,11 @@ impl Ask {
 // What a record of the word `put` asks.
 fn put_at(alloc: Global, version: u8, tables: &Tables, row: &ByteRecord) -> Result<Ask, NoMemory>
     requires fields { fields_breaks word.Put (length (fields_of row.now)) ≡ false }
-    ensures { IfOk result (λ ask. let fields = fields_of row.now in let table = table_named tables.now (nth fields 2) in ask ≡ Put table (natural_of (nth fields 3)) (values_by version (kinds_at tables.now table) (drop 4 fields))) }
+    ensures { IfOk result (λ ask.
+        let fields = fields_of row.now in let table = table_named tables.now (nth fields 2) in
+        ask ≡
+        Put table (natural_of (nth fields 3))
+        (values_by version (kinds_at tables.now table) (drop 4 fields))) }
 {
     let table = tables.find(field(row, 2));
     Ok(Ask::Put {
@@ -132,7 +136,9 @@ fn put_at(alloc: Global, version: u8, tables: &Tables, row: &ByteRecord) -> Resu
 // What a record of the word `open` asks.
 fn open_at(tables: &Tables, row: &ByteRecord) -> Ask
     requires fields { fields_breaks word.Open (length (fields_of row.now)) ≡ false }
-    ensures { let fields = fields_of row.now in result ≡ CursorOpen (table_named tables.now (nth fields 2)) (natural_of (nth fields 3)) (natural_of (nth fields 4)) }
+    ensures { let fields = fields_of row.now in result ≡
+        CursorOpen (table_named tables.now (nth fields 2)) (natural_of (nth fields 3))
+        (natural_of (nth fields 4)) }
 {
     Ask::CursorOpen {
         table: tables.find(field(row, 2)),
@@ -151,7 +157,8 @@ impl Draft {
         row: &ByteRecord,
     ) -> Result<Draft, NoMemory>
         requires fields { fields_breaks word (length (fields_of row.now)) ≡ false }
-        ensures { IfOk result (λ draft. draft ≡ draft_of version tables.now word (fields_of row.now)) }
+        ensures { IfOk result
+            (λ draft. draft ≡ draft_of version tables.now word (fields_of row.now)) }
     {
         let ask = match word {
             Word::Version => return Ok(Draft::Version(read_natural(field(row, 1)))),

@@ -40,9 +40,14 @@ impl Ends {
     /// Notes that a session's newest statement stands at i, and gives where its last one stood before, or `NOWHERE`.
     pub(crate) fn note(&mut self, session: u32, i: u32) -> u32
         requires { session ≤ MOST_SESSIONS }
-        ensures before { result ≡ (if first_in self.old session == NOWHERE then NOWHERE else last_in self.old session) }
-        ensures first { (j : ℕ) → first_in self.new j ≡ (if (session == j) && (first_in self.old j == NOWHERE) then i else first_in self.old j) }
-        ensures last { (j : ℕ) → last_in self.new j ≡ (if session == j then i else last_in self.old j) }
+        ensures before { result ≡
+            (if first_in self.old session == NOWHERE then NOWHERE else last_in self.old session) }
+        ensures first { (j : ℕ) →
+            first_in self.new j ≡
+            (if (session == j) && (first_in self.old j == NOWHERE) then i else first_in self.old
+            j) }
+        ensures last { (j : ℕ) →
+            last_in self.new j ≡ (if session == j then i else last_in self.old j) }
     {
         let last = self.lasts[session as usize];
         self.lasts[session as usize] = i;

@@ -63,8 +63,10 @@ fn draw_rid(draws: &mut Draws) -> Rid
 // A value for each column.
 fn draw_row(alloc: Global, draws: &mut Draws, table: TableId) -> Result<Row, NoMemory>
     requires { table.0 < length made_tables }
-    ensures row { IfOk result (λ row. row ≡ row_drawn (length (kinds_of made_tables table)) draws.old) }
-    ensures state { OnOk result (draws.new ≡ state_after (length (kinds_of made_tables table)) draws.old) }
+    ensures row { IfOk result
+        (λ row. row ≡ row_drawn (length (kinds_of made_tables table)) draws.old) }
+    ensures state { OnOk result
+        (draws.new ≡ state_after (length (kinds_of made_tables table)) draws.old) }
 {
     let first = draws.below(1000) as i64;
     if table != B {
@@ -77,7 +79,8 @@ fn draw_row(alloc: Global, draws: &mut Draws, table: TableId) -> Result<Row, NoM
 // What a session asks next.
 fn draw_statement(alloc: Global, draws: &mut Draws, within: bool) -> Result<Statement, NoMemory>
     ensures statement { IfOk result (λ statement. statement ≡ statement_at draws.old within) }
-    ensures state { IfOk result (λ statement. draws.new ≡ state_after (draws_of statement) draws.old) }
+    ensures state { IfOk result
+        (λ statement. draws.new ≡ state_after (draws_of statement) draws.old) }
 {
     let choice = Choice::by(within, draws.below(16));
     Ok(match choice {

@@ -21,7 +21,9 @@ pub fn numbers_are_decimal(_text: &[u8], _k: u64)
 
 /// A declared scope has exactly the tables that its names name.
 pub fn scopes_have_what_is_named(_table: TableId)
-    ensures { (tables : List base.Declaration) (names : List Field) (set : ℕ) → set_named tables names ≡ Some set → has (scope.Declared set) _table ≡ is_named tables names _table }
+    ensures { (tables : List base.Declaration) (names : List Field) (set : ℕ) →
+        set_named tables names ≡ Some set →
+        has (scope.Declared set) _table ≡ is_named tables names _table }
 {}
 
 /// A seed has one script.
@@ -36,6 +38,8 @@ pub fn cursors_are_in_order()
         ∷ (codes "1" ∷ codes "open" ∷ codes "t" ∷ codes "0" ∷ codes "9" ∷ [])
         ∷ (codes "1" ∷ codes "get" ∷ codes "t" ∷ codes "1" ∷ [])
         ∷ []) ≡ Some (3, Order) }
-    ensures fetch_outside { refusal_of ((codes "1" ∷ codes "fetch" ∷ codes "2" ∷ []) ∷ []) ≡ Some (1, Order) }
-    ensures fetch_of_none { refusal_of ((codes "1" ∷ codes "fetch" ∷ codes "0" ∷ []) ∷ []) ≡ Some (1, Range) }
+    ensures fetch_outside { refusal_of ((codes "1" ∷ codes "fetch" ∷ codes "2" ∷ []) ∷ []) ≡
+        Some (1, Order) }
+    ensures fetch_of_none { refusal_of ((codes "1" ∷ codes "fetch" ∷ codes "0" ∷ []) ∷ []) ≡
+        Some (1, Range) }
 {}

@@ -143,7 +143,8 @@ fn read_long(text: &[u8]) -> Natural
 // What so few digits write, where all are digits: no sum passes 64 bits.
 fn short_value(text: &[u8]) -> Option<u64>
     requires { length text.now ≤ MOST_SAFE_DIGITS }
-    ensures { result ≡ (if list_all is_digit text.now then Some (digits_value 10 text.now) else None) }
+    ensures { result ≡
+        (if list_all is_digit text.now then Some (digits_value 10 text.now) else None) }
 {
     let mut value: u64 = 0;
     for c in text {

@@ -39,15 +39,18 @@ fn add(
     requires room { length script.old.records < MOST_RECORDS }
     requires count { count_breaks place script.old.tables (Some word) ≡ false }
     requires word { word_of place (fields_of row.now) ≡ Some word }
-    requires draft { draft ≡ draft_of script.old.version script.old.tables word (fields_of row.now) }
+    requires draft { draft ≡
+        draft_of script.old.version script.old.tables word (fields_of row.now) }
     requires number { number_breaks draft ≡ false }
     requires range { range_breaks draft ≡ false }
     requires name { name_breaks draft ≡ false }
     requires value { value_breaks draft ≡ false }
     requires order { order_breaks script.old.records draft ≡ false }
     requires next { place ≡ records_before script.old + length script.old.records + 1 }
-    ensures script { OnOk result (script.new ≡ with_draft place script.old (fields_of row.now) draft) }
-    ensures next { OnOk result (place + 1 ≡ records_before script.new + length script.new.records + 1) }
+    ensures script { OnOk result
+        (script.new ≡ with_draft place script.old (fields_of row.now) draft) }
+    ensures next { OnOk result
+        (place + 1 ≡ records_before script.new + length script.new.records + 1) }
     ensures known { OnOk result (KnowsOpen sessions.new.flags script.new.records) }
     ensures cursors { OnOk result (KnowsReading sessions.new.cursors script.new.records) }
 {
@@ -84,7 +87,8 @@ fn take(
     ensures known { OnOk result (KnowsOpen sessions.new.flags script.new.records) }
     ensures cursors { OnOk result (KnowsReading sessions.new.cursors script.new.records) }
     ensures most { OnOk result (place ≤ MOST_RECORDS) }
-    ensures next { OnOk result (place + 1 ≡ records_before script.new + length script.new.records + 1) }
+    ensures next { OnOk result
+        (place + 1 ≡ records_before script.new + length script.new.records + 1) }
     ensures at { IfErr result (TellsCode place (first_code place script.old (fields_of row.now))) }
 {
     let word = Word::read(place, row);

@@ -108,7 +108,9 @@ impl Script {
     /// The session of the statement at i, and what it asks. This takes no memory.
     pub fn asked(&self, i: usize) -> (u32, Asked)
         requires { i < length self.now.records }
-        ensures { (d : Record) → let r = get_or self.now.records i d in result ≡ said_by (cursor_before self.now.records r.session r.place) r }
+        ensures { (d : Record) →
+            let r = get_or self.now.records i d in result ≡
+            said_by (cursor_before self.now.records r.session r.place) r }
     {
         self.statements.asked(i)
     }
@@ -138,7 +140,10 @@ impl Script {
     /// Where the next statement of the same session stands, or `NOWHERE`.
     pub(crate) fn after(&self, i: usize) -> u32
         requires { i < length self.now.records }
-        ensures { (d : Record) → result ≡ next_from (get_or self.now.records i d).session (i + 1) (map (λ r. r.session) self.now.records) }
+        ensures { (d : Record) →
+            result ≡
+            next_from (get_or self.now.records i d).session (i + 1)
+            (map (λ r. r.session) self.now.records) }
     {
         self.statements.after(i)
     }
@@ -156,7 +161,8 @@ impl Script {
         requires room { length self.old.tables < MOST_TABLES }
         requires fresh { table_named self.old.tables table.name ≡ None }
         requires first { self.old.records ≡ [] }
-        ensures { OnOk result (self.new ≡ record self.old { tables = self.old.tables ++ table ∷ [] }) }
+        ensures { OnOk result
+            (self.new ≡ record self.old { tables = self.old.tables ++ table ∷ [] }) }
     {
         self.tables.push(table)?;
         Ok(())
@@ -165,7 +171,9 @@ impl Script {
     pub(crate) fn add(&mut self, session: u32, statement: Statement) -> Result<(), NoMemory>
         requires session { session ≤ MOST_SESSIONS }
         requires room { length self.old.records < MOST_RECORDS }
-        ensures { OnOk result (self.new ≡ record self.old { records = self.old.records ++ (record { place = records_before self.old + length self.old.records + 1; session = session; statement = statement }) ∷ [] }) }
+        ensures { OnOk result (self.new ≡
+            record self.old
+            { records = self.old.records ++ (record { place = records_before self.old + length self.old.records + 1; session = session; statement = statement }) ∷ [] }) }
     {
         self.statements.push(session, statement)?;
         Ok(())

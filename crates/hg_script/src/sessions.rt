@@ -41,8 +41,14 @@ impl OpenSessions {
     /// Records what a statement does to its session's transaction and cursor.
     pub(crate) fn note(&mut self, session: u32, statement: &Statement)
         requires { session ≤ MOST_SESSIONS }
-        ensures flags { (j : ℕ) → get_or self.new.flags j false ≡ (if session == j then opened (get_or self.old.flags j false) statement.now else get_or self.old.flags j false) }
-        ensures cursors { (j : ℕ) → get_or self.new.cursors j false ≡ (if session == j then reading (get_or self.old.cursors j false) statement.now else get_or self.old.cursors j false) }
+        ensures flags { (j : ℕ) →
+            get_or self.new.flags j false ≡
+            (if session == j then opened (get_or self.old.flags j false) statement.now else
+            get_or self.old.flags j false) }
+        ensures cursors { (j : ℕ) →
+            get_or self.new.cursors j false ≡
+            (if session == j then reading (get_or self.old.cursors j false) statement.now else
+            get_or self.old.cursors j false) }
     {
         match statement {
             Statement::Begin(_) => self.flags[session as usize] = true,

@@ -54,7 +54,9 @@ pub(crate) enum Packed {
 
 impl Packed {
     fn asked(self) -> Asked
-        ensures { (numbers : List ℤ) (rows : List (List value.Value)) (cursor : Option table.TableId) → HasCursor cursor self → result ≡ asked_by cursor (statement_in numbers rows self) }
+        ensures { (numbers : List ℤ) (rows : List (List value.Value))
+            (cursor : Option table.TableId) → HasCursor cursor self →
+            result ≡ asked_by cursor (statement_in numbers rows self) }
     {
         match self {
             Packed::Begin(_) => Asked::Begin,
@@ -119,8 +121,11 @@ fn pack_put(
 ) -> Result<Packed, NoMemory>
     requires room { length numbers.old.items < 2 ^ 32 }
     requires few { length rows.old.items < 2 ^ 32 }
-    ensures packed { IfOk result (λ packed. packed ≡ packed_as None (length numbers.old.items) (length rows.old.items) (say.Put rid row)) }
-    ensures numbers { OnOk result (numbers.new.items ≡ numbers.old.items ++ added (say.Put rid row)) }
+    ensures packed { IfOk result (λ packed.
+        packed ≡
+        packed_as None (length numbers.old.items) (length rows.old.items) (say.Put rid row)) }
+    ensures numbers { OnOk result
+        (numbers.new.items ≡ numbers.old.items ++ added (say.Put rid row)) }
     ensures rows { OnOk result (rows.new.items ≡ rows.old.items ++ added_rows (say.Put rid row)) }
     ensures within { IfOk result (HasRow (length numbers.new.items) (length rows.new.items)) }
     ensures few { OnOk result (length (added (say.Put rid row)) ≤ MOST_COLUMNS) }
@@ -148,7 +153,9 @@ fn pack(
 ) -> Result<Packed, NoMemory>
     requires room { length numbers.old.items < 2 ^ 32 }
     requires few { length rows.old.items < 2 ^ 32 }
-    ensures packed { IfOk result (λ packed. packed ≡ packed_as cursor (length numbers.old.items) (length rows.old.items) statement) }
+    ensures packed { IfOk result (λ packed.
+        packed ≡
+        packed_as cursor (length numbers.old.items) (length rows.old.items) statement) }
     ensures numbers { OnOk result (numbers.new.items ≡ numbers.old.items ++ added statement) }
     ensures rows { OnOk result (rows.new.items ≡ rows.old.items ++ added_rows statement) }
     ensures within { IfOk result (HasRow (length numbers.new.items) (length rows.new.items)) }
@@ -270,7 +277,9 @@ impl StatementList {
     /// The session at i, and what its statement asks.
     pub(crate) fn asked(&self, i: usize) -> (u32, Asked)
         requires { i < length self.now }
-        ensures { (d : ℕ × Statement) → let said = get_or self.now i d in result ≡ (said.0, asked_by (cursor_in said.0 (take i self.now)) said.1) }
+        ensures { (d : ℕ × Statement) →
+            let said = get_or self.now i d in result ≡
+            (said.0, asked_by (cursor_in said.0 (take i self.now)) said.1) }
     {
         let entry = self.entries[i];
         (entry.session, entry.packed.asked())
@@ -293,7 +302,8 @@ impl StatementList {
     /// Where the next statement of the same session stands, or `NOWHERE`.
     pub(crate) fn after(&self, i: usize) -> u32
         requires { i < length self.now }
-        ensures { (d : ℕ × Statement) → result ≡ next_from (get_or self.now i d).0 (i + 1) (map (λ said. said.0) self.now) }
+        ensures { (d : ℕ × Statement) →
+            result ≡ next_from (get_or self.now i d).0 (i + 1) (map (λ said. said.0) self.now) }
     {
         self.entries[i].next
     }

@@ -126,7 +126,8 @@ impl Values {
     ) -> Result<Values, NoMemory>
         requires some { 5 ≤ length (fields_of row.now) }
         requires most { length (fields_of row.now) ≤ 12 }
-        ensures { IfOk result (λ values. values ≡ values_by version kinds.now (drop 4 (fields_of row.now))) }
+        ensures { IfOk result
+            (λ values. values ≡ values_by version kinds.now (drop 4 (fields_of row.now))) }
     {
         if version == 1 {
             Values::read_numbers(alloc, row)

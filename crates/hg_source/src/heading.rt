@@ -33,7 +33,8 @@ fn add_columns(
     version: u8,
     kinds: &[Column],
 ) -> Result<(), NoMemory>
-    ensures { OnOk result (text.new.items ≡ text.old.items ++ further_bytes (columns_field version kinds.now)) }
+    ensures { OnOk result
+        (text.new.items ≡ text.old.items ++ further_bytes (columns_field version kinds.now)) }
 {
     if version == 1 {
         return add_natural(text, kinds.len() as u64);
@@ -43,7 +44,8 @@ fn add_columns(
 
 #[tactic(auto, using(crate::proofs::RecordBytes::written_two))]
 fn write_version(text: &mut Vec<u8>, version: u8) -> Result<(), NoMemory>
-    ensures { OnOk result (text.new.items ≡ text.old.items ++ flat_map record_bytes (version_records version)) }
+    ensures { OnOk result
+        (text.new.items ≡ text.old.items ++ flat_map record_bytes (version_records version)) }
 {
     if version != 1 {
         add_first(text, b"version")?;
@@ -60,7 +62,8 @@ fn write_table(
     version: u8,
     table: &Table,
 ) -> Result<(), NoMemory>
-    ensures { OnOk result (text.new.items ≡ text.old.items ++ record_bytes (table_fields version table.now)) }
+    ensures { OnOk result
+        (text.new.items ≡ text.old.items ++ record_bytes (table_fields version table.now)) }
 {
     add_first(text, b"table")?;
     add_field(text, table.name())?;
@@ -75,7 +78,8 @@ fn write_tables(
     version: u8,
     tables: &[Table],
 ) -> Result<(), NoMemory>
-    ensures { OnOk result (text.new.items ≡ text.old.items ++ flat_map record_bytes (map (table_fields version) tables.now)) }
+    ensures { OnOk result (text.new.items ≡
+        text.old.items ++ flat_map record_bytes (map (table_fields version) tables.now)) }
 {
     for table in tables {
         write_table(alloc, text, version, table)?;
@@ -85,7 +89,8 @@ fn write_tables(
 
 /// Adds the version record, if the script's version has one, and its table records.
 pub fn heading_text(alloc: Global, script: &Script, into: &mut Vec<u8>) -> Result<(), NoMemory>
-    ensures text { OnOk result (into.new.items ≡ into.old.items ++ flat_map record_bytes (heading script.now)) }
+    ensures text { OnOk result
+        (into.new.items ≡ into.old.items ++ flat_map record_bytes (heading script.now)) }
     ensures refused { OnErr result (into.new.items ≡ into.old.items) }
 {
     let mut text = Vec::new(alloc);

@@ -23,7 +23,8 @@ fn name_of(tables: &[Table], table: TableId) -> &[u8]
 }
 
 fn add_value(text: &mut Vec<u8>, value: &Value) -> Result<(), NoMemory>
-    ensures { OnOk result (text.new.items ≡ text.old.items ++ further_bytes (value_field value.now)) }
+    ensures { OnOk result
+        (text.new.items ≡ text.old.items ++ further_bytes (value_field value.now)) }
 {
     match value {
         Value::Number(n) => add_integer(text, *n),
@@ -32,7 +33,8 @@ fn add_value(text: &mut Vec<u8>, value: &Value) -> Result<(), NoMemory>
 }
 
 fn add_values(text: &mut Vec<u8>, row: &Row) -> Result<(), NoMemory>
-    ensures { OnOk result (text.new.items ≡ text.old.items ++ flat_map further_bytes (map value_field row.now)) }
+    ensures { OnOk result
+        (text.new.items ≡ text.old.items ++ flat_map further_bytes (map value_field row.now)) }
 {
     for i in 0..row.len() {
         add_value(text, &row.value(i))?;

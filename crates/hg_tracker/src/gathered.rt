@@ -100,7 +100,8 @@ fn fill_own(list: &mut Vec<u64>, table: u8, moved: &[Entry], ranked: &[Entry])
     requires table { table < 64 }
     requires moved { moved.now ≡ moved_of ranked.now }
     requires room { length ranked.now ≤ vec_capacity list.old }
-    ensures items { served (common_numbers ranked.now) list.new.items ≡ numbers_for table ranked.now }
+    ensures items { served (common_numbers ranked.now) list.new.items ≡
+        numbers_for table ranked.now }
     ensures none { length moved.now ≡ 0 → length list.new.items ≡ 0 }
     ensures room { vec_capacity list.old ≤ vec_capacity list.new }
 {
@@ -114,10 +115,12 @@ fn fill_own(list: &mut Vec<u64>, table: u8, moved: &[Entry], ranked: &[Entry])
 fn fill_all(lists: &mut [Vec<u64>], moved: &[Entry], ranked: &[Entry], _sessions: u32)
     requires tables { length lists.old ≤ 64 }
     requires moved { moved.now ≡ moved_of ranked.now }
-    requires room { (length ranked.now ≤ _sessions) × All (λ list. _sessions ≤ vec_capacity list) lists.old }
+    requires room { (length ranked.now ≤ _sessions) ×
+        All (λ list. _sessions ≤ vec_capacity list) lists.old }
     ensures lists { AreListsOf 0 (common_numbers ranked.now) ranked.now lists.new }
     ensures none { length moved.now ≡ 0 → AreEmpty lists.new }
-    ensures room { (length lists.new ≡ length lists.old) × All (λ list. _sessions ≤ vec_capacity list) lists.new }
+    ensures room { (length lists.new ≡ length lists.old) ×
+        All (λ list. _sessions ≤ vec_capacity list) lists.new }
 {
     for table in 0..lists.len() {
         fill_own(&mut lists[table], table as u8, moved, ranked);
@@ -198,21 +201,24 @@ impl Gathered {
 
     /// The mark that the pass loaded.
     pub fn mark(&self) -> u64
-        ensures { (sessions : ℕ) (part : PassPart) → IsGatherOf sessions part self.now → result ≡ part.mark }
+        ensures { (sessions : ℕ) (part : PassPart) → IsGatherOf sessions part self.now →
+            result ≡ part.mark }
     {
         self.mark
     }
 
     /// The least of the mark and the numbers of all registers that enter.
     pub fn horizon(&self) -> u64
-        ensures { (sessions : ℕ) (part : PassPart) → IsGatherOf sessions part self.now → result ≡ horizon (record_of part) }
+        ensures { (sessions : ℕ) (part : PassPart) → IsGatherOf sessions part self.now →
+            result ≡ horizon (record_of part) }
     {
         self.horizon
     }
 
     /// The bound of the group collector: the least of the horizon and all snapshots.
     pub fn least(&self) -> u64
-        ensures { (sessions : ℕ) (part : PassPart) → IsGatherOf sessions part self.now → result ≡ group_bound (record_of part) }
+        ensures { (sessions : ℕ) (part : PassPart) → IsGatherOf sessions part self.now →
+            result ≡ group_bound (record_of part) }
     {
         lowest_entry(self.horizon, &self.ranked)
     }
@@ -220,7 +226,8 @@ impl Gathered {
     /// The bound of a table: the least of the horizon and the snapshots that count for it.
     pub fn bound(&self, t: TableId) -> u64
         requires there { t.0 < tables_in self.now }
-        ensures { (sessions : ℕ) (part : PassPart) → IsGatherOf sessions part self.now → result ≡ table_bound t (record_of part) }
+        ensures { (sessions : ℕ) (part : PassPart) → IsGatherOf sessions part self.now →
+            result ≡ table_bound t (record_of part) }
     {
         lowest_of(self.horizon, serve(&self.common, &self.lists[t.0 as usize]))
     }
@@ -228,15 +235,18 @@ impl Gathered {
     /// The snapshots that count for a table: those that were not moved, and those that were and declared it.
     pub fn for_table(&self, t: TableId) -> &[u64]
         requires there { t.0 < tables_in self.now }
-        ensures rises { (sessions : ℕ) (part : PassPart) → IsGatherOf sessions part self.now → IsNonDecreasing result.now }
-        ensures numbers { (sessions : ℕ) (part : PassPart) → IsGatherOf sessions part self.now → (n : ℕ) → times n result.now ≡ times n (recorded t (record_of part)) }
+        ensures rises { (sessions : ℕ) (part : PassPart) → IsGatherOf sessions part self.now →
+            IsNonDecreasing result.now }
+        ensures numbers { (sessions : ℕ) (part : PassPart) → IsGatherOf sessions part self.now →
+            (n : ℕ) → times n result.now ≡ times n (recorded t (record_of part)) }
     {
         serve(&self.common, &self.lists[t.0 as usize])
     }
 
     /// The live registers, by ascending session.
     pub fn entries(&self) -> &[Entry]
-        ensures { (sessions : ℕ) (part : PassPart) → IsGatherOf sessions part self.now → result.now ≡ entries_of part.loaded }
+        ensures { (sessions : ℕ) (part : PassPart) → IsGatherOf sessions part self.now →
+            result.now ≡ entries_of part.loaded }
     {
         &self.entries
     }
@@ -248,7 +258,8 @@ impl Gathered {
     // A record begins at this mark.
     pub(crate) fn start(&mut self, mark: u64)
         ensures noted { IsNotedOf mark [] self.new }
-        ensures made { (sessions tables : ℕ) → IsMadeFor sessions tables self.old → IsMadeFor sessions tables self.new }
+        ensures made { (sessions tables : ℕ) → IsMadeFor sessions tables self.old →
+            IsMadeFor sessions tables self.new }
     {
         self.mark = mark;
         self.horizon = mark;
@@ -260,8 +271,10 @@ impl Gathered {
         requires room { length self.old.entries.items < vec_capacity self.old.entries }
         ensures mark { self.new.mark ≡ self.old.mark }
         ensures horizon { self.new.horizon ≡ lower self.old.horizon loaded.register }
-        ensures entries { self.new.entries.items ≡ self.old.entries.items ++ live_entry session loaded.register loaded.mask }
-        ensures made { (sessions tables : ℕ) → IsMadeFor sessions tables self.old → IsMadeFor sessions tables self.new }
+        ensures entries { self.new.entries.items ≡
+            self.old.entries.items ++ live_entry session loaded.register loaded.mask }
+        ensures made { (sessions tables : ℕ) → IsMadeFor sessions tables self.old →
+            IsMadeFor sessions tables self.new }
     {
         match loaded.register {
             Register::Idle => {}
@@ -284,10 +297,12 @@ impl Gathered {
     pub(crate) fn sum_up(&mut self)
         requires made { IsMadeFor self.old.sessions (tables_in self.old) self.old }
         requires room { length self.old.entries.items ≤ self.old.sessions }
-        ensures noted { (self.new.mark ≡ self.old.mark) × (self.new.horizon ≡ self.old.horizon) × (self.new.entries.items ≡ self.old.entries.items) }
+        ensures noted { (self.new.mark ≡ self.old.mark) × (self.new.horizon ≡ self.old.horizon) ×
+            (self.new.entries.items ≡ self.old.entries.items) }
         ensures shuffled { IsPermutation self.new.entries.items self.new.ranked.items }
         ensures rises { IsNonDecreasingBy (λ (e : Entry). e.number) self.new.ranked.items }
-        ensures lists { AreListsOf 0 self.new.common.items self.new.ranked.items self.new.lists.items }
+        ensures lists { AreListsOf 0 self.new.common.items self.new.ranked.items
+            self.new.lists.items }
         ensures made { IsMadeFor self.old.sessions (tables_in self.old) self.new }
     {
         rank(&mut self.ranked, &self.entries);

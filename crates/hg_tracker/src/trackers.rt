@@ -47,7 +47,8 @@ impl Trackers {
     pub fn begin(&self, pass: &mut SessionPass, scope: Scope) -> Snapshot
         requires own { IsSessionOf (trackers_board_id self.now) (board_sizes self.now) pass.old }
         requires rests { (session (session_view pass.old)).phase ≡ Idle }
-        requires room { begans (session (session_view pass.old)).log < (board_sizes self.now).quota }
+        requires room { begans (session (session_view pass.old)).log <
+            (board_sizes self.now).quota }
         requires tables { IsBelow (board_sizes self.now).tables scope }
         ensures begun { HasBegun (session_view pass.old) result.at scope (session_view pass.new) }
         ensures scope { result.scope ≡ scope }
@@ -97,11 +98,16 @@ impl Trackers {
     /// live and declared: a record of the pass, which `into` then shows.
     pub fn gather(&self, pass: &mut CollectorPass, into: &mut Gathered)
         requires own { IsPassOf (trackers_board_id self.now) pass.old }
-        requires made { IsMadeFor (board_sizes self.now).sessions (board_sizes self.now).tables into.old }
-        ensures gathered { HasGathered (pass_view pass.old) (board_sizes self.now).sessions (pass_view pass.new) }
-        ensures whole { IsWhole (board_sizes self.now).sessions (record_of (own_pass (pass_view pass.new))) }
-        ensures shown { IsGatherOf (board_sizes self.now).sessions (own_pass (pass_view pass.new)) into.new }
-        ensures made { IsMadeFor (board_sizes self.now).sessions (board_sizes self.now).tables into.new }
+        requires made { IsMadeFor (board_sizes self.now).sessions (board_sizes self.now).tables
+            into.old }
+        ensures gathered { HasGathered (pass_view pass.old) (board_sizes self.now).sessions
+            (pass_view pass.new) }
+        ensures whole { IsWhole (board_sizes self.now).sessions
+            (record_of (own_pass (pass_view pass.new))) }
+        ensures shown { IsGatherOf (board_sizes self.now).sessions (own_pass (pass_view pass.new))
+            into.new }
+        ensures made { IsMadeFor (board_sizes self.now).sessions (board_sizes self.now).tables
+            into.new }
         ensures own { IsPassOf (trackers_board_id self.now) pass.new }
     {
         let mark = self.board.mark(pass);
@@ -137,15 +143,23 @@ impl Trackers {
         entry: Entry,
     ) -> bool
         requires own { IsPassOf (trackers_board_id self.now) pass.old }
-        requires noted { IsNotedOf (own_pass (pass_view pass.old)).mark (own_pass (pass_view pass.old)).loaded gathered.old }
-        requires loaded { IsLoaded (board_sizes self.now).sessions (own_pass (pass_view pass.old)).loaded }
+        requires noted { IsNotedOf (own_pass (pass_view pass.old)).mark
+            (own_pass (pass_view pass.old)).loaded gathered.old }
+        requires loaded { IsLoaded (board_sizes self.now).sessions
+            (own_pass (pass_view pass.old)).loaded }
         requires position { StandsAt position entry gathered.old.entries.items }
         requires movable { IsTrue (is_declared entry.scope) × (entry.moved ≡ false) }
-        ensures step { Moves (pass_view pass.old) entry.session entry.number result (pass_view pass.new) }
-        ensures noted { IsNotedOf (own_pass (pass_view pass.new)).mark (own_pass (pass_view pass.new)).loaded gathered.new }
-        ensures loaded { IsLoaded (board_sizes self.now).sessions (own_pass (pass_view pass.new)).loaded }
-        ensures later { (drop (position + 1) gathered.new.entries.items ≡ drop (position + 1) gathered.old.entries.items) × (length gathered.new.entries.items ≡ length gathered.old.entries.items) }
-        ensures made { (sessions tables : ℕ) → IsMadeFor sessions tables gathered.old → IsMadeFor sessions tables gathered.new }
+        ensures step { Moves (pass_view pass.old) entry.session entry.number result
+            (pass_view pass.new) }
+        ensures noted { IsNotedOf (own_pass (pass_view pass.new)).mark
+            (own_pass (pass_view pass.new)).loaded gathered.new }
+        ensures loaded { IsLoaded (board_sizes self.now).sessions
+            (own_pass (pass_view pass.new)).loaded }
+        ensures later { (drop (position + 1) gathered.new.entries.items ≡
+            drop (position + 1) gathered.old.entries.items) ×
+            (length gathered.new.entries.items ≡ length gathered.old.entries.items) }
+        ensures made { (sessions tables : ℕ) → IsMadeFor sessions tables gathered.old →
+            IsMadeFor sessions tables gathered.new }
         ensures own { IsPassOf (trackers_board_id self.now) pass.new }
     {
         let register = Register::Live {
@@ -169,11 +183,15 @@ impl Trackers {
     /// those that were moved.
     pub fn move_long(&self, pass: &mut CollectorPass, gathered: &mut Gathered, long: u64) -> u32
         requires own { IsPassOf (trackers_board_id self.now) pass.old }
-        requires made { IsMadeFor (board_sizes self.now).sessions (board_sizes self.now).tables gathered.old }
-        requires shown { IsGatherOf (board_sizes self.now).sessions (own_pass (pass_view pass.old)) gathered.old }
+        requires made { IsMadeFor (board_sizes self.now).sessions (board_sizes self.now).tables
+            gathered.old }
+        requires shown { IsGatherOf (board_sizes self.now).sessions (own_pass (pass_view pass.old))
+            gathered.old }
         ensures moved { HasMoved (pass_view pass.old) long result (pass_view pass.new) }
-        ensures shown { IsGatherOf (board_sizes self.now).sessions (own_pass (pass_view pass.new)) gathered.new }
-        ensures made { IsMadeFor (board_sizes self.now).sessions (board_sizes self.now).tables gathered.new }
+        ensures shown { IsGatherOf (board_sizes self.now).sessions (own_pass (pass_view pass.new))
+            gathered.new }
+        ensures made { IsMadeFor (board_sizes self.now).sessions (board_sizes self.now).tables
+            gathered.new }
         ensures own { IsPassOf (trackers_board_id self.now) pass.new }
     {
         let mut count = 0;
