@@ -6,3 +6,6 @@ pub mod IndexFacts
 -- Lists of records by table.
 pub mod RosterFacts
 pub mod Entering
+-- The table from records to places.
+pub mod LineFacts
+pub mod TableFacts

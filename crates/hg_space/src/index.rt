@@ -8,6 +8,8 @@ ghost use Rattle.hg_base.specs.History.{same_rid};
 ghost use Rattle.hg_base.specs.RidOrder.{rid_cmp};
 ghost use Rattle.hg_space.specs.Index.{place_of, HasPlace, IsIndex, IsNextKey};
 
+use crate::line::Finding;
+use crate::slots::Slots;
 use hg_base::{NoMemory, Rid, TableId};
 use std::alloc::Global;
 use std::collections::BTreeMap;
@@ -16,7 +18,9 @@ use std::marker::Model;
 /// A place for each record, and no place for two.
 #[derive(Debug, Drop)]
 pub struct RidIndex {
-    places: BTreeMap<Rid, u64>,
+    places: BTreeMap<Rid, u32>,
+    slots: Slots,
+    alloc: Global,
 }
 
 impl Model for RidIndex {
@@ -26,10 +30,11 @@ impl Model for RidIndex {
     ghost Value = { List (Rid × ℕ) };
 
     ghost use Rattle.hg_space.specs.Index.{IsIndex};
+    ghost use Rattle.hg_space.specs.Slots.{AreFaithful};
 
     ghost view = { λ a. a.places.entries };
 
-    ghost invariant = { λ a. IsIndex a.places.entries };
+    ghost invariant = { λ a. IsIndex a.places.entries × AreFaithful a.slots a.places.entries };
 }
 
 impl RidIndex {
@@ -39,6 +44,8 @@ impl RidIndex {
     {
         RidIndex {
             places: BTreeMap::new(alloc),
+            slots: Slots::new(alloc),
+            alloc,
         }
     }
 
@@ -54,10 +61,22 @@ impl RidIndex {
         ensures place { result ≡ place_of self.now rid }
         ensures index { IsIndex self.now }
     {
-        self.places.get(&rid).copied()
+        match self.slots.look(rid) {
+            Finding::There(place) => Some(place as u64),
+            Finding::Absent => None,
+            Finding::Unknown => self.searched(rid),
+        }
     }
 
-    /// Gives a record a place.
+    // The place of a record, by a search in the order of the records.
+    fn searched(&self, rid: Rid) -> Option<u64>
+        ensures { result ≡ place_of self.now rid }
+    {
+        let place = self.places.get(&rid)?;
+        Some(*place as u64)
+    }
+
+    /// Gives a record a place. Over 2^32 places there is no room: that is refused as memory is.
     pub fn insert(&mut self, rid: Rid, place: u64) -> Result<(), NoMemory>
         requires new_record { place_of self.old rid ≡ None }
         requires new_place { (q : Rid) → HasPlace self.old q place → ⊥ }
@@ -66,7 +85,13 @@ impl RidIndex {
         ensures list { OnOk result (self.new ≡ insert_entry rid_cmp self.old rid place) }
         ensures refused { OnErr result (self.new ≡ self.old) }
     {
+        if place > u32::MAX as u64 {
+            return Err(NoMemory);
+        }
+        let place = place as u32;
+        self.slots.reserve(&self.places, self.alloc)?;
         self.places.insert(rid, place)?;
+        self.slots.put(rid, place);
         Ok(())
     }
 
@@ -77,7 +102,9 @@ impl RidIndex {
         ensures others { (q : Rid) → IsFalse (same_rid rid q) → place_of self.new q ≡ place_of self.old q }
         ensures list { self.new ≡ remove_entry (same_rid rid) self.old }
     {
-        self.places.remove(&rid)
+        let place = self.places.remove(&rid).map(u64::from);
+        self.slots.take_out(rid);
+        place
     }
 
     /// The least key of a table, at or over a number, whose record has a place.

@@ -25,8 +25,11 @@
 
 mod index;
 mod laws;
+mod line;
 mod place;
 mod roster;
+mod slot;
+mod slots;
 mod space;
 
 pub use index::RidIndex;

@@ -1,16 +1,20 @@
-use Rattle.std.proofs.Common.{◌∙◌, ap}
+use Rattle.std.proofs.Common.{◌∙◌, ap, Some}
 use Rattle.hg_space.specs.Index.{place_of}
 use Rattle.hg_space.proofs.IndexFacts.{changed, inserted_distinct, other_stays}
+use Rattle.hg_space.proofs.TableFacts.{faithful_again}
 use Rattle.hg_space.proofs.index.RidIndex.insert.Goals as goal
 
 pub invariant_of-self-2 : goal.invariant_of-self-2
 invariant_of-self-2 c =
     let es = c.self.inside.places.entries in
-    let put = changed es c.insert.new.self.entries c.args.rid _ c.in_ok-insert.ensures.updates.0 in
-    record {
-      ascends = c.in_ok-insert.ensures.ordered;
-      distinct = inserted_distinct es c.insert.new.self.entries c.args.rid c.args.place put (rw c.self.view_is c.requires.new_place) c.self.invariant.distinct;
-    }
+    let p = c.args.place in
+    let put = changed es c.insert.new.self.entries c.args.rid (Some p) c.in_ok-insert.ensures.updates.0 in (
+      record {
+        ascends = c.in_ok-insert.ensures.ordered;
+        distinct = inserted_distinct es c.insert.new.self.entries c.args.rid p put (rw c.self.view_is c.requires.new_place) c.self.invariant.0.distinct;
+      },
+      faithful_again c.reserve.new.self c.put.new.self es c.insert.new.self.entries c.args.rid (Some p) put c.put.ensures.here c.put.ensures.others c.in_ok-reserve.ensures,
+    )
 
 pub returns-clause-others : goal.returns-clause-others
 returns-clause-others c =

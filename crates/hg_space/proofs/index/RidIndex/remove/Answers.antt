@@ -1,17 +1,21 @@
-use Rattle.std.proofs.Common.{◌∙◌, ap}
+use Rattle.std.proofs.Common.{◌∙◌, ap, None}
 use Rattle.std.specs.Map.{remove_entry}
 use Rattle.hg_base.specs.History.{same_rid}
 use Rattle.hg_space.specs.Index.{place_of}
 use Rattle.hg_space.proofs.IndexFacts.{changed, removed_distinct, other_stays, taken_out}
+use Rattle.hg_space.proofs.TableFacts.{faithful_again}
 use Rattle.hg_space.proofs.index.RidIndex.remove.Goals as goal
 
 pub invariant_of-self : goal.invariant_of-self
 invariant_of-self c =
     let es = c.self.inside.places.entries in
-    record {
-      ascends = c.remove.ensures.ordered;
-      distinct = removed_distinct es c.remove.new.self.entries c.args.rid (changed es c.remove.new.self.entries c.args.rid _ c.remove.ensures.updates.0) c.self.invariant.distinct;
-    }
+    let gone = changed es c.remove.new.self.entries c.args.rid None c.remove.ensures.updates.0 in (
+      record {
+        ascends = c.remove.ensures.ordered;
+        distinct = removed_distinct es c.remove.new.self.entries c.args.rid gone c.self.invariant.0.distinct;
+      },
+      faithful_again c.self.inside.slots c.take_out.new.self es c.remove.new.self.entries c.args.rid None gone c.take_out.ensures.here c.take_out.ensures.others c.self.invariant.1,
+    )
 
 pub returns-clause-others : goal.returns-clause-others
 returns-clause-others c =
