@@ -7,5 +7,5 @@ pub mod IndexFacts
 pub mod RosterFacts
 pub mod Entering
 -- The table from records to places.
-pub mod LineFacts
+pub mod BinFacts
 pub mod TableFacts

@@ -1,4 +1,4 @@
--- What the table says of records after a change of one line, and while it is filled.
+-- What the table says of records after a change of one bin, and while it is filled.
 use Rattle.std.proofs.Common.{◌≡◌, ℕ, zero, suc, ◌+◌, ◌<◌, List, [], ◌∷◌, ◌++◌, map, take, drop, length, get_or, set, Bool, true, false, Option, Some, None, refl, sym, ap, ◌∙◌, cond, subst, arith, add-one, drop-cons, ◌==◌}
 use Rattle.std.specs.Map.{keys_of}
 use Rattle.std.specs.List.{IsDistinct}
@@ -14,23 +14,23 @@ use Rattle.hg_base.specs.RidOrder.{rid_cmp}
 use Rattle.hg_base.proofs.HistoryFacts.{same_rid_equal}
 use Rattle.hg_base.proofs.RidOrder.{at_rid, is_same, rids_equiv}
 use Rattle.hg_space.specs.declared.slot.Slot.{Slot}
-use Rattle.hg_space.specs.declared.line.Finding.{Finding}
+use Rattle.hg_space.specs.declared.bin.Finding.{Finding}
 use Rattle.hg_space.specs.Index.{place_of}
-use Rattle.hg_space.specs.Slots.{is_used, used_by, look_from, put_in, line_of, look_at, Fits, StayFit, AreFaithful}
+use Rattle.hg_space.specs.Slots.{is_used, used_by, look_from, put_in, bin_of, look_at, Fits, StayFit, AreFaithful}
 use Rattle.hg_space.proofs.IndexFacts.{Changed}
 
--- ---- one slot of a line
+-- ---- one slot of a bin
 
 set_split : {X : Type 0} (xs : List X) (i : ℕ) (y : X) → i < length xs → set xs i y ≡ take i xs ++ y ∷ drop (suc i) xs
 set_split [] i y within = absurd (omega (arith, within))
 set_split (x ∷ xs) zero y within = refl
 set_split (x ∷ xs) (suc i) y within = ap (λ zs. x ∷ zs) (set_split xs i y (omega (arith, within)))
 
-pub put_at : (r : Rid) (p i : ℕ) (line all : List Slot) (d : Slot) → i < length line → is_used (get_or line i d) ≡ false → take i line ++ put_in r p (drop i line) ≡ all → set line i (used_by r p) ≡ all
-put_at r p i line all d within free far =
-    let s = get_or line i d in
-    let here : put_in r p (drop i line) ≡ used_by r p ∷ drop (suc i) line = ap (put_in r p) (drop-cons line i d within) ∙ ap (λ b. cond b (s ∷ put_in r p (drop (suc i) line)) (used_by r p ∷ drop (suc i) line)) free in
-    set_split line i (used_by r p) within ∙ ap (λ zs. take i line ++ zs) (sym here) ∙ far
+pub put_at : (r : Rid) (p i : ℕ) (bin all : List Slot) (d : Slot) → i < length bin → is_used (get_or bin i d) ≡ false → take i bin ++ put_in r p (drop i bin) ≡ all → set bin i (used_by r p) ≡ all
+put_at r p i bin all d within free far =
+    let s = get_or bin i d in
+    let here : put_in r p (drop i bin) ≡ used_by r p ∷ drop (suc i) bin = ap (put_in r p) (drop-cons bin i d within) ∙ ap (λ b. cond b (s ∷ put_in r p (drop (suc i) bin)) (used_by r p ∷ drop (suc i) bin)) free in
+    set_split bin i (used_by r p) within ∙ ap (λ zs. take i bin ++ zs) (sym here) ∙ far
 
 pub get_mapped : {X : Type 0} (f : X → X) (xs : List X) (i : ℕ) (d : X) → get_or (map f (take i xs) ++ drop i xs) i d ≡ get_or xs i d
 get_mapped f [] zero d = refl
@@ -43,43 +43,43 @@ set_mapped f [] i y d within h = absurd (omega (arith, within))
 set_mapped f (x ∷ xs) zero y d within h = ap (λ z. z ∷ xs) h
 set_mapped f (x ∷ xs) (suc i) y d within h = ap (λ zs. f x ∷ zs) (set_mapped f xs i y d (omega (arith, within)) h)
 
-pub mapped_at : {X : Type 0} (f : X → X) (line xs : List X) (i : ℕ) (y d : X) → i < length xs → y ≡ f (get_or line i d) → line ≡ map f (take i xs) ++ drop i xs → set line i y ≡ map f (take (i + 1) xs) ++ drop (i + 1) xs
-mapped_at f line xs i y d within h far = rw add-one (by (suc i) refl)
+pub mapped_at : {X : Type 0} (f : X → X) (bin xs : List X) (i : ℕ) (y d : X) → i < length xs → y ≡ f (get_or bin i d) → bin ≡ map f (take i xs) ++ drop i xs → set bin i y ≡ map f (take (i + 1) xs) ++ drop (i + 1) xs
+mapped_at f bin xs i y d within h far = rw add-one (by (suc i) refl)
   where
-    by : (n : ℕ) → n ≡ suc i → set line i y ≡ map f (take n xs) ++ drop n xs
-    by n e = subst (λ k. set line i y ≡ map f (take k xs) ++ drop k xs) (sym e) (done)
+    by : (n : ℕ) → n ≡ suc i → set bin i y ≡ map f (take n xs) ++ drop n xs
+    by n e = subst (λ k. set bin i y ≡ map f (take k xs) ++ drop k xs) (sym e) (done)
       where
-        done : set line i y ≡ map f (take (suc i) xs) ++ drop (suc i) xs
+        done : set bin i y ≡ map f (take (suc i) xs) ++ drop (suc i) xs
         done = ap (λ zs. set zs i y) far ∙ set_mapped f xs i y d within (h ∙ ap (λ zs. f (get_or zs i d)) far ∙ ap f (get_mapped f xs i d))
 
--- ---- one line of the table
+-- ---- one bin of the table
 
-pub line_in_set : (ls : List (List Slot)) (q : Rid) (i : ℕ) (m : List Slot) (w : Option ℕ) → i < length ls → line_of (length ls) q ≡ i → Fits (look_from false q m) w → Fits (look_at (set ls i m) q) w
-line_in_set ls q i m w within at h =
-    let now : get_or (set ls i m) (line_of (length (set ls i m)) q) [] ≡ m = ap (λ n. get_or (set ls i m) (line_of n q) []) (length-set ls i m) ∙ ap (λ n. get_or (set ls i m) n []) at ∙ get_or-set_same ls i m [] within in
-    subst (λ line. Fits (look_from false q line) w) (sym now) h
+pub bin_in_set : (ls : List (List Slot)) (q : Rid) (i : ℕ) (m : List Slot) (w : Option ℕ) → i < length ls → bin_of (length ls) q ≡ i → Fits (look_from false q m) w → Fits (look_at (set ls i m) q) w
+bin_in_set ls q i m w within at h =
+    let now : get_or (set ls i m) (bin_of (length (set ls i m)) q) [] ≡ m = ap (λ n. get_or (set ls i m) (bin_of n q) []) (length-set ls i m) ∙ ap (λ n. get_or (set ls i m) n []) at ∙ get_or-set_same ls i m [] within in
+    subst (λ bin. Fits (look_from false q bin) w) (sym now) h
 
-pub fits_in_set : (ls : List (List Slot)) (q : Rid) (i : ℕ) (l m : List Slot) (v w : Option ℕ) → i < length ls → l ≡ get_or ls i l → line_of (length ls) q ≡ i → (Fits (look_from false q l) v → Fits (look_from false q m) w) → Fits (look_at ls q) v → Fits (look_at (set ls i m) q) w
+pub fits_in_set : (ls : List (List Slot)) (q : Rid) (i : ℕ) (l m : List Slot) (v w : Option ℕ) → i < length ls → l ≡ get_or ls i l → bin_of (length ls) q ≡ i → (Fits (look_from false q l) v → Fits (look_from false q m) w) → Fits (look_at ls q) v → Fits (look_at (set ls i m) q) w
 fits_in_set ls q i l m v w within read at step h =
-    let was : get_or ls (line_of (length ls) q) [] ≡ l = ap (λ n. get_or ls n []) at ∙ get_or_default ls i [] l within ∙ sym read in
-    line_in_set ls q i m w within at (step (subst (λ line. Fits (look_from false q line) v) was h))
+    let was : get_or ls (bin_of (length ls) q) [] ≡ l = ap (λ n. get_or ls n []) at ∙ get_or_default ls i [] l within ∙ sym read in
+    bin_in_set ls q i m w within at (step (subst (λ bin. Fits (look_from false q bin) v) was h))
 
-pub fits_apart : (ls : List (List Slot)) (q : Rid) (i : ℕ) (m : List Slot) (w : Option ℕ) → (line_of (length ls) q ≡ i → ⊥) → Fits (look_at ls q) w → Fits (look_at (set ls i m) q) w
+pub fits_apart : (ls : List (List Slot)) (q : Rid) (i : ℕ) (m : List Slot) (w : Option ℕ) → (bin_of (length ls) q ≡ i → ⊥) → Fits (look_at ls q) w → Fits (look_at (set ls i m) q) w
 fits_apart ls q i m w apart h =
-    let now : get_or (set ls i m) (line_of (length (set ls i m)) q) [] ≡ get_or ls (line_of (length ls) q) [] = ap (λ n. get_or (set ls i m) (line_of n q) []) (length-set ls i m) ∙ get_or-set_other ls i (line_of (length ls) q) m [] apart in
-    subst (λ line. Fits (look_from false q line) w) (sym now) h
+    let now : get_or (set ls i m) (bin_of (length (set ls i m)) q) [] ≡ get_or ls (bin_of (length ls) q) [] = ap (λ n. get_or (set ls i m) (bin_of n q) []) (length-set ls i m) ∙ get_or-set_other ls i (bin_of (length ls) q) m [] apart in
+    subst (λ bin. Fits (look_from false q bin) w) (sym now) h
 
--- where what a line says of the others stays, so does what the table says
+-- where what a bin says of the others stays, so does what the table says
 pub others_in_set : (ls : List (List Slot)) (r : Rid) (i : ℕ) (l m : List Slot) → i < length ls → l ≡ get_or ls i l → ((q : Rid) (w : Option ℕ) → same_rid r q ≡ false → Fits (look_from false q l) w → Fits (look_from false q m) w) → StayFit r ls (set ls i m)
-others_in_set ls r i l m within read step q w apart h = go (line_of (length ls) q == i) refl
+others_in_set ls r i l m within read step q w apart h = go (bin_of (length ls) q == i) refl
   where
-    go : (b : Bool) → (line_of (length ls) q == i) ≡ b → Fits (look_at (set ls i m) q) w
+    go : (b : Bool) → (bin_of (length ls) q == i) ≡ b → Fits (look_at (set ls i m) q) w
     go true e = fits_in_set ls q i l m w w within read (grind (arith, nat_tests, e)) (step q w apart) h
     go false e = fits_apart ls q i m w (λ is. grind (arith, nat_tests, e, is)) h
 
--- a table without the record's line says nothing of it
-pub no_line : (ls : List (List Slot)) (r : Rid) (w : Option ℕ) → (line_of (length ls) r < length ls → ⊥) → Fits (look_at ls r) w
-no_line ls r w h = subst (λ line. Fits (look_from false r line) w) (sym (past ls (line_of (length ls) r) h)) tt
+-- a table without the record's bin says nothing of it
+pub no_bin : (ls : List (List Slot)) (r : Rid) (w : Option ℕ) → (bin_of (length ls) r < length ls → ⊥) → Fits (look_at ls r) w
+no_bin ls r w h = subst (λ bin. Fits (look_from false r bin) w) (sym (past ls (bin_of (length ls) r) h)) tt
   where
     past : (xs : List (List Slot)) (i : ℕ) → (i < length xs → ⊥) → get_or xs i [] ≡ []
     past [] i k = refl

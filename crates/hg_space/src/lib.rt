@@ -12,6 +12,16 @@
 //! number of places that can still be taken without allocating. The index has a place for each record, and no two records share one. As
 //! long as each place in the index is taken, none of them is handed out again.
 //!
+//!     the index, in order     and in bins of slots, by hash
+//!     t/5 -> 0                bin 0   [ t/9 -> 2 ] [ u/5 -> 4 ] [ (empty) ] ..
+//!     t/9 -> 2                bin 1   [ t/5 -> 0 ] [ (empty) ] ..
+//!     u/5 -> 4
+//!
+//! The index has its records twice. A range goes by their order (`next_key`). A lookup reads one bin of slots, the only one that the
+//! record may be in (`place`): the bin has the record, or it has an empty slot, and then the record has no place. A record that found
+//! its bin full is in the order alone, so if the bin has neither, the order is searched. What the slots say is so, but they may leave
+//! records out.
+//!
 //!     lists                                               standings, by place
 //!     table 0   [ key 5, place 0 ] [ key 9, place 2 ]     0  table 0, index 0
 //!     table 1   [ key 5, place 4 ]                        2  table 0, index 1
@@ -23,9 +33,9 @@
 //! record once.
 #![tactic(auto)]
 
+mod bin;
 mod index;
 mod laws;
-mod line;
 mod place;
 mod roster;
 mod slot;

@@ -5,7 +5,7 @@ ghost use Rattle.hg_space.specs.Slots.{is_of, is_used, is_empty, used_by, withou
 
 use hg_base::{Rid, TableId};
 
-/// Whether a slot has a record. One that lost its record is left: those that came when it had one may lie elsewhere.
+/// Whether a slot has a record. `Left`: its record was taken out of a full bin, of which some records may be in the order alone.
 #[derive(Clone, Copy, Debug)]
 pub(crate) enum State {
     Empty,
@@ -68,7 +68,7 @@ impl Slot {
         }
     }
 
-    /// The slot without that record. It is empty again only if its line has an empty slot anyway.
+    /// The slot without that record. It is empty again only if its bin has an empty slot anyway.
     pub(crate) fn without(self, rid: Rid, gap: bool) -> Slot
         ensures { result ≡ without gap rid self }
     {

@@ -4,19 +4,19 @@ ghost use Rattle.std.specs.Prelude.{◌≡◌, ℕ, IfOk, None, Some, IsFalse, l
 ghost use Rattle.hg_base.specs.History.{same_rid};
 ghost use Rattle.hg_base.specs.declared.rid.Rid.{Rid};
 ghost use Rattle.hg_space.specs.Index.{place_of};
-ghost use Rattle.hg_space.specs.Slots.{line_of, look_at, Fits, AreFaithful, StayFit};
+ghost use Rattle.hg_space.specs.Slots.{bin_of, look_at, Fits, AreFaithful, StayFit};
 
-use crate::line::{self, Finding, WAYS};
+use crate::bin::{self, Finding, WAYS};
 use crate::slot::Slot;
 use hg_base::{NoMemory, Rid};
 use std::alloc::Global;
 use std::collections::BTreeMap;
 use std::marker::Model;
 
-/// Lines of slots. A record may be in one line only, which its hash tells.
+/// Bins of slots. A record may be in one bin only, which its hash tells.
 #[derive(Debug, Drop)]
 pub(crate) struct Slots {
-    lines: Vec<[Slot; WAYS]>,
+    bins: Vec<[Slot; WAYS]>,
 }
 
 impl Model for Slots {
@@ -25,47 +25,47 @@ impl Model for Slots {
 
     ghost Value = { List (List Slot) };
 
-    ghost view = { λ s. s.lines.items };
+    ghost view = { λ s. s.bins.items };
 }
 
 impl Slots {
-    /// No line. It takes no memory.
+    /// No bin. It takes no memory.
     pub(crate) fn new(alloc: Global) -> Slots
         ensures { (r : Rid) → Fits (look_at result r) None }
     {
         Slots {
-            lines: Vec::new(alloc),
+            bins: Vec::new(alloc),
         }
     }
 
-    /// So many lines without a record.
-    fn of_lines(many: usize, alloc: Global) -> Result<Slots, NoMemory>
+    /// So many bins without a record.
+    fn of_bins(many: usize, alloc: Global) -> Result<Slots, NoMemory>
         ensures { IfOk result (λ s. (r : Rid) → Fits (look_at s r) None) }
     {
-        let mut lines = Vec::new(alloc);
-        lines.resize(many, [Slot::EMPTY; WAYS])?;
-        Ok(Slots { lines })
+        let mut bins = Vec::new(alloc);
+        bins.resize(many, [Slot::EMPTY; WAYS])?;
+        Ok(Slots { bins })
     }
 
     /// What is known of a record's place.
     pub(crate) fn look(&self, rid: Rid) -> Finding
         ensures { result ≡ look_at self.now rid }
     {
-        match self.lines.get(line_of(self.lines.len(), rid)) {
-            Some(line) => line::look(line, rid),
+        match self.bins.get(bin_of(self.bins.len(), rid)) {
+            Some(bin) => bin::look(bin, rid),
             None => Finding::Unknown,
         }
     }
 
-    /// Puts a record and its place in, if its line has room. Nothing else is known less than before, or wrongly.
+    /// Puts a record and its place in, if its bin has room. Nothing else is known less than before, or wrongly.
     pub(crate) fn put(&mut self, rid: Rid, place: u32)
         requires { Fits (look_at self.old rid) None }
         ensures here { Fits (look_at self.new rid) (Some place) }
         ensures others { StayFit rid self.old self.new }
     {
-        let at = line_of(self.lines.len(), rid);
-        if at < self.lines.len() {
-            line::put(&mut self.lines[at], rid, place);
+        let at = bin_of(self.bins.len(), rid);
+        if at < self.bins.len() {
+            bin::put(&mut self.bins[at], rid, place);
         }
     }
 
@@ -74,9 +74,9 @@ impl Slots {
         ensures here { Fits (look_at self.new rid) None }
         ensures others { StayFit rid self.old self.new }
     {
-        let at = line_of(self.lines.len(), rid);
-        if at < self.lines.len() {
-            line::take_out(&mut self.lines[at], rid);
+        let at = bin_of(self.bins.len(), rid);
+        if at < self.bins.len() {
+            bin::take_out(&mut self.bins[at], rid);
         }
     }
 
@@ -89,18 +89,23 @@ impl Slots {
         requires { AreFaithful self.old places.now.entries }
         ensures { AreFaithful self.new places.now.entries }
     {
-        if places.len() / FULL < self.lines.len() {
+        let many = self.bins.len();
+        if places.len() / FULL < many {
             return Ok(());
         }
-        *self = Slots::grown(places, self.lines.len(), alloc)?;
+        *self = Slots::of_records(places, many.saturating_add(many / 2 + 1), alloc)?;
         Ok(())
     }
 
-    // The same records in twice as many lines.
-    fn grown(places: &BTreeMap<Rid, u32>, many: usize, alloc: Global) -> Result<Slots, NoMemory>
+    // The same records in so many bins.
+    fn of_records(
+        places: &BTreeMap<Rid, u32>,
+        many: usize,
+        alloc: Global,
+    ) -> Result<Slots, NoMemory>
         ensures { IfOk result (λ s. AreFaithful s places.now.entries) }
     {
-        let mut slots = Slots::of_lines(many.saturating_mul(2).saturating_add(1), alloc)?;
+        let mut slots = Slots::of_bins(many, alloc)?;
         for (rid, place) in places {
             slots.put(*rid, *place);
         }
@@ -108,12 +113,12 @@ impl Slots {
     }
 }
 
-/// A table grows once its lines have so many records each.
-const FULL: usize = 6;
+// A table grows by half once its bins have so many records each, of eight.
+const FULL: usize = 7;
 
-// The line of a record: the high half of its hash, scaled to the number of lines.
-fn line_of(many: usize, rid: Rid) -> usize
-    ensures { result ≡ line_of many rid }
+// The bin of a record: the high half of its hash, scaled to the number of bins.
+fn bin_of(many: usize, rid: Rid) -> usize
+    ensures { result ≡ bin_of many rid }
 {
     let mixed = (rid.key ^ (rid.table.0 as u64) << 56).wrapping_mul(0x9E37_79B9_7F4A_7C15);
     ((mixed >> 32).wrapping_mul(many as u64) >> 32) as usize

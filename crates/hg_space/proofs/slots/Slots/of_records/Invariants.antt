@@ -5,7 +5,7 @@ use Rattle.hg_base.specs.RidOrder.{rid_cmp}
 use Rattle.hg_space.specs.Index.{place_of}
 use Rattle.hg_space.specs.Slots.{look_at}
 use Rattle.hg_space.proofs.TableFacts.{Says}
-use Rattle.hg_space.proofs.slots.Slots.grown.Given as goal
+use Rattle.hg_space.proofs.slots.Slots.of_records.Given as goal
 
 abbrev pub invariant-loop-rid : goal.invariant-loop-rid
 invariant-loop-rid l = record {

@@ -6,7 +6,7 @@ use Rattle.hg_base.specs.RidOrder.{rid_cmp}
 use Rattle.hg_space.specs.Index.{place_of}
 use Rattle.hg_space.specs.Slots.{look_at}
 use Rattle.hg_space.proofs.TableFacts.{Says, said_first, filled}
-use Rattle.hg_space.proofs.slots.Slots.grown.Goals as goal
+use Rattle.hg_space.proofs.slots.Slots.of_records.Goals as goal
 
 pub put-requires : goal.put-requires
 put-requires c = said_first c.loop-rid.slots c.loop-rid.rid-iterator c.next.new.self c.in-Some.rid.now c.in-Some.place.now _ c.in-Some.ensures.steps (c.loop-rid.invariant.said c.in-Some.rid.now)
