@@ -2,6 +2,8 @@
 pub mod Ordering
 pub mod Contexts
 pub mod Bound
+-- What lies under the commit lock.
+pub mod Booked
 -- A batch is popped and gathered.
 pub mod Popping
 pub mod Listing

@@ -19,10 +19,10 @@ held_board_id h = founding_board_id (tag_of h.locks.now).value
 pub record KeepsBeside (h : HeldList) (part : CommitPart) : Type 0 where
   pub unstamped : part.stamped ≡ []
   pub taken : part.taken ≤ length part.history.list
-  pub contexts_are : AreContexts part.history.list part.taken h.contexts.items
-  pub count_is : h.count ≡ commits_in part.history.list
+  pub contexts_are : AreContexts part.history.list part.taken h.book.value.contexts.items
+  pub count_is : h.book.value.count ≡ commits_in part.history.list
   pub follows : FollowsQueue part.history.list (known h.line).pairs
   pub line : ((known h.line).opens ≡ false) × (((known h.line).leads ≡ true) × ((known h.line).board.id ≡ held_board_id h))
-  pub room : (h.popped.items ≡ []) × ((tag_of h.locks.now).value.sessions ≤ vec_capacity h.popped)
-  pub laid : AreLaid (held_board_id h) 1 h.laid.items × (length h.laid.items ≡ (tag_of h.locks.now).value.sessions)
+  pub room : (h.book.value.popped.items ≡ []) × ((tag_of h.locks.now).value.sessions ≤ vec_capacity h.book.value.popped)
+  pub laid : AreLaid (held_board_id h) 1 h.book.value.laid.items × (length h.book.value.laid.items ≡ (tag_of h.locks.now).value.sessions)
   pub pass : IsPassOf (tag_of h.locks.now).value.queue.value h.line

@@ -18,12 +18,12 @@ pub record IsKept (t : BoardId) (sessions : ℕ) (x : Batches) : Type 0 where
   pub seat : IsCommitOf t x.seat
   pub unstamped : (part_in x.seat).stamped ≡ []
   pub taken : (part_in x.seat).taken ≤ length (part_in x.seat).history.list
-  pub contexts_are : AreContexts (part_in x.seat).history.list (part_in x.seat).taken x.contexts.items
-  pub count_is : x.count ≡ commits_in (part_in x.seat).history.list
+  pub contexts_are : AreContexts (part_in x.seat).history.list (part_in x.seat).taken x.book.value.contexts.items
+  pub count_is : x.book.value.count ≡ commits_in (part_in x.seat).history.list
   pub follows : FollowsQueue (part_in x.seat).history.list (known x.line).pairs
   pub line : ((known x.line).opens ≡ false) × (((known x.line).leads ≡ true) × ((known x.line).board.id ≡ t))
-  pub room : (x.popped.items ≡ []) × (sessions ≤ vec_capacity x.popped)
-  pub laid : AreLaid t 1 x.laid.items × (length x.laid.items ≡ sessions)
+  pub room : (x.book.value.popped.items ≡ []) × (sessions ≤ vec_capacity x.book.value.popped)
+  pub laid : AreLaid t 1 x.book.value.laid.items × (length x.book.value.laid.items ≡ sessions)
 
 -- the pass has nothing but its own place, and has seen and done more
 pub record Leads (v w : View) : Type 0 where

@@ -8,18 +8,17 @@ ghost use Rattle.hg_queue.specs.Queues.{IsPassOf};
 ghost use Rattle.hg_group.specs.Leading.{IsKept, Leads};
 ghost use Rattle.hg_group.specs.Turns.{TakesTurn};
 
+use crate::book::Book;
 use crate::context::GroupContext;
 use crate::gathering::gather;
-use crate::laid::Laid;
 use crate::laying::lay;
 use crate::records::{join_records, make_room};
 use crate::refusing::lay_back;
 use crate::stamping::stamp_batch;
 use hg_lock::Fits;
-use hg_queue::{OpenTx, Queue, QueuePass};
+use hg_queue::{Queue, QueuePass};
 use hg_rule::{Board, CommitSeat, SessionPass};
 use hg_store::Store;
-use std::collections::VecDeque;
 use std::snapshot::Snapshot;
 use std::sync::Wait;
 
@@ -31,16 +30,13 @@ pub struct Founding {
     pub sessions: u32,
 }
 
-/// What lies under the commit lock: the committer's seat, the right to pop, room for a batch, what is laid for each session, the
-/// contexts of groups, oldest first, and how many commits there are.
+/// What lies under the commit lock: the committer's seat, the right to pop, and the book. It is one word, so a leader that takes
+/// it and gives it back moves no more than that.
 #[derive(Drop)]
 pub struct Batches {
     pub(crate) seat: CommitSeat,
     pub(crate) line: QueuePass,
-    pub(crate) popped: Vec<OpenTx>,
-    pub(crate) laid: Vec<Option<Laid>>,
-    pub(crate) contexts: VecDeque<GroupContext>,
-    pub(crate) count: u64,
+    pub(crate) book: Box<Book>,
 }
 
 impl Fits for Batches {
@@ -76,48 +72,25 @@ pub(crate) fn lead<R: Wait>(
     let Batches {
         seat,
         mut line,
-        mut popped,
-        mut laid,
-        mut contexts,
-        count,
+        mut book,
     } = kept;
-    gather(rt, board, queue, pass, &mut line, &mut popped, sessions);
-    if popped.is_empty() {
-        return Batches {
-            seat,
-            line,
-            popped,
-            laid,
-            contexts,
-            count,
-        };
+    let desk = &mut *book;
+    gather(rt, board, queue, pass, &mut line, &mut desk.popped, sessions);
+    if desk.popped.is_empty() {
+        return Batches { seat, line, book };
     }
     let number = board.join_commit(pass, seat) + 1;
-    let Ok(()) = make_room(&mut contexts, &mut popped) else {
+    let Ok(()) = make_room(&mut desk.contexts, &mut desk.popped) else {
         let seat = board.split_commit(pass);
-        lay_back(board, pass, &mut laid, &mut popped);
-        return Batches {
-            seat,
-            line,
-            popped,
-            laid,
-            contexts,
-            count,
-        };
+        lay_back(board, pass, &mut desk.laid, &mut desk.popped);
+        return Batches { seat, line, book };
     };
-    stamp_batch(rt, board, store, pass, popped.as_slice(), number);
+    stamp_batch(rt, board, store, pass, desk.popped.as_slice(), number);
     board.publish(pass, number);
     let seat = board.split_commit(pass);
-    lay(board, pass, &mut laid, popped.as_slice(), number, count);
-    let count = count + popped.len() as u64;
-    let records = join_records(&mut popped);
-    contexts.push_back_reserved(GroupContext { number, records });
-    Batches {
-        seat,
-        line,
-        popped,
-        laid,
-        contexts,
-        count,
-    }
+    lay(board, pass, &mut desk.laid, desk.popped.as_slice(), number, desk.count);
+    desk.count += desk.popped.len() as u64;
+    let records = join_records(&mut desk.popped);
+    desk.contexts.push_back_reserved(GroupContext { number, records });
+    Batches { seat, line, book }
 }

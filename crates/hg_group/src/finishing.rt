@@ -43,7 +43,7 @@ fn ready<R: Wait>(
     ensures turn { TakesTurn (session_view pass.old) (session_view pass.new) }
     ensures own { IsAwayOf (board_id board.now) (sizes_of board.now) pass.new × (pass.new.number ≡ pass.old.number) }
 {
-    if kept.laid[index].is_none() {
+    if kept.book.laid[index].is_none() {
         return lead(rt, board, store, queue, pass, kept, sessions as usize);
     }
     kept
@@ -51,11 +51,11 @@ fn ready<R: Wait>(
 
 // What is laid at a place is taken from there.
 fn take_laid(kept: &mut Batches, index: usize) -> Option<Laid>
-    requires index { index < length kept.old.laid.items }
+    requires index { index < length kept.old.book.value.laid.items }
     ensures taken { (t : BoardId) (sessions : ℕ) → IsKept t sessions kept.old → IsKept t sessions kept.new × IfSome result (IsLaid t (suc index)) }
     ensures line { kept.new.line ≡ kept.old.line }
 {
-    kept.laid[index].take()
+    kept.book.laid[index].take()
 }
 
 /// Turn after turn, until something is laid for the session.

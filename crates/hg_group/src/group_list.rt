@@ -4,6 +4,7 @@ ghost use Rattle.std.specs.Prelude.{◌≡◌};
 ghost use Rattle.hg_lock.specs.Locks.{count_of, tag_of};
 
 use crate::batch::{Batches, Founding};
+use crate::book::Book;
 use crate::finishing::finish;
 use crate::making::{empty_places, make_pushers};
 use crate::pusher::Pusher;
@@ -64,14 +65,14 @@ impl GroupList {
         let laid = empty_places(alloc, sessions)?;
         let contexts = VecDeque::new(alloc);
         let mut batches = Vec::with_capacity(alloc, 1)?;
-        batches.push(Batches {
-            seat,
-            line,
+        let book = Book {
             popped,
             laid,
             contexts,
             count: 0,
-        })?;
+        };
+        let book = Box::new(alloc, book)?;
+        batches.push(Batches { seat, line, book })?;
         let batches = Locks::new(alloc, batches, &tag)?;
         Ok(GroupList {
             batches,

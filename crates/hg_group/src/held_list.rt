@@ -4,13 +4,11 @@ ghost use Rattle.std.specs.Prelude.{◌≡◌};
 ghost use Rattle.hg_lock.specs.Locks.{IsLoanOf};
 
 use crate::batch::{Batches, Founding};
-use crate::context::GroupContext;
+use crate::book::Book;
 use crate::group_list::GroupList;
-use crate::laid::Laid;
 use hg_lock::{Loan, Locks};
-use hg_queue::{OpenTx, QueuePass};
+use hg_queue::QueuePass;
 use hg_rule::CommitSeat;
-use std::collections::VecDeque;
 use std::snapshot::Snapshot;
 use std::sync::Wait;
 
@@ -19,10 +17,7 @@ pub struct HeldList<'a> {
     pub(crate) locks: &'a Locks<Batches>,
     pub(crate) loan: Loan<Batches, Snapshot<Founding>>,
     pub(crate) line: QueuePass,
-    pub(crate) popped: Vec<OpenTx>,
-    pub(crate) laid: Vec<Option<Laid>>,
-    pub(crate) contexts: VecDeque<GroupContext>,
-    pub(crate) count: u64,
+    pub(crate) book: Box<Book>,
     ghost lent: { IsLoanOf locks.now loan },
 }
 
@@ -39,22 +34,12 @@ impl GroupList {
         ensures kept { KeepsBeside result.0 (part_in result.1) }
     {
         let (kept, loan) = self.batches.take(rt, 0);
-        let Batches {
-            seat,
-            line,
-            popped,
-            laid,
-            contexts,
-            count,
-        } = kept;
+        let Batches { seat, line, book } = kept;
         let held = HeldList {
             locks: &self.batches,
             loan,
             line,
-            popped,
-            laid,
-            contexts,
-            count,
+            book,
         };
         (held, seat)
     }
@@ -74,21 +59,8 @@ impl<'a> HeldList<'a> {
             locks,
             loan,
             line,
-            popped,
-            laid,
-            contexts,
-            count,
+            book,
         } = self;
-        locks.give(
-            Batches {
-                seat,
-                line,
-                popped,
-                laid,
-                contexts,
-                count,
-            },
-            loan,
-        );
+        locks.give(Batches { seat, line, book }, loan);
     }
 }

@@ -29,6 +29,7 @@
 #![tactic(auto)]
 
 mod batch;
+mod book;
 mod context;
 mod finishing;
 mod gathering;

@@ -100,7 +100,7 @@ impl GroupList {
     {
         let (mut held, seat) = self.take(rt);
         let mark = board.join_commit(pass, seat);
-        let context = pop_below(board, pass, &mut held.contexts, mark, bound);
+        let context = pop_below(board, pass, &mut held.book.contexts, mark, bound);
         let seat = board.split_commit(pass);
         held.give(seat);
         context
@@ -126,7 +126,7 @@ impl GroupList {
     {
         let (mut held, seat) = self.take(rt);
         let mark = board.join_commit(pass, seat);
-        let last = pop_some(board, pass, &mut held.contexts, into, mark, bound);
+        let last = pop_some(board, pass, &mut held.book.contexts, into, mark, bound);
         let seat = board.split_commit(pass);
         held.give(seat);
         last

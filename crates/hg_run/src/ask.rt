@@ -10,19 +10,19 @@ use hg_base::{Answer, NoMemory, Reply, Statement};
 use hg_session::{Engine, Session};
 use std::sync::Wait;
 
-/// Answers a statement of a session's own.
+/// Answers a statement of a session's own. A put's row goes to the table as it is.
 pub(crate) fn ask<R: Wait>(
     rt: &R,
     engine: &Engine,
     session: &mut Session,
-    statement: &Statement,
+    statement: Statement,
 ) -> Result<Reply, NoMemory>
     requires own { IsOf engine.now session.old }
     requires left { 0 < left_of session.old }
-    requires may { MayAsk session.old statement.now }
-    requires tables { IsOnTables (engine_sizes engine.now).tables statement.now }
-    requires other { collector_asked statement.now ≡ None }
-    ensures answers { IfOk result (λ reply. IsAnswered (engine_sizes engine.now) session.old statement.now reply session.new) }
+    requires may { MayAsk session.old statement }
+    requires tables { IsOnTables (engine_sizes engine.now).tables statement }
+    requires other { collector_asked statement ≡ None }
+    ensures answers { IfOk result (λ reply. IsAnswered (engine_sizes engine.now) session.old statement reply session.new) }
     ensures left { left_of session.old ≤ left_of session.new + 1 }
     ensures number { number_of session.new ≡ number_of session.old }
     ensures own { IsOf engine.now session.new }
@@ -30,24 +30,21 @@ pub(crate) fn ask<R: Wait>(
     let alone = !session.is_open();
     match statement {
         Statement::Begin(scope) => {
-            let at = session.begin(engine, *scope);
+            let at = session.begin(engine, scope);
             Ok(inside(Answer::Begun(at)))
         }
-        Statement::Get(rid) => get_reply(alone, session.get(rt, engine, *rid)),
-        Statement::Put(rid, row) => {
-            let row = row.copy()?;
-            put_reply(alone, session.put(rt, engine, *rid, row))
-        }
-        Statement::Del(rid) => del_reply(alone, session.del(rt, engine, *rid)),
+        Statement::Get(rid) => get_reply(alone, session.get(rt, engine, rid)),
+        Statement::Put(rid, row) => put_reply(alone, session.put(rt, engine, rid, row)),
+        Statement::Del(rid) => del_reply(alone, session.del(rt, engine, rid)),
         Statement::Scan { table, low, high } => {
-            scan_reply(alone, session.scan(rt, engine, *table, *low, *high))
+            scan_reply(alone, session.scan(rt, engine, table, low, high))
         }
         Statement::CursorOpen { table, low, high } => {
-            let at = session.open_cursor(engine, *table, *low, *high);
+            let at = session.open_cursor(engine, table, low, high);
             Ok(inside(Answer::Begun(at)))
         }
         Statement::Fetch(most) => {
-            let rows = session.fetch(rt, engine, *most)?;
+            let rows = session.fetch(rt, engine, most)?;
             Ok(inside(Answer::Rows(rows)))
         }
         Statement::CursorClose => {

@@ -52,22 +52,22 @@ fn reply_at<R: Threads + Wait + Sync>(
     list: &mut Vec<Session>,
     collectors: &mut Collectors,
     i: usize,
-    statement: &Statement,
+    statement: Statement,
     long: u64,
 ) -> Result<Reply, NoMemory>
     requires ready { AreReady engine.now i (one_more (suc i) none_left) list.old.items }
     requires some { 0 < (engine_sizes engine.now).buckets }
-    requires may { (d : Session) → MayAsk (get_or list.old.items i d) statement.now }
-    requires tables { IsOnTables (engine_sizes engine.now).tables statement.now }
+    requires may { (d : Session) → MayAsk (get_or list.old.items i d) statement }
+    requires tables { IsOnTables (engine_sizes engine.now).tables statement }
     requires collectors { AreCollectors engine.now collectors.old }
-    ensures replied { IfOk result (λ reply. Replies engine.now list.old.items i statement.now reply list.new.items) }
+    ensures replied { IfOk result (λ reply. Replies engine.now list.old.items i statement reply list.new.items) }
     ensures ready { OnOk result ((left : ℕ → ℕ) → AreReady engine.now i (one_more (suc i) left) list.old.items → AreReady engine.now i left list.new.items) }
     ensures removed { IfOk result (λ reply. (k : Kind) → removed_of k collectors.new ≡ removed_of k collectors.old + told_of k reply) }
     ensures rounds { IfOk result (λ reply. HaveMade (engine_sizes engine.now) long collectors.old (λ k. sweeps_in k reply) collectors.new) }
     ensures placed { ArePlaced engine.now list.new.items }
     ensures collectors { AreCollectors engine.now collectors.new }
 {
-    match asked(statement) {
+    match asked(&statement) {
         Some(kind) => sweep(rt, engine, list, collectors, i, kind, long),
         None => answer(rt, engine, list, i, statement),
     }
@@ -101,7 +101,7 @@ pub(crate) fn play<'a, R: Threads + Wait + Sync>(
         let record = script.record(next)?;
         let i = record.session as usize - 1;
         turn(engine, list, i, last);
-        let reply = reply_at(rt, engine, list, collectors, i, &record.statement, long)?;
+        let reply = reply_at(rt, engine, list, collectors, i, record.statement, long)?;
         last = i;
         let line = Line {
             session: record.session,

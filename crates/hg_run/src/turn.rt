@@ -66,17 +66,17 @@ fn ask_at<R: Wait>(
     engine: &Engine,
     list: &mut Vec<Session>,
     i: usize,
-    statement: &Statement,
+    statement: Statement,
 ) -> Result<Reply, NoMemory>
     requires within { i < length list.old.items }
     requires own { (d : Session) → IsOf engine.now (get_or list.old.items i d) }
     requires left { (d : Session) → 0 < left_of (get_or list.old.items i d) }
-    requires may { (d : Session) → MayAsk (get_or list.old.items i d) statement.now }
-    requires tables { IsOnTables (engine_sizes engine.now).tables statement.now }
-    requires other { collector_asked statement.now ≡ None }
+    requires may { (d : Session) → MayAsk (get_or list.old.items i d) statement }
+    requires tables { IsOnTables (engine_sizes engine.now).tables statement }
+    requires other { collector_asked statement ≡ None }
     ensures many { length list.new.items ≡ length list.old.items }
     ensures number { (d : Session) → number_of (get_or list.new.items i d) ≡ number_of (get_or list.old.items i d) }
-    ensures answers { (d : Session) → IfOk result (λ reply. IsAnswered (engine_sizes engine.now) (get_or list.old.items i d) statement.now reply (get_or list.new.items i d)) }
+    ensures answers { (d : Session) → IfOk result (λ reply. IsAnswered (engine_sizes engine.now) (get_or list.old.items i d) statement reply (get_or list.new.items i d)) }
     ensures left { (d : Session) → left_of (get_or list.old.items i d) ≤ left_of (get_or list.new.items i d) + 1 }
     ensures rest { (d : Session) (k : ℕ) → k ≢ i → get_or list.new.items k d ≡ get_or list.old.items k d }
     ensures own { (d : Session) → IsOf engine.now (get_or list.new.items i d) }
@@ -105,14 +105,14 @@ pub(crate) fn answer<R: Wait>(
     engine: &Engine,
     list: &mut Vec<Session>,
     i: usize,
-    statement: &Statement,
+    statement: Statement,
 ) -> Result<Reply, NoMemory>
     requires ready { AreReady engine.now i (one_more (suc i) none_left) list.old.items }
     requires some { 0 < (engine_sizes engine.now).buckets }
-    requires may { (d : Session) → MayAsk (get_or list.old.items i d) statement.now }
-    requires tables { IsOnTables (engine_sizes engine.now).tables statement.now }
-    requires other { collector_asked statement.now ≡ None }
-    ensures replied { IfOk result (λ reply. Replies engine.now list.old.items i statement.now reply list.new.items) }
+    requires may { (d : Session) → MayAsk (get_or list.old.items i d) statement }
+    requires tables { IsOnTables (engine_sizes engine.now).tables statement }
+    requires other { collector_asked statement ≡ None }
+    ensures replied { IfOk result (λ reply. Replies engine.now list.old.items i statement reply list.new.items) }
     ensures ready { OnOk result ((left : ℕ → ℕ) → AreReady engine.now i (one_more (suc i) left) list.old.items → AreReady engine.now i left list.new.items) }
     ensures placed { ArePlaced engine.now list.new.items }
 {

@@ -33,18 +33,18 @@ fn answer_beside<R: Wait>(
     rt: &R,
     engine: &Engine,
     session: &mut Session,
-    statement: &Statement,
+    statement: Statement,
 ) -> Result<Reply, NoMemory>
     requires own { IsOf engine.now session.old }
     requires left { 0 < left_of session.old }
-    requires may { MayAsk session.old statement.now }
-    requires tables { IsOnTables (engine_sizes engine.now).tables statement.now }
-    ensures taken { IfOk result (λ reply. HasTaken (engine_sizes engine.now).buckets session.old statement.now reply session.new) }
+    requires may { MayAsk session.old statement }
+    requires tables { IsOnTables (engine_sizes engine.now).tables statement }
+    ensures taken { IfOk result (λ reply. HasTaken (engine_sizes engine.now).buckets session.old statement reply session.new) }
     ensures left { left_of session.old ≤ left_of session.new + 1 }
     ensures number { number_of session.new ≡ number_of session.old }
     ensures own { IsOf engine.now session.new }
 {
-    match asked(statement) {
+    match asked(&statement) {
         Some(_) => Ok(inside(Answer::Beside)),
         None => ask(rt, engine, session, statement),
     }
@@ -56,19 +56,19 @@ impl<'a> Worker<'a> {
     ghost use Rattle.hg_run.specs.Working.{IsReady, IsHired, HasEnded, HasAnswered, HasStepped, HasRun};
 
     // Answers a record, and writes its line.
-    fn answer<R: Wait>(&mut self, rt: &R, engine: &Engine, asked: &Record) -> Result<(), NoMemory>
+    fn answer<R: Wait>(&mut self, rt: &R, engine: &Engine, asked: Record) -> Result<(), NoMemory>
         requires own { IsOf engine.now self.old.session }
         requires left { 0 < left_of self.old.session }
-        requires may { MayAsk self.old.session asked.now.statement }
-        requires tables { IsOnTables (engine_sizes engine.now).tables asked.now.statement }
-        ensures answered { OnOk result (HasAnswered (engine_sizes engine.now).buckets asked.now self.old self.new) }
+        requires may { MayAsk self.old.session asked.statement }
+        requires tables { IsOnTables (engine_sizes engine.now).tables asked.statement }
+        ensures answered { OnOk result (HasAnswered (engine_sizes engine.now).buckets asked self.old self.new) }
         ensures left { left_of self.old.session ≤ left_of self.new.session + 1 }
         ensures number { number_of self.new.session ≡ number_of self.old.session }
         ensures kept { (self.new.records ≡ self.old.records) × (self.new.refused ≡ self.old.refused) }
         ensures tables { self.new.transcript.tables ≡ self.old.transcript.tables }
         ensures own { IsOf engine.now self.new.session }
     {
-        let reply = answer_beside(rt, engine, &mut self.session, &asked.statement)?;
+        let reply = answer_beside(rt, engine, &mut self.session, asked.statement)?;
         let line = Line {
             session: asked.session,
             place: asked.place,
@@ -96,7 +96,7 @@ impl<'a> Worker<'a> {
         match self.records.take_next()? {
             Some(record) => {
                 gate.at(rt, record.session, number);
-                self.answer(rt, engine, &record)?;
+                self.answer(rt, engine, record)?;
                 Ok(true)
             }
             None => Ok(false),

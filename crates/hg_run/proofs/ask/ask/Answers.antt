@@ -24,16 +24,15 @@ returns-in-Get-clause-answers g c =
     (told (get_reply (is_alone old) c.get.result) (λ reply. IsAnswered z old s reply new) c.get_reply.result (some_plain z old new s (get_reply (is_alone old) c.get.result) refl (none_read old s refl refl (subst (MayAsk old) c.in-Get.is c.requires.may)) c.get.ensures.cursor c.get.ensures.reply)
     (subst (λ b. IfOk c.get_reply.result (λ reply. get_reply b c.get.result ≡ Some reply)) alone c.get_reply.ensures))
 
-pub returns-in_ok-row-in-Put-clause-answers : goal.returns-in_ok-row-in-Put-clause-answers
-returns-in_ok-row-in-Put-clause-answers g c =
+pub returns-in-Put-clause-answers : goal.returns-in-Put-clause-answers
+returns-in-Put-clause-answers g c =
     let z = engine_sizes c.args.engine.now in
     let old = c.args.session.now in
     let new = c.put.new.self in
-    let s = Put c.in-Put.rid c.in_ok-row-in-Put.row in
+    let s = Put c.in-Put.rid c.in-Put.row in
     let alone : not c.is_open-alone.result ≡ is_alone old = ap not (c.is_open-alone.ensures c.args.engine.now c.requires.own) ∙ none_is (open_of old) in
-    let same : c.args.statement.now ≡ Put c.in-Put.rid c.in_ok-row-in-Put.row = c.in-Put.is ∙ ap (Put c.in-Put.rid) (sym c.in_ok-row-in-Put.ensures.same) in
-    subst (λ s. IfOk c.put_reply.result (λ reply. IsAnswered z old s reply new)) (sym same)
-    (told (put_reply (is_alone old) c.put.result) (λ reply. IsAnswered z old s reply new) c.put_reply.result (some_plain z old new s (put_reply (is_alone old) c.put.result) refl (none_read old s refl refl (subst (MayAsk old) same c.requires.may)) c.put.ensures.cursor c.put.ensures.reply)
+    subst (λ s. IfOk c.put_reply.result (λ reply. IsAnswered z old s reply new)) (sym c.in-Put.is)
+    (told (put_reply (is_alone old) c.put.result) (λ reply. IsAnswered z old s reply new) c.put_reply.result (some_plain z old new s (put_reply (is_alone old) c.put.result) refl (none_read old s refl refl (subst (MayAsk old) c.in-Put.is c.requires.may)) c.put.ensures.cursor c.put.ensures.reply)
     (subst (λ b. IfOk c.put_reply.result (λ reply. put_reply b c.put.result ≡ Some reply)) alone c.put_reply.ensures))
 
 pub returns-in-Del-clause-answers : goal.returns-in-Del-clause-answers
@@ -75,9 +74,9 @@ pub returns-in-Get-clause-number : goal.returns-in-Get-clause-number
 returns-in-Get-clause-number g c =
     number_got (engine_sizes c.args.engine.now) (Get c.in-Get.rid) (view_of c.args.session.now) (view_of c.get.new.self) (open_of c.args.session.now) c.in-Get.rid.table c.in-Get.rid.key c.in-Get.rid.key (is_alone c.args.session.now) c.get.result c.get.ensures.reply c.get.ensures.refused
 
-pub returns-in_ok-row-in-Put-clause-number : goal.returns-in_ok-row-in-Put-clause-number
-returns-in_ok-row-in-Put-clause-number g c =
-    number_put (engine_sizes c.args.engine.now) (Put c.in-Put.rid c.in_ok-row-in-Put.row) (view_of c.args.session.now) (view_of c.put.new.self) (open_of c.args.session.now) c.in-Put.rid (record { row = Some c.in_ok-row-in-Put.row }) (is_alone c.args.session.now) c.put.result c.put.ensures.reply c.put.ensures.refused
+pub returns-in-Put-clause-number : goal.returns-in-Put-clause-number
+returns-in-Put-clause-number g c =
+    number_put (engine_sizes c.args.engine.now) (Put c.in-Put.rid c.in-Put.row) (view_of c.args.session.now) (view_of c.put.new.self) (open_of c.args.session.now) c.in-Put.rid (record { row = Some c.in-Put.row }) (is_alone c.args.session.now) c.put.result c.put.ensures.reply c.put.ensures.refused
 
 pub returns-in-Del-clause-number : goal.returns-in-Del-clause-number
 returns-in-Del-clause-number g c =

@@ -14,7 +14,7 @@ use Rattle.hg_run.proofs.play.reply_at.Goals as goal
 
 pub returns-in-Some-clause-replied : goal.returns-in-Some-clause-replied
 returns-in-Some-clause-replied g c =
-    subst (λ s. IfOk c.sweep.result (λ reply. Replies c.args.engine.now c.args.list.now.items c.args.i s reply c.sweep.new.list.items)) (sym (gc_is c.args.statement.now c.in-Some.kind (sym c.asked.ensures ∙ c.in-Some.is))) c.sweep.ensures.replied
+    subst (λ s. IfOk c.sweep.result (λ reply. Replies c.args.engine.now c.args.list.now.items c.args.i s reply c.sweep.new.list.items)) (sym (gc_is c.args.statement c.in-Some.kind (sym c.asked.ensures ∙ c.in-Some.is))) c.sweep.ensures.replied
 
 pub returns-in-Some-clause-ready : goal.returns-in-Some-clause-ready
 returns-in-Some-clause-ready g c =
@@ -28,9 +28,9 @@ returns-in-None-clause-removed g c =
     let e = c.args.engine.now in
     let old = c.args.list.now.items in
     let new = c.answer.new.list.items in
-    let other : collector_asked c.args.statement.now ≡ None = search rules in
-    if_ok (λ reply. Replies e old c.args.i c.args.statement.now reply new) (λ reply. (k : Kind) → removed_of k c.args.collectors.now ≡ removed_of k c.args.collectors.now + told_of k reply) c.answer.result
-    (λ reply h k. let none = none_told e 0 (reads_in old) (rests_in old) old c.args.i c.args.statement.now reply new other (h 0 (reads_in old) (rests_in old) (λ d. inl refl) (any_cursors old)) k in omega (arith, none)) c.answer.ensures.replied
+    let other : collector_asked c.args.statement ≡ None = search rules in
+    if_ok (λ reply. Replies e old c.args.i c.args.statement reply new) (λ reply. (k : Kind) → removed_of k c.args.collectors.now ≡ removed_of k c.args.collectors.now + told_of k reply) c.answer.result
+    (λ reply h k. let none = none_told e 0 (reads_in old) (rests_in old) old c.args.i c.args.statement reply new other (h 0 (reads_in old) (rests_in old) (λ d. inl refl) (any_cursors old)) k in omega (arith, none)) c.answer.ensures.replied
 
 pub returns-in-None-clause-rounds : goal.returns-in-None-clause-rounds
 returns-in-None-clause-rounds g c =
@@ -38,6 +38,6 @@ returns-in-None-clause-rounds g c =
     let z = engine_sizes e in
     let old = c.args.list.now.items in
     let new = c.answer.new.list.items in
-    let other : collector_asked c.args.statement.now ≡ None = search rules in
-    if_ok (λ reply. Replies e old c.args.i c.args.statement.now reply new) (λ reply. HaveMade z c.args.long c.args.collectors.now (λ k. sweeps_in k reply) c.args.collectors.now) c.answer.result
-    (λ reply h. made_none z c.args.long c.args.collectors.now reply (none_reported e 0 (reads_in old) (rests_in old) old c.args.i c.args.statement.now reply new other (h 0 (reads_in old) (rests_in old) (λ d. inl refl) (any_cursors old)))) c.answer.ensures.replied
+    let other : collector_asked c.args.statement ≡ None = search rules in
+    if_ok (λ reply. Replies e old c.args.i c.args.statement reply new) (λ reply. HaveMade z c.args.long c.args.collectors.now (λ k. sweeps_in k reply) c.args.collectors.now) c.answer.result
+    (λ reply h. made_none z c.args.long c.args.collectors.now reply (none_reported e 0 (reads_in old) (rests_in old) old c.args.i c.args.statement reply new other (h 0 (reads_in old) (rests_in old) (λ d. inl refl) (any_cursors old)))) c.answer.ensures.replied

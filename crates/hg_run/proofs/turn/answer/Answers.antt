@@ -24,13 +24,13 @@ pub show-requires-clause-ready : goal.show-requires-clause-ready
 show-requires-clause-ready g c =
     let m = c.in_ok-reply.ensures in
     let any = any_rest_at c.args.list.now.items c.args.i c.requires.ready.within in
-    ready_asked c.args.engine.now c.args.i any.0 none_left c.args.statement.now c.in_ok-reply.reply c.args.list.now.items c.ask_at.new.list.items (has_asked c.args.engine.now c.args.i any.0 c.args.statement.now c.in_ok-reply.reply c.args.list.now.items c.ask_at.new.list.items m.many m.answers m.left m.rest m.own any.1) c.requires.ready
+    ready_asked c.args.engine.now c.args.i any.0 none_left c.args.statement c.in_ok-reply.reply c.args.list.now.items c.ask_at.new.list.items (has_asked c.args.engine.now c.args.i any.0 c.args.statement c.in_ok-reply.reply c.args.list.now.items c.ask_at.new.list.items m.many m.answers m.left m.rest m.own any.1) c.requires.ready
 
 pub show-requires-clause-other : goal.show-requires-clause-other
 show-requires-clause-other g c writer is =
     let m = c.in_ok-reply.ensures in
     let any = any_rest_at c.args.list.now.items c.args.i c.requires.ready.within in
-    other_asked c.args.engine.now c.args.i any.0 c.args.statement.now c.in_ok-reply.reply c.args.list.now.items c.ask_at.new.list.items (one_more (suc c.args.i) none_left) (has_asked c.args.engine.now c.args.i any.0 c.args.statement.now c.in_ok-reply.reply c.args.list.now.items c.ask_at.new.list.items m.many m.answers m.left m.rest m.own any.1) c.requires.ready writer is
+    other_asked c.args.engine.now c.args.i any.0 c.args.statement c.in_ok-reply.reply c.args.list.now.items c.ask_at.new.list.items (one_more (suc c.args.i) none_left) (has_asked c.args.engine.now c.args.i any.0 c.args.statement c.in_ok-reply.reply c.args.list.now.items c.ask_at.new.list.items m.many m.answers m.left m.rest m.own any.1) c.requires.ready writer is
 
 pub returns-clause-replied : goal.returns-clause-replied
 returns-clause-replied g c seen reads rest saw have =
@@ -39,7 +39,7 @@ returns-clause-replied g c seen reads rest saw have =
     let old = c.args.list.now.items in
     let mid = c.ask_at.new.list.items in
     let new = c.show.new.list.items in
-    let s = c.args.statement.now in
+    let s = c.args.statement in
     let reply = c.in_ok-reply.reply in
     let m = c.in_ok-reply.ensures in
     let r = c.requires.ready in
@@ -59,7 +59,7 @@ pub returns-clause-ready : goal.returns-clause-ready
 returns-clause-ready g c left r =
     let m = c.in_ok-reply.ensures in
     let any = any_rest_at c.args.list.now.items c.args.i c.requires.ready.within in
-    c.show.ensures.ready left (ready_asked c.args.engine.now c.args.i any.0 left c.args.statement.now c.in_ok-reply.reply c.args.list.now.items c.ask_at.new.list.items (has_asked c.args.engine.now c.args.i any.0 c.args.statement.now c.in_ok-reply.reply c.args.list.now.items c.ask_at.new.list.items m.many m.answers m.left m.rest m.own any.1) r)
+    c.show.ensures.ready left (ready_asked c.args.engine.now c.args.i any.0 left c.args.statement c.in_ok-reply.reply c.args.list.now.items c.ask_at.new.list.items (has_asked c.args.engine.now c.args.i any.0 c.args.statement c.in_ok-reply.reply c.args.list.now.items c.ask_at.new.list.items m.many m.answers m.left m.rest m.own any.1) r)
 
 pub returns-in_err-reply-clause-placed : goal.returns-in_err-reply-clause-placed
 returns-in_err-reply-clause-placed g c =

@@ -7,4 +7,4 @@ pub ask-requires-clause-may : goal.ask-requires-clause-may
 ask-requires-clause-may g c =
     let d = c.index_mut.result.now in
     let same : get_or c.args.list.now.items c.args.i d ≡ d = search rules in
-    subst (λ s. MayAsk s c.args.statement.now) same (c.requires.may d)
+    subst (λ s. MayAsk s c.args.statement) same (c.requires.may d)
