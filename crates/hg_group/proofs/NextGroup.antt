@@ -24,20 +24,21 @@ use Rattle.hg_rule.specs.Removes.{Takes, taking}
 use Rattle.hg_rule.specs.Rounds.{seen_taken}
 use Rattle.hg_rule.proofs.Growing.{among_later}
 use Rattle.hg_rule.proofs.Rounds.{taken_append}
+use Rattle.hg_queue.specs.Rids.{Rids}
 use Rattle.hg_group.specs.declared.context.GroupContext.{GroupContext}
-use Rattle.hg_group.specs.Contexts.{IsContextOf, EachContextOf, AreContexts}
+use Rattle.hg_group.specs.Contexts.{IsContextOf, context_of, EachContextOf, AreContexts}
 use Rattle.hg_group.specs.Oldest.{IsNext, AreNext, records_of, takes_by, TakesNext, TakesOldest, TakesSome, PopsBelow, PopsNext, PopsSome}
 use Rattle.hg_group.proofs.Contexts.{drop_length}
 
 -- ---- contexts
 
-as_many : (n : ℕ) (gs : List Group) (cs : List GroupContext) → EachContextOf n gs cs → length cs ≡ length gs
+as_many : (n : ℕ) (gs : List Group) (cs : List Rids) → EachContextOf n gs cs → length cs ≡ length gs
 as_many n [] [] h = refl
 as_many n [] (c ∷ cs) h = absurd h
 as_many n (g ∷ gs) [] h = absurd h
 as_many n (g ∷ gs) (c ∷ cs) h = ap suc (as_many (suc n) gs cs h.1)
 
-pub contexts_left : (h : History) (taken : ℕ) (cs : List GroupContext) → taken ≤ length h → AreContexts h taken cs → taken + length cs ≡ length h
+pub contexts_left : (h : History) (taken : ℕ) (cs : List Rids) → taken ≤ length h → AreContexts h taken cs → taken + length cs ≡ length h
 contexts_left h taken cs le are = omega (arith, drop_length taken h le, as_many (suc taken) (drop taken h) cs are)
 
 drop_next : (k : ℕ) (h later : History) (g : Group) → drop k h ≡ g ∷ later → drop (suc k) h ≡ later
@@ -46,14 +47,13 @@ drop_next zero (f ∷ h) later g e = ap (drop 1) e
 drop_next (suc k) [] later g e = ap (drop 1) e
 drop_next (suc k) (f ∷ h) later g e = drop_next k h later g e
 
-first_context : (n : ℕ) (gs : List Group) (c : GroupContext) (cs : List GroupContext) → EachContextOf n gs (c ∷ cs) → (g : Group) × ((later : List Group) × ((gs ≡ g ∷ later) × (IsContextOf n g c × EachContextOf (suc n) later cs)))
+first_context : (n : ℕ) (gs : List Group) (c : Rids) (cs : List Rids) → EachContextOf n gs (c ∷ cs) → (g : Group) × ((later : List Group) × ((gs ≡ g ∷ later) × (IsContextOf n g (context_of n c) × EachContextOf (suc n) later cs)))
 first_context n [] c cs h = absurd h
 first_context n (g ∷ gs) c cs h = (g, (gs, (refl, (h.0, h.1))))
 
-pub pops : (v w : View) (bound mark : ℕ) (cs rest : List GroupContext) (o : Option GroupContext) → cs ≡ option_to_list o ++ rest → IsSome o → (commit v).taken < bound → AreContexts (commit v).history.list (commit v).taken cs → Takes v mark w
-    → PopsBelow v bound o w × AreContexts (commit w).history.list (commit w).taken rest
-pops v w bound mark cs rest None items some below are takes = absurd cc
-pops v w bound mark cs rest (Some c) items some below are takes =
+pub pops : (v w : View) (bound mark : ℕ) (cs rest : List Rids) (c : Rids) → cs ≡ c ∷ rest → (commit v).taken < bound → AreContexts (commit v).history.list (commit v).taken cs → Takes v mark w
+    → PopsBelow v bound (Some (context_of (suc (commit v).taken) c)) w × AreContexts (commit w).history.list (commit w).taken rest
+pops v w bound mark cs rest c items below are takes =
     let h = (commit v).history.list in
     let n = (commit v).taken in
     let f = first_context (suc n) (drop n h) c rest (subst (AreContexts h n) items are) in

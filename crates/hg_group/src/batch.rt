@@ -9,7 +9,6 @@ ghost use Rattle.hg_group.specs.Leading.{IsKept, Leads};
 ghost use Rattle.hg_group.specs.Turns.{TakesTurn};
 
 use crate::book::Book;
-use crate::context::GroupContext;
 use crate::gathering::gather;
 use crate::laying::lay;
 use crate::records::{join_records, make_room};
@@ -91,6 +90,6 @@ pub(crate) fn lead<R: Wait>(
     lay(board, pass, &mut desk.laid, desk.popped.as_slice(), number, desk.count);
     desk.count += desk.popped.len() as u64;
     let records = join_records(&mut desk.popped);
-    desk.contexts.push_back_reserved(GroupContext { number, records });
+    desk.contexts.push_back_reserved(records);
     Batches { seat, line, book }
 }

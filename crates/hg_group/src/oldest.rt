@@ -10,6 +10,7 @@ ghost use Rattle.hg_group.specs.Oldest.{TakesOldest, TakesSome, PopsBelow, PopsS
 use crate::context::GroupContext;
 use crate::group_list::GroupList;
 use hg_base::Rid;
+use hg_queue::RidList;
 use hg_rule::{Board, CollectorPass};
 use std::collections::VecDeque;
 use std::sync::Wait;
@@ -19,7 +20,7 @@ use std::sync::Wait;
 fn pop_below(
     board: &Board,
     pass: &mut CollectorPass,
-    contexts: &mut VecDeque<GroupContext>,
+    contexts: &mut VecDeque<RidList>,
     mark: u64,
     bound: u64,
 ) -> Option<GroupContext>
@@ -38,7 +39,13 @@ fn pop_below(
         return None;
     }
     board.take_group(pass);
-    contexts.pop_front()
+    let Some(records) = contexts.pop_front() else {
+        unreachable!();
+    };
+    Some(GroupContext {
+        number: taken + 1,
+        records,
+    })
 }
 
 // Puts these records behind those that are there. No memory is taken.
@@ -55,7 +62,7 @@ fn push_all(into: &mut Vec<Rid>, rids: &[Rid])
 fn pop_some(
     board: &Board,
     pass: &mut CollectorPass,
-    contexts: &mut VecDeque<GroupContext>,
+    contexts: &mut VecDeque<RidList>,
     into: &mut Vec<Rid>,
     mark: u64,
     bound: u64,

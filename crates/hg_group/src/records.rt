@@ -4,7 +4,6 @@ ghost use Rattle.std.specs.Prelude.{◌≡◌, ℕ, ◌<◌, [], length, vec_cap
 ghost use Rattle.std.specs.VecDeque.{deque_capacity};
 ghost use Rattle.hg_group.specs.Batch.{all_records, with_room, HasRoomForAll};
 
-use crate::context::GroupContext;
 use hg_base::NoMemory;
 use hg_queue::{OpenTx, RidList};
 use std::collections::VecDeque;
@@ -23,7 +22,7 @@ fn count_records(popped: &[OpenTx]) -> Option<usize>
 /// Room for one context more, and in the first transaction's list for the records of the others. A transaction alone needs none
 /// there.
 pub(crate) fn make_room(
-    contexts: &mut VecDeque<GroupContext>,
+    contexts: &mut VecDeque<RidList>,
     popped: &mut Vec<OpenTx>,
 ) -> Result<(), NoMemory>
     requires some { 0 < length popped.old.items }

@@ -11,7 +11,7 @@ use Rattle.hg_rule.specs.Seats.{board_id, sizes_of, session_view, commit_view}
 use Rattle.hg_queue.specs.declared.open_tx.OpenTx.{OpenTx}
 use Rattle.hg_queue.specs.Queues.{known}
 use Rattle.hg_core.specs.Commits.{commits_in}
-use Rattle.hg_group.specs.Contexts.{AreContexts}
+use Rattle.hg_group.specs.Contexts.{context_of, AreContexts}
 use Rattle.hg_group.specs.Order.{FollowsQueue}
 use Rattle.hg_group.specs.Places.{part_in}
 use Rattle.hg_group.specs.Batch.{AreTaken, all_records, HasGroup, pair_in, with_room}
@@ -27,7 +27,7 @@ use Rattle.hg_rule.specs.Rules.{HasRoom, IsBacked}
 use Rattle.hg_group.proofs.Bound.{count_most}
 use Rattle.hg_group.proofs.Joint.{in_hand, taken_whose, after_is, none_after, taken_after, has_group, has_batch}
 use Rattle.hg_core.proofs.Groups.{length_more}
-use Rattle.hg_group.specs.declared.context.GroupContext.{GroupContext}
+use Rattle.hg_queue.specs.Rids.{Rids}
 use Rattle.hg_group.proofs.Booked.{booked_kept}
 use Rattle.hg_group.proofs.Contexts.{contexts_more}
 use Rattle.hg_group.proofs.Collecting.{group_context}
@@ -130,8 +130,8 @@ returns-clause-kept g c =
     let taken_is : (part_in c.split_commit-seat-2.result).taken ≡ part.taken = ap (λ (q : CommitPart). q.taken) part_is ∙ taken_after v w (session_view c.stamp_batch.new.pass) y u part h.ms txs n o c.stamp_batch.ensures.stamped c.publish.ensures.step c.split_commit-seat-2.ensures.view in
     let long : length part.history.list ≡ c.join_commit-number.result = ap (λ (q : CommitPart). length q.history.list) (sym o.commit_is) ∙ c.join_commit-number.ensures.mark.is_length in
     let next : n ≡ suc (length part.history.list) = omega (arith, long) in
-    let context : GroupContext = record { number = n; records = c.join_records-records.result } in
-    let listed : c.push_back_reserved.new.self.items ≡ c.deref_mut-desk.result.now.contexts.items ++ context ∷ [] = c.push_back_reserved.ensures.items ∙ ap (λ l. l ++ context ∷ []) c.make_room.ensures.same in
+    let records = c.join_records-records.result in
+    let listed : c.push_back_reserved.new.self.items ≡ c.deref_mut-desk.result.now.contexts.items ++ records ∷ [] = c.push_back_reserved.ensures.items ∙ ap (λ l. l ++ records ∷ []) c.make_room.ensures.same in
     let many : length (group_of h.ms) ≡ length txs = group_length h.ms ∙ whose_length txs h.ms (taken_whose txs h.ms taken) in
     let more : c.deref_mut-desk.result.now.count + length txs ≡ commits_in (part.history.list ++ group_of h.ms ∷ []) = (λ i. kept.count_is i + sym many i) ∙ sym (commits_more part.history.list (group_of h.ms)) in
     let pairs : (known c.gather.new.line).pairs ≡ (known c.args.kept.line).pairs ++ map pair_in txs = h.pairs ∙ ap (λ l. (known c.args.kept.line).pairs ++ l) (sym (pairs_room c.make_room.ensures.whole.0 c.gather.new.popped.items) ∙ ap (map pair_in) (sym c.make_room.ensures.whole.1 ∙ sym c.as_slice.ensures.value)) in
@@ -140,7 +140,7 @@ returns-clause-kept g c =
         seat = c.split_commit-seat-2.ensures.commit;
         unstamped = ap (λ (q : CommitPart). q.stamped) part_is ∙ none_after v w (session_view c.stamp_batch.new.pass) y u part h.ms txs n o c.stamp_batch.ensures.stamped c.publish.ensures.step c.split_commit-seat-2.ensures.view;
         taken = low part.taken (length part.history.list) (part_in c.split_commit-seat-2.result).taken (length (part_in c.split_commit-seat-2.result).history.list) kept.taken taken_is (ap length history ∙ length_more part.history.list (group_of h.ms));
-        contexts_are = subst (λ (x : History × (ℕ × List GroupContext)). AreContexts x.0 x.1.0 x.1.1) (λ i. (sym history i, (sym taken_is i, sym listed i))) (contexts_more part.history.list part.taken c.deref_mut-desk.result.now.contexts.items (group_of h.ms) context kept.taken kept.contexts_are (group_context (sizes_of c.args.board.now) c.join_commit-number.result w c.join_commit-number.ensures.backed (Away (number v) (session v) (since v)) part h.ms o.parts c.gather.new.popped.items h.taken (suc (length part.history.list)) context next (c.join_records-records.ensures.records ∙ (ap all_records c.make_room.ensures.whole.1 ∙ records_room c.make_room.ensures.whole.0 c.gather.new.popped.items))));
+        contexts_are = subst (λ (x : History × (ℕ × List Rids)). AreContexts x.0 x.1.0 x.1.1) (λ i. (sym history i, (sym taken_is i, sym listed i))) (contexts_more part.history.list part.taken c.deref_mut-desk.result.now.contexts.items (group_of h.ms) records kept.taken kept.contexts_are (group_context (sizes_of c.args.board.now) c.join_commit-number.result w c.join_commit-number.ensures.backed (Away (number v) (session v) (since v)) part h.ms o.parts c.gather.new.popped.items h.taken (suc (length part.history.list)) (context_of (suc (length part.history.list)) records) refl (c.join_records-records.ensures.records ∙ (ap all_records c.make_room.ensures.whole.1 ∙ records_room c.make_room.ensures.whole.0 c.gather.new.popped.items))));
         count_is = search rules;
         follows = subst (λ (hs : History). FollowsQueue hs (known c.gather.new.line).pairs) (sym history) (subst (FollowsQueue (part.history.list ++ group_of h.ms ∷ [])) (sym pairs) follows);
         line = (c.gather.ensures.line.1, (c.gather.ensures.line.2, c.gather.ensures.line.3));
@@ -194,7 +194,7 @@ returns-in_default-clause-kept g c =
         seat = c.split_commit-seat.ensures.commit;
         unstamped = ap (λ (q : CommitPart). q.stamped) same ∙ kept.unstamped;
         taken = subst (λ (q : CommitPart). q.taken ≤ length q.history.list) (sym same) kept.taken;
-        contexts_are = subst (λ (x : CommitPart × List GroupContext). AreContexts x.0.history.list x.0.taken x.1) (λ i. (sym same i, sym c.make_room.ensures.same i)) kept.contexts_are;
+        contexts_are = subst (λ (x : CommitPart × List Rids). AreContexts x.0.history.list x.0.taken x.1) (λ i. (sym same i, sym c.make_room.ensures.same i)) kept.contexts_are;
         count_is = kept.count_is ∙ ap (λ (q : CommitPart). commits_in q.history.list) (sym same);
         follows = subst (λ (q : CommitPart). FollowsQueue q.history.list (known c.gather.new.line).pairs) (sym same) (subst (FollowsQueue part.history.list) (sym h.pairs) follows);
         line = (c.gather.ensures.line.1, (c.gather.ensures.line.2, c.gather.ensures.line.3));
