@@ -73,23 +73,27 @@ pub(crate) fn lead<R: Wait>(
         mut line,
         mut book,
     } = kept;
-    let desk = &mut *book;
-    gather(rt, board, queue, pass, &mut line, &mut desk.popped, sessions);
-    if desk.popped.is_empty() {
+    let Book {
+        popped,
+        laid,
+        contexts,
+        count,
+    } = &mut *book;
+    gather(rt, board, queue, pass, &mut line, popped, sessions);
+    if popped.is_empty() {
         return Batches { seat, line, book };
     }
     let number = board.join_commit(pass, seat) + 1;
-    let Ok(()) = make_room(&mut desk.contexts, &mut desk.popped) else {
+    let Ok(()) = make_room(contexts, popped) else {
         let seat = board.split_commit(pass);
-        lay_back(board, pass, &mut desk.laid, &mut desk.popped);
+        lay_back(board, pass, laid, popped);
         return Batches { seat, line, book };
     };
-    stamp_batch(rt, board, store, pass, desk.popped.as_slice(), number);
+    stamp_batch(rt, board, store, pass, popped.as_slice(), number);
     board.publish(pass, number);
     let seat = board.split_commit(pass);
-    lay(board, pass, &mut desk.laid, desk.popped.as_slice(), number, desk.count);
-    desk.count += desk.popped.len() as u64;
-    let records = join_records(&mut desk.popped);
-    desk.contexts.push_back_reserved(records);
+    lay(board, pass, laid, popped.as_slice(), number, *count);
+    *count += popped.len() as u64;
+    contexts.push_back_reserved(join_records(popped));
     Batches { seat, line, book }
 }
