@@ -10,7 +10,7 @@ use hg_queue::{Handed, OpenTx, Queue, QueuePass};
 use hg_rule::{Board, SessionPass};
 use std::sync::Wait;
 
-/// Pops until the queue is empty, and at most so many. What was handed over comes to the pass.
+/// Pops until the queue seems empty, and at most so many. What was handed over comes to the pass.
 pub(crate) fn gather<R: Wait>(
     rt: &R,
     board: &Board,
@@ -36,5 +36,8 @@ pub(crate) fn gather<R: Wait>(
         let Handed { tx, seat } = handed;
         board.receive(pass, seat);
         popped.push_reserved(tx);
+        if queue.is_empty(rt, line) {
+            return;
+        }
     }
 }

@@ -81,6 +81,17 @@ impl Queue {
     {
         self.line.pop_as::<Popping, R>(rt, &mut pass.pass)
     }
+
+    /// Whether nothing seems to wait. It moves no transaction, so it costs less than a `pop` that answers None. The pass knows what
+    /// it knew before: no clause says that the queue was empty, nor that it was not.
+    pub fn is_empty<R: Wait>(&self, rt: &R, pass: &mut QueuePass) -> bool
+        requires own { IsPassOf self.now pass.old }
+        requires pops { MayPop (known pass.old) }
+        ensures same { known pass.new ≡ known pass.old }
+        ensures own { IsPassOf self.now pass.new }
+    {
+        self.line.len_as::<Popping, R>(rt, &mut pass.pass) == 0
+    }
 }
 
 impl Drop for Queue {

@@ -80,9 +80,9 @@ lay-requires-clause-group g c =
     let long : length part.history.list ≡ mark = ap (λ (q : CommitPart). length q.history.list) (sym o.commit_is) ∙ c.join_commit-number.ensures.mark.is_length in
     let next : n ≡ suc (length part.history.list) = omega (arith, long) in
     let taken : AreTaken c.as_slice.result.now h.ms = subst (λ l. AreTaken l h.ms) (sym c.as_slice.ensures.value) (roomy c.make_room.new.popped.items c.gather.new.popped.items h.ms c.make_room.ensures.whole h.taken) in
-    subst (λ l. HasGroup (sizes_of c.args.board.now).sessions (session_view c.split_commit-seat-2.new.pass) l n c.deref_mut-desk.result.now.count) (c.as_slice.ensures.value ∙ sym c.as_slice-2.ensures.value)
+    subst (λ l. HasGroup (sizes_of c.args.board.now).sessions (session_view c.split_commit-seat-2.new.pass) l n c.deref_mut.result.now.count) (c.as_slice.ensures.value ∙ sym c.as_slice-2.ensures.value)
     (has_group v w (session_view c.stamp_batch.new.pass) (session_view c.publish.new.pass) (session_view c.split_commit-seat-2.new.pass) part h.ms c.as_slice.result.now n o c.stamp_batch.ensures.stamped c.publish.ensures.step c.split_commit-seat-2.ensures.view
-    (sizes_of c.args.board.now) mark c.deref_mut-desk.result.now.count c.join_commit-number.ensures.backed taken next (booked_kept (board_id c.args.board.now) (sizes_of c.args.board.now).sessions c.args.kept c.deref_mut-desk.result.now c.deref_mut-desk.ensures.value c.requires.kept.0).count_is)
+    (sizes_of c.args.board.now) mark c.deref_mut.result.now.count c.join_commit-number.ensures.backed taken next (booked_kept (board_id c.args.board.now) (sizes_of c.args.board.now).sessions c.args.kept c.deref_mut.result.now c.deref_mut.ensures.value c.requires.kept.0).count_is)
 
 pub returns-then-is_empty-clause-turn : goal.returns-then-is_empty-clause-turn
 returns-then-is_empty-clause-turn g c = record { steps = []; events = c.gather.ensures.gathered.events ∙ sym (append-nil (session_view c.args.pass.now).events); whole = inl ([], refl) }
@@ -104,9 +104,9 @@ returns-clause-turn g c =
     let next : n ≡ suc (length part.history.list) = omega (arith, long) in
     let z = (sizes_of c.args.board.now).sessions in
     let taken : AreTaken c.as_slice.result.now h.ms = subst (λ l. AreTaken l h.ms) (sym c.as_slice.ensures.value) (roomy c.make_room.new.popped.items c.gather.new.popped.items h.ms c.make_room.ensures.whole h.taken) in
-    let group : HasGroup z u c.as_slice-2.result.now n c.deref_mut-desk.result.now.count = subst (λ l. HasGroup z u l n c.deref_mut-desk.result.now.count) (c.as_slice.ensures.value ∙ sym c.as_slice-2.ensures.value)
-    (has_group v w x y u part h.ms c.as_slice.result.now n o s c.publish.ensures.step c.split_commit-seat-2.ensures.view (sizes_of c.args.board.now) mark c.deref_mut-desk.result.now.count c.join_commit-number.ensures.backed taken next (booked_kept (board_id c.args.board.now) (sizes_of c.args.board.now).sessions c.args.kept c.deref_mut-desk.result.now c.deref_mut-desk.ensures.value c.requires.kept.0).count_is) in
-    published_whole v w x y u (session_view c.lay.new.pass) s.steps n c.deref_mut-desk.result.now.count z c.as_slice-2.result.now
+    let group : HasGroup z u c.as_slice-2.result.now n c.deref_mut.result.now.count = subst (λ l. HasGroup z u l n c.deref_mut.result.now.count) (c.as_slice.ensures.value ∙ sym c.as_slice-2.ensures.value)
+    (has_group v w x y u part h.ms c.as_slice.result.now n o s c.publish.ensures.step c.split_commit-seat-2.ensures.view (sizes_of c.args.board.now) mark c.deref_mut.result.now.count c.join_commit-number.ensures.backed taken next (booked_kept (board_id c.args.board.now) (sizes_of c.args.board.now).sessions c.args.kept c.deref_mut.result.now c.deref_mut.ensures.value c.requires.kept.0).count_is) in
+    published_whole v w x y u (session_view c.lay.new.pass) s.steps n c.deref_mut.result.now.count z c.as_slice-2.result.now
     (ap (λ (t : View). t.events) c.join_commit-number.ensures.view ∙ h.events) s.only s.events (ap (λ (t : View). t.events) c.publish.ensures.step.1) (ap (λ (t : View). t.events) c.split_commit-seat-2.ensures.view) group c.lay.ensures.all
 
 low : (a h b k : ℕ) → a ≤ h → b ≡ a → k ≡ suc h → b ≤ k
@@ -116,7 +116,7 @@ pub returns-clause-kept : goal.returns-clause-kept
 returns-clause-kept g c =
     let v = session_view c.args.pass.now in
     let h = c.gather.ensures.gathered in
-    let kept = booked_kept (board_id c.args.board.now) (sizes_of c.args.board.now).sessions c.args.kept c.deref_mut-desk.result.now c.deref_mut-desk.ensures.value c.requires.kept.0 in
+    let kept = booked_kept (board_id c.args.board.now) (sizes_of c.args.board.now).sessions c.args.kept c.deref_mut.result.now c.deref_mut.ensures.value c.requires.kept.0 in
     let part = part_in c.args.kept.seat in
     let w = session_view c.join_commit-number.new.pass in
     let y = session_view c.publish.new.pass in
@@ -130,21 +130,21 @@ returns-clause-kept g c =
     let taken_is : (part_in c.split_commit-seat-2.result).taken ≡ part.taken = ap (λ (q : CommitPart). q.taken) part_is ∙ taken_after v w (session_view c.stamp_batch.new.pass) y u part h.ms txs n o c.stamp_batch.ensures.stamped c.publish.ensures.step c.split_commit-seat-2.ensures.view in
     let long : length part.history.list ≡ c.join_commit-number.result = ap (λ (q : CommitPart). length q.history.list) (sym o.commit_is) ∙ c.join_commit-number.ensures.mark.is_length in
     let next : n ≡ suc (length part.history.list) = omega (arith, long) in
-    let records = c.join_records-records.result in
-    let listed : c.push_back_reserved.new.self.items ≡ c.deref_mut-desk.result.now.contexts.items ++ records ∷ [] = c.push_back_reserved.ensures.items ∙ ap (λ l. l ++ records ∷ []) c.make_room.ensures.same in
+    let records = c.join_records.result in
+    let listed : c.push_back_reserved.new.self.items ≡ c.deref_mut.result.now.contexts.items ++ records ∷ [] = c.push_back_reserved.ensures.items ∙ ap (λ l. l ++ records ∷ []) c.make_room.ensures.same in
     let many : length (group_of h.ms) ≡ length txs = group_length h.ms ∙ whose_length txs h.ms (taken_whose txs h.ms taken) in
-    let more : c.deref_mut-desk.result.now.count + length txs ≡ commits_in (part.history.list ++ group_of h.ms ∷ []) = (λ i. kept.count_is i + sym many i) ∙ sym (commits_more part.history.list (group_of h.ms)) in
+    let more : c.deref_mut.result.now.count + length txs ≡ commits_in (part.history.list ++ group_of h.ms ∷ []) = (λ i. kept.count_is i + sym many i) ∙ sym (commits_more part.history.list (group_of h.ms)) in
     let pairs : (known c.gather.new.line).pairs ≡ (known c.args.kept.line).pairs ++ map pair_in txs = h.pairs ∙ ap (λ l. (known c.args.kept.line).pairs ++ l) (sym (pairs_room c.make_room.ensures.whole.0 c.gather.new.popped.items) ∙ ap (map pair_in) (sym c.make_room.ensures.whole.1 ∙ sym c.as_slice.ensures.value)) in
     let follows = follows_group (sizes_of c.args.board.now) c.join_commit-number.result w c.join_commit-number.ensures.backed (Away (number v) (session v) (since v)) part h.ms o.parts txs taken (known c.args.kept.line).pairs kept.follows in (
       record {
         seat = c.split_commit-seat-2.ensures.commit;
         unstamped = ap (λ (q : CommitPart). q.stamped) part_is ∙ none_after v w (session_view c.stamp_batch.new.pass) y u part h.ms txs n o c.stamp_batch.ensures.stamped c.publish.ensures.step c.split_commit-seat-2.ensures.view;
         taken = low part.taken (length part.history.list) (part_in c.split_commit-seat-2.result).taken (length (part_in c.split_commit-seat-2.result).history.list) kept.taken taken_is (ap length history ∙ length_more part.history.list (group_of h.ms));
-        contexts_are = subst (λ (x : History × (ℕ × List Rids)). AreContexts x.0 x.1.0 x.1.1) (λ i. (sym history i, (sym taken_is i, sym listed i))) (contexts_more part.history.list part.taken c.deref_mut-desk.result.now.contexts.items (group_of h.ms) records kept.taken kept.contexts_are (group_context (sizes_of c.args.board.now) c.join_commit-number.result w c.join_commit-number.ensures.backed (Away (number v) (session v) (since v)) part h.ms o.parts c.gather.new.popped.items h.taken (suc (length part.history.list)) (context_of (suc (length part.history.list)) records) refl (c.join_records-records.ensures.records ∙ (ap all_records c.make_room.ensures.whole.1 ∙ records_room c.make_room.ensures.whole.0 c.gather.new.popped.items))));
+        contexts_are = subst (λ (x : History × (ℕ × List Rids)). AreContexts x.0 x.1.0 x.1.1) (λ i. (sym history i, (sym taken_is i, sym listed i))) (contexts_more part.history.list part.taken c.deref_mut.result.now.contexts.items (group_of h.ms) records kept.taken kept.contexts_are (group_context (sizes_of c.args.board.now) c.join_commit-number.result w c.join_commit-number.ensures.backed (Away (number v) (session v) (since v)) part h.ms o.parts c.gather.new.popped.items h.taken (suc (length part.history.list)) (context_of (suc (length part.history.list)) records) refl (c.join_records.ensures.records ∙ (ap all_records c.make_room.ensures.whole.1 ∙ records_room c.make_room.ensures.whole.0 c.gather.new.popped.items))));
         count_is = search rules;
         follows = subst (λ (hs : History). FollowsQueue hs (known c.gather.new.line).pairs) (sym history) (subst (FollowsQueue (part.history.list ++ group_of h.ms ∷ [])) (sym pairs) follows);
         line = (c.gather.ensures.line.1, (c.gather.ensures.line.2, c.gather.ensures.line.3));
-        room = (c.join_records-records.ensures.gone.0, search rules);
+        room = (c.join_records.ensures.gone.0, search rules);
         laid = c.lay.ensures.laid;
       },
       c.gather.ensures.line.0,
@@ -160,16 +160,16 @@ lay-requires-clause-small g c =
     let part = part_in c.args.kept.seat in
     let w = session_view c.join_commit-number.new.pass in
     let o = in_hand v (session_view c.gather.new.pass) (commit_view c.args.kept.seat) w part h.ms h.parts c.requires.kept.0.seat.1 c.join_commit-number.ensures.view in
-    few (sizes_of c.args.board.now) c.join_commit-number.result c.deref_mut-desk.result.now.count (length c.as_slice-2.result.now) c.args.sessions w (Away (number v) (session v) (since v)) part (lent h.ms) c.join_commit-number.ensures.backed o.parts c.args.board.now.room (booked_kept (board_id c.args.board.now) (sizes_of c.args.board.now).sessions c.args.kept c.deref_mut-desk.result.now c.deref_mut-desk.ensures.value c.requires.kept.0).count_is (search rules) (search rules)
+    few (sizes_of c.args.board.now) c.join_commit-number.result c.deref_mut.result.now.count (length c.as_slice-2.result.now) c.args.sessions w (Away (number v) (session v) (since v)) part (lent h.ms) c.join_commit-number.ensures.backed o.parts c.args.board.now.room (booked_kept (board_id c.args.board.now) (sizes_of c.args.board.now).sessions c.args.kept c.deref_mut.result.now c.deref_mut.ensures.value c.requires.kept.0).count_is (search rules) (search rules)
 
-pub overflow_add-desk : goal.overflow_add-desk
-overflow_add-desk g c =
+pub overflow_add-count : goal.overflow_add-count
+overflow_add-count g c =
     let v = session_view c.args.pass.now in
     let h = c.gather.ensures.gathered in
     let part = part_in c.args.kept.seat in
     let w = session_view c.join_commit-number.new.pass in
     let o = in_hand v (session_view c.gather.new.pass) (commit_view c.args.kept.seat) w part h.ms h.parts c.requires.kept.0.seat.1 c.join_commit-number.ensures.view in
-    record { fits = few (sizes_of c.args.board.now) c.join_commit-number.result c.deref_mut-desk.result.now.count c.len.result c.args.sessions w (Away (number v) (session v) (since v)) part (lent h.ms) c.join_commit-number.ensures.backed o.parts c.args.board.now.room (booked_kept (board_id c.args.board.now) (sizes_of c.args.board.now).sessions c.args.kept c.deref_mut-desk.result.now c.deref_mut-desk.ensures.value c.requires.kept.0).count_is (search rules) (search rules) }
+    record { fits = few (sizes_of c.args.board.now) c.join_commit-number.result c.deref_mut.result.now.count c.len.result c.args.sessions w (Away (number v) (session v) (since v)) part (lent h.ms) c.join_commit-number.ensures.backed o.parts c.args.board.now.room (booked_kept (board_id c.args.board.now) (sizes_of c.args.board.now).sessions c.args.kept c.deref_mut.result.now c.deref_mut.ensures.value c.requires.kept.0).count_is (search rules) (search rules) }
 
 pub lay_back-requires-clause-batch : goal.lay_back-requires-clause-batch
 lay_back-requires-clause-batch g c =
@@ -184,7 +184,7 @@ pub returns-in_default-clause-kept : goal.returns-in_default-clause-kept
 returns-in_default-clause-kept g c =
     let v = session_view c.args.pass.now in
     let h = c.gather.ensures.gathered in
-    let kept = booked_kept (board_id c.args.board.now) (sizes_of c.args.board.now).sessions c.args.kept c.deref_mut-desk.result.now c.deref_mut-desk.ensures.value c.requires.kept.0 in
+    let kept = booked_kept (board_id c.args.board.now) (sizes_of c.args.board.now).sessions c.args.kept c.deref_mut.result.now c.deref_mut.ensures.value c.requires.kept.0 in
     let part = part_in c.args.kept.seat in
     let w = session_view c.join_commit-number.new.pass in
     let o = in_hand v (session_view c.gather.new.pass) (commit_view c.args.kept.seat) w part h.ms h.parts kept.seat.1 c.join_commit-number.ensures.view in
