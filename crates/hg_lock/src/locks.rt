@@ -101,6 +101,7 @@ impl<X: Fits + Drop> Locks<X> {
     }
 
     /// Sleeps while the lock is held. A thread that holds it already waits for itself.
+    #[inline(always)]
     pub fn take<R: Wait>(&self, rt: &R, lock: usize) -> (X, Loan<X, X::Tag>)
         requires { lock < count_of self.now }
         ensures fits { X.fits (tag_of self.now) lock result.0 }
@@ -113,6 +114,7 @@ impl<X: Fits + Drop> Locks<X> {
     }
 
     /// Frees the lock, with this value under it. It waits for nobody.
+    #[inline(always)]
     pub fn give(&self, value: X, loan: Loan<X, X::Tag>)
         requires fits { X.fits (tag_of self.now) (lock_of loan) value }
         requires loan { IsLoanOf self.now loan }
@@ -139,6 +141,8 @@ impl<X: Fits + Drop> Locks<X> {
     }
 
     // Takes the slot of a lock that was found held. `HELD` may have been written over `AWAITED` then, which is put back.
+    #[cold]
+    #[inline(never)]
     fn wait<R: Wait>(&self, rt: &R, lock: usize, found: u64) -> Seat<Option<X>, Seen<X::Tag>>
         requires { lock < count_of self.now }
         ensures list { result.table_id ≡ self.now.table.shared.table_id }
@@ -225,6 +229,8 @@ impl<X: Fits + Drop> Locks<X> {
     }
 
     // Wakes one who sleeps on the lock.
+    #[cold]
+    #[inline(never)]
     fn wake(&self, freed: Freed<X, X::Tag>)
         requires lock { freed.lock < count_of self.now }
         requires awaited { IsTrue freed.awaited }

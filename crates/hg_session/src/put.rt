@@ -73,6 +73,7 @@ impl Session {
     }
 
     // Writes, and commits the transaction, which is this one write.
+    #[inline(always)]
     pub(crate) fn write_alone<R: Wait>(
         &mut self,
         rt: &R,
