@@ -1,0 +1,4 @@
+-- The session that reads for a dump. A reader meets the definitions in this order.
+pub mod Reader
+-- What is known of a run with it, at the end.
+pub mod Ran

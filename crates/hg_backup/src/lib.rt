@@ -1,0 +1,22 @@
+//! Backup and restore: what a dump that was read concurrently with a run is worth.
+//!
+//! A `dump` is a `run` with one more session, the reader, which no record of the script names. It reads all tables at a snapshot while
+//! the script's sessions write, and prints nothing of its own among the lines:
+//!
+//!     sessions 1, 2, ..   the script's records          their lines
+//!     the reader          begin, look, .., commit       none: the snapshot and the dump come after the lines
+//!     collectors          rounds                        reports, which may name the reader's snapshot as held
+//!
+//! So the lines alone do not say who holds that snapshot. With the reader's two lines put in (`lines_with`), they are what a run of
+//! all these sessions may print (`IsSoundWith`). This asks no new definition of a right line: a held snapshot of the reader is one
+//! at which it read, and is never moved, since it declares no tables.
+//!
+//! The dump is of the history that the lines print, although the machine's own history keeps another order within a group.
+#![tactic(auto)]
+
+mod laws;
+
+pub use laws::{
+    a_read_at_the_end_is_the_newest, an_export_reads, looks_leave_the_log_right,
+    printed_history_shows_the_same, reader_holds_what_it_read, run_with_reader_is_sound,
+};
