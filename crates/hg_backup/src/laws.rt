@@ -16,15 +16,10 @@ ghost use Rattle.hg_base.specs.Sound.{all_said};
 ghost use Rattle.hg_core.specs.declared.log.LogEntry.{LogEntry};
 ghost use Rattle.hg_core.specs.Events.{put};
 ghost use Rattle.hg_core.specs.Logs.{UpTo};
-ghost use Rattle.hg_rule.specs.declared.view.View.{View};
-ghost use Rattle.hg_rule.specs.Facts.{EndsWith};
-ghost use Rattle.hg_rule.specs.Views.{number, session};
-ghost use Rattle.hg_cursor.specs.Logs.{GoesOn};
-ghost use Rattle.hg_dump.specs.Exports.{HasReadAt};
-ghost use Rattle.hg_headline.specs.Counted.{Closes, IsCounted};
+ghost use Rattle.hg_headline.specs.Counted.{Closes};
+ghost use Rattle.hg_headline.specs.Following.{AreTotalsBy, told_removed};
 ghost use Rattle.hg_headline.specs.Logged.{Logged};
 ghost use Rattle.hg_headline.specs.Ran.{run_lines};
-ghost use Rattle.hg_source.specs.Rows.{rows_at};
 ghost use Rattle.hg_backup.specs.Reader.{HasReadAll, IsHeldAt, IsSoundWith, lines_with, log_at, reader_of, with_reader, without_looks};
 ghost use Rattle.hg_backup.specs.Ran.{HasRunWith};
 
@@ -38,13 +33,13 @@ pub fn looks_leave_the_log_right()
 {}
 
 /// What a run with a reader knows at its end makes its lines sound with the reader's, and its totals, which it counts in the
-/// logs of all sessions as they are closed.
+/// logs of all sessions as they are closed, and in what the lines report.
 pub fn run_with_reader_is_sound()
     ensures { (buckets : ℕ) (h : History) (logs closed : ℕ → List LogEntry) (rounds : ℕ) (script : Script) (ats : List ℕ)
         (lines : ℕ → List Line) (group table interval : List Report) (totals : Totals) →
         HasRunWith buckets h logs rounds script ats lines group table interval → ((j : ℕ) → Closes (logs j) (closed j)) →
         let printed = run_lines script.records lines group table interval in
-        IsCounted (reader_of script) h closed (all_said (run rounds) script printed) totals →
+        AreTotalsBy (reader_of script) h closed (λ kind. told_removed kind printed) totals →
         IsSoundWith rounds script ats (record { lines = printed; totals = totals }) }
 {}
 
@@ -56,11 +51,6 @@ pub fn printed_history_shows_the_same()
         HasRunWith buckets h logs rounds script ats lines group table interval →
         let printed = history_of (all_said (run rounds) script (run_lines script.records lines group table interval)) in
         (r : Rid) (s : ℕ) → visible h r s ≡ visible printed r s }
-    ensures rows { (buckets : ℕ) (h : History) (logs : ℕ → List LogEntry) (rounds : ℕ) (script : Script) (ats : List ℕ)
-        (lines : ℕ → List Line) (group table interval : List Report) →
-        HasRunWith buckets h logs rounds script ats lines group table interval →
-        let printed = history_of (all_said (run rounds) script (run_lines script.records lines group table interval)) in
-        (s : ℕ) → rows_at script.tables h s ≡ rows_at script.tables printed s }
     ensures many { (buckets : ℕ) (h : History) (logs : ℕ → List LogEntry) (rounds : ℕ) (script : Script) (ats : List ℕ)
         (lines : ℕ → List Line) (group table interval : List Report) →
         HasRunWith buckets h logs rounds script ats lines group table interval →
@@ -80,14 +70,6 @@ pub fn reader_holds_what_it_read()
         Each (λ at. at ≤ length (history_of (all_said (run rounds) script printed.lines))) ats }
     ensures held { (rounds : ℕ) (script : Script) (ats : List ℕ) (printed : Printed) → IsSoundWith rounds script ats printed →
         Each (λ line. IfSome (report_of line.reply) (λ sweep. Each (IsHeldAt script ats) sweep.held)) printed.lines }
-{}
-
-/// An export is one reading more. And a history is right for what an export read, where its logs go on from the reader's.
-pub fn an_export_reads()
-    ensures reads { (at : ℕ) (ats : List ℕ) (old new : View) → HasReadAll ats (session old).log → HasReadAt at old new →
-        HasReadAll (ats ++ at ∷ []) (session new).log }
-    ensures goes_on { (buckets : ℕ) (v : View) (h : History) (logs : ℕ → List LogEntry) → Logged buckets h logs →
-        EndsWith (logs (number v)) (session v).log → GoesOn buckets v h logs }
 {}
 
 /// A number that no number of a log is over is at or over the end of the history. So a reader that has heard of all sessions,

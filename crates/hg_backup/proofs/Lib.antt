@@ -1,0 +1,8 @@
+-- What the log of a session says without its looks.
+pub mod Looks
+pub mod Newest
+-- The reader's records and lines.
+pub mod Reading
+pub mod Sessions
+-- A run with the reader is a run of all these sessions.
+pub mod Runs
