@@ -6,3 +6,8 @@ pub mod Reading
 pub mod Sessions
 -- A run with the reader is a run of all these sessions.
 pub mod Runs
+-- What the lines of both say.
+pub mod Joining
+pub mod Silent
+pub mod Parting
+pub mod Holding

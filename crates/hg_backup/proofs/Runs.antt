@@ -85,7 +85,7 @@ put_between n first own last e =
 
 -- ---- the run
 
-reader_not_zero : (m : ℕ) → (suc m == 0) ≡ false
+pub reader_not_zero : (m : ℕ) → (suc m == 0) ≡ false
 reader_not_zero m = grind (arith, nat_tests)
 
 not_same : (j k : ℕ) → (k ≡ j → ⊥) → (j == k) ≡ false
