@@ -1,11 +1,11 @@
 -- What lines that are sound with a reader say of it.
-use Rattle.std.proofs.Common.{◌≡◌, ℕ, suc, ◌+◌, ◌<◌, ◌≤◌, List, [], ◌∷◌, ◌++◌, length, map, max, Bool, true, false, Option, Some, None, refl, sym, ap, ◌∙◌, subst, arith, append_assoc}
+use Rattle.std.proofs.Common.{◌≡◌, ℕ, suc, ◌<◌, ◌≤◌, List, [], ◌∷◌, ◌++◌, length, map, max, Bool, true, false, Option, Some, None, refl, sym, ap, ◌∙◌, subst, arith}
 use Rattle.std.specs.Prelude.{◌==◌, ◌&&◌, ◌||◌, cond, take, drop, IfSome, IsTrue, IsFalse, ⊤}
 use Rattle.std.specs.Bool.{MatchBool}
 use Rattle.std.specs.List.{flat_map, list_any}
 use Rattle.std.specs.Option.{option_map_or}
 use Rattle.std.proofs.lemmas.Bool.Decides.{Decides-eqb, nat_tests}
-use Rattle.std.proofs.lemmas.List.{length-append, length-drop, length-take, length-take-le, take-append-drop}
+use Rattle.std.proofs.lemmas.List.{take-append-drop}
 use Rattle.hg_base.specs.declared.report.Told.{Told}
 use Rattle.hg_base.specs.declared.report.Sweep.{Sweep}
 use Rattle.hg_base.specs.declared.scope.Scope.TheVariants.{All}
@@ -16,23 +16,20 @@ use Rattle.hg_base.specs.declared.line.Line.{Line}
 use Rattle.hg_base.specs.declared.line.Printed.{Printed}
 use Rattle.hg_base.specs.declared.line.Reply.{Reply}
 use Rattle.hg_base.specs.History.{History}
-use Rattle.hg_base.specs.Lists.{Each, EachAfter, greatest, numbers_from, onto}
+use Rattle.hg_base.specs.Lists.{Each, EachAfter, greatest, onto}
 use Rattle.hg_base.specs.Script.{Script, run}
 use Rattle.hg_base.specs.Shape.{HasShape, report_of}
 use Rattle.hg_base.specs.Sound.{IsRight, all_said}
 use Rattle.hg_base.specs.Freshness.{IsHeld, IsReported, is_declared, prints, snapshot_of}
-use Rattle.hg_base.specs.Transcript.{Said, commits, commits_from, history_of, in_order, last_of, of_session, open_after, next_after, said, said_from, sessions_of, standing}
-use Rattle.hg_base.proofs.ListFacts.{append_nil, cases, each_append, each_keeps, if_some_keeps}
-use Rattle.hg_headline.proofs.Rounds.{shape_more}
-use Rattle.hg_headline.proofs.Running.{in_order_is, of_session_is}
+use Rattle.hg_base.specs.Transcript.{Said, history_of, in_order, last_of, of_session, open_after, next_after, said, said_from, sessions_of, standing}
+use Rattle.hg_base.proofs.ListFacts.{each_append, each_keeps, if_some_keeps}
 use Rattle.hg_headline.proofs.Words.{any_append, each_left, true_false}
 use Rattle.hg_backup.specs.Reader.{IsHeldAt, IsSoundWith, answered, asked, lines_with, read_lines, read_records, reader_of, session_lines, with_reader}
-use Rattle.hg_backup.proofs.Joining.{after_append, commits_append, each_said, history_same, said_append, sessions_said, shape_split}
+use Rattle.hg_backup.proofs.Joining.{after_append, each_said, sessions_said}
 use Rattle.hg_backup.proofs.Parting.{history_alone, said_with}
 use Rattle.hg_backup.proofs.Parting.{first_said as said_first, own_said as said_own, last_said as said_last}
-use Rattle.hg_backup.proofs.Runs.{reader_not_zero, shape_length}
-use Rattle.hg_backup.proofs.Sessions.{all_records, records_with, top}
-use Rattle.hg_backup.proofs.Silent.{IsRound, all_rounds, each_round, reader_silent, rounds_silent}
+use Rattle.hg_backup.proofs.Sessions.{all_records, top}
+use Rattle.hg_backup.proofs.Silent.{IsRound, all_rounds, each_round}
 
 -- ---- the reader's own lines
 

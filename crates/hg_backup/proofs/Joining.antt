@@ -1,6 +1,6 @@
 -- Lines that are read after other lines.
-use Rattle.std.proofs.Common.{◌≡◌, ℕ, List, [], ◌∷◌, ◌++◌, length, Option, None, refl, sym, ap, ◌∙◌, subst, arith, append_assoc}
-use Rattle.std.specs.Prelude.{map, filter_map}
+use Rattle.std.proofs.Common.{◌≡◌, ℕ, List, [], ◌∷◌, ◌++◌, length, refl, sym, ap, ◌∙◌, subst, arith}
+use Rattle.std.specs.Prelude.{map}
 use Rattle.std.specs.List.{cons_option}
 use Rattle.hg_base.specs.declared.statement.Record.{Record}
 use Rattle.hg_base.specs.declared.line.Line.{Line}
@@ -8,11 +8,10 @@ use Rattle.hg_base.specs.declared.line.Reply.{Reply}
 use Rattle.hg_base.specs.History.{Commit, History}
 use Rattle.hg_base.specs.Lists.{Each, EachAfter, greatest, numbers_from, onto}
 use Rattle.hg_base.specs.Shape.{HasShape}
-use Rattle.hg_base.specs.Transcript.{Said, commit_of, commits, commits_from, committed, group_of, history_of, last_of, said, said_from}
-use Rattle.hg_base.proofs.ListFacts.{append_nil, cons_option_append}
+use Rattle.hg_base.specs.Transcript.{Said, commit_of, commits, commits_from, group_of, history_of, last_of, said, said_from}
+use Rattle.hg_base.proofs.ListFacts.{cons_option_append}
 use Rattle.hg_headline.proofs.Commits.{commits_numbers}
 use Rattle.hg_headline.proofs.Whole.{said_says}
-use Rattle.hg_backup.proofs.Runs.{shape_length}
 
 -- ---- the shape of parts
 

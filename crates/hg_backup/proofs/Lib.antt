@@ -11,3 +11,6 @@ pub mod Joining
 pub mod Silent
 pub mod Parting
 pub mod Holding
+pub mod Shown
+-- An export, as the reader's log.
+pub mod Exported

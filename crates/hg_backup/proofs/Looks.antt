@@ -1,21 +1,19 @@
 -- What a log says without its looks, and without its last transactions where they only looked.
-use Rattle.std.proofs.Common.{◌≡◌, ℕ, suc, ◌+◌, ◌≤◌, List, [], ◌∷◌, ◌++◌, length, Option, Some, None, refl, sym, ap, ◌∙◌, subst, arith}
+use Rattle.std.proofs.Common.{◌≡◌, ℕ, suc, ◌+◌, List, [], ◌∷◌, ◌++◌, length, Some, None, refl, sym, ap, ◌∙◌, subst}
 use Rattle.std.specs.Prelude.{◌&&◌, ◌||◌, ◌==◌, not, is_some, if◌then◌else◌, Bool, true, IfSome, IsSome, IsTrue, IsFalse}
 use Rattle.hg_base.specs.declared.rid.Rid.{Rid}
-use Rattle.hg_base.specs.declared.image.Image.{Image}
 use Rattle.hg_base.specs.declared.scope.Snapshot.{Snapshot}
 use Rattle.hg_base.specs.declared.scope.Scope.TheVariants.{All}
 use Rattle.hg_base.specs.Freshness.{is_declared}
-use Rattle.hg_base.specs.History.{Write, Commit, History, group_at, image_in, same_rid}
+use Rattle.hg_base.specs.History.{History, group_at, image_in, same_rid}
 use Rattle.hg_base.specs.Transcript.{has, last_images}
-use Rattle.hg_base.proofs.ListFacts.{if_some_keeps}
 use Rattle.hg_core.specs.declared.log.LogEntry.{LogEntry}
 use Rattle.hg_core.specs.declared.log.LogEntry.TheVariants.{Began, Saw, Refused, Outside, Wrote, Undid, Published, Over}
 use Rattle.hg_core.specs.Counters.{first_writes, undos}
 use Rattle.hg_core.specs.Events.{put}
-use Rattle.hg_core.specs.Judged.{Judge, Judged, of_session}
+use Rattle.hg_core.specs.Judged.{Judged, of_session}
 use Rattle.hg_core.specs.Logs.{begans, commit_in, current, is_plain, open_in, own_writes, published, snapshot_number, UpTo}
-use Rattle.hg_core.specs.Replies.{AreReplied, IsReplied, Refuses, numbers_in, writes_in}
+use Rattle.hg_core.specs.Replies.{AreReplied, Refuses, numbers_in, writes_in}
 use Rattle.hg_core.proofs.Indices.{by_number}
 use Rattle.hg_headline.specs.Gathered.{began_at}
 use Rattle.hg_headline.specs.Logged.{Logged}

@@ -1,12 +1,11 @@
 -- The number of the last group is in some log.
-use Rattle.std.proofs.Common.{◌≡◌, ℕ, zero, suc, ◌+◌, ◌<◌, ◌≤◌, List, [], ◌∷◌, ◌++◌, length, refl, sym, subst, ◌∙◌, arith}
+use Rattle.std.proofs.Common.{◌≡◌, ℕ, zero, suc, ◌+◌, ◌<◌, ◌≤◌, List, [], ◌∷◌, ◌++◌, length, refl, ◌∙◌, arith}
 use Rattle.std.specs.Prelude.{◌==◌, if◌then◌else◌}
 use Rattle.std.proofs.lemmas.Bool.Decides.{Decides-eqb}
-use Rattle.hg_base.specs.History.{History, Group, Commit, group_at}
+use Rattle.hg_base.specs.History.{History, Group, group_at}
 use Rattle.hg_base.proofs.ListFacts.{cases}
 use Rattle.hg_core.specs.declared.log.LogEntry.{LogEntry}
 use Rattle.hg_core.specs.declared.log.LogEntry.TheVariants.{Began, Saw, Refused, Outside, Wrote, Undid, Published, Over}
-use Rattle.hg_core.specs.Judged.{of_session}
 use Rattle.hg_core.specs.Logs.{commit_in, published, UpTo}
 use Rattle.hg_headline.specs.Logged.{Logged}
 use Rattle.hg_headline.proofs.Commits.{first_picked, group_some}

@@ -1,9 +1,8 @@
 -- The reader's lines are the replies that its log gives.
-use Rattle.std.proofs.Common.{◌≡◌, ℕ, suc, List, [], ◌∷◌, ◌++◌, length, Bool, true, false, Option, Some, None, refl, sym, ap, ◌∙◌, subst, arith}
+use Rattle.std.proofs.Common.{◌≡◌, ℕ, List, [], ◌∷◌, Bool, true, false, Option, None, refl, sym, ap, subst}
 use Rattle.std.specs.Prelude.{◌==◌, ◌&&◌, cond, ⊤}
 use Rattle.std.specs.Bool.{MatchBool}
 use Rattle.hg_base.specs.declared.scope.Scope.TheVariants.{All}
-use Rattle.hg_base.specs.declared.scope.Snapshot.{Snapshot}
 use Rattle.hg_base.specs.declared.statement.Record.{Record}
 use Rattle.hg_base.specs.declared.statement.Statement.TheVariants.{Begin, Commit as CommitIt}
 use Rattle.hg_base.specs.declared.line.Answer.TheVariants.{Begun, Ended}
@@ -11,12 +10,12 @@ use Rattle.hg_base.specs.declared.line.Line.{Line}
 use Rattle.hg_base.specs.declared.line.Reply.{Reply}
 use Rattle.hg_base.specs.declared.report.Kind.{Kind}
 use Rattle.hg_base.specs.Lists.{Each}
-use Rattle.hg_base.specs.Shape.{HasShape, report_of}
+use Rattle.hg_base.specs.Shape.{HasShape}
 use Rattle.hg_base.specs.Transcript.{Rest, of_session}
 use Rattle.hg_core.specs.declared.log.LogEntry.{LogEntry}
 use Rattle.hg_core.specs.declared.log.LogEntry.TheVariants.{Began, Over}
 use Rattle.hg_core.specs.Logs.{current}
-use Rattle.hg_core.specs.Reading.{Fits, Tells, is_alone, log_after, log_with}
+use Rattle.hg_core.specs.Reading.{Tells, is_alone, log_after, log_with}
 use Rattle.hg_core.proofs.Answering.{not_alone}
 use Rattle.hg_core.proofs.Right.{if_any}
 use Rattle.hg_headline.specs.Following.{told_removed}

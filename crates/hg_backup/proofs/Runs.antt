@@ -1,7 +1,6 @@
 -- A run with a reader, as a run of all these sessions.
-use Rattle.std.proofs.Common.{◌≡◌, ℕ, zero, suc, ◌+◌, ◌<◌, ◌≤◌, List, [], ◌∷◌, ◌++◌, length, map, max, Bool, true, false, Option, Some, None, inl, inr, refl, sym, ap, ◌∙◌, subst, arith, append_assoc}
+use Rattle.std.proofs.Common.{◌≡◌, ℕ, suc, ◌<◌, ◌≤◌, List, [], ◌∷◌, ◌++◌, length, map, max, Bool, false, None, inl, inr, refl, sym, ap, ◌∙◌, subst, arith, append_assoc}
 use Rattle.std.specs.Prelude.{◌==◌, take, drop, sum_by, is_some, if◌then◌else◌, IsTrue}
-use Rattle.std.specs.Bool.{MatchBool}
 use Rattle.std.specs.List.{flat_map}
 use Rattle.std.proofs.lemmas.Bool.{true≢false}
 use Rattle.std.proofs.lemmas.Bool.Decides.{nat_tests}
@@ -17,18 +16,17 @@ use Rattle.hg_base.specs.declared.line.Totals.{Totals}
 use Rattle.hg_base.specs.Counts.{removed_by}
 use Rattle.hg_base.specs.Freshness.{is_declared}
 use Rattle.hg_base.specs.History.{History}
-use Rattle.hg_base.specs.Lists.{Each, greatest, numbers_from}
+use Rattle.hg_base.specs.Lists.{Each, greatest}
 use Rattle.hg_base.specs.Script.{Script, run}
 use Rattle.hg_base.specs.Shape.{HasShape}
 use Rattle.hg_base.specs.Sound.{IsSound}
 use Rattle.hg_base.specs.Transcript.{in_order, of_session, said_from, sessions_of}
-use Rattle.hg_base.proofs.ListFacts.{append_nil, each_append, each_keeps}
+use Rattle.hg_base.proofs.ListFacts.{each_append, each_keeps}
 use Rattle.hg_core.specs.declared.log.LogEntry.{LogEntry}
 use Rattle.hg_core.specs.Counters.{first_writes, undos}
 use Rattle.hg_core.specs.Events.{put}
 use Rattle.hg_core.specs.Logs.{current}
 use Rattle.hg_core.specs.Reading.{Tells}
-use Rattle.hg_core.specs.Sums.{sum_to}
 use Rattle.hg_core.proofs.Indices.{at_index, by_number, put_else, put_here}
 use Rattle.hg_core.proofs.Sums.{sum_same}
 use Rattle.hg_headline.specs.Counted.{Closes, IsCounted, every, made_in, undone_in}
@@ -109,10 +107,10 @@ module _ (buckets : ℕ) (h : History) (logs : ℕ → List LogEntry) (rounds : 
   abbrev asked : List Record
   asked = (with_reader script read).records
 
-  abbrev logs_with : ℕ → List LogEntry
+  abbrev pub logs_with : ℕ → List LogEntry
   logs_with = put logs j (log_at read [])
 
-  abbrev lines_of : ℕ → List Line
+  abbrev pub lines_of : ℕ → List Line
   lines_of = put lines j (read_lines j read)
 
   logs_here : logs_with j ≡ log_at read []

@@ -1,6 +1,6 @@
 -- The records and lines of the script's sessions, with those of the reader after them.
-use Rattle.std.proofs.Common.{◌≡◌, ℕ, zero, suc, ◌+◌, ◌<◌, ◌≤◌, List, [], ◌∷◌, ◌++◌, length, map, max, Bool, true, false, Option, None, refl, sym, ap, ◌∙◌, subst, arith, append_assoc}
-use Rattle.std.specs.Prelude.{◌==◌, take, drop}
+use Rattle.std.proofs.Common.{◌≡◌, ℕ, zero, suc, ◌+◌, ◌<◌, ◌≤◌, List, [], ◌∷◌, ◌++◌, map, max, false, refl, sym, ap, ◌∙◌, arith}
+use Rattle.std.specs.Prelude.{◌==◌}
 use Rattle.std.specs.List.{flat_map}
 use Rattle.std.proofs.lemmas.Bool.Decides.{nat_tests}
 use Rattle.std.proofs.lemmas.Grind.{flat_map-append}
@@ -8,14 +8,13 @@ use Rattle.std.proofs.lemmas.List.Elements.{filter-append}
 use Rattle.hg_base.specs.declared.statement.Record.{Record}
 use Rattle.hg_base.specs.declared.line.Line.{Line}
 use Rattle.hg_base.specs.Lists.{greatest, numbers_from}
-use Rattle.hg_base.specs.Script.{Script, run}
-use Rattle.hg_base.specs.Shape.{HasShape}
-use Rattle.hg_base.specs.Transcript.{in_order, of_session, sessions_of}
+use Rattle.hg_base.specs.Script.{Script}
+use Rattle.hg_base.specs.Transcript.{of_session, sessions_of}
 use Rattle.hg_base.proofs.ListFacts.{append_nil, numbers_from_snoc}
 use Rattle.hg_core.specs.Events.{put}
 use Rattle.hg_core.proofs.Indices.{put_else, put_here}
-use Rattle.hg_headline.proofs.Running.{in_order_is, none_over}
-use Rattle.hg_backup.specs.Reader.{lines_with, read_lines, read_records, reader_of, session_lines, with_reader}
+use Rattle.hg_headline.proofs.Running.{none_over}
+use Rattle.hg_backup.specs.Reader.{read_lines, read_records, reader_of, with_reader}
 use Rattle.hg_backup.proofs.Reading.{no_records, own_records}
 
 -- ---- sessions by number

@@ -1,7 +1,6 @@
 -- A dump reads in a session that no record of the script names. What it does, as records and lines, and as a log.
-use Rattle.std.specs.Prelude.{◌≡◌, ℕ, suc, ◌==◌, max, List, [], ◌∷◌, ◌++◌, length, map, take, drop, if◌then◌else◌, None, IsTrue, IsFalse}
+use Rattle.std.specs.Prelude.{◌≡◌, ℕ, suc, ◌==◌, max, List, [], ◌∷◌, ◌++◌, length, map, take, drop, None, IsTrue, IsFalse}
 use Rattle.std.specs.List.{flat_map, list_any}
-use Rattle.std.specs.Bool.{MatchBool}
 use Rattle.hg_base.specs.declared.scope.Scope.TheVariants.{All}
 use Rattle.hg_base.specs.declared.statement.Statement.{Statement}
 use Rattle.hg_base.specs.declared.statement.Statement.TheVariants.{Begin, Commit as CommitIt}

@@ -16,6 +16,12 @@ ghost use Rattle.hg_base.specs.Sound.{all_said};
 ghost use Rattle.hg_core.specs.declared.log.LogEntry.{LogEntry};
 ghost use Rattle.hg_core.specs.Events.{put};
 ghost use Rattle.hg_core.specs.Logs.{UpTo};
+ghost use Rattle.hg_rule.specs.declared.view.View.{View};
+ghost use Rattle.hg_rule.specs.Facts.{EndsWith};
+ghost use Rattle.hg_rule.specs.Views.{number, session};
+ghost use Rattle.hg_cursor.specs.Logs.{GoesOn};
+ghost use Rattle.hg_source.specs.Rows.{rows_at};
+ghost use Rattle.hg_dump.specs.Exports.{HasReadAt};
 ghost use Rattle.hg_headline.specs.Counted.{Closes};
 ghost use Rattle.hg_headline.specs.Following.{AreTotalsBy, told_removed};
 ghost use Rattle.hg_headline.specs.Logged.{Logged};
@@ -51,6 +57,11 @@ pub fn printed_history_shows_the_same()
         HasRunWith buckets h logs rounds script ats lines group table interval →
         let printed = history_of (all_said (run rounds) script (run_lines script.records lines group table interval)) in
         (r : Rid) (s : ℕ) → visible h r s ≡ visible printed r s }
+    ensures rows { (buckets : ℕ) (h : History) (logs : ℕ → List LogEntry) (rounds : ℕ) (script : Script) (ats : List ℕ)
+        (lines : ℕ → List Line) (group table interval : List Report) →
+        HasRunWith buckets h logs rounds script ats lines group table interval →
+        let printed = history_of (all_said (run rounds) script (run_lines script.records lines group table interval)) in
+        (s : ℕ) → rows_at script.tables h s ≡ rows_at script.tables printed s }
     ensures many { (buckets : ℕ) (h : History) (logs : ℕ → List LogEntry) (rounds : ℕ) (script : Script) (ats : List ℕ)
         (lines : ℕ → List Line) (group table interval : List Report) →
         HasRunWith buckets h logs rounds script ats lines group table interval →
@@ -70,6 +81,14 @@ pub fn reader_holds_what_it_read()
         Each (λ at. at ≤ length (history_of (all_said (run rounds) script printed.lines))) ats }
     ensures held { (rounds : ℕ) (script : Script) (ats : List ℕ) (printed : Printed) → IsSoundWith rounds script ats printed →
         Each (λ line. IfSome (report_of line.reply) (λ sweep. Each (IsHeldAt script ats) sweep.held)) printed.lines }
+{}
+
+/// An export is one reading more. And a history is right for what an export read, where its logs go on from the reader's.
+pub fn an_export_reads()
+    ensures reads { (at : ℕ) (ats : List ℕ) (old new : View) → HasReadAll ats (session old).log → HasReadAt at old new →
+        HasReadAll (ats ++ at ∷ []) (session new).log }
+    ensures goes_on { (buckets : ℕ) (v : View) (h : History) (logs : ℕ → List LogEntry) → Logged buckets h logs →
+        EndsWith (logs (number v)) (session v).log → GoesOn buckets v h logs }
 {}
 
 /// A number that no number of a log is over is at or over the end of the history. So a reader that has heard of all sessions,
