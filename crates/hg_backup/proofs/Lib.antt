@@ -14,3 +14,7 @@ pub mod Holding
 pub mod Shown
 -- An export, as the reader's log.
 pub mod Exported
+-- A replay of a dump.
+pub mod Stored
+pub mod Images
+pub mod Restored
