@@ -18,3 +18,5 @@ pub mod Exported
 pub mod Stored
 pub mod Images
 pub mod Restored
+-- The example.
+pub mod Examples

@@ -2,3 +2,5 @@
 pub mod Reader
 -- What is known of a run with it, at the end.
 pub mod Ran
+-- An example of both laws.
+pub mod Worked
