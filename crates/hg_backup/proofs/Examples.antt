@@ -1,28 +1,24 @@
 -- The example: a run that a reader concurs with, and the replay of its dump.
-use Rattle.std.proofs.Common.{◌≡◌, ℕ, suc, ◌+◌, ◌<◌, ◌≤◌, List, [], ◌∷◌, ◌++◌, length, Bool, true, false, Option, Some, None, inl, inr, refl, sym, ap, ◌∙◌, subst, arith, pos}
+use Rattle.std.proofs.Common.{◌≡◌, ℕ, ◌+◌, List, [], ◌∷◌, Bool, true, false, Some, None, inl, refl, sym, ap, ◌∙◌, subst, arith, pos}
 use Rattle.std.specs.Prelude.{◌==◌, cond, filter, nat_le, if◌then◌else◌, option_map, Contains}
 use Rattle.std.specs.List.{cons_option}
 use Rattle.std.specs.Option.{option_or}
 use Rattle.std.proofs.lemmas.Bool.Decides.{nat_tests}
 use Rattle.hg_base.specs.declared.report.Kind.{Kind}
 use Rattle.hg_base.specs.declared.report.Kind.TheVariants as kinds
-use Rattle.hg_base.specs.declared.report.Report.{Report}
 use Rattle.hg_base.specs.declared.scope.Scope.TheVariants.{All}
 use Rattle.hg_base.specs.declared.statement.Record.{Record}
 use Rattle.hg_base.specs.declared.statement.Statement.TheVariants.{Put}
 use Rattle.hg_base.specs.declared.line.Answer.TheVariants.{Stored}
 use Rattle.hg_base.specs.declared.line.Line.{Line}
-use Rattle.hg_base.specs.declared.line.Totals.{Totals}
 use Rattle.hg_base.specs.declared.value.Value.TheVariants.{Number}
 use Rattle.hg_base.specs.declared.image.Image.{Image}
-use Rattle.hg_base.specs.History.{History, Write, last_image, same_rid, visible}
-use Rattle.hg_base.specs.Lists.{Each}
+use Rattle.hg_base.specs.History.{last_image, same_rid, visible}
 use Rattle.hg_base.specs.Script.{replay, run}
 use Rattle.hg_base.specs.Shape.{HasShape}
 use Rattle.hg_base.specs.Sound.{LinesAreSound}
 use Rattle.hg_base.specs.Transcript.{of_session}
 use Rattle.hg_base.proofs.HistoryFacts.{same_rid_equal}
-use Rattle.hg_base.proofs.ListFacts.{cases}
 use Rattle.hg_core.specs.declared.log.LogEntry.{LogEntry}
 use Rattle.hg_core.specs.declared.log.LogEntry.TheVariants.{Began, Over}
 use Rattle.hg_core.specs.Counters.{first_writes, undos}
@@ -40,7 +36,7 @@ use Rattle.hg_headline.proofs.Replaying.{replay_sound}
 use Rattle.hg_headline.proofs.Stepping.{Next, replayed_commits}
 use Rattle.hg_headline.proofs.Words.{true_false}
 use Rattle.hg_source.specs.Dumps.{dump_of, putting}
-use Rattle.hg_source.specs.Rows.{AreRowsAt, Kept, is_declared, rows_at}
+use Rattle.hg_source.specs.Rows.{AreRowsAt, Kept, rows_at}
 use Rattle.hg_source.proofs.Shown.{is_the_list}
 use Rattle.hg_backup.specs.Ran.{HasRunWith}
 use Rattle.hg_backup.specs.Reader.{IsSoundWith}

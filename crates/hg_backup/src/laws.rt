@@ -20,6 +20,7 @@ ghost use Rattle.hg_rule.specs.declared.view.View.{View};
 ghost use Rattle.hg_rule.specs.Facts.{EndsWith};
 ghost use Rattle.hg_rule.specs.Views.{number, session};
 ghost use Rattle.hg_cursor.specs.Logs.{GoesOn};
+ghost use Rattle.hg_source.specs.Records.{dump_text};
 ghost use Rattle.hg_source.specs.Rows.{rows_at};
 ghost use Rattle.hg_dump.specs.Exports.{HasReadAt};
 ghost use Rattle.hg_headline.specs.Counted.{Closes};
@@ -91,9 +92,23 @@ pub fn an_export_reads()
         EndsWith (logs (number v)) (session v).log → GoesOn buckets v h logs }
 {}
 
-/// A number that no number of a log is over is at or over the end of the history. So a reader that has heard of all sessions,
+/// What an export wrote is the dump of the history that the lines print, if the logs at the end go on from the reader's log after
+/// it. The premise on the text is the clause of `export`.
+pub fn an_export_is_of_the_printed_history()
+    ensures { (buckets : ℕ) (h : History) (logs : ℕ → List LogEntry) (rounds : ℕ) (script : Script) (ats : List ℕ)
+        (lines : ℕ → List Line) (group table interval : List Report) (v : View) (s : ℕ) (before after : List ℕ) →
+        HasRunWith buckets h logs rounds script ats lines group table interval → EndsWith (logs (number v)) (session v).log →
+        ((k : History) (more : ℕ → List LogEntry) → GoesOn buckets v k more →
+        after ≡ before ++ dump_text script (rows_at script.tables k s)) →
+        let printed = history_of (all_said (run rounds) script (run_lines script.records lines group table interval)) in
+        after ≡ before ++ dump_text script (rows_at script.tables printed s) }
+{}
+
+/// A number that no number of a log is over is at or over the end of the history. So a reader that has heard of all other sessions,
 /// after they ended, reads what the run left.
 pub fn a_read_at_the_end_is_the_newest()
-    ensures { (buckets n : ℕ) (h : History) (logs : ℕ → List LogEntry) → Logged buckets h logs → ((j : ℕ) → UpTo n (logs j)) →
+    ensures least { (buckets n : ℕ) (h : History) (logs : ℕ → List LogEntry) → Logged buckets h logs → ((j : ℕ) → UpTo n (logs j)) →
         length h ≤ n }
+    ensures same { (buckets j n : ℕ) (h : History) (logs : ℕ → List LogEntry) (ats : List ℕ) → Logged buckets h logs →
+        HasReadAll (ats ++ n ∷ []) (logs j) → ((k : ℕ) → (k ≡ j → ⊥) → UpTo n (logs k)) → n ≡ length h }
 {}
