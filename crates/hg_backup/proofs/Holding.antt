@@ -79,11 +79,11 @@ module _ (told : Told) (j : ℕ) where
       go false b c d e f = ap (λ x. (x && c) || d) e ∙ f
 
 -- lines of other sessions print none of its snapshots
-others_print : (told : Told) (P : Said → Bool) (xs : List Said) → Each (λ (s : Said). (s.session == told.session) ≡ false) xs → list_any (λ s. prints told s && P s) xs ≡ false
+pub others_print : (told : Told) (P : Said → Bool) (xs : List Said) → Each (λ (s : Said). (s.session == told.session) ≡ false) xs → list_any (λ s. prints told s && P s) xs ≡ false
 others_print told P [] h = refl
 others_print told P (x ∷ xs) h = ap (λ b. ((b && option_map_or (λ s. s == told.number) (snapshot_of x) false) && P x) || list_any (λ s. prints told s && P s) xs) h.0 ∙ others_print told P xs h.1
 
-others_none : (told : Told) (xs : List Said) → Each (λ (s : Said). (s.session == told.session) ≡ false) xs → list_any (prints told) xs ≡ false
+pub others_none : (told : Told) (xs : List Said) → Each (λ (s : Said). (s.session == told.session) ≡ false) xs → list_any (prints told) xs ≡ false
 others_none told [] h = refl
 others_none told (x ∷ xs) h = ap (λ b. (b && option_map_or (λ s. s == told.number) (snapshot_of x) false) || list_any (prints told) xs) h.0 ∙ others_none told xs h.1
 

@@ -12,6 +12,10 @@ pub mod Silent
 pub mod Parting
 pub mod Holding
 pub mod Shown
+-- What is left without the reader's lines.
+pub mod Quiet
+pub mod Between
+pub mod Alone
 -- An export, as the reader's log.
 pub mod Exported
 -- A replay of a dump.

@@ -96,7 +96,7 @@ module _ (rounds : ℕ) (script : Script) (ats : List ℕ) (lines : List Line) (
       ∙ said_append [] of_sessions (of_reader ++ of_rounds) first (own ++ last) parts.0
       ∙ ap (λ xs. first_said ++ xs) (said_append (onto first_said []) of_reader of_rounds own last own_shape)
 
-  said_alone : all_said (run rounds) script lines ≡ first_said ++ said_from (onto first_said []) of_rounds last
+  pub said_alone : all_said (run rounds) script lines ≡ first_said ++ said_from (onto first_said []) of_rounds last
   said_alone =
       (λ i. said_from [] (asked_alone i) (sym (take-append-drop n lines) i))
       ∙ said_append [] of_sessions of_rounds first last parts.0
@@ -117,3 +117,6 @@ module _ (rounds : ℕ) (script : Script) (ats : List ℕ) (lines : List Line) (
   pub history_alone : history_of (all_said (run rounds) (with_reader script ats) (lines_with script ats lines)) ≡ history_of (all_said (run rounds) script lines)
   history_alone =
       ap history_of said_with ∙ history_same (first_said ++ (own_said ++ last_said)) (first_said ++ said_from (onto first_said []) of_rounds last) (commits_with ∙ sym commits_alone) ∙ ap history_of (sym said_alone)
+
+  pub commits_same : commits (all_said (run rounds) (with_reader script ats) (lines_with script ats lines)) ≡ commits (all_said (run rounds) script lines)
+  commits_same = ap commits said_with ∙ commits_with ∙ sym commits_alone ∙ ap commits (sym said_alone)

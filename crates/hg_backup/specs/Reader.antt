@@ -12,8 +12,9 @@ use Rattle.hg_base.specs.declared.line.Line.{Line}
 use Rattle.hg_base.specs.declared.line.Printed.{Printed}
 use Rattle.hg_base.specs.Lists.{greatest}
 use Rattle.hg_base.specs.Script.{Script, run}
-use Rattle.hg_base.specs.Sound.{IsSound}
-use Rattle.hg_base.specs.Transcript.{of_session, sessions_of}
+use Rattle.hg_base.specs.History.{History}
+use Rattle.hg_base.specs.Sound.{IsSound, all_said}
+use Rattle.hg_base.specs.Transcript.{history_of, of_session, sessions_of}
 use Rattle.hg_core.specs.declared.log.LogEntry.{LogEntry}
 use Rattle.hg_core.specs.declared.log.LogEntry.TheVariants.{Began, Saw, Over}
 
@@ -58,9 +59,17 @@ lines_with script ats lines = take (session_lines script) lines ++ (read_lines (
 abbrev pub IsSoundWith : ℕ → Script → List ℕ → Printed → Type 0
 IsSoundWith rounds script ats printed = IsSound (run rounds) (with_reader script ats) (record { lines = lines_with script ats printed.lines; totals = printed.totals })
 
+-- the history that the lines of a run print
+abbrev pub printed_history : ℕ → Script → List Line → History
+printed_history rounds script lines = history_of (all_said (run rounds) script lines)
+
 -- a held snapshot of the reader is one of these, and was never moved
 abbrev pub IsHeldAt : Script → List ℕ → Told → Type 0
 IsHeldAt script ats told = IsTrue (told.session == reader_of script) → IsTrue (list_any (λ at. at == told.number) ats) × IsFalse told.moved
+
+-- a held snapshot of another session
+abbrev pub IsOfOther : Script → Told → Type 0
+IsOfOther script told = IsFalse (told.session == reader_of script)
 
 -- ---- its log
 

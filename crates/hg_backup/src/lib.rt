@@ -11,7 +11,12 @@
 //! all these sessions may print (`IsSoundWith`). This asks no new definition of a right line: a held snapshot of the reader is one
 //! at which it read, and is never moved, since it declares no tables.
 //!
-//! The dump is of the history that the lines print, although the machine's own history keeps another order within a group.
+//! The dump is of the history that the lines print (`printed_history_shows_the_same`), although the machine's own history keeps another
+//! order within a group. A replay of a dump stores each of its rows, and at its end shows what the snapshot showed
+//! (`a_replay_restores_a_dump`).
+//!
+//! `HasRunWith` is what a driver shows at its end. Its logs have what the reader did in full, with one look for each bucket that it
+//! read; the lines need the begins and ends alone, and `looks_leave_the_log_right` leaves the looks out.
 #![tactic(auto)]
 
 mod laws;
@@ -21,7 +26,7 @@ mod worked;
 pub use laws::{
     a_read_at_the_end_is_the_newest, an_export_is_of_the_printed_history, an_export_reads,
     looks_leave_the_log_right, printed_history_shows_the_same, reader_holds_what_it_read,
-    run_with_reader_is_sound,
+    run_with_reader_is_sound, unless_it_is_held_the_reader_changes_nothing,
 };
 pub use restore::a_replay_restores_a_dump;
 pub use worked::{a_dump_is_replayed, a_held_reader_is_sound_with_its_lines};

@@ -21,11 +21,13 @@ pub fn a_replay_restores_a_dump()
     ensures shown { (script : Script) (h : History) (s : ℕ) (lines : List Line) →
         LinesAreSound replay (dump_of script h s) lines →
         let restored = history_of (all_said replay (dump_of script h s) lines) in
-        (r : Rid) → IsTrue (is_declared script.tables r) → visible restored r (length restored) ≡ visible h r s }
+        (r : Rid) → IsTrue (is_declared script.tables r) →
+        visible restored r (length restored) ≡ visible h r s }
     ensures others { (script : Script) (h : History) (s : ℕ) (lines : List Line) →
         LinesAreSound replay (dump_of script h s) lines →
         let restored = history_of (all_said replay (dump_of script h s) lines) in
-        (r : Rid) → IsFalse (is_declared script.tables r) → visible restored r (length restored) ≡ nothing }
+        (r : Rid) → IsFalse (is_declared script.tables r) →
+        visible restored r (length restored) ≡ nothing }
     ensures rows { (script : Script) (h : History) (s : ℕ) (lines : List Line) →
         LinesAreSound replay (dump_of script h s) lines →
         let restored = history_of (all_said replay (dump_of script h s) lines) in
