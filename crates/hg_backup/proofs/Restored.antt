@@ -21,10 +21,15 @@ use Rattle.hg_base.proofs.HistoryFacts.{same_rid_equal, same_rid_itself}
 use Rattle.hg_base.proofs.ListFacts.{each_at, each_keeps}
 use Rattle.hg_headline.proofs.Same.{no_images}
 use Rattle.hg_headline.proofs.Words.{each_pairs, same_number, true_false}
+use Rattle.hg_script.specs.Fields.{rows_of}
+use Rattle.hg_script.specs.Lawful.{IsLawful}
+use Rattle.hg_script.specs.Meaning.{script_of}
 use Rattle.hg_script.specs.Numbered.{numbered, records_before}
-use Rattle.hg_source.specs.Dumps.{dump_of, put_of}
+use Rattle.hg_source.specs.Dumps.{IsReadable, dump_of, put_of, putting}
 use Rattle.hg_source.specs.Rows.{AreRowsAt, Kept, is_declared, rows_at}
+use Rattle.hg_source.proofs.ReadBack.{same}
 use Rattle.hg_source.proofs.Shown.{is_the_list}
+use Rattle.hg_source.specs.Records.{dump_text}
 use Rattle.hg_backup.proofs.Images.{FitsRow, at_end, commits_fit, from_group, in_groups, last_only, no_writes, row_image, writes_only}
 use Rattle.hg_backup.proofs.Stored.{HasStored, IsAlone, all_stored, none_opened}
 
@@ -138,3 +143,16 @@ module _ (script : Script) (h : History) (s : ℕ) (lines : List Line) (is : Lin
     each = each_keeps _ _ (λ kept k. (k.0, ap (λ (i : Image). i.row) (shown_again kept.rid k.0) ∙ k.1)) rows are_rows.each;
     every = λ kept declared shows. are_rows.every kept declared (sym (ap (λ (i : Image). i.row) (shown_again kept.rid declared)) ∙ shows);
   }))
+
+  -- so its dump is the same
+  pub again : dump_of (dump_of script h s) restored (length restored) ≡ dump_of script h s
+  again = ap (putting script) rows_again
+
+-- ---- as a text
+
+pub text_again : (script : Script) (h : History) (s : ℕ) (lines : List Line) → IsLawful script → IsReadable script (rows_at script.tables h s)
+    → let read : Script = script_of (rows_of (dump_text script (rows_at script.tables h s))) in LinesAreSound replay read lines → let restored : History = history_of (all_said replay read lines) in rows_at script.tables restored (length restored) ≡ rows_at script.tables h s
+text_again script h s lines lawful readable sound =
+    let read : Script = script_of (rows_of (dump_text script (rows_at script.tables h s))) in
+    let is : read ≡ dump_of script h s = same script (rows_at script.tables h s) lawful readable in
+    ap (λ d. rows_at script.tables (history_of (all_said replay d lines)) (length (history_of (all_said replay d lines)))) is ∙ rows_again script h s lines (subst (λ d. LinesAreSound replay d lines) is sound)

@@ -28,5 +28,5 @@ pub use laws::{
     looks_leave_the_log_right, printed_history_shows_the_same, reader_holds_what_it_read,
     run_with_reader_is_sound, unless_it_is_held_the_reader_changes_nothing,
 };
-pub use restore::a_replay_restores_a_dump;
+pub use restore::{a_replay_of_a_dump_text_restores_it, a_replay_restores_a_dump};
 pub use worked::{a_dump_is_replayed, a_held_reader_is_sound_with_its_lines};

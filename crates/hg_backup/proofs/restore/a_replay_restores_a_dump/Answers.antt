@@ -1,4 +1,4 @@
-use Rattle.hg_backup.proofs.Restored.{nothing_else, rows_again, shown_again, stored_all}
+use Rattle.hg_backup.proofs.Restored.{again, nothing_else, rows_again, shown_again, stored_all}
 use Rattle.hg_backup.proofs.restore.a_replay_restores_a_dump.Goals as goal
 
 pub returns-clause-stored : goal.returns-clause-stored
@@ -12,3 +12,6 @@ returns-clause-others c = nothing_else
 
 pub returns-clause-rows : goal.returns-clause-rows
 returns-clause-rows c = rows_again
+
+pub returns-clause-dump : goal.returns-clause-dump
+returns-clause-dump c = again
