@@ -1,9 +1,9 @@
 -- What is right of lines with silent ones between them is right of them without these, and so are the totals.
-use Rattle.std.proofs.Common.{◌≡◌, ℕ, ◌<◌, ◌≤◌, List, [], ◌∷◌, ◌++◌, length, Bool, true, false, Option, Some, None, refl, sym, ap, ◌∙◌, subst, arith}
+use Rattle.std.proofs.Common.{◌≡◌, ℕ, ◌<◌, ◌≤◌, List, [], ◌∷◌, ◌++◌, length, Bool, true, false, Some, None, inl, inr, ◌⊎◌, max, refl, sym, ap, ◌∙◌, subst, arith}
 use Rattle.std.specs.Prelude.{◌==◌, ◌&&◌, cond, filter, filter_map, if◌then◌else◌, is_none, not, sum_by, IfSome, IsSome}
 use Rattle.std.specs.List.{cons_option, flat_map}
 use Rattle.std.specs.Option.{option_map_or}
-use Rattle.std.proofs.lemmas.Bool.Decides.{nat_tests}
+use Rattle.std.proofs.lemmas.Bool.Decides.{Decides-eqb, nat_tests}
 use Rattle.std.proofs.lemmas.List.Sums.{sum_by-append}
 use Rattle.hg_base.specs.declared.rid.Rid.{Rid}
 use Rattle.hg_base.specs.declared.line.Answer.{Answer}
@@ -12,7 +12,6 @@ use Rattle.hg_base.specs.declared.report.Kind.{Kind}
 use Rattle.hg_base.specs.declared.report.Kind.TheVariants as kinds
 use Rattle.hg_base.specs.declared.report.Sweep.{Sweep}
 use Rattle.hg_base.specs.declared.report.Told.{Told}
-use Rattle.hg_base.specs.declared.line.Reply.{Reply}
 use Rattle.hg_base.specs.declared.line.Totals.{Totals}
 use Rattle.hg_base.specs.Conflicts.{ShowsCause, target}
 use Rattle.hg_base.specs.Counts.{AreTotals, first_write, first_writes, first_writes_from, is_committed, removed_by}
@@ -20,27 +19,30 @@ use Rattle.hg_base.specs.Freshness.{IsHeld, IsReported, is_declared, known, mark
 use Rattle.hg_base.specs.History.{History, Write, image_in, seen}
 use Rattle.hg_base.specs.Lists.{Each, EachAfter, onto}
 use Rattle.hg_base.specs.Replies.{IsAnswer, is_written}
-use Rattle.hg_base.specs.Script.{run}
+use Rattle.hg_base.specs.Script.{Script, run}
 use Rattle.hg_base.specs.Shape.{report_of, same_kind}
 use Rattle.hg_base.specs.Sound.{IsRight}
 use Rattle.hg_base.specs.Transcript.{Said, committed, is_of, numbers_in, own_writes, rest_in, stored, stored_by, stored_in}
-use Rattle.hg_base.proofs.ListFacts.{cons_option_append, each_keeps, if_some_keeps, match_keeps}
+use Rattle.hg_base.proofs.ListFacts.{cases, cons_option_append, each_keeps, if_some_keeps, match_keeps}
 use Rattle.hg_headline.proofs.Counting.{any_committed}
-use Rattle.hg_headline.proofs.Words.{each_left, is_any}
+use Rattle.hg_headline.proofs.Words.{is_any}
 use Rattle.hg_backup.proofs.Holding.{others_none, others_print}
 use Rattle.hg_backup.proofs.Joining.{after_append}
+use Rattle.hg_backup.specs.Alone.{IsReaders, IsReportedBut, IsRightBut}
+use Rattle.hg_backup.specs.Reader.{IsHeldAt, reader_of}
+use Rattle.hg_backup.proofs.Runs.{reader_not_zero}
+use Rattle.hg_backup.proofs.Sessions.{top}
 use Rattle.hg_backup.proofs.Quiet.{IsCollecting, IsSilent, any_between, picked_between, sum_none}
-
--- a report that does not say that session j was held
-abbrev pub NotHeld : ℕ → Told → Type 0
-NotHeld j told = (told.session == j) ≡ false
-
-abbrev pub NoHold : ℕ → Reply → Type 0
-NoHold j reply = IfSome (report_of reply) (λ (sweep : Sweep). Each (NotHeld j) sweep.held)
 
 -- ---- line by line
 
-module _ (rounds j : ℕ) (other : (j == 0) ≡ false) (h : History) (xs ys zs : List Said) (silent : Each (IsSilent j) ys) (collecting : Each IsCollecting zs) where
+module _ (rounds : ℕ) (script : Script) (ats : List ℕ) (h : History) (xs ys zs : List Said) (silent : Each (IsSilent (reader_of script)) ys) (collecting : Each IsCollecting zs) where
+  abbrev j : ℕ
+  j = reader_of script
+
+  other : (j == 0) ≡ false
+  other = reader_not_zero (max 1 (top script))
+
   abbrev with_it : List Said
   with_it = xs ++ (ys ++ zs)
 
@@ -66,56 +68,58 @@ module _ (rounds j : ℕ) (other : (j == 0) ≡ false) (h : History) (xs ys zs :
   )
   cause_same earlier now r _ m = tt
 
-  other_session : (told : Told) → NotHeld j told → Each (λ (y : Said). (y.session == told.session) ≡ false) ys
+  other_session : (told : Told) → (told.session == j) ≡ false → Each (λ (y : Said). (y.session == told.session) ≡ false) ys
   other_session told n = each_keeps (IsSilent j) (λ (y : Said). (y.session == told.session) ≡ false) (λ y s. go y.session told.session s.session n) ys silent
     where
       go : (k t : ℕ) → k ≡ j → (t == j) ≡ false → (k == t) ≡ false
       go k t e n = grind (arith, nat_tests, e, n)
 
-  held_same : (told : Told) → NotHeld j told → IsHeld with_it told → IsHeld without told
+  held_same : (told : Told) → (told.session == j) ≡ false → IsHeld with_it told → IsHeld without told
   held_same told n q = record {
     printed = sym (any_between (prints told) xs ys zs (others_none told ys (other_session told n))) ∙ q.printed;
     declared = match_keeps told.moved (λ m. sym (any_between (λ (s : Said). prints told s && is_declared s.scope) xs ys zs (others_print told (λ s. is_declared s.scope) ys (other_session told n))) ∙ m) q.declared;
   }
 
-  all_held : (held : List Told) → Each (NotHeld j) held → Each (IsHeld with_it) held → Each (IsHeld without) held
-  all_held [] n q = tt
-  all_held (told ∷ held) n q = (held_same told n.0 q.0, all_held held n.1 q.1)
+  -- what is held is held by a session of the script, or the reader's
+  abbrev Own : Type 0
+  Own = (told : Told) → IsHeld with_it told → IsHeldAt script ats told
+
+  held_but : Own → (told : Told) → IsHeld with_it told → IsHeld without told ⊎ IsReaders script ats told
+  held_but own told q = cases (told.session == j)
+      (λ same. let is = own told q same in inr (record { session = (Decides-eqb told.session j).0 same; read = is.0; unmoved = is.1 }))
+      (λ n. inl (held_same told n q))
 
   abbrev SameMarks : List Said → List Said → Type 0
   SameMarks a b = (kind : Kind) → filter_map (mark_of kind) a ≡ filter_map (mark_of kind) b
 
-  report_same : (a b : List Said) (sweep : Sweep) → SameMarks a b → Each (NotHeld j) sweep.held → IsReported h with_it a sweep → IsReported h without b sweep
-  report_same a b sweep m n q = record {
+  report_same : Own → (a b : List Said) (sweep : Sweep) → SameMarks a b → IsReported h with_it a sweep → IsReportedBut script ats h without b sweep
+  report_same own a b sweep m q = record {
     rising = subst (Each (λ mark. mark ≤ sweep.mark)) (m sweep.kind) q.rising;
     horizon = q.horizon;
     mark = q.mark;
     sessions = q.sessions;
-    held = all_held sweep.held n q.held;
+    held = each_keeps (IsHeld with_it) (λ (told : Told). IsHeld without told ⊎ IsReaders script ats told) (held_but own) sweep.held q.held;
   }
 
-  reports_same : (a b : List Said) (reply : Reply) → SameMarks a b → NoHold j reply → IfSome (report_of reply) (IsReported h with_it a) → IfSome (report_of reply) (IsReported h without b)
-  reports_same a b reply m n q = go (report_of reply) n q
-    where
-      go : (o : Option Sweep) → IfSome o (λ (sweep : Sweep). Each (NotHeld j) sweep.held) → IfSome o (IsReported h with_it a) → IfSome o (IsReported h without b)
-      go None n q = tt
-      go (Some sweep) n q = report_same a b sweep m n q
+  abbrev IsBut : List Said → Said → Type 0
+  IsBut = IsRightBut rounds script ats h without
 
   -- a session's line, after the same lines
-  first_right : (earlier : List Said) (now : Said) → NoHold j now.reply → IsRight (run rounds) h with_it earlier now → IsRight (run rounds) h without earlier now
-  first_right earlier now n r = record {
+  first_right : Own → (earlier : List Said) (now : Said) → IsRight (run rounds) h with_it earlier now → IsBut earlier now
+  first_right own earlier now r = record {
     reply = r.reply;
     conflict = if_some_keeps (target now.statement) (λ q. ShowsCause (run rounds) h with_it earlier now q now.reply.answer) (λ q. ShowsCause (run rounds) h without earlier now q now.reply.answer) (λ q m. cause_same earlier now q now.reply.answer m) r.conflict;
-    fresh = record { rising = r.fresh.rising; exact = tt; report = reports_same earlier earlier now.reply (λ kind. refl) n r.fresh.report };
+    rising = r.fresh.rising;
+    report = if_some_keeps (report_of now.reply) (IsReported h with_it earlier) (IsReportedBut script ats h without earlier) (λ sweep q. report_same own earlier earlier sweep (λ kind. refl) q) r.fresh.report;
   }
 
-  firsts_right : (earlier some : List Said) → Each (λ (s : Said). NoHold j s.reply) some → EachAfter (IsRight (run rounds) h with_it) earlier some → EachAfter (IsRight (run rounds) h without) earlier some
-  firsts_right earlier [] n r = tt
-  firsts_right earlier (s ∷ some) n r = (first_right earlier s n.0 r.0, firsts_right (s ∷ earlier) some n.1 r.1)
+  firsts_right : Own → (earlier some : List Said) → EachAfter (IsRight (run rounds) h with_it) earlier some → EachAfter IsBut earlier some
+  firsts_right own earlier [] r = tt
+  firsts_right own earlier (s ∷ some) r = (first_right own earlier s r.0, firsts_right own (s ∷ earlier) some r.1)
 
   -- a collector's line
-  last_right : (a b : List Said) (now : Said) → IsCollecting now → SameMarks a b → known 0 a ≡ known 0 b → NoHold j now.reply → IsRight (run rounds) h with_it a now → IsRight (run rounds) h without b now
-  last_right a b now c m k n r = record {
+  last_right : Own → (a b : List Said) (now : Said) → IsCollecting now → SameMarks a b → known 0 a ≡ known 0 b → IsRight (run rounds) h with_it a now → IsBut b now
+  last_right own a b now c m k r = record {
     reply = record {
       at = r.reply.at;
       number = r.reply.number;
@@ -124,11 +128,8 @@ module _ (rounds j : ℕ) (other : (j == 0) ≡ false) (h : History) (xs ys zs :
           (subst (λ s. IsAnswer (run rounds) (seen h (own_writes a now) now.at) (is_written (own_writes a now)) (rest_in now.session now.transaction a) now s) c.statement r.reply.answer);
     };
     conflict = subst (λ s. IfSome (target s) (λ q. ShowsCause (run rounds) h without b now q now.reply.answer)) (sym c.statement) tt;
-    fresh = record {
-      rising = subst (λ ns. IfSome (snapshot_of now) (λ s. Each (λ n. n ≤ s) ns)) (ap (λ i. known i a) c.session ∙ k ∙ sym (ap (λ i. known i b) c.session)) r.fresh.rising;
-      exact = tt;
-      report = reports_same a b now.reply m n r.fresh.report;
-    };
+    rising = subst (λ ns. IfSome (snapshot_of now) (λ s. Each (λ n. n ≤ s) ns)) (ap (λ i. known i a) c.session ∙ k ∙ sym (ap (λ i. known i b) c.session)) r.fresh.rising;
+    report = if_some_keeps (report_of now.reply) (IsReported h with_it a) (IsReportedBut script ats h without b) (λ sweep q. report_same own a b sweep m q) r.fresh.report;
   }
 
   known_more : (a b : List Said) (now : Said) → known 0 a ≡ known 0 b → known 0 (now ∷ a) ≡ known 0 (now ∷ b)
@@ -138,11 +139,11 @@ module _ (rounds j : ℕ) (other : (j == 0) ≡ false) (h : History) (xs ys zs :
       go true = ap (λ l. numbers_of now ++ l) k
       go false = k
 
-  lasts_right : (a b some : List Said) → Each IsCollecting some → SameMarks a b → known 0 a ≡ known 0 b → Each (λ (s : Said). NoHold j s.reply) some → EachAfter (IsRight (run rounds) h with_it) a some → EachAfter (IsRight (run rounds) h without) b some
-  lasts_right a b [] c m k n r = tt
-  lasts_right a b (s ∷ some) c m k n r = (
-    last_right a b s c.0 m k n.0 r.0,
-    lasts_right (s ∷ a) (s ∷ b) some c.1 (λ kind. ap (cons_option (mark_of kind s)) (m kind)) (known_more a b s k) n.1 r.1,
+  lasts_right : Own → (a b some : List Said) → Each IsCollecting some → SameMarks a b → known 0 a ≡ known 0 b → EachAfter (IsRight (run rounds) h with_it) a some → EachAfter IsBut b some
+  lasts_right own a b [] c m k r = tt
+  lasts_right own a b (s ∷ some) c m k r = (
+    last_right own a b s c.0 m k r.0,
+    lasts_right own (s ∷ a) (s ∷ b) some c.1 (λ kind. ap (cons_option (mark_of kind s)) (m kind)) (known_more a b s k) r.1,
   )
 
   -- the reader's lines have no mark and are of no collector
@@ -158,13 +159,12 @@ module _ (rounds j : ℕ) (other : (j == 0) ≡ false) (h : History) (xs ys zs :
       known_over some (y ∷ earlier) s.1
       ∙ ap (λ t. flat_map numbers_of (cond t (y ∷ filter (λ (x : Said). x.session == 0) earlier) (filter (λ (x : Said). x.session == 0) earlier))) (ap (λ i. i == 0) s.0.session ∙ other)
 
-  pub right_without : Each (λ (s : Said). NoHold j s.reply) with_it → EachAfter (IsRight (run rounds) h with_it) [] with_it → EachAfter (IsRight (run rounds) h without) [] without
-  right_without n r =
-      let held = each_left (λ (s : Said). NoHold j s.reply) xs (ys ++ zs) n in
+  pub right_without : Own → EachAfter (IsRight (run rounds) h with_it) [] with_it → EachAfter IsBut [] without
+  right_without own r =
       let parts = after_append (IsRight (run rounds) h with_it) [] xs (ys ++ zs) r in
       let more = after_append (IsRight (run rounds) h with_it) (onto xs []) ys zs parts.1 in
-      after_join (IsRight (run rounds) h without) [] xs zs (firsts_right [] xs held.0 parts.0)
-      (lasts_right (onto ys (onto xs [])) (onto xs []) zs collecting (marks_over ys (onto xs []) silent) (known_over ys (onto xs []) silent) (each_left (λ (s : Said). NoHold j s.reply) ys zs held.1).1 more.1)
+      after_join IsBut [] xs zs (firsts_right own [] xs parts.0)
+      (lasts_right own (onto ys (onto xs [])) (onto xs []) zs collecting (marks_over ys (onto xs []) silent) (known_over ys (onto xs []) silent) more.1)
     where
       after_join : {X : Type 0} (P : List X → X → Type 0) (earlier cs bs : List X) → EachAfter P earlier cs → EachAfter P (onto cs earlier) bs → EachAfter P earlier (cs ++ bs)
       after_join P earlier [] bs p q = q

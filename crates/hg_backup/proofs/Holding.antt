@@ -196,7 +196,7 @@ module _ (rounds : ℕ) (script : Script) (ats : List ℕ) (printed : Printed) (
         go true d = absurd (true_false (sym d ∙ none))
         go false d = refl
 
-  held_at : (told : Told) → IsHeld all told → IsHeldAt script ats told
+  pub held_at : (told : Told) → IsHeld all told → IsHeldAt script ats told
   held_at told q same = held_here told ((Decides-eqb told.session j).0 same) q
 
   abbrev HoldsRight : Reply → Type 0

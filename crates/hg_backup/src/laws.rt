@@ -27,6 +27,7 @@ ghost use Rattle.hg_headline.specs.Counted.{Closes};
 ghost use Rattle.hg_headline.specs.Following.{AreTotalsBy, told_removed};
 ghost use Rattle.hg_headline.specs.Logged.{Logged};
 ghost use Rattle.hg_headline.specs.Ran.{run_lines};
+ghost use Rattle.hg_backup.specs.Alone.{IsSoundBut};
 ghost use Rattle.hg_backup.specs.Reader.{HasReadAll, IsHeldAt, IsOfOther, IsSoundWith, lines_with, log_at, printed_history, reader_of, with_reader, without_looks};
 ghost use Rattle.hg_backup.specs.Ran.{HasRunWith};
 
@@ -95,6 +96,13 @@ pub fn reader_holds_what_it_read()
         IsSoundWith rounds script ats printed →
         Each (λ line. IfSome (report_of line.reply) (λ sweep.
         Each (IsHeldAt script ats) sweep.held)) printed.lines }
+{}
+
+/// Lines that are sound with a reader are all that a run's lines are, with one change: a report may say that the reader held a
+/// snapshot, which is one at which it read, and was not moved.
+pub fn one_change_is_what_the_reader_held()
+    ensures { (rounds : ℕ) (script : Script) (ats : List ℕ) (printed : Printed) →
+        IsSoundWith rounds script ats printed → IsSoundBut rounds script ats printed }
 {}
 
 /// Lines that are sound with a reader are sound alone, if no report says that the reader held a snapshot.

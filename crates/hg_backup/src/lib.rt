@@ -25,8 +25,9 @@ mod worked;
 
 pub use laws::{
     a_read_at_the_end_is_the_newest, an_export_is_of_the_printed_history, an_export_reads,
-    looks_leave_the_log_right, printed_history_shows_the_same, reader_holds_what_it_read,
-    run_with_reader_is_sound, unless_it_is_held_the_reader_changes_nothing,
+    looks_leave_the_log_right, one_change_is_what_the_reader_held, printed_history_shows_the_same,
+    reader_holds_what_it_read, run_with_reader_is_sound,
+    unless_it_is_held_the_reader_changes_nothing,
 };
 pub use restore::{a_replay_of_a_dump_text_restores_it, a_replay_restores_a_dump};
 pub use worked::{a_dump_is_replayed, a_held_reader_is_sound_with_its_lines};
