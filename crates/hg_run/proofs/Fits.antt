@@ -1,5 +1,5 @@
 -- What is sound for a lawful script fits it.
-use Rattle.std.proofs.Common.{◌≡◌, ℕ, ◌+◌, ◌<◌, ◌≤◌, ◌^◌, List, [], ◌∷◌, ◌++◌, length, Bool, true, false, Option, Some, None, refl, sym, ap, ◌∙◌, subst, arith, append_assoc}
+use Rattle.std.proofs.Common.{◌≡◌, ◌⊎◌, inl, inr, ℕ, ◌+◌, ◌<◌, ◌≤◌, ◌^◌, List, [], ◌∷◌, ◌++◌, length, Bool, true, false, Option, Some, None, refl, sym, ap, ◌∙◌, subst, arith, append_assoc}
 use Rattle.std.specs.Prelude.{cond, filter, find, map, sum_by, if◌then◌else◌, is_none, is_some, unwrap_or, IfSome, IsSome, IsTrue, MatchOption, ⊤, ◌==◌, ◌&&◌, ◌||◌}
 use Rattle.std.specs.List.{filter_map, list_any}
 use Rattle.std.specs.Bool.{MatchBool}
@@ -30,14 +30,14 @@ use Rattle.hg_base.specs.Counts.{AreTotals, removed_by}
 use Rattle.hg_base.specs.Freshness.{IsHeld, IsReported, prints, snapshot_of}
 use Rattle.hg_base.specs.Lists.{Each, EachAfter, Ascends, greatest}
 use Rattle.hg_base.specs.Script.{Mode, Declaration, Script, replay, run}
-use Rattle.hg_base.specs.History.{History, image_in, seen}
+use Rattle.hg_base.specs.History.{History, IsHistory, image_in, seen}
 use Rattle.hg_base.specs.Transcript.{Rest, Said, rest_in, standing, next_after, open_after, said, said_from, has, is_of, last_of, own_writes, stored, stored_by, stored_in, committed, committed_by, table_of, history_of, in_order, said_after}
 use Rattle.hg_base.specs.Shape.{HasShape, IsLineOf, report_of, same_kind}
-use Rattle.hg_base.specs.Replies.{IsBegun, IsGot, IsPut, IsDeleted, IsScanned, IsFetched, IsEnded, IsCommitted, IsUndone, IsSwept, IsBeside, IsCollected, IsUndeclared, IsAnswer, is_written}
-use Rattle.hg_base.specs.Conflicts.{ShowsCause, target}
+use Rattle.hg_base.specs.Replies.{IsBegun, IsGot, IsPut, IsDeleted, IsScanned, IsFetched, IsEnded, IsCommitted, IsUndone, IsSwept, IsBeside, IsCollected, IsUndeclared, IsAnswer, IsReply, is_written}
+use Rattle.hg_base.specs.Conflicts.{ShowsCause, ShowsConflict, target}
 use Rattle.hg_base.specs.Sound.{IsRight, IsSound, all_said}
 use Rattle.hg_base.specs.Text.{Fits64, Fits32, FitsRow, FitsBegin, FitsGet, FitsPut, FitsDel, FitsScan, FitsFetch, FitsClose, FitsCommit, FitsRollback, FitsSweep, FitsReport, FitsGc, FitsAnswer, FitsReply, FitTotals, Fits, IsFit, IsReport, asked, cursor_before, is_write}
-use Rattle.hg_base.proofs.ListFacts.{false_true, not_equal, each_keeps}
+use Rattle.hg_base.proofs.ListFacts.{false_true, not_equal, each_after_keeps, each_keeps, if_some_keeps}
 use Rattle.hg_headline.proofs.Orderly.{orderly_nothing}
 use Rattle.hg_headline.proofs.Parts.{ascends_over, ascends_rest}
 use Rattle.hg_headline.proofs.Whole.{said_says}
@@ -233,29 +233,29 @@ begun_alone mode look wrote rest now CommitIt n e a = absurd (subst (IsCommitted
 begun_alone mode look wrote rest now Rollback n e a = absurd (subst IsUndone e a)
 begun_alone mode look wrote rest now (Gc kind) n e a = absurd (subst FitsGc e (collected_fits mode now.session now.reply.answer a (λ s. absurd (subst IsSwept e s))))
 
-snapshot_within : (mode : Mode) (h : History) (all earlier : List Said) (now : Said) → IsRight mode h all earlier now → IsStanding now → PrintsWithin h now
-snapshot_within mode h all earlier now right stands = go now.reply.answer refl
+snapshot_within : (mode : Mode) (h : History) (earlier : List Said) (now : Said) → IsReply mode h earlier now → IsStanding now → PrintsWithin h now
+snapshot_within mode h earlier now right stands = go now.reply.answer refl
   where
     alone : (o : Option ℕ) → now.reply.at ≡ o → IfSome o (λ s. s ≤ length h)
     alone None is = tt
     alone (Some s) is =
-        let same : now.at ≡ s = (stands.alone (sym right.reply.at ∙ ap is_some is)).0 ∙ ap (λ o. unwrap_or o 0) is in
-        subst (λ n. n ≤ length h) same right.reply.snapshot
+        let same : now.at ≡ s = (stands.alone (sym right.at ∙ ap is_some is)).0 ∙ ap (λ o. unwrap_or o 0) is in
+        subst (λ n. n ≤ length h) same right.snapshot
 
     at : IfSome now.reply.at (λ s. s ≤ length h)
     at = alone now.reply.at refl
 
     go : (a : Answer) → now.reply.answer ≡ a → IfSome (elim a [ Begun s ↦ Some s | _ ↦ now.reply.at ]) (λ s. s ≤ length h)
     go (Begun n) is =
-        let k = begun_alone mode _ _ _ now now.statement n is right.reply.answer in
+        let k = begun_alone mode _ _ _ now now.statement n is right.answer in
         let same : now.at ≡ n = stands.begun k ∙ ap (λ (a : Answer). elim a [ Begun s ↦ s | _ ↦ 0 ]) is in
-        subst (λ n. n ≤ length h) same right.reply.snapshot
+        subst (λ n. n ≤ length h) same right.snapshot
     go _ is = at
 
 -- each snapshot is one of the history
-snapshots_within : (mode : Mode) (h : History) (all earlier xs : List Said) → EachAfter (IsRight mode h all) earlier xs → Each IsStanding xs → Each (PrintsWithin h) xs
-snapshots_within mode h all earlier [] right stand = tt
-snapshots_within mode h all earlier (now ∷ later) right stand = (snapshot_within mode h all earlier now right.0 stand.0, snapshots_within mode h all (now ∷ earlier) later right.1 stand.1)
+snapshots_within : (mode : Mode) (h : History) (earlier xs : List Said) → EachAfter (IsReply mode h) earlier xs → Each IsStanding xs → Each (PrintsWithin h) xs
+snapshots_within mode h earlier [] right stand = tt
+snapshots_within mode h earlier (now ∷ later) right stand = (snapshot_within mode h earlier now right.0 stand.0, snapshots_within mode h (now ∷ earlier) later right.1 stand.1)
 
 summed : (k : Kind) (xs : List Said) → Each (λ now. removed_by k now ≤ sum_by (removed_by k) xs) xs
 summed k [] = tt
@@ -292,6 +292,29 @@ FitsSaid script now = MatchBool (now.session == 0) (IsReport now.reply) (FitsRep
 nothing_there : {X : Type 0} (o : Option X) → is_some o ≡ false → is_none o ≡ true
 nothing_there None e = refl
 nothing_there (Some x) e = absurd (false_true (sym e))
+
+-- what is asked of a held snapshot: it was printed, or it is of a session and a number that are few
+abbrev pub IsHeldFew : History → List Said → Told → Type 0
+IsHeldFew h all told = IsTrue (list_any (prints told) all) ⊎ (Fits32 told.session × (told.number ≤ length h))
+
+-- what is asked of a report
+pub record IsReportFew (h : History) (all : List Said) (sweep : Sweep) : Type 0 where
+  pub horizon : sweep.horizon ≤ sweep.mark
+  pub mark : sweep.mark ≤ length h
+  pub held : Each (IsHeldFew h all) sweep.held
+
+-- what is asked of a line
+pub record IsRightEnough (mode : Mode) (h : History) (all : List Said) (earlier : List Said) (now : Said) : Type 0 where
+  pub reply : IsReply mode h earlier now
+  pub conflict : ShowsConflict mode h all earlier now
+  pub report : IfSome (report_of now.reply) (IsReportFew h all)
+
+enough : (mode : Mode) (h : History) (all earlier : List Said) (now : Said) → IsRight mode h all earlier now → IsRightEnough mode h all earlier now
+enough mode h all earlier now r = record {
+  reply = r.reply;
+  conflict = r.conflict;
+  report = if_some_keeps (report_of now.reply) (IsReported h all earlier) (IsReportFew h all) (λ sweep k. record { horizon = k.horizon; mark = k.mark; held = each_keeps (IsHeld all) (IsHeldFew h all) (λ told q. inl q.printed) sweep.held k.held }) r.fresh.report;
+}
 
 module _ (mode : Mode) (script : Script) (h : History) (all : List Said) (few : length h < 2 ^ 64) (short : length script.records < 2 ^ 64) (writers : Each IsFew all) where
   writer_fits : (r : Rid) (j x : ℕ) (xs : List Said) → IsSome (image_in r (stored_in j x xs)) → Each IsFew xs → Fits32 j × Fits64 x
@@ -389,20 +412,24 @@ module _ (mode : Mode) (script : Script) (h : History) (all : List Said) (few : 
           (subst Fits32 session w.0.0, number (snapshot_of x) k.1 s.0)
       go false e is later = later is
 
-  sweep_fits : (earlier : List Said) (sweep : Sweep) → IsReported h all earlier sweep → Each (PrintsWithin h) all → Fits64 sweep.removed → FitsSweep sweep
-  sweep_fits earlier sweep r shown gone = (
+  one_held : (told : Told) → IsHeldFew h all told → Each (PrintsWithin h) all → Fits32 told.session × Fits64 told.number
+  one_held told (inl k) shown = held_fits told all k writers shown
+  one_held told (inr k) shown = (k.0, omega (arith, k.1, few))
+
+  sweep_fits : (sweep : Sweep) → IsReportFew h all sweep → Each (PrintsWithin h) all → Fits64 sweep.removed → FitsSweep sweep
+  sweep_fits sweep r shown gone = (
     omega (arith, r.mark, few),
     omega (arith, r.horizon, r.mark, few),
     gone,
-    each_keeps (IsHeld all) (λ told. Fits32 told.session × Fits64 told.number) (λ told k. held_fits told all k.printed writers shown) sweep.held r.held,
+    each_keeps (IsHeldFew h all) (λ told. Fits32 told.session × Fits64 told.number) (λ told k. one_held told k shown) sweep.held r.held,
   )
 
-  gc_fits : (earlier : List Said) (now : Said) (a : Answer) → now.reply.answer ≡ a → IsSwept a → IfSome (report_of now.reply) (IsReported h all earlier) → Each (PrintsWithin h) all → ((k : Kind) → Fits64 (removed_by k now)) → FitsReport a
-  gc_fits earlier now (Swept sweep) is s report shown gone =
+  gc_fits : (now : Said) (a : Answer) → now.reply.answer ≡ a → IsSwept a → IfSome (report_of now.reply) (IsReportFew h all) → Each (PrintsWithin h) all → ((k : Kind) → Fits64 (removed_by k now)) → FitsReport a
+  gc_fits now (Swept sweep) is s report shown gone =
       let said : report_of now.reply ≡ Some sweep = ap (λ (a : Answer). elim a [ Swept x ↦ Some x | _ ↦ None ]) is in
       let own : removed_by sweep.kind now ≡ sweep.removed = ap (λ (o : Option Sweep). option_map_or (λ (x : Sweep). if same_kind x.kind sweep.kind then x.removed else 0) o 0) said ∙ ap (λ b. if b then sweep.removed else 0) (kind_itself sweep.kind) in
-      sweep_fits earlier sweep (subst (λ o. IfSome o (IsReported h all earlier)) said report) shown (subst Fits64 own (gone sweep.kind))
-  gc_fits earlier now _ is s report shown gone = absurd s
+      sweep_fits sweep (subst (λ o. IfSome o (IsReportFew h all)) said report) shown (subst Fits64 own (gone sweep.kind))
+  gc_fits now _ is s report shown gone = absurd s
 
   -- what was found out of a line
   record IsKnown (now : Said) : Type 0 where
@@ -412,10 +439,10 @@ module _ (mode : Mode) (script : Script) (h : History) (all : List Said) (few : 
     gone : (k : Kind) → Fits64 (removed_by k now)
     beside : (now.session == 0) ≡ true → IsBesideThem now
 
-  report_fits : (earlier : List Said) (now : Said) → Each (PrintsWithin h) all → IsRight mode h all earlier now → IsKnown now → IsSwept now.reply.answer → FitsReport now.reply.answer
-  report_fits earlier now shown right known s = gc_fits earlier now now.reply.answer refl s right.fresh.report shown known.gone
+  report_fits : (earlier : List Said) (now : Said) → Each (PrintsWithin h) all → IsRightEnough mode h all earlier now → IsKnown now → IsSwept now.reply.answer → FitsReport now.reply.answer
+  report_fits earlier now shown right known s = gc_fits now now.reply.answer refl s right.report shown known.gone
 
-  reply_fits : (earlier : List Said) (now : Said) → Each (PrintsWithin h) all → IsRight mode h all earlier now → FindsRest script.records earlier now → IsKnown now → FitsReply script.tables (cursor_table script now) now.statement now.reply
+  reply_fits : (earlier : List Said) (now : Said) → Each (PrintsWithin h) all → IsRightEnough mode h all earlier now → FindsRest script.records earlier now → IsKnown now → FitsReply script.tables (cursor_table script now) now.statement now.reply
   reply_fits earlier now shown right finds known = record {
     at = at_fits now right.reply.at right.reply.snapshot known.standing;
     answer = answer_fits _ _ (cursor_table script now) (rest_in now.session now.transaction earlier) now now.statement refl known.standing right.reply.snapshot right.reply.answer finds (causes_fit earlier now now.statement right.conflict) known.rows known.standing.widths
@@ -424,7 +451,7 @@ module _ (mode : Mode) (script : Script) (h : History) (all : List Said) (few : 
   }
 
   -- a report of session 0 stands alone
-  stands_alone : (earlier : List Said) (now : Said) → Each (PrintsWithin h) all → IsRight mode h all earlier now → IsKnown now → (now.session == 0) ≡ true → IsReport now.reply
+  stands_alone : (earlier : List Said) (now : Said) → Each (PrintsWithin h) all → IsRightEnough mode h all earlier now → IsKnown now → (now.session == 0) ≡ true → IsReport now.reply
   stands_alone earlier now shown right known e =
       let k = known.beside e in
       let answer : IsCollected mode now.session now.reply.answer = subst (IsAnswer mode (seen h (own_writes earlier now) now.at) (is_written (own_writes earlier now)) (rest_in now.session now.transaction earlier) now) k.statement.1 right.reply.answer in record {
@@ -433,14 +460,14 @@ module _ (mode : Mode) (script : Script) (h : History) (all : List Said) (few : 
         number = nothing_there now.reply.number (right.reply.number ∙ ap (λ b. b && is_some (stored now)) k.alone);
       }
 
-  said_fits : (earlier : List Said) (now : Said) → Each (PrintsWithin h) all → IsRight mode h all earlier now → FindsRest script.records earlier now → IsKnown now → FitsSaid script now
+  said_fits : (earlier : List Said) (now : Said) → Each (PrintsWithin h) all → IsRightEnough mode h all earlier now → FindsRest script.records earlier now → IsKnown now → FitsSaid script now
   said_fits earlier now shown right finds known = go (now.session == 0) refl
     where
       go : (b : Bool) → (now.session == 0) ≡ b → MatchBool b (IsReport now.reply) (FitsReply script.tables (cursor_table script now) now.statement now.reply)
       go true is = stands_alone earlier now shown right known is
       go false is = reply_fits earlier now shown right finds known
 
-  all_fit : (earlier xs : List Said) → Each (PrintsWithin h) all → EachAfter (IsRight mode h all) earlier xs → EachAfter (FindsRest script.records) earlier xs → Each IsKnown xs → Each (FitsSaid script) xs
+  all_fit : (earlier xs : List Said) → Each (PrintsWithin h) all → EachAfter (IsRightEnough mode h all) earlier xs → EachAfter (FindsRest script.records) earlier xs → Each IsKnown xs → Each (FitsSaid script) xs
   all_fit earlier [] shown right finds known = tt
   all_fit earlier (now ∷ later) shown right finds known = (said_fits earlier now shown right.0 finds.0 known.0, all_fit (now ∷ earlier) later shown right.1 finds.1 known.1)
 
@@ -562,12 +589,14 @@ all_beside script (r ∷ rs) (line ∷ lines) earlier own =
           statement = (k.0, statement ∙ k.1);
         }
 
-pub sound_fits : (mode : Mode) (script : Script) (printed : Printed) → rounds_beside mode < 2 ^ 32 → IsLawful script → IsSound mode script printed → IsFit script printed
-sound_fits mode script printed rounds lawful sound =
+-- what is right enough for a lawful script fits it
+pub right_fits : (mode : Mode) (script : Script) (printed : Printed) → rounds_beside mode < 2 ^ 32 → IsLawful script → HasShape (in_order mode script.records) printed.lines → (let all : List Said = all_said mode script printed.lines in
+    IsHistory (history_of all) → EachAfter (IsRightEnough mode (history_of all) all) [] all → AreTotals all (history_of all) printed.totals → IsFit script printed)
+right_fits mode script printed rounds lawful shape history right counted =
     let all : List Said = all_said mode script printed.lines in
     let rs : List Record = in_order mode script.records in
     let h : History = history_of all in
-    let right = sound.lines.right in
+    let replies : EachAfter (IsReply mode h) [] all = each_after_keeps (IsRightEnough mode h all) (IsReply mode h) (λ earlier now r. r.reply) [] all right in
     let own : Each (IsOwn script) rs = each_in_order (IsOwn script) mode script.records (owned script lawful [] script.records refl lawful.statements) (λ kind m k. record { place = omega (arith, k, rounds); collects = refl }) in
     let sessions : Each (λ (r : Record). Fits32 r.session) rs = each_in_order (λ r. Fits32 r.session) mode script.records
     (each_keeps (IsStatement script.tables) (λ r. Fits32 r.session) (λ r is. omega (arith, is.most)) script.records lawful.statements) (λ kind m k. omega arith) in
@@ -578,22 +607,27 @@ sound_fits mode script printed rounds lawful sound =
     let short : length script.records < 2 ^ 64 = omega (arith, lawful.records) in
     let asks : length rs < 2 ^ 64 = few_in_order mode script.records (omega (arith, lawful.records)) least (omega (arith, rounds)) in
     let many : length all ≤ length rs = lines_few [] rs printed.lines in
-    let few : length h < 2 ^ 64 = omega (arith, groups_few all right.whole.history, many, asks) in
+    let few : length h < 2 ^ 64 = omega (arith, groups_few all history, many, asks) in
     let transactions : Each (λ (s : Said). s.transaction ≤ 0 + length rs) all = transactions_few rs printed.lines [] 0 tt in
     let writers : Each IsFew all = both_each (λ (s : Said). Fits32 s.session) (λ (s : Said). s.transaction ≤ 0 + length rs) IsFew (λ s session n. (session, omega (arith, n, asks))) all
     (all_of_sessions rs printed.lines [] sessions) transactions in
     let stands : Each IsStanding all = all_stand script.records [] rs printed.lines [] (stand_in_turn mode script.records lawful.places lawful.order) widths orderly_nothing (λ j. refl) in
     let finds : EachAfter (FindsRest script.records) [] all = lines_find mode script printed.lines lawful in
-    let rows = rows_put (IsPutRow script) mode script.records all (all_rows mode script printed.lines lawful) right finds in
-    let totals : FitTotals printed.totals = totals_fit all h printed.totals sound.totals (omega (arith, many, asks)) in
-    let gone : Each (λ (now : Said). (k : Kind) → Fits64 (removed_by k now)) all = removed_few all h printed.totals sound.totals totals in
+    let rows = rows_put (IsPutRow script) mode script.records all (all_rows mode script printed.lines lawful) replies finds in
+    let totals : FitTotals printed.totals = totals_fit all h printed.totals counted (omega (arith, many, asks)) in
+    let gone : Each (λ (now : Said). (k : Kind) → Fits64 (removed_by k now)) all = removed_few all h printed.totals counted totals in
     let beside : Each (λ (now : Said). (now.session == 0) ≡ true → IsBesideThem now) all = all_beside script rs printed.lines [] own in
-    let shown : Each (PrintsWithin h) all = snapshots_within mode h all [] all right.lines stands in
+    let shown : Each (PrintsWithin h) all = snapshots_within mode h [] all replies stands in
     let one : Each (λ (now : Said). IsStanding now × PrintsRow (IsPutRow script) (cursor_table script now) now.statement now.reply.answer) all = both_each IsStanding (λ (now : Said). PrintsRow (IsPutRow script) (cursor_table script now) now.statement now.reply.answer) (λ (now : Said). IsStanding now × PrintsRow (IsPutRow script) (cursor_table script now) now.statement now.reply.answer) (λ now k rows. (k, rows)) all stands rows in
     let two : Each (λ (now : Said). CommitsWithin h now × ((k : Kind) → Fits64 (removed_by k now))) all = both_each (CommitsWithin h) (λ (now : Said). (k : Kind) → Fits64 (removed_by k now)) (λ (now : Said). CommitsWithin h now × ((k : Kind) → Fits64 (removed_by k now))) (λ now n g. (n, g)) all (numbers_within all) gone in
     let three : Each (λ (now : Said). IsStanding now × PrintsRow (IsPutRow script) (cursor_table script now) now.statement now.reply.answer × ((now.session == 0) ≡ true → IsBesideThem now)) all = both_each _ (λ (now : Said). (now.session == 0) ≡ true → IsBesideThem now) (λ (now : Said). IsStanding now × PrintsRow (IsPutRow script) (cursor_table script now) now.statement now.reply.answer × ((now.session == 0) ≡ true → IsBesideThem now)) (λ now k b. (k.0, k.1, b)) all one beside in
     let known : Each (IsKnown mode script h all few short writers) all = both_each _ (λ (now : Said). CommitsWithin h now × ((k : Kind) → Fits64 (removed_by k now))) (IsKnown mode script h all few short writers) (λ now k n. record { standing = k.0; rows = k.1; number = n.0; gone = n.1; beside = k.2 }) all three two in
     record {
-      lines = lines_fit script lawful rs printed.lines [] sound.lines.shape own (all_fit mode script h all few short writers [] all shown right.lines finds known);
+      lines = lines_fit script lawful rs printed.lines [] shape own (all_fit mode script h all few short writers [] all shown right finds known);
       totals = totals;
     }
+
+pub sound_fits : (mode : Mode) (script : Script) (printed : Printed) → rounds_beside mode < 2 ^ 32 → IsLawful script → IsSound mode script printed → IsFit script printed
+sound_fits mode script printed rounds lawful sound =
+    let all : List Said = all_said mode script printed.lines in
+    right_fits mode script printed rounds lawful sound.lines.shape sound.lines.right.whole.history (each_after_keeps (IsRight mode (history_of all) all) (IsRightEnough mode (history_of all) all) (enough mode (history_of all) all) [] all sound.lines.right.lines) sound.totals

@@ -37,3 +37,4 @@ mod Opens
 mod Fetched
 mod Rows
 mod Fits
+mod FitsDump

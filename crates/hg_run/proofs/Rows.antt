@@ -20,9 +20,9 @@ use Rattle.hg_base.specs.Script.{Mode, Declaration, Script}
 use Rattle.hg_base.specs.History.{Write, Commit, Group, History, same_rid, image_in, group_image, writes_from, writes, last_image, visible, seen}
 use Rattle.hg_base.specs.Text.{cursor_before}
 use Rattle.hg_base.specs.Transcript.{Rest, Said, has, passed, rest_in, said, said_from, last_of, is_of, stored, stored_by, stored_in, own_writes, committed, last_images, commit_by, commits_from, commits, put_by_session, group_of, history_of, in_order}
-use Rattle.hg_base.specs.Replies.{IsGot, IsScanned, IsFetched, IsUndeclared, IsAnswer}
-use Rattle.hg_base.specs.Sound.{IsSound, AreRight, IsRight, all_said}
-use Rattle.hg_base.proofs.ListFacts.{each_keeps}
+use Rattle.hg_base.specs.Replies.{IsGot, IsScanned, IsFetched, IsUndeclared, IsAnswer, IsReply}
+use Rattle.hg_base.specs.Sound.{IsSound, IsRight, all_said}
+use Rattle.hg_base.proofs.ListFacts.{each_after_keeps, each_keeps}
 use Rattle.hg_base.proofs.HistoryFacts.{same_rid_equal}
 use Rattle.hg_headline.proofs.Words.{each_cons}
 use Rattle.hg_headline.proofs.Same.{each_filter}
@@ -257,17 +257,17 @@ answered P mode look wrote cursor rest now (Scan table low high) h found a = go 
 answered P mode look wrote cursor rest now (Fetch n) h found a = fetched P look n cursor rest now.reply.answer h found a
 answered P mode look wrote cursor rest now _ h found a = tt
 
-all_print : (P : Rid → List Value → Type 0) (mode : Mode) (h : History) (records : List Record) (all earlier xs : List Said) → Each (Each (λ c. Each (IsOne P) c.images)) h → Each (λ now. AsksRow P now.statement) earlier → Each (λ now. AsksRow P now.statement) xs → EachAfter (IsRight mode h all) earlier xs → EachAfter (FindsRest records) earlier xs →
+all_print : (P : Rid → List Value → Type 0) (mode : Mode) (h : History) (records : List Record) (earlier xs : List Said) → Each (Each (λ c. Each (IsOne P) c.images)) h → Each (λ now. AsksRow P now.statement) earlier → Each (λ now. AsksRow P now.statement) xs → EachAfter (IsReply mode h) earlier xs → EachAfter (FindsRest records) earlier xs →
     Each (λ now. PrintsRow P (cursor_before records now.session now.place) now.statement now.reply.answer) xs
-all_print P mode h records all earlier [] history before asks right finds = tt
-all_print P mode h records all earlier (now ∷ later) history before asks right finds = (
+all_print P mode h records earlier [] history before asks right finds = tt
+all_print P mode h records earlier (now ∷ later) history before asks right finds = (
   answered P mode (seen h (own_writes earlier now) now.at) _ (cursor_before records now.session now.place) (rest_in now.session now.transaction earlier) now now.statement
-      (λ r. one_seen P h (own_writes earlier now) now.at r history (one_own P now.session now.transaction earlier before)) finds.0 right.0.reply.answer,
-  all_print P mode h records all (now ∷ earlier) later history (asks.0, before) asks.1 right.1 finds.1,
+      (λ r. one_seen P h (own_writes earlier now) now.at r history (one_own P now.session now.transaction earlier before)) finds.0 right.0.answer,
+  all_print P mode h records (now ∷ earlier) later history (asks.0, before) asks.1 right.1 finds.1,
 )
 
-pub rows_put : (P : Rid → List Value → Type 0) (mode : Mode) (records : List Record) (all : List Said) → Each (λ now. AsksRow P now.statement) all → AreRight mode all → EachAfter (FindsRest records) [] all → Each (λ now. PrintsRow P (cursor_before records now.session now.place) now.statement now.reply.answer) all
-rows_put P mode records all asks right finds = all_print P mode (history_of all) records all [] all (one_history P all asks) tt asks right.lines finds
+pub rows_put : (P : Rid → List Value → Type 0) (mode : Mode) (records : List Record) (all : List Said) → Each (λ now. AsksRow P now.statement) all → EachAfter (IsReply mode (history_of all)) [] all → EachAfter (FindsRest records) [] all → Each (λ now. PrintsRow P (cursor_before records now.session now.place) now.statement now.reply.answer) all
+rows_put P mode records all asks right finds = all_print P mode (history_of all) records [] all (one_history P all asks) tt asks right finds
 
 -- ---- the columns
 
@@ -281,4 +281,5 @@ rows_have_columns mode script printed lawful sound =
     rows_put P mode script.records (all_said mode script printed.lines)
     (all_ask P [] (in_order mode script.records) printed.lines
     (each_in_order (λ r. AsksRow P r.statement) mode script.records (each_keeps (IsStatement script.tables) (λ r. AsksRow P r.statement) (λ r is. lawful_row script.tables r.statement is.fits) script.records lawful.statements) (λ kind m k. tt)))
-    sound.lines.right (lines_find mode script printed.lines lawful)
+    (each_after_keeps (IsRight mode (history_of (all_said mode script printed.lines)) (all_said mode script printed.lines)) (IsReply mode (history_of (all_said mode script printed.lines))) (λ earlier now r. r.reply) [] (all_said mode script printed.lines) sound.lines.right.lines)
+    (lines_find mode script printed.lines lawful)

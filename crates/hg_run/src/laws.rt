@@ -8,6 +8,7 @@ ghost use Rattle.hg_base.specs.Sound.{IsSound, all_said};
 ghost use Rattle.hg_base.specs.Text.{IsFit};
 ghost use Rattle.hg_script.specs.Lawful.{IsLawful};
 ghost use Rattle.hg_report.specs.Readable.{IsTextOf};
+ghost use Rattle.hg_backup.specs.Reader.{IsSoundWith};
 ghost use Rattle.hg_run.specs.Printing.{IsPrintedFor, rounds_beside};
 ghost use Rattle.hg_run.specs.Rows.{PrintsColumns};
 ghost use Rattle.hg_run.specs.Serving.{IsTextFor};
@@ -24,6 +25,12 @@ pub fn rows_have_their_columns()
 /// in 32 bits.
 pub fn what_is_sound_fits()
     ensures { (mode : Mode) (script : Script) (printed : Printed) → rounds_beside mode < 2 ^ 32 → IsLawful script → IsSound mode script printed → IsFit script printed }
+{}
+
+/// The same of what is sound with a session that reads all tables at some snapshots.
+pub fn what_is_sound_with_a_reader_fits()
+    ensures { (rounds : ℕ) (script : Script) (ats : List ℕ) (printed : Printed) →
+        rounds < 2 ^ 32 → IsLawful script → IsSoundWith rounds script ats printed → IsFit script printed }
 {}
 
 /// The bytes of a text determine what was printed, under whichever settings: whatever fits the script and has these bytes is

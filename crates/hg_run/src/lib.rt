@@ -51,7 +51,10 @@ mod work;
 pub use collecting::Collectors;
 pub use ending::close;
 pub use interval::IntervalWorker;
-pub use laws::{rows_have_their_columns, text_determines_what_was_printed, what_is_sound_fits};
+pub use laws::{
+    rows_have_their_columns, text_determines_what_was_printed, what_is_sound_fits,
+    what_is_sound_with_a_reader_fits,
+};
 pub use opening::open_for;
 pub use replay::replay_on;
 pub use run::run_on;
