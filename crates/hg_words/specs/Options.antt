@@ -7,7 +7,7 @@ use Rattle.clap.specs.Faults.{fault_of}
 use Rattle.clap.specs.Kinds.{Kinds}
 use Rattle.hg_words.specs.declared.options.Options.{Options}
 use Rattle.hg_words.specs.declared.options.Command.{Command}
-use Rattle.hg_words.specs.declared.options.Command.TheVariants.{Replay, Run, Load, Audit}
+use Rattle.hg_words.specs.declared.options.Command.TheVariants.{Replay, Run, Load, Audit, Dump}
 use Rattle.hg_words.specs.Line.{command_line}
 
 -- a text as a number of so many bits
@@ -15,9 +15,9 @@ abbrev pub number_of : ℕ → Text → Option ℕ
 number_of bits text = let digits = without_leading_plus text in
     if is_numeral digits && nat_lt (digits_value 10 digits) (2 ^ bits) then Some (digits_value 10 digits) else None
 
--- what is to be done: `load` has a seed, and the three others have none
+-- what is to be done: `load` has a seed, and the four others have none
 abbrev pub command_of : Text → Option ℕ → Option Command
-command_of mode None = if bytes_eq mode (codes "replay") then Some Replay else (if bytes_eq mode (codes "run") then Some Run else (if bytes_eq mode (codes "audit") then Some Audit else None))
+command_of mode None = if bytes_eq mode (codes "replay") then Some Replay else (if bytes_eq mode (codes "run") then Some Run else (if bytes_eq mode (codes "audit") then Some Audit else (if bytes_eq mode (codes "dump") then Some Dump else None)))
 command_of mode (Some seed) = if bytes_eq mode (codes "load") then Some (Load seed) else None
 
 -- the number that stands for a name among what `clap` found

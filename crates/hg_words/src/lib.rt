@@ -4,10 +4,11 @@
 //!     run                                        each session in a thread of its own, and the collectors in three more
 //!     load SEED                                  a script that is made from the seed, replayed
 //!     audit                                      checks a printed text against its script; runs nothing
+//!     dump                                       a run during which all tables are exported once, and again at its end
 //!
 //!     --buckets N   how many buckets a table's records are spread over     1 to 1,024        default 64
 //!     --long N      a declared snapshot so far below the mark is long      1 to 1,048,576    default 4
-//!     --rounds N    how many rounds each collector of `run` makes          0 to 1,000        default 8
+//!     --rounds N    how many rounds each collector of a run makes          0 to 1,000        default 8
 //!     --sweepers N  how many helpers the interval collector of `run` has   1 to 16           default 1
 //!
 //! An option may be anywhere among the words, and every mode accepts each. `clap` reads the words by one command without subcommands

@@ -13,6 +13,7 @@ pub enum Command {
     /// With its seed.
     Load(u64),
     Audit,
+    Dump,
 }
 
 #[derive(Clone, Copy, Debug, PartialEq, Eq)]

@@ -36,6 +36,7 @@ fn command_from(mode: &str, seed: Option<u64>) -> Option<Command>
         None if mode == "replay" => Some(Command::Replay),
         None if mode == "run" => Some(Command::Run),
         None if mode == "audit" => Some(Command::Audit),
+        None if mode == "dump" => Some(Command::Dump),
         Some(seed) if mode == "load" => Some(Command::Load(seed)),
         _ => None,
     }
