@@ -1,5 +1,5 @@
 -- What the two drivers make of an engine's sessions and collectors.
-use Rattle.std.specs.Prelude.{◌≡◌, ℕ, ◌≤◌, ◌++◌, List, [], length, map, max, filter, filter_map, None, ⊤}
+use Rattle.std.specs.Prelude.{◌≡◌, ℕ, ◌+◌, ◌*◌, ◌≤◌, ◌++◌, List, [], length, map, max, filter, filter_map, None, ⊤}
 use Rattle.std.specs.List.{cons_option, flat_map}
 use Rattle.hg_base.specs.declared.line.Line.{Line}
 use Rattle.hg_base.specs.declared.line.Reply.{Reply}
@@ -26,17 +26,23 @@ use Rattle.hg_run.specs.Collecting.{AreCollectors, removed_of, view_in}
 use Rattle.hg_run.specs.Rounding.{IsRoundBy, AreRounds, sweep_lines}
 use Rattle.hg_run.specs.Working.{HasWorked}
 
--- an engine for the tables and the sessions of a script, whose sessions and collectors have done nothing yet
-pub record IsOpenedFor (script : Script) (buckets : ℕ) (e : Engine) (list : List Session) (collectors : Collectors) : Type 0 where
-  pub sessions : (engine_sizes e).sessions ≡ max 1 (greatest (map (λ (r : Record). r.session) script.records))
+-- an engine for the tables of a script, and so many sessions more than the script has; its sessions and collectors have done nothing
+-- yet, and each session may begin a transaction for each record, and for each two further ones
+pub record IsOpenedWith (more : ℕ) (script : Script) (buckets : ℕ) (e : Engine) (list : List Session) (collectors : Collectors) : Type 0 where
+  pub sessions : (engine_sizes e).sessions ≡ more + max 1 (greatest (map (λ (r : Record). r.session) script.records))
   pub tables : (engine_sizes e).tables ≡ length script.tables
   pub buckets_are : (engine_sizes e).buckets ≡ buckets
   pub quota : length script.records ≤ (engine_sizes e).quota
+  pub reads : 2 * more ≤ (engine_sizes e).quota
   pub statements : (j : ℕ) → length (of_session j script.records) ≤ (engine_sizes e).quota
   pub all : length list ≡ (engine_sizes e).sessions
   pub new : EachFrom (IsNewOf e (engine_sizes e).quota) 1 list
   pub collectors_are : AreCollectors e collectors
   pub none : (kind : Kind) → removed_of kind collectors ≡ 0
+
+-- an engine for the tables and the sessions of a script
+abbrev pub IsOpenedFor : Script → ℕ → Engine → List Session → Collectors → Type 0
+IsOpenedFor script buckets e list collectors = IsOpenedWith 0 script buckets e list collectors
 
 -- what a reply tells of a round of one kind of collector
 abbrev pub sweeps_in : Kind → Reply → List Sweep
@@ -61,7 +67,7 @@ pub record HasDrivenOne (z : Sizes) (long : ℕ) (records : List Record) (old : 
 pub record HasDrivenAll (z : Sizes) (long rounds : ℕ) (records : List Record) (old : List Session) (before : Collectors) (all : List Line) (new : List Session) (after : Collectors) : Type 0 where
   pub lines : ℕ → List Line
   pub sweeps : Kind → List Sweep
-  pub told : all ≡ flat_map lines (numbers_from 1 z.sessions) ++ (sweep_lines 1 (sweeps Group) ++ (sweep_lines 1 (sweeps Table) ++ sweep_lines 1 (sweeps Interval)))
+  pub told : all ≡ flat_map lines (numbers_from 1 (length old)) ++ (sweep_lines 1 (sweeps Group) ++ (sweep_lines 1 (sweeps Table) ++ sweep_lines 1 (sweeps Interval)))
   pub worked : (j : ℕ) → HasWorked z.buckets (logs_of old j) (of_session j records) (lines j) (logs_of new j)
   pub count : (kind : Kind) → length (sweeps kind) ≡ rounds
   pub made : (kind : Kind) → AreRounds (IsRoundBy kind z long) (view_in kind before) (sweeps kind) (view_in kind after)

@@ -25,23 +25,12 @@ use Rattle.hg_session.specs.Engines.{engine_sizes}
 use Rattle.hg_session.specs.Ties.{IsHeard, phase_at}
 use Rattle.hg_session.specs.Sessions.{view_of, number_of, log_of, seen_by}
 use Rattle.hg_session.specs.Ended.{logs_in, visits_in, HasAllPasses, IsEnded}
-use Rattle.hg_session.specs.Finished.{logs_of, IsClosed, HasNoSession, AreAmong}
+use Rattle.hg_session.specs.Finished.{logs_of, parts_of, IsClosed, HasNoSession, HaveGone, AreAmong}
 use Rattle.hg_session.proofs.Meetings.{among_first}
 
--- a session's part, and those of a list, the last one first
+-- a session's part
 abbrev part_of : Session → Part
 part_of s = OfSession (number_of s) (session (view_of s))
-
-abbrev pub parts_of : List Session → List Part
-parts_of [] = []
-parts_of (s ∷ sessions) = parts_of sessions ++ (view_of s).parts
-
--- these sessions went to the pass
-pub record Finishes (v : View) (sessions : List Session) (w : View) : Type 0 where
-  pub parts : w.parts ≡ OfPass (number v) (pass v) ∷ (parts_of sessions ++ others v)
-  pub seen : Each (λ s. AreAmong (seen_by s) w.sights) sessions
-  pub kept : StartsWith w.sights v.sights
-  pub events : w.events ≡ v.events
 
 parts_snoc : (sessions : List Session) (s : Session) → parts_of (sessions ++ s ∷ []) ≡ (view_of s).parts ++ parts_of sessions
 parts_snoc [] s = refl_append (view_of s).parts
@@ -51,7 +40,7 @@ parts_snoc [] s = refl_append (view_of s).parts
     refl_append (p ∷ ps) = ap (λ l. p ∷ l) (refl_append ps)
 parts_snoc (x ∷ sessions) s = ap (λ l. l ++ (view_of x).parts) (parts_snoc sessions s) ∙ append_assoc (view_of s).parts (parts_of sessions) (view_of x).parts
 
-pub one_finishes : (v w u : View) (sessions : List Session) (s : Session) → Finishes v sessions w → u ≡ merged w (view_of s) → Finishes v (sessions ++ s ∷ []) u
+pub one_finishes : (v w u : View) (sessions : List Session) (s : Session) → HaveGone sessions v w → u ≡ merged w (view_of s) → HaveGone (sessions ++ s ∷ []) v u
 one_finishes v w u sessions s h e =
     let sights : u.sights ≡ w.sights ++ (seen_by s ++ did (view_of s).events) = ap (λ (x : View). x.sights) e in record {
       parts = ap (λ (x : View). x.parts) e ∙ (λ i. put_in (h.parts i) (view_of s).parts)
@@ -147,7 +136,7 @@ heard_at e j i zero sights (s ∷ sessions) is row seen = subst (λ n. IsHeard n
     go (inr among) = inr (seen.0 _ among)
 heard_at e j i (suc k) sights (s ∷ sessions) is row seen = heard_at e j (suc i) k sights sessions (omega (arith, is)) row.1 seen.1
 
-module _ (e : Engine) (v w : View) (sessions : List Session) (own : HasPass v) (row : EachFrom (IsClosed e) 1 sessions) (none : HasNoSession v) (h : Finishes v sessions w) where
+module _ (e : Engine) (v w : View) (sessions : List Session) (own : HasPass v) (row : EachFrom (IsClosed e) 1 sessions) (none : HasNoSession v) (h : HaveGone sessions v w) where
   others_none : (j : ℕ) → count (session_key j) (others v) ≡ 0
   others_none j = less _ (sym (ap (count (session_key j)) own) ∙ none j)
     where
@@ -218,5 +207,5 @@ pub none_left : (rest : List Session) → length rest ≡ 0 → rest ≡ []
 none_left [] e = refl
 none_left (s ∷ rest) e = absurd (omega (arith, e))
 
-pub all_finish : (v w : View) (all before rest : List Session) → all ≡ before ++ rest → rest ≡ [] → Finishes v before w → Finishes v all w
-all_finish v w all before rest is none h = subst (λ l. Finishes v l w) (sym (is ∙ (ap (λ r. before ++ r) none ∙ append-nil before))) h
+pub all_finish : (v w : View) (all before rest : List Session) → all ≡ before ++ rest → rest ≡ [] → HaveGone before v w → HaveGone all v w
+all_finish v w all before rest is none h = subst (λ l. HaveGone l v w) (sym (is ∙ (ap (λ r. before ++ r) none ∙ append-nil before))) h

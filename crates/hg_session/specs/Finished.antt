@@ -1,15 +1,19 @@
 -- What a pass knows that all sessions went to.
-use Rattle.std.specs.Prelude.{◌≡◌, ℕ, zero, suc, List, [], map, get_or, None}
+use Rattle.std.specs.Prelude.{◌≡◌, ℕ, zero, suc, List, [], ◌∷◌, ◌++◌, map, get_or, None}
+use Rattle.hg_base.specs.Lists.{Each}
 use Rattle.hg_core.specs.declared.log.LogEntry.{LogEntry}
 use Rattle.hg_rule.specs.declared.view.Sight.{Sight}
 use Rattle.hg_rule.specs.declared.view.Sight.TheVariants.{Did}
 use Rattle.hg_rule.specs.declared.view.Event.{Event}
+use Rattle.hg_rule.specs.declared.view.Part.{Part}
+use Rattle.hg_rule.specs.declared.view.Part.TheVariants.{OfPass}
 use Rattle.hg_rule.specs.declared.view.View.{View}
 use Rattle.hg_rule.specs.Keys.{session_key, count}
-use Rattle.hg_rule.specs.Facts.{IsAmong}
+use Rattle.hg_rule.specs.Facts.{StartsWith, IsAmong}
+use Rattle.hg_rule.specs.Views.{number, pass, others}
 use Rattle.hg_session.specs.declared.engine.Engine.{Engine}
 use Rattle.hg_session.specs.declared.session.Session.{Session}
-use Rattle.hg_session.specs.Sessions.{IsOf, number_of, log_of, open_of}
+use Rattle.hg_session.specs.Sessions.{IsOf, view_of, number_of, log_of, open_of, seen_by}
 
 -- the log of session j, which stands at j - 1
 abbrev pub logs_of : List Session → ℕ → List LogEntry
@@ -33,3 +37,16 @@ AreAmong some all = (x : Sight) → IsAmong x some → IsAmong x all
 -- all of the steps are known to be done
 abbrev pub AreDone : List Event → List Sight → Type 0
 AreDone events all = (x : Event) → IsAmong x events → IsAmong (Did x) all
+
+-- the parts of these sessions, those of the last one first
+abbrev pub parts_of : List Session → List Part
+parts_of [] = []
+parts_of (s ∷ sessions) = parts_of sessions ++ (view_of s).parts
+
+-- These sessions went to a pass: it has their parts behind its own, and has seen what they had seen. Its own part and steps are
+-- as they were.
+pub record HaveGone (sessions : List Session) (v w : View) : Type 0 where
+  pub parts : w.parts ≡ OfPass (number v) (pass v) ∷ (parts_of sessions ++ others v)
+  pub seen : Each (λ s. AreAmong (seen_by s) w.sights) sessions
+  pub kept : StartsWith w.sights v.sights
+  pub events : w.events ≡ v.events

@@ -11,7 +11,7 @@ ghost use Rattle.hg_session.specs.Passing.{AreAlone, passes_with, visits_of};
 ghost use Rattle.hg_session.specs.Ties.{IsHeard};
 ghost use Rattle.hg_session.specs.Sessions.{seen_by};
 ghost use Rattle.hg_session.specs.Ended.{logs_in, visits_in, HasAllPasses, IsEnded};
-ghost use Rattle.hg_session.specs.Finished.{logs_of, IsClosed, HasNoSession, AreAmong, AreDone};
+ghost use Rattle.hg_session.specs.Finished.{logs_of, IsClosed, HasNoSession, HaveGone, AreAmong, AreDone};
 
 use crate::engine::Engine;
 use crate::session::Session;
@@ -38,6 +38,18 @@ pub fn join_all(
     pass.join(engine.board(), interval);
 }
 
+/// The first sessions of an engine go to a pass.
+pub fn finish_some(engine: &Engine, sessions: Vec<Session>, pass: &mut CollectorPass)
+    requires sessions { EachFrom (IsClosed engine.now) 1 sessions.items }
+    requires own { IsPassOf (engine_board_id engine.now) pass.old }
+    ensures went { HaveGone sessions.items (pass_view pass.old) (pass_view pass.new) }
+    ensures own { IsPassOf (engine_board_id engine.now) pass.new }
+{
+    for session in sessions {
+        session.finish(engine, pass);
+    }
+}
+
 /// All sessions of an engine go to a pass that all other passes were joined to, which then knows what they had seen and done.
 pub fn finish_all(engine: &Engine, sessions: Vec<Session>, pass: &mut CollectorPass)
     requires sessions { EachFrom (IsClosed engine.now) 1 sessions.items }
@@ -55,7 +67,5 @@ pub fn finish_all(engine: &Engine, sessions: Vec<Session>, pass: &mut CollectorP
     ensures passes { passes_in (pass_view pass.new).parts ≡ passes_in (pass_view pass.old).parts }
     ensures own { IsPassOf (engine_board_id engine.now) pass.new }
 {
-    for session in sessions {
-        session.finish(engine, pass);
-    }
+    finish_some(engine, sessions, pass);
 }

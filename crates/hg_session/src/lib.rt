@@ -43,7 +43,7 @@ mod totals;
 
 pub use answers::{Deleted, Ended, GetRefusal, PutRefusal, Read, Scanned, Written};
 pub use engine::Engine;
-pub use finish::{finish_all, join_all};
+pub use finish::{finish_all, finish_some, join_all};
 pub use laws::{places_differ, replies_are_right};
 pub use opening::{Passes, TableDecl};
 pub use session::Session;

@@ -1,18 +1,23 @@
 //! How what one session knows reaches others.
 
-ghost use Rattle.std.specs.Prelude.{◌≡◌, None};
+ghost use Rattle.std.specs.Prelude.{◌≡◌, ◌+◌, ◌≤◌, None};
+ghost use Rattle.hg_core.specs.declared.phase.Phase.TheVariants.{Idle};
+ghost use Rattle.hg_core.specs.Logs.{begans};
 ghost use Rattle.hg_rule.specs.Agreed.{AgreesWith, IsMet};
-ghost use Rattle.hg_rule.specs.Views.{session};
+ghost use Rattle.hg_rule.specs.Views.{session, HasOnlySession};
 ghost use Rattle.hg_rule.specs.Moves.{joined, merged, meeting};
-ghost use Rattle.hg_rule.specs.Seats.{pass_view, IsPassOf};
+ghost use Rattle.hg_rule.specs.Seats.{pass_view, session_view, IsPassOf, IsSessionOf};
 ghost use Rattle.hg_session.specs.Engines.{engine_board_id, engine_sizes};
-ghost use Rattle.hg_session.specs.Sessions.{IsOf, view_of, number_of, open_of, cursor_of, left_of, retries_of};
+ghost use Rattle.hg_session.specs.Sessions.{IsOf, pass_of, view_of, number_of, open_of, cursor_of, left_of, retries_of};
 
 use crate::engine::Engine;
 use crate::session::Session;
-use hg_rule::CollectorPass;
+use hg_rule::{CollectorPass, SessionPass};
 
 impl Session {
+    ghost use Rattle.std.specs.Prelude.{false};
+    ghost use Rattle.hg_session.specs.declared.engine.Engine.{Engine};
+
     /// Afterwards each has seen what either had seen.
     pub fn meet(&mut self, engine: &Engine, other: &mut Session)
         requires own { IsOf engine.now self.old × IsOf engine.now other.old }
@@ -52,5 +57,21 @@ impl Session {
     {
         let Session { pass: seat, .. } = self;
         seat.finish(engine.board(), pass);
+    }
+
+    /// Gives up the session for its pass, which rests: it has no snapshot and holds nothing of the board. It may begin as many
+    /// transactions as the session had statements left.
+    pub fn into_pass(self) -> SessionPass
+        requires closed { open_of self ≡ None }
+        ensures same { result ≡ pass_of self }
+        ensures own { (e : Engine) → IsOf e self → IsSessionOf (engine_board_id e) (engine_sizes e) result }
+        ensures only { (e : Engine) → IsOf e self → HasOnlySession (session_view result) }
+        ensures idle { (e : Engine) → IsOf e self → (session (session_view result)).phase ≡ Idle }
+        ensures unstamped { (e : Engine) → IsOf e self → (session (session_view result)).stamped ≡ false }
+        ensures begins { (e : Engine) → IsOf e self →
+            begans (session (session_view result)).log + left_of self ≤ (engine_sizes e).quota }
+    {
+        let Session { pass, .. } = self;
+        pass
     }
 }
