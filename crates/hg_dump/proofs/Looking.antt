@@ -1,5 +1,5 @@
 -- A session that begins, looks and ends.
-use Rattle.std.proofs.Common.{◌≡◌, ◌∙◌, ℕ, zero, suc, List, [], ◌∷◌, ◌++◌, false, Option, Some, None, refl, sym, ap, subst, append_assoc}
+use Rattle.std.proofs.Common.{◌≡◌, ◌∙◌, ℕ, zero, suc, inl, List, [], ◌∷◌, ◌++◌, false, Option, Some, None, refl, sym, ap, subst, append_assoc}
 use Rattle.std.specs.Prelude.{Result, Ok, Err, OnOk, is_err}
 use Rattle.std.proofs.lemmas.Bool.{true≢false}
 use Rattle.hg_base.specs.declared.fault.NoMemory.{NoMemory}
@@ -18,7 +18,9 @@ use Rattle.hg_core.proofs.NewGroup.{image_open}
 use Rattle.hg_rule.specs.declared.view.Part.TheVariants.{OfSession}
 use Rattle.hg_rule.specs.declared.view.SessionPart.{SessionPart}
 use Rattle.hg_rule.specs.declared.view.View.{View}
-use Rattle.hg_rule.specs.Facts.{StartsWith}
+use Rattle.hg_rule.specs.declared.view.Sight.TheVariants.{Heard}
+use Rattle.hg_rule.specs.Facts.{StartsWith, IsAmong}
+use Rattle.hg_rule.proofs.Growing.{among_later}
 use Rattle.hg_rule.specs.Views.{after_first, number, others, session, HasOnlySession}
 use Rattle.hg_rule.specs.Steps.{Ends, logging}
 use Rattle.hg_rule.specs.Writes.{with_log}
@@ -185,6 +187,9 @@ has_read u v w x at r b k e =
       number_is = ended_number w x only e ∙ added_number v w k.entries k.adds ∙ first_number v (number u) part [] parts;
       log = ap (λ (p : SessionPart). p.log) ended ∙ ap (λ (p : SessionPart). Over ∷ p.log) looked ∙ ap (λ (p : SessionPart). Over ∷ (k.entries ++ p.log)) begun;
       kept = starts_on x.sights w.sights u.sights (starts_on w.sights v.sights u.sights b.kept k.adds.kept) kept;
+      heard = subst (λ n. IsAmong (Heard n (session x).log) x.sights) (sym (ended_number w x only e))
+          (subst (λ l. IsAmong (Heard (number w) l) x.sights) (sym (ap (λ (p : SessionPart). p.log) ended))
+          (subst (IsAmong (Heard (number w) (Over ∷ (session w).log))) (sym (ap (λ (y : View). y.sights) e)) (among_later (Heard (number w) (Over ∷ (session w).log)) w.sights _ (inl refl))));
     }
 
 -- what a call that went well has made

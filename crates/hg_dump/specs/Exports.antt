@@ -10,7 +10,8 @@ use Rattle.hg_core.specs.Logs.{begans, current, is_plain, own_writes}
 use Rattle.hg_rule.specs.declared.passes.SessionPass.{SessionPass}
 use Rattle.hg_rule.specs.declared.view.Sizes.{Sizes}
 use Rattle.hg_rule.specs.declared.view.View.{View}
-use Rattle.hg_rule.specs.Facts.{StartsWith}
+use Rattle.hg_rule.specs.declared.view.Sight.TheVariants.{Heard}
+use Rattle.hg_rule.specs.Facts.{StartsWith, IsAmong}
 use Rattle.hg_rule.specs.Seats.{BoardId, session_view, IsSessionOf}
 use Rattle.hg_rule.specs.Views.{number, session, HasOnlySession}
 use Rattle.hg_cursor.specs.Logs.{Adds}
@@ -39,7 +40,7 @@ pub record Looks (old new : View) : Type 0 where
   pub adds : Adds old entries new
 
 -- The session rests again, and its log has one transaction more, which looked at all tables at a snapshot, wrote nothing, and is
--- over. What was seen is kept.
+-- over. What was seen is kept, and its own log was heard.
 pub record HasReadAt (at : ℕ) (old new : View) : Type 0 where
   pub rests : IsResting new
   pub entries : List LogEntry
@@ -47,6 +48,7 @@ pub record HasReadAt (at : ℕ) (old new : View) : Type 0 where
   pub number_is : number new ≡ number old
   pub log : (session new).log ≡ Over ∷ (entries ++ Began at All ∷ (session old).log)
   pub kept : StartsWith new.sights old.sights
+  pub heard : IsAmong (Heard (number new) (session new).log) new.sights
 
 -- at the snapshot that was returned, and after a refusal at some snapshot
 abbrev pub HasRead : View → Result ℕ NoMemory → View → Type 0

@@ -4,6 +4,7 @@ ghost use Rattle.std.specs.Prelude.{◌≡◌, ◌++◌, ℕ, List, IfOk, OnErr}
 ghost use Rattle.hg_base.specs.History.{History};
 ghost use Rattle.hg_base.specs.Lists.{Each};
 ghost use Rattle.hg_core.specs.declared.log.LogEntry.{LogEntry};
+ghost use Rattle.hg_rule.specs.Facts.{StartsWith};
 ghost use Rattle.hg_rule.specs.Seats.{session_view, IsSessionOf};
 ghost use Rattle.hg_store.specs.Stores.{store_board_id, store_buckets};
 ghost use Rattle.hg_tracker.specs.Begun.{AtMost};
@@ -41,6 +42,7 @@ pub fn export<R: Wait>(
         GoesOn (store_buckets store.now) (session_view pass.new) h logs →
         into.new.items ≡ into.old.items ++ dump_text script.now (rows_at script.now.tables h s)) }
     ensures fresh { IfOk result (λ s. Each (AtMost s) (session_view pass.old).sights) }
+    ensures starts { StartsWith into.new.items into.old.items }
     ensures refused { OnErr result (into.new.items ≡ into.old.items) }
     ensures read { HasRead (session_view pass.old) result (session_view pass.new) }
     ensures own { IsSessionOf (trackers_board_id trackers.now) (board_sizes trackers.now) pass.new }
