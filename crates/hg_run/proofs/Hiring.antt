@@ -239,10 +239,10 @@ worked_from e script j (s ∷ ss) (x ∷ ws) a w zero n is h =
     subst (λ m. HasWorked (engine_sizes e).buckets (log_of s) (of_session m script.records) x.transcript.lines (log_of x.session)) same (a.0.worked w.0)
 worked_from e script j (s ∷ ss) (x ∷ ws) a w (suc k) n is h = worked_from e script (suc j) ss ws a.1 w.1 k n (omega (arith, is)) (omega (arith, h))
 
-pub driven_all : (e : Engine) (long rounds : ℕ) (script : Script) (list : List Session) (ws : List Worker) (before after : Collectors) (told : RoundLists) (all : List Line) → IsLawful script → (engine_sizes e).sessions ≡ max 1 (greatest (map (λ (r : Record). r.session) script.records)) →
-    length list ≡ (engine_sizes e).sessions → length ws ≡ length list → AreEnded e (hired script 1 list) ws → HaveMadeAll (engine_sizes e) long rounds before told after → AreWilling ws told →
+pub driven_all : (e : Engine) (long rounds : ℕ) (script : Script) (list : List Session) (ws : List Worker) (before after : Collectors) (told : RoundLists) (all : List Line) → IsLawful script → length list ≡ max 1 (greatest (map (λ (r : Record). r.session) script.records)) →
+    length ws ≡ length list → AreEnded e (hired script 1 list) ws → HaveMadeAll (engine_sizes e) long rounds before told after → AreWilling ws told →
     all ≡ lines_in ws ++ (sweep_lines 1 told.group.sweeps.items ++ (sweep_lines 1 told.table.sweeps.items ++ sweep_lines 1 told.interval.sweeps.items)) → HasDrivenAll (engine_sizes e) long rounds script.records list before all (sessions_in ws) after
-driven_all e long rounds script list ws before after told all lawful sessions many same ended made willing is = record {
+driven_all e long rounds script list ws before after told all lawful sessions same ended made willing is = record {
   lines = lines_at ws;
   sweeps = λ kind. (told_in kind told).sweeps.items;
   told = is ∙ ap (λ lines. lines ++ (sweep_lines 1 told.group.sweeps.items ++ (sweep_lines 1 told.table.sweeps.items ++ sweep_lines 1 told.interval.sweeps.items))) (sym flat);
@@ -257,8 +257,8 @@ driven_all e long rounds script list ws before after told all lawful sessions ma
     told_is : (kind : Kind) → ((told_in kind told).sweeps.items ≡ (made kind).sweeps) × (length (made kind).sweeps ≡ rounds)
     told_is kind = (made kind).told_is (kept kind)
 
-    flat : flat_map (lines_at ws) (numbers_from 1 (engine_sizes e).sessions) ≡ lines_in ws
-    flat = ap (λ n. flat_map (lines_at ws) (numbers_from 1 n)) (sym (same ∙ many)) ∙ flat_lines ws
+    flat : flat_map (lines_at ws) (numbers_from 1 (length list)) ≡ lines_in ws
+    flat = ap (λ n. flat_map (lines_at ws) (numbers_from 1 n)) (sym same) ∙ flat_lines ws
 
     worked : (j : ℕ) → HasWorked (engine_sizes e).buckets (logs_of list j) (of_session j script.records) (lines_at ws j) (logs_of (sessions_in ws) j)
     worked = by_place (λ j. HasWorked (engine_sizes e).buckets (logs_of list j) (of_session j script.records) (lines_at ws j) (logs_of (sessions_in ws) j)) list
@@ -274,5 +274,5 @@ driven_all e long rounds script list ws before after told all lawful sessions ma
         beyond : (k : ℕ) → (k < length list → ⊥) → greatest (map (λ (r : Record). r.session) script.records) < suc k
         beyond k h = go (greatest (map (λ (r : Record). r.session) script.records)) sessions
           where
-            go : (g : ℕ) → (engine_sizes e).sessions ≡ max 1 g → g < suc k
-            go g is = omega (arith, h, is, many)
+            go : (g : ℕ) → length list ≡ max 1 g → g < suc k
+            go g is = omega (arith, h, is)

@@ -25,7 +25,9 @@ mod Going
 mod Asking
 mod Begun
 mod Closes
+mod Brought
 mod WholeRun
+mod WholeDump
 -- A session's worker, and rounds beside it.
 mod Teams
 mod Working

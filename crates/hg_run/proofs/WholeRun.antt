@@ -1,5 +1,5 @@
 -- What is driven beside each other, and closed then, is sound as a run.
-use Rattle.std.proofs.Common.{◌≡◌, ℕ, zero, suc, ◌≤◌, List, [], ◌∷◌, ◌++◌, map, Option, None, refl, sym, ap, ◌∙◌, subst, arith}
+use Rattle.std.proofs.Common.{◌≡◌, ℕ, zero, suc, ◌≤◌, List, [], ◌∷◌, ◌++◌, length, map, Option, None, refl, sym, ap, ◌∙◌, subst, arith}
 use Rattle.std.specs.Prelude.{cond, filter, filter_map, max, sum_by}
 use Rattle.std.specs.List.{cons_option, flat_map}
 use Rattle.std.specs.Option.{option_map_or}
@@ -14,7 +14,7 @@ use Rattle.hg_base.specs.declared.report.Sweep.{Sweep}
 use Rattle.hg_base.specs.declared.statement.Record.{Record}
 use Rattle.hg_base.specs.declared.statement.Statement.{Statement}
 use Rattle.hg_base.specs.Counts.{removed_by}
-use Rattle.hg_base.specs.History.{Write}
+use Rattle.hg_base.specs.History.{History, Write}
 use Rattle.hg_base.specs.Lists.{Each, greatest, numbers_from}
 use Rattle.hg_base.specs.Script.{Script, run}
 use Rattle.hg_base.specs.Shape.{HasShape, report_of, same_kind}
@@ -34,6 +34,7 @@ use Rattle.hg_headline.proofs.Removed.{removed_said}
 use Rattle.hg_headline.proofs.Reports.{no_report}
 use Rattle.hg_headline.proofs.Rounds.{run_shape}
 use Rattle.hg_headline.proofs.Running.{in_order_is, none_over}
+use Rattle.hg_tracker.specs.Begun.{SawGroups}
 use Rattle.hg_session.specs.declared.engine.Engine.{Engine}
 use Rattle.hg_session.specs.declared.session.Session.{Session}
 use Rattle.hg_session.specs.Engines.{engine_sizes}
@@ -42,7 +43,7 @@ use Rattle.hg_run.specs.declared.collecting.Collectors.{Collectors}
 use Rattle.hg_run.specs.Closed.{IsClosedBy}
 use Rattle.hg_run.specs.Collecting.{HaveMade, view_in, removed_of}
 use Rattle.hg_run.specs.Driven.{HasDrivenAll, sweeps_of}
-use Rattle.hg_run.specs.Rounding.{IsRoundBy, AreRounds, sweep_lines}
+use Rattle.hg_run.specs.Rounding.{BeganIn, IsRoundBy, AreRounds, sweep_lines}
 use Rattle.hg_run.specs.Swept.{HasSwept, swept_by}
 use Rattle.hg_run.proofs.Begun.{began_before}
 use Rattle.hg_run.proofs.Driving.{swept_of, removed_rounds, told_append, told_lines}
@@ -88,40 +89,6 @@ flat_reports : (lines : ℕ → List Line) → ((j : ℕ) → filter_map report 
 flat_reports lines none i zero = refl
 flat_reports lines none i (suc n) = filter_map-append report (lines i) (flat_map lines (numbers_from (suc i) n)) ∙ (λ j. none i j ++ flat_reports lines none (suc i) n j)
 
--- the lines of a run tell the rounds of each collector
-module _ (e : Engine) (long rounds : ℕ) (script : Script) (old new : List Session) (before after : Collectors) (all : List Line) (d : HasDrivenAll (engine_sizes e) long rounds script.records old before all new after) where
-  abbrev sizes : Sizes
-  sizes = engine_sizes e
-
-  told_rounds : (k : Kind) → sweeps_of k all ≡ d.sweeps k
-  told_rounds k = ap (sweeps_of k) d.told ∙ (told_append k flat (g ++ (t ++ i)) ∙ ((λ j. flat_told j ++ (told_append k g (t ++ i) ∙ (λ j. of_kind Group j ++ (told_append k t i ∙ (λ j. of_kind Table j ++ of_kind Interval j)) j)) j) ∙ only k))
-    where
-      flat : List Line
-      flat = flat_map d.lines (numbers_from 1 sizes.sessions)
-
-      g : List Line
-      g = sweep_lines 1 (d.sweeps Group)
-
-      t : List Line
-      t = sweep_lines 1 (d.sweeps Table)
-
-      i : List Line
-      i = sweep_lines 1 (d.sweeps Interval)
-
-      flat_told : sweeps_of k flat ≡ []
-      flat_told = ap (filter (λ (s : Sweep). same_kind s.kind k)) (flat_reports d.lines (λ j. no_reports sizes.buckets (of_session j script.records) (d.lines j) (logs_of old j) (d.worked j).log None (d.worked j).tells) 1 sizes.sessions)
-
-      of_kind : (kind : Kind) → sweeps_of k (sweep_lines 1 (d.sweeps kind)) ≡ cond (same_kind kind k) (d.sweeps kind) []
-      of_kind kind = told_lines kind k sizes long (view_in kind before) (view_in kind after) (d.sweeps kind) (d.made kind)
-
-      only : (k : Kind) → [] ++ (cond (same_kind Group k) (d.sweeps Group) [] ++ (cond (same_kind Table k) (d.sweeps Table) [] ++ cond (same_kind Interval k) (d.sweeps Interval) [])) ≡ d.sweeps k
-      only Group = append_nil (d.sweeps Group)
-      only Table = append_nil (d.sweeps Table)
-      only Interval = refl
-
-  pub rounds_told : HaveMade sizes long before (λ kind. sweeps_of kind all) after
-  rounds_told k = subst (λ sweeps. AreRounds (IsRoundBy k sizes long) (view_in k before) sweeps (view_in k after)) (sym (told_rounds k)) (d.made k)
-
 -- ---- which sessions there are
 
 within : (m : ℕ) (records : List Record) → greatest (map (λ (r : Record). r.session) records) ≤ m → Each (λ (r : Record). r.session ≤ m) records
@@ -140,10 +107,83 @@ no_lines records lines e h = go lines (subst (λ rs. HasShape rs lines) e h)
     go [] h = refl
     go (line ∷ lines) h = absurd h
 
+-- the lines of a run tell the rounds of each collector
+module _ (e : Engine) (long rounds : ℕ) (script : Script) (old new : List Session) (before after : Collectors) (all : List Line) (d : HasDrivenAll (engine_sizes e) long rounds script.records old before all new after) where
+  abbrev sizes : Sizes
+  sizes = engine_sizes e
+
+  told_rounds : (k : Kind) → sweeps_of k all ≡ d.sweeps k
+  told_rounds k = ap (sweeps_of k) d.told ∙ (told_append k flat (g ++ (t ++ i)) ∙ ((λ j. flat_told j ++ (told_append k g (t ++ i) ∙ (λ j. of_kind Group j ++ (told_append k t i ∙ (λ j. of_kind Table j ++ of_kind Interval j)) j)) j) ∙ only k))
+    where
+      flat : List Line
+      flat = flat_map d.lines (numbers_from 1 (length old))
+
+      g : List Line
+      g = sweep_lines 1 (d.sweeps Group)
+
+      t : List Line
+      t = sweep_lines 1 (d.sweeps Table)
+
+      i : List Line
+      i = sweep_lines 1 (d.sweeps Interval)
+
+      flat_told : sweeps_of k flat ≡ []
+      flat_told = ap (filter (λ (s : Sweep). same_kind s.kind k)) (flat_reports d.lines (λ j. no_reports sizes.buckets (of_session j script.records) (d.lines j) (logs_of old j) (d.worked j).log None (d.worked j).tells) 1 (length old))
+
+      of_kind : (kind : Kind) → sweeps_of k (sweep_lines 1 (d.sweeps kind)) ≡ cond (same_kind kind k) (d.sweeps kind) []
+      of_kind kind = told_lines kind k sizes long (view_in kind before) (view_in kind after) (d.sweeps kind) (d.made kind)
+
+      only : (k : Kind) → [] ++ (cond (same_kind Group k) (d.sweeps Group) [] ++ (cond (same_kind Table k) (d.sweeps Table) [] ++ cond (same_kind Interval k) (d.sweeps Interval) [])) ≡ d.sweeps k
+      only Group = append_nil (d.sweeps Group)
+      only Table = append_nil (d.sweeps Table)
+      only Interval = refl
+
+  pub rounds_told : HaveMade sizes long before (λ kind. sweeps_of kind all) after
+  rounds_told k = subst (λ sweeps. AreRounds (IsRoundBy k sizes long) (view_in k before) sweeps (view_in k after)) (sym (told_rounds k)) (d.made k)
+
+  -- what the lines tell is what the passes removed
+  pub told_all : ((k : Kind) → removed_of k before ≡ 0) → (k : Kind) → removed_of k after ≡ told_removed k all
+  told_all fresh k =
+      let a = removed_rounds k Group sizes long (view_in Group before) (view_in Group after) (d.sweeps Group) (d.made Group) in
+      let b = removed_rounds k Table sizes long (view_in Table before) (view_in Table after) (d.sweeps Table) (d.made Table) in
+      let c = removed_rounds k Interval sizes long (view_in Interval before) (view_in Interval after) (d.sweeps Interval) (d.made Interval) in
+      let f = fresh k in
+      let flat : List Line = flat_map d.lines (numbers_from 1 (length old)) in
+      let g_lines : List Line = sweep_lines 1 (d.sweeps Group) in
+      let t_lines : List Line = sweep_lines 1 (d.sweeps Table) in
+      let i_lines : List Line = sweep_lines 1 (d.sweeps Interval) in
+      let first : told_removed k flat ≡ 0 = flat_none k d.lines (λ j. tells_none k sizes.buckets (of_session j script.records) (d.lines j) (logs_of old j) (d.worked j).log None (d.worked j).tells) 1 (length old) in
+      let x : told_removed k g_lines ≡ sum_by (swept_by k) (d.sweeps Group) = lines_removed k 1 (d.sweeps Group) in
+      let y : told_removed k t_lines ≡ sum_by (swept_by k) (d.sweeps Table) = lines_removed k 1 (d.sweeps Table) in
+      let w : told_removed k i_lines ≡ sum_by (swept_by k) (d.sweeps Interval) = lines_removed k 1 (d.sweeps Interval) in
+      let p = sum_by-append (told_by k) flat (g_lines ++ (t_lines ++ i_lines)) in
+      let q = sum_by-append (told_by k) g_lines (t_lines ++ i_lines) in
+      let r = sum_by-append (told_by k) t_lines i_lines in
+      let is : told_removed k all ≡ told_removed k (flat ++ (g_lines ++ (t_lines ++ i_lines))) = ap (told_removed k) d.told in
+      omega (arith, a, b, c, f, first, x, y, w, p, q, r, is)
+
+  -- The rounds of each kind of collector, as reports over logs that have a begin for each register that its steps loaded. No mark is over
+  -- the end of the history.
+  pub reports_of : (h : History) (logs : ℕ → List LogEntry) (kind : Kind) → ((n : ℕ) → SawGroups n (view_in kind after).sights → n ≤ length h) → Each (BeganIn logs) (view_in kind after).events → (reports : List Report) × (AreReports h logs kind rounds reports × (report_lines 1 reports ≡ sweep_lines 1 (d.sweeps kind)))
+  reports_of h logs kind groups began =
+      let swept : AreRounds (HasSwept kind sizes.sessions) (view_in kind before) (d.sweeps kind) (view_in kind after) = rounds_map (IsRoundBy kind sizes long) (HasSwept kind sizes.sessions) (λ a sweep b. swept_of kind sizes long a b sweep) (view_in kind before) (view_in kind after) (d.sweeps kind) (d.made kind) in
+      let r = reported kind sizes.sessions h logs (view_in kind before) (view_in kind after) (d.sweeps kind) swept groups began in
+      (r.0, (subst (λ n. AreReports h logs kind n r.0) (d.count kind) r.1.0, r.1.1))
+
+  abbrev greatest_session : ℕ
+  greatest_session = greatest (map (λ (r : Record). r.session) script.records)
+
+  -- all lines, where each collector's are its reports
+  pub lines_told : length old ≡ max 1 greatest_session → (reports : Kind → List Report) → ((kind : Kind) → report_lines 1 (reports kind) ≡ sweep_lines 1 (d.sweeps kind)) → all ≡ run_lines script.records d.lines (reports Group) (reports Table) (reports Interval)
+  lines_told many reports are = d.told ∙ (λ i. sessions i ++ (sym (are Group) i ++ (sym (are Table) i ++ sym (are Interval) i)))
+    where
+      sessions : flat_map d.lines (numbers_from 1 (length old)) ≡ flat_map d.lines (numbers_from 1 greatest_session)
+      sessions = all_lines d.lines greatest_session (length old) many (λ zero_is. no_lines (of_session 1 script.records) (d.lines 1) (none_over script.records 1 (let g : greatest_session ≡ 0 = zero_is in omega (arith, g))) (d.worked 1).shape)
+
 -- ---- the whole
 
 module _ (e : Engine) (long rounds : ℕ) (script : Script) (old new : List Session) (before after : Collectors) (all : List Line) (totals : Totals) (d : HasDrivenAll (engine_sizes e) long rounds script.records old before all new after) (t : IsClosedBy e new after totals)
-    (none : (j : ℕ) → logs_of old j ≡ []) (fresh : (k : Kind) → removed_of k before ≡ 0) (numbered : Each (λ (r : Record). 1 ≤ r.session) script.records) (many : (engine_sizes e).sessions ≡ max 1 (greatest (map (λ (r : Record). r.session) script.records))) where
+    (none : (j : ℕ) → logs_of old j ≡ []) (fresh : (k : Kind) → removed_of k before ≡ 0) (numbered : Each (λ (r : Record). 1 ≤ r.session) script.records) (sessions : (engine_sizes e).sessions ≡ length old) (many : length old ≡ max 1 (greatest (map (λ (r : Record). r.session) script.records))) where
   abbrev z : Sizes
   z = engine_sizes e
 
@@ -154,10 +194,7 @@ module _ (e : Engine) (long rounds : ℕ) (script : Script) (old new : List Sess
   closes j = (d.worked j).closes
 
   told_of : (kind : Kind) → (reports : List Report) × (AreReports t.history logs kind rounds reports × (report_lines 1 reports ≡ sweep_lines 1 (d.sweeps kind)))
-  told_of kind =
-      let swept : AreRounds (HasSwept kind z.sessions) (view_in kind before) (d.sweeps kind) (view_in kind after) = rounds_map (IsRoundBy kind z long) (HasSwept kind z.sessions) (λ a sweep b. swept_of kind z long a b sweep) (view_in kind before) (view_in kind after) (d.sweeps kind) (d.made kind) in
-      let r = reported kind z.sessions t.history logs (view_in kind before) (view_in kind after) (d.sweeps kind) swept (t.groups kind) (began_before logs (logs_of new) (view_in kind after).events closes (t.began kind)) in
-      (r.0, (subst (λ n. AreReports t.history logs kind n r.0) (d.count kind) r.1.0, r.1.1))
+  told_of kind = reports_of e long rounds script old new before after all d t.history logs kind (t.groups kind) (began_before logs (logs_of new) (view_in kind after).events closes (t.began kind))
 
   abbrev reports : Kind → List Report
   reports kind = (told_of kind).0
@@ -180,36 +217,12 @@ module _ (e : Engine) (long rounds : ℕ) (script : Script) (old new : List Sess
   top = greatest (map (λ (r : Record). r.session) script.records)
 
   same : all ≡ printed
-  same = d.told ∙ (λ i. sessions i ++ (sym (told_of Group).1.1 i ++ (sym (told_of Table).1.1 i ++ sym (told_of Interval).1.1 i)))
-    where
-      sessions : flat_map d.lines (numbers_from 1 z.sessions) ≡ flat_map d.lines (numbers_from 1 top)
-      sessions = all_lines d.lines top z.sessions many (λ zero_is. no_lines (of_session 1 script.records) (d.lines 1) (none_over script.records 1 (let g : top ≡ 0 = zero_is in omega (arith, g))) (d.worked 1).shape)
-
-  -- what the lines tell is what the passes removed
-  told_all : (k : Kind) → removed_of k after ≡ told_removed k all
-  told_all k =
-      let a = removed_rounds k Group z long (view_in Group before) (view_in Group after) (d.sweeps Group) (d.made Group) in
-      let b = removed_rounds k Table z long (view_in Table before) (view_in Table after) (d.sweeps Table) (d.made Table) in
-      let c = removed_rounds k Interval z long (view_in Interval before) (view_in Interval after) (d.sweeps Interval) (d.made Interval) in
-      let f = fresh k in
-      let flat : List Line = flat_map d.lines (numbers_from 1 z.sessions) in
-      let g_lines : List Line = sweep_lines 1 (d.sweeps Group) in
-      let t_lines : List Line = sweep_lines 1 (d.sweeps Table) in
-      let i_lines : List Line = sweep_lines 1 (d.sweeps Interval) in
-      let first : told_removed k flat ≡ 0 = flat_none k d.lines (λ j. tells_none k z.buckets (of_session j script.records) (d.lines j) (logs_of old j) (logs j) None (d.worked j).tells) 1 z.sessions in
-      let x : told_removed k g_lines ≡ sum_by (swept_by k) (d.sweeps Group) = lines_removed k 1 (d.sweeps Group) in
-      let y : told_removed k t_lines ≡ sum_by (swept_by k) (d.sweeps Table) = lines_removed k 1 (d.sweeps Table) in
-      let w : told_removed k i_lines ≡ sum_by (swept_by k) (d.sweeps Interval) = lines_removed k 1 (d.sweeps Interval) in
-      let p = sum_by-append (told_by k) flat (g_lines ++ (t_lines ++ i_lines)) in
-      let q = sum_by-append (told_by k) g_lines (t_lines ++ i_lines) in
-      let r = sum_by-append (told_by k) t_lines i_lines in
-      let is : told_removed k all ≡ told_removed k (flat ++ (g_lines ++ (t_lines ++ i_lines))) = ap (told_removed k) d.told in
-      omega (arith, a, b, c, f, first, x, y, w, p, q, r, is)
+  same = lines_told e long rounds script old new before after all d many reports (λ kind. (told_of kind).1.1)
 
   counted : IsCounted z.sessions t.history (logs_of new) (said_from [] (in_order (run rounds) script.records) printed) totals
   counted =
       let shape : HasShape (in_order (run rounds) script.records) printed = subst (λ rs. HasShape rs printed) (sym (in_order_is rounds script.records)) (run_shape z.buckets t.history logs rounds script.records d.lines (reports Group) (reports Table) (reports Interval) ran) in
-      let told : (k : Kind) → removed_of k after ≡ sum_by (removed_by k) (said_from [] (in_order (run rounds) script.records) printed) = λ k. told_all k ∙ (ap (told_removed k) same ∙ sym (removed_said k [] (in_order (run rounds) script.records) printed shape)) in
+      let told : (k : Kind) → removed_of k after ≡ sum_by (removed_by k) (said_from [] (in_order (run rounds) script.records) printed) = λ k. told_all e long rounds script old new before after all d fresh k ∙ (ap (told_removed k) same ∙ sym (removed_said k [] (in_order (run rounds) script.records) printed shape)) in
       let c = t.counted in
       record {
         made = c.made;
@@ -223,6 +236,6 @@ module _ (e : Engine) (long rounds : ℕ) (script : Script) (old new : List Sess
 
   pub driven_sound : IsSound (run rounds) script (record { lines = all; totals = totals })
   driven_sound =
-      let most : top ≤ z.sessions = omega (arith, many) in
+      let most : top ≤ z.sessions = omega (arith, many, sessions) in
       subst (λ (lines : List Line). IsSound (run rounds) script (record { lines = lines; totals = totals })) (sym same)
       (run_whole z.buckets z.sessions t.history logs (logs_of new) rounds script d.lines (reports Group) (reports Table) (reports Interval) totals ran (within z.sessions script.records most) closes counted)

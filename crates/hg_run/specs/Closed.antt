@@ -1,22 +1,28 @@
 -- The end of a replay or a run.
-use Rattle.std.specs.Prelude.{ℕ, ◌≤◌, ◌<◌, List, length}
+use Rattle.std.specs.Prelude.{◌≡◌, ℕ, ◌≤◌, ◌<◌, List, length}
 use Rattle.hg_base.specs.declared.report.Kind.{Kind}
+use Rattle.hg_base.specs.declared.report.Kind.TheVariants.{Group, Table, Interval}
 use Rattle.hg_base.specs.declared.line.Totals.{Totals}
 use Rattle.hg_base.specs.History.{History}
 use Rattle.hg_base.specs.Lists.{Each}
 use Rattle.hg_core.specs.State.{CoreState}
 use Rattle.hg_rule.specs.declared.view.View.{View}
 use Rattle.hg_rule.specs.Facts.{Stands}
+use Rattle.hg_rule.specs.New.{EachFrom}
+use Rattle.hg_rule.specs.Reading.{passes_in}
 use Rattle.hg_rule.specs.Rules.{IsTrueOf}
+use Rattle.hg_rule.specs.Views.{HasPass}
 use Rattle.hg_headline.specs.Logged.{Logged}
 use Rattle.hg_headline.specs.Following.{AreTotalsBy}
 use Rattle.hg_tracker.specs.Begun.{SawGroups}
 use Rattle.hg_session.specs.declared.engine.Engine.{Engine}
 use Rattle.hg_session.specs.declared.session.Session.{Session}
 use Rattle.hg_session.specs.Engines.{engine_sizes}
-use Rattle.hg_session.specs.Finished.{logs_of, AreAmong}
+use Rattle.hg_session.specs.Ended.{visits_in, HasAllPasses}
+use Rattle.hg_session.specs.Finished.{logs_of, AreAmong, AreDone, HasNoSession, HaveGone, IsClosed}
+use Rattle.hg_session.specs.Passing.{visits_of}
 use Rattle.hg_run.specs.declared.collecting.Collectors.{Collectors}
-use Rattle.hg_run.specs.Collecting.{view_in, removed_of}
+use Rattle.hg_run.specs.Collecting.{passes_of, view_in, removed_of}
 use Rattle.hg_run.specs.Listed.{SawAt}
 use Rattle.hg_run.specs.Rounding.{BeganIn}
 
@@ -24,6 +30,29 @@ use Rattle.hg_run.specs.Rounding.{BeganIn}
 pub record HasCome (v w : View) : Type 0 where
   pub seen : AreAmong v.sights w.sights
   pub did : (s : CoreState) → IsTrueOf s w → Each (Stands s) v.events
+
+-- An engine's passes are joined in one view, which has no session yet, has seen all that any of them had seen, and knows what each did.
+pub record AreJoined (e : Engine) (collectors : Collectors) (v : View) : Type 0 where
+  pub own : HasPass v
+  pub passes : HasAllPasses v
+  pub three : passes_in v.parts ≡ 3
+  pub none : HasNoSession v
+  pub visits : visits_in v ≡ visits_of (passes_of collectors)
+  pub seen : (kind : Kind) → AreAmong (view_in kind collectors).sights v.sights
+  pub did : AreDone (view_in Group collectors).events v.sights × AreDone (view_in Interval collectors).events v.sights
+  pub events : v.events ≡ (view_in Table collectors).events
+
+-- And these sessions went there, the first ones.
+pub record HasBrought (e : Engine) (list : List Session) (collectors : Collectors) (w : View) : Type 0 where
+  pub joined : View
+  pub passes : AreJoined e collectors joined
+  pub went : HaveGone list joined w
+
+-- these are all sessions of the engine, and no transaction is open
+pub record AreAllThere (e : Engine) (list : List Session) (collectors : Collectors) (w : View) : Type 0 where
+  pub brought : HasBrought e list collectors w
+  pub closed : EachFrom (IsClosed e) 1 list
+  pub many : length list ≡ (engine_sizes e).sessions
 
 -- The totals are those of the logs, over a history that the logs have, and of what the collectors' rounds removed, by kind. What
 -- a session or a collector had seen of the groups stands in that history, and each live register that a collector loaded has its

@@ -1,5 +1,5 @@
 -- What the two drivers make of an engine's sessions and collectors.
-use Rattle.std.specs.Prelude.{◌≡◌, ℕ, ◌+◌, ◌*◌, ◌≤◌, ◌++◌, List, [], length, map, max, filter, filter_map, None, ⊤}
+use Rattle.std.specs.Prelude.{◌≡◌, ℕ, ◌+◌, ◌*◌, ◌<◌, ◌≤◌, ◌++◌, List, [], length, map, max, filter, filter_map, None, Result, IfOk, ⊤}
 use Rattle.std.specs.List.{cons_option, flat_map}
 use Rattle.hg_base.specs.declared.line.Line.{Line}
 use Rattle.hg_base.specs.declared.line.Reply.{Reply}
@@ -7,7 +7,8 @@ use Rattle.hg_base.specs.declared.report.Kind.{Kind}
 use Rattle.hg_base.specs.declared.report.Kind.TheVariants.{Group, Table, Interval}
 use Rattle.hg_base.specs.declared.report.Sweep.{Sweep}
 use Rattle.hg_base.specs.declared.statement.Record.{Record}
-use Rattle.hg_base.specs.Lists.{greatest, numbers_from}
+use Rattle.hg_base.specs.declared.fault.NoMemory.{NoMemory}
+use Rattle.hg_base.specs.Lists.{Each, greatest, numbers_from}
 use Rattle.hg_base.specs.Script.{Script}
 use Rattle.hg_base.specs.Shape.{HasShape, same_kind, report_of}
 use Rattle.hg_base.specs.Transcript.{of_session}
@@ -19,8 +20,12 @@ use Rattle.hg_headline.specs.Counted.{Closes}
 use Rattle.hg_session.specs.declared.engine.Engine.{Engine}
 use Rattle.hg_session.specs.declared.session.Session.{Session}
 use Rattle.hg_session.specs.Engines.{engine_sizes}
-use Rattle.hg_session.specs.Finished.{logs_of}
+use Rattle.hg_report.specs.LinesText.{Shown}
+use Rattle.hg_script.specs.Lawful.{IsLawful}
+use Rattle.hg_session.specs.Finished.{logs_of, IsClosed}
 use Rattle.hg_session.specs.Opened.{IsNewOf}
+use Rattle.hg_session.specs.Sessions.{cursor_of}
+use Rattle.hg_words.specs.declared.options.Options.{Options}
 use Rattle.hg_run.specs.declared.collecting.Collectors.{Collectors}
 use Rattle.hg_run.specs.Collecting.{AreCollectors, removed_of, view_in}
 use Rattle.hg_run.specs.Rounding.{IsRoundBy, AreRounds, sweep_lines}
@@ -71,3 +76,25 @@ pub record HasDrivenAll (z : Sizes) (long rounds : ℕ) (records : List Record) 
   pub worked : (j : ℕ) → HasWorked z.buckets (logs_of old j) (of_session j records) (lines j) (logs_of new j)
   pub count : (kind : Kind) → length (sweeps kind) ≡ rounds
   pub made : (kind : Kind) → AreRounds (IsRoundBy kind z long) (view_in kind before) (sweeps kind) (view_in kind after)
+
+-- ---- one driver next to other work
+
+-- what the driver of `run` needs
+pub record MayDrive (e : Engine) (script : Script) (list : List Session) (collectors : Collectors) : Type 0 where
+  pub lawful : IsLawful script
+  pub sessions : length list ≡ max 1 (greatest (map (λ (r : Record). r.session) script.records))
+  pub most : length list ≤ (engine_sizes e).sessions
+  pub tables : (engine_sizes e).tables ≡ length script.tables
+  pub some : 0 < (engine_sizes e).buckets
+  pub quota : (j : ℕ) → length (of_session j script.records) ≤ (engine_sizes e).quota
+  pub new : EachFrom (IsNewOf e (engine_sizes e).quota) 1 list
+  pub collectors_are : AreCollectors e collectors
+
+-- and what it says
+pub record HasDriven (e : Engine) (options : Options) (script : Script) (old : List Session) (before : Collectors) (result : Result Shown NoMemory) (new : List Session) (after : Collectors) : Type 0 where
+  pub driven : IfOk result (λ (t : Shown). HasDrivenAll (engine_sizes e) options.long options.rounds script.records old before t.lines new after)
+  pub tables : IfOk result (λ (t : Shown). t.tables ≡ script.tables)
+  pub many : length new ≡ length old
+  pub closed : EachFrom (IsClosed e) 1 new
+  pub cursors : Each (λ s. cursor_of s ≡ None) new
+  pub collectors_are : AreCollectors e after

@@ -1,4 +1,4 @@
--- What a replay knows and prints, and when each status comes. A reader meets the definitions in this order.
+-- What a replay, a run and a dump know and print, and when each status comes. A reader meets the definitions in this order.
 pub mod Words
 pub mod Status
 pub mod Heard
@@ -12,8 +12,10 @@ pub mod Working
 pub mod Driven
 pub mod Played
 pub mod Closed
+pub mod Reader
 pub mod Rows
 pub mod Printing
+pub mod Dumping
 pub mod Parting
 pub mod Judging
 pub mod Serving

@@ -10,7 +10,8 @@ use Rattle.hg_script.specs.Meaning.{refusal_of, script_of}
 use Rattle.hg_words.specs.Options.{options_of}
 use Rattle.hg_run.specs.declared.status.Status.{Status}
 use Rattle.hg_run.specs.declared.status.Status.TheVariants.{Done, Usage, BadScript, ReadFault, WriteFault, TooLong, NoMemory}
-use Rattle.hg_run.specs.Words.{AsksFor, IsReading, Settings, Task, audits, makes, reads}
+use Rattle.hg_run.specs.Words.{AsksFor, IsReading, Settings, Task, audits, dumps, makes, reads}
+use Rattle.hg_run.specs.Dumping.{IsDumpedFor}
 use Rattle.hg_run.specs.Printing.{AreTotalsOf, IsPrintedFor}
 use Rattle.hg_run.specs.Parting.{AreParts}
 use Rattle.hg_run.specs.Judging.{IsJudgedBy}
@@ -58,6 +59,11 @@ pub record IsTextFor (settings : Settings) (bytes text : List ℕ) : Type 0 wher
   pub valid : refusal_of (rows_of bytes) ≡ None
   pub printed : IsPrintedFor settings (script_of (rows_of bytes)) text
 
+-- the same with dumps of its tables
+pub record IsDumpFor (settings : Settings) (bytes text : List ℕ) : Type 0 where
+  pub valid : refusal_of (rows_of bytes) ≡ None
+  pub dumped : IsDumpedFor settings (script_of (rows_of bytes)) text
+
 -- the bytes are all that the source had, and no more than a script may have
 pub record ReadsAll (source : Change) (bytes : List ℕ) : Type 0 where
   pub read : Consumes source.before source.after bytes
@@ -75,6 +81,7 @@ abbrev pub Answers : Task → Change → List ℕ → Type 0
 Answers (reads settings) source text = AnswersSource (IsTextFor settings) source text
 Answers (makes seed settings) source text = AreTotalsOf seed settings text
 Answers audits source text = AnswersSource IsJudgedBy source text
+Answers (dumps settings) source text = AnswersSource (IsDumpFor settings) source text
 
 -- ---- what was done with them
 
@@ -83,6 +90,7 @@ abbrev pub IsScriptIn : Task → List ℕ → List ℕ → Type 0
 IsScriptIn (reads settings) bytes script = script ≡ bytes
 IsScriptIn (makes seed settings) bytes script = ⊥
 IsScriptIn audits bytes script = (text : List ℕ) × AreParts bytes script text
+IsScriptIn (dumps settings) bytes script = script ≡ bytes
 
 -- the first record of the script that breaks a rule, and its first code
 pub record RefusesScript (task : Task) (bytes : List ℕ) (line : ℕ) (code : Code) : Type 0 where

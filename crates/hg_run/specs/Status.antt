@@ -23,7 +23,7 @@ exit_code_of NoMemory = 7
 -- what the program says of a status
 abbrev pub said_of : Status → List ℕ
 said_of Done = []
-said_of Usage = codes "usage: hybridgc replay or run or load SEED or audit, with --buckets N, --long N, --rounds N, --sweepers N"
+said_of Usage = codes "usage: hybridgc replay or run or load SEED or audit or dump, with --buckets N, --long N, --rounds N, --sweepers N"
 said_of (BadScript line code) = codes "script record " ++ decimal line ++ codes ": " ++ code_text code
 said_of ReadFault = codes "read fault"
 said_of WriteFault = codes "write fault"

@@ -2,33 +2,35 @@
 //!
 //!     roll back    each transaction that is open, in the order of sessions, or close its cursor
 //!     finish       every session's part goes to one pass, to which the others were joined
+//!     read         for a dump, the reader meets that pass, exports once more, and then its part goes there too
 //!     settle       a round of the table collector cuts each table of each bucket at the mark
 //!     count        each bucket
 
-ghost use Rattle.std.specs.Prelude.{◌≡◌, ℕ, ◌<◌, ◌≢◌, length, get_or, None};
+ghost use Rattle.std.specs.Prelude.{◌≡◌, ℕ, suc, ◌<◌, ◌≢◌, List, length, get_or, None, IfOk, OnErr};
 ghost use Rattle.hg_rule.specs.Facts.{StartsWith};
 ghost use Rattle.hg_rule.specs.New.{EachFrom};
-ghost use Rattle.hg_base.specs.declared.report.Kind.{Kind};
-ghost use Rattle.hg_base.specs.Lists.{Each};
-ghost use Rattle.hg_rule.specs.Reading.{passes_in};
-ghost use Rattle.hg_rule.specs.Rules.{IsBacked};
+ghost use Rattle.hg_dump.specs.Exports.{MayExport};
 ghost use Rattle.hg_gc_table.specs.Collectors.{view_of, IsCollectorOf};
 ghost use Rattle.hg_headline.specs.Counted.{Closes};
 ghost use Rattle.hg_session.specs.declared.session.Session.{Session};
 ghost use Rattle.hg_session.specs.Engines.{engine_board_id, engine_sizes};
 ghost use Rattle.hg_session.specs.Sessions.{IsOf, number_of, log_of, open_of, seen_by};
-ghost use Rattle.hg_session.specs.Ended.{logs_in, visits_in, IsEnded};
-ghost use Rattle.hg_session.specs.Finished.{logs_of, AreAmong, IsClosed};
-ghost use Rattle.hg_session.specs.Passing.{visits_of};
+ghost use Rattle.hg_session.specs.Ended.{IsEnded};
+ghost use Rattle.hg_session.specs.Finished.{logs_of, IsClosed};
 ghost use Rattle.hg_session.specs.Settled.{HasHeardAll};
+ghost use Rattle.hg_session.specs.Opened.{seated};
+ghost use Rattle.hg_run.specs.declared.collecting.Collectors.{Collectors};
 ghost use Rattle.hg_run.specs.Listed.{IsPlaced};
-ghost use Rattle.hg_run.specs.Collecting.{AreCollectors, passes_of, view_in};
-ghost use Rattle.hg_run.specs.Closed.{HasCome, IsClosedBy};
+ghost use Rattle.hg_run.specs.Collecting.{AreCollectors};
+ghost use Rattle.hg_run.specs.Closed.{AreAllThere, HasBrought, IsClosedBy};
+ghost use Rattle.hg_run.specs.Reader.{IsReadAndClosed, alloc_in, engine_in, script_in};
 
 use crate::collecting::Collectors;
-use hg_base::Totals;
+use crate::reader::Reader;
+use hg_base::{NoMemory, Totals};
 use hg_gc_table::TableCollector;
-use hg_session::{Engine, Session, finish_all, join_all, settle};
+use hg_rule::SessionPass;
+use hg_session::{Engine, Session, finish_some, join_all, settle};
 use std::sync::Wait;
 
 /// Closes the session's cursor, if one is open, or rolls its transaction back.
@@ -75,21 +77,13 @@ pub(crate) fn close_all<R: Wait>(rt: &R, engine: &Engine, list: &mut Vec<Session
     }
 }
 
-// All passes and all sessions go to the table collector's pass, which has seen then all that any of them had seen, and knows
+// All passes, and the first sessions, go to the table collector's pass, which has seen then all that any of them had seen, and knows
 // what each pass did.
-fn bring_all(engine: &Engine, list: Vec<Session>, collectors: Collectors) -> TableCollector
+fn bring(engine: &Engine, list: Vec<Session>, collectors: Collectors) -> TableCollector
     requires closed { EachFrom (IsClosed engine.now) 1 list.items }
-    requires many { length list.items ≡ (engine_sizes engine.now).sessions }
     requires collectors { AreCollectors engine.now collectors }
     ensures own { IsCollectorOf (engine_board_id engine.now) (engine_sizes engine.now) result }
-    ensures ended { IsEnded (engine_sizes engine.now) (view_of result) }
-    ensures heard { HasHeardAll (engine_sizes engine.now) (view_of result) }
-    ensures logs { logs_in (view_of result) ≡ logs_of list.items }
-    ensures three { passes_in (view_of result).parts ≡ 3 }
-    ensures visits { visits_in (view_of result) ≡ visits_of (passes_of collectors) }
-    ensures seen { Each (λ s. AreAmong (seen_by s) (view_of result).sights) list.items }
-    ensures come { (kind : Kind) → HasCome (view_in kind collectors) (view_of result) }
-    ensures backed { (mark : ℕ) × IsBacked (engine_sizes engine.now) mark (view_of result) }
+    ensures brought { HasBrought engine.now list.items collectors (view_of result) }
 {
     let Collectors {
         group,
@@ -102,9 +96,22 @@ fn bring_all(engine: &Engine, list: Vec<Session>, collectors: Collectors) -> Tab
         group.into_pass(),
         interval.into_pass(),
     );
-    finish_all(engine, list, table.lend());
-    engine.board().look_at(table.lend());
+    finish_some(engine, list, table.lend());
     table
+}
+
+// Settles and counts, where all passes and all sessions went to the collector's pass.
+fn count<R: Wait>(rt: &R, engine: &Engine, collector: TableCollector) -> Totals
+    requires own { IsCollectorOf (engine_board_id engine.now) (engine_sizes engine.now) collector }
+    requires ended { IsEnded (engine_sizes engine.now) (view_of collector) }
+    requires heard { HasHeardAll (engine_sizes engine.now) (view_of collector) }
+    ensures { (list : List Session) (collectors : Collectors) →
+        AreAllThere engine.now list collectors (view_of collector) → IsClosedBy engine.now list collectors result }
+{
+    let mut collector = collector;
+    engine.board().look_at(collector.lend());
+    settle(rt, engine, &mut collector);
+    engine.totals(rt, collector.lend())
 }
 
 /// Ends a replay or a run once no transaction and no cursor is open, and counts. It takes no memory.
@@ -114,7 +121,34 @@ pub fn close<R: Wait>(rt: &R, engine: &Engine, list: Vec<Session>, collectors: C
     requires collectors { AreCollectors engine.now collectors }
     ensures { IsClosedBy engine.now list.items collectors result }
 {
-    let mut collector = bring_all(engine, list, collectors);
-    settle(rt, engine, &mut collector);
-    engine.totals(rt, collector.lend())
+    let collector = bring(engine, list, collectors);
+    count(rt, engine, collector)
+}
+
+/// Ends the run of a dump, once no transaction and no cursor is open: the reader is the last session. It exports once more after all
+/// others ended.
+pub(crate) fn close_read<R: Wait>(
+    rt: &R,
+    reader: &Reader,
+    list: Vec<Session>,
+    collectors: Collectors,
+    pass: SessionPass,
+    into: &mut Vec<u8>,
+) -> Result<(Totals, u64), NoMemory>
+    requires many { suc (length list.items) ≡ (engine_sizes (engine_in reader.now)).sessions }
+    requires closed { EachFrom (IsClosed (engine_in reader.now)) 1 list.items }
+    requires collectors { AreCollectors (engine_in reader.now) collectors }
+    requires reads { MayExport (engine_board_id (engine_in reader.now)) (engine_sizes (engine_in reader.now)) pass }
+    requires last { IsClosed (engine_in reader.now) (suc (length list.items)) (seated (alloc_in reader.now) 0 pass) }
+    ensures closed { IfOk result (λ r. IsReadAndClosed (alloc_in reader.now) (engine_in reader.now) (script_in reader.now)
+        list.items collectors pass into.old.items into.new.items r.0 r.1) }
+    ensures refused { OnErr result (into.new.items ≡ into.old.items) }
+{
+    let engine = reader.engine;
+    let mut pass = pass;
+    let mut collector = bring(engine, list, collectors);
+    collector.lend().meet(engine.board(), &mut pass);
+    let at = reader.read(rt, &mut pass, into)?;
+    pass.finish(engine.board(), collector.lend());
+    Ok((count(rt, engine, collector), at))
 }

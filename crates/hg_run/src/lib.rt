@@ -7,9 +7,10 @@
 //!     read_all        the source         all its bytes      ReadFault, TooLong
 //!     read_script     the bytes          a script           BadScript
 //!     replay, run_all the script         one text
+//!     dump_all        the script         the text of a run, with two dumps
 //!     write_all       the text           Done               WriteFault
 //!
-//! `load` has a seed instead of a source: the steps between the first and the last are `make_script`, a replay, and the text of its
+//! `dump` is a `run` during which one more session, the reader, reads all tables. `load` has a seed instead of a source: the steps between the first and the last are `make_script`, a replay, and the text of its
 //! totals only. For `audit` the bytes are split at a line `====` (`part`) into a script, which is read as above, and a text, which is
 //! checked against it; the text that is written is the verdict. Running out of memory may end every step but the last. The text is
 //! complete before its first byte is written. So a refused script has run nothing, and what a sink took is a prefix of the text of a
@@ -19,7 +20,9 @@
 //! in the mode that the words ask for, for the script that all the bytes of the source mean; that fits this script; and whose reports
 //! are those of rounds made with the buckets and the `--long` that the words ask for (`ReportsRounds`). No other value that fits has
 //! this text (`text_determines_what_was_printed`). For `load` the text is that of the totals of such a value, for the script of the
-//! seed. For `audit` it says whether the text after the script is sound for it, and if not, what fails first.
+//! seed. For `audit` it says whether the text after the script is sound for it, and if not, what fails first. For `dump` the value is
+//! sound next to a reader of all tables at a snapshot, and two dumps of the history that it prints follow: at that snapshot, and at the
+//! end.
 #![tactic(auto)]
 
 mod ask;
@@ -27,6 +30,7 @@ mod audit;
 mod beside;
 mod collect;
 mod collecting;
+mod dump;
 mod ending;
 mod gc;
 mod interval;
@@ -36,6 +40,7 @@ mod opening;
 mod pace;
 mod parting;
 mod play;
+mod reader;
 mod replay;
 mod reply;
 mod round_list;
@@ -49,13 +54,14 @@ mod turn;
 mod work;
 
 pub use collecting::Collectors;
+pub use dump::dump_on;
 pub use ending::close;
 pub use interval::IntervalWorker;
 pub use laws::{
     rows_have_their_columns, text_determines_what_was_printed, what_is_sound_fits,
     what_is_sound_with_a_reader_fits,
 };
-pub use opening::open_for;
+pub use opening::{open_beside, open_for};
 pub use replay::replay_on;
 pub use run::run_on;
 pub use serving::serve;

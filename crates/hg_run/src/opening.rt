@@ -3,10 +3,12 @@
 ghost use Rattle.std.specs.Prelude.{◌≡◌, ◌≤◌, length, map, IfOk};
 ghost use Rattle.hg_script.specs.Lawful.{IsLawful};
 ghost use Rattle.hg_words.specs.Options.{AreWithin};
-ghost use Rattle.hg_run.specs.Driven.{IsOpenedFor};
+ghost use Rattle.hg_run.specs.Driven.{IsOpenedFor, IsOpenedWith};
+ghost use Rattle.hg_run.specs.Reader.{IsOpenedBeside};
 
 use crate::collecting::Collectors;
 use hg_base::NoMemory;
+use hg_rule::SessionPass;
 use hg_script::Script;
 use hg_session::{Engine, SessionList, TableDecl};
 use hg_words::{Command, Options};
@@ -37,6 +39,29 @@ fn sweepers_of(options: &Options) -> u32
     }
 }
 
+// An engine for the tables of a script, with so many sessions more than the script has. A session may run as many statements as the
+// script has, and two more for each of the further sessions.
+fn open_with(
+    alloc: Global,
+    script: &Script,
+    options: &Options,
+    more: u32,
+) -> Result<(Engine, SessionList, Collectors), NoMemory>
+    requires lawful { IsLawful script.now }
+    requires within { AreWithin options.now }
+    requires few { more ≤ 1 }
+    ensures { IfOk result (λ o. IsOpenedWith more script.now options.now.buckets o.0 o.1 o.2) }
+{
+    let tables = declared(alloc, script)?;
+    let sessions = script.sessions() + more;
+    // A session has at most all records, and each begins one transaction and stores one write at most.
+    let quota = (script.record_count() as u64 + 2 * more as u64).max(1);
+    let (engine, list, passes) = Engine::open(alloc, sessions, &tables, options.buckets, quota)?;
+    let sweepers = sweepers_of(options);
+    let collectors = Collectors::new(alloc, passes, sweepers, sessions, tables.len() as u32)?;
+    Ok((engine, list, collectors))
+}
+
 /// An engine for the tables and the sessions of a script, with the sessions and the collectors. A session may run as many
 /// statements as the script has.
 pub fn open_for(
@@ -48,12 +73,28 @@ pub fn open_for(
     requires within { AreWithin options.now }
     ensures { IfOk result (λ o. IsOpenedFor script.now options.now.buckets o.0 o.1 o.2) }
 {
-    let tables = declared(alloc, script)?;
-    let sessions = script.sessions();
-    // A session has at most all records, and each begins one transaction and stores one write at most.
-    let quota = (script.record_count() as u64).max(1);
-    let (engine, list, passes) = Engine::open(alloc, sessions, &tables, options.buckets, quota)?;
-    let sweepers = sweepers_of(options);
-    let collectors = Collectors::new(alloc, passes, sweepers, sessions, tables.len() as u32)?;
-    Ok((engine, list, collectors))
+    open_with(alloc, script, options, 0)
+}
+
+/// The same with one session more, whose pass it gives out: the reader of a dump, which begins two transactions.
+pub fn open_beside(
+    alloc: Global,
+    script: &Script,
+    options: &Options,
+) -> Result<(Engine, SessionList, Collectors, SessionPass), NoMemory>
+    requires lawful { IsLawful script.now }
+    requires within { AreWithin options.now }
+    ensures { IfOk result (λ o. IsOpenedBeside script.now options.now.buckets o.0 o.1 o.2 o.3) }
+{
+    let (engine, list, collectors) = open_with(alloc, script, options, 1)?;
+    let mut list = list.into_vec();
+    match list.pop() {
+        Some(last) => Ok((
+            engine,
+            SessionList::from(list),
+            collectors,
+            last.into_pass(),
+        )),
+        None => unreachable!(),
+    }
 }

@@ -134,7 +134,7 @@ fn gather<'a>(
 /// The driver of `run`: each session runs its own records in a thread of its own, and concurrently each collector makes its
 /// rounds. A `gc` is answered `beside`. At the end of its records a session rolls back what is open, or closes its cursor. The gate is
 /// asked before each statement and each round. A worker that runs out of memory ends early, and leaves no transaction and no cursor
-/// open either.
+/// open either. The engine may have more sessions than the script.
 pub fn run_on<'a, R: Threads + Wait + Sync, G: Gate + Sync>(
     rt: &R,
     alloc: Global,
@@ -146,11 +146,11 @@ pub fn run_on<'a, R: Threads + Wait + Sync, G: Gate + Sync>(
     collectors: &mut Collectors,
 ) -> Result<Transcript<'a>, NoMemory>
     requires lawful { IsLawful script.now }
-    requires sessions { (engine_sizes engine.now).sessions ≡ max 1 (greatest (map (λ r. r.session) script.now.records)) }
+    requires sessions { length sessions.old ≡ max 1 (greatest (map (λ r. r.session) script.now.records)) }
     requires tables { (engine_sizes engine.now).tables ≡ length script.now.tables }
     requires some { 0 < (engine_sizes engine.now).buckets }
     requires quota { (j : ℕ) → length (of_session j script.now.records) ≤ (engine_sizes engine.now).quota }
-    requires all { length sessions.old ≡ (engine_sizes engine.now).sessions }
+    requires most { length sessions.old ≤ (engine_sizes engine.now).sessions }
     requires new { EachFrom (IsNewOf engine.now (engine_sizes engine.now).quota) 1 sessions.old }
     requires collectors { AreCollectors engine.now collectors.old }
     ensures driven { IfOk result (λ transcript. HasDrivenAll (engine_sizes engine.now) options.now.long options.now.rounds script.now.records sessions.old collectors.old transcript.lines sessions.new collectors.new) }

@@ -1,14 +1,16 @@
 //! The steps in their order: of a script that is run, of one that is made, and of one whose text is audited.
 
 ghost use Rattle.std.specs.Prelude.{◌≡◌, ◌+◌, ◌≤◌, ◌<◌, ℕ, List, length, map, Some, None, IfOk, IfErr, IsFalse, string_bytes};
+ghost use Rattle.hg_base.specs.Script.{run};
 ghost use Rattle.hg_script.specs.declared.code.Code.{Code};
 ghost use Rattle.hg_script.specs.Fields.{rows_of};
 ghost use Rattle.hg_script.specs.Meaning.{refusal_of};
 ghost use Rattle.hg_words.specs.Options.{AreWithin, options_of};
-ghost use Rattle.hg_run.specs.Words.{AsksFor, IsMaking, IsReading, audits, reads, settings_of, task_of};
-ghost use Rattle.hg_run.specs.Serving.{Answers, Comes, Gives, HasFailed, HasGiven, IsScriptIn, IsTextFor, IsUnlessNoMemory, RefusesBytes, RefusesTask, WritesAll, change_of, may_write};
+ghost use Rattle.hg_run.specs.Words.{AsksFor, IsMaking, IsReading, audits, dumps, reads, settings_in, settings_of, task_of};
+ghost use Rattle.hg_run.specs.Serving.{Answers, Comes, Gives, HasFailed, HasGiven, IsDumpFor, IsScriptIn, IsTextFor, IsUnlessNoMemory, RefusesBytes, RefusesTask, WritesAll, change_of, may_write};
 
 use crate::audit::audit_bytes;
+use crate::dump::dump_all;
 use crate::load::load;
 use crate::replay::replay;
 use crate::run::run_all;
@@ -37,7 +39,7 @@ fn text_of_bytes<R: Threads + Wait + Sync, G: Gate + Sync>(
     let script = read_script(alloc, &bytes)?;
     drop(bytes);
     let text = match options.command {
-        Command::Run => run_all(rt, alloc, &script, options, gate)?,
+        Command::Run | Command::Dump => run_all(rt, alloc, &script, options, gate)?,
         Command::Replay | Command::Load(_) | Command::Audit => replay(rt, alloc, &script, options)?,
     };
     Ok(text)
@@ -58,6 +60,43 @@ fn text_of_source<R: Threads + Wait + Sync, S: Source, G: Gate + Sync>(
 {
     let bytes = read_all(alloc, source)?;
     text_of_bytes(rt, alloc, options, bytes, gate)
+}
+
+// The text that the script of these bytes prints, with dumps of its tables.
+fn dump_of_bytes<R: Threads + Wait + Sync, G: Gate + Sync>(
+    rt: &R,
+    alloc: Global,
+    options: &Options,
+    bytes: Vec<u8>,
+    gate: &G,
+) -> Result<Vec<u8>, Status>
+    requires { AreWithin options.now }
+    ensures text { IfOk result (λ text. IsDumpFor (settings_in (run options.now.rounds) options.now) bytes.items text.items) }
+    ensures refused { IfErr result (RefusesBytes (dumps (settings_in (run options.now.rounds) options.now)) bytes.items) }
+{
+    let script = read_script(alloc, &bytes)?;
+    drop(bytes);
+    let text = dump_all(rt, alloc, &script, options, gate)?;
+    Ok(text)
+}
+
+// The text that the script in a source prints, with dumps of its tables.
+fn dump_of_source<R: Threads + Wait + Sync, S: Source, G: Gate + Sync>(
+    rt: &R,
+    alloc: Global,
+    options: &Options,
+    source: &mut S,
+    gate: &G,
+) -> Result<Vec<u8>, Status>
+    requires { AreWithin options.now }
+    ensures text { IfOk result (λ text. Answers (dumps (settings_in (run options.now.rounds) options.now))
+        (change_of S.left S.faults source.old source.new) text.items) }
+    ensures refused { IfErr result (RefusesTask (dumps (settings_in (run options.now.rounds) options.now))
+        (change_of S.left S.faults source.old source.new)) }
+    ensures no_more { HasGiven (MOST_SCRIPT_BYTES + 1) (change_of S.left S.faults source.old source.new) }
+{
+    let bytes = read_all(alloc, source)?;
+    dump_of_bytes(rt, alloc, options, bytes, gate)
 }
 
 // The verdict on the text that follows the script in a source.
@@ -87,6 +126,7 @@ fn text_for<R: Threads + Wait + Sync, S: Source, G: Gate + Sync>(
     match options.command {
         Command::Load(seed) => Ok(load(rt, alloc, seed, options)?),
         Command::Audit => audit_source(alloc, source),
+        Command::Dump => dump_of_source(rt, alloc, options, source, gate),
         Command::Replay | Command::Run => text_of_source(rt, alloc, options, source, gate),
     }
 }
@@ -122,8 +162,9 @@ fn outcome<R: Threads + Wait + Sync, So: Source, Si: Sink, G: Gate + Sync>(
     }
 }
 
-/// Does what the words ask for: runs the script in the source and writes its answers to the sink; or replays the script of a seed and
-/// writes its totals; or checks the text that follows the script against it and writes the verdict.
+/// Does what the words ask for: runs the script in the source and writes its answers to the sink, with dumps of its tables if the words
+/// ask for them; or replays the script of a seed and writes its totals; or checks the text that follows the script against it and
+/// writes the verdict.
 pub fn serve<R: Threads + Wait + Sync, So: Source, Si: Sink, G: Gate + Sync>(
     rt: &R,
     alloc: Global,

@@ -54,7 +54,7 @@ impl fmt::Display for Status {
             Status::Done => Ok(()),
             Status::Usage => write!(
                 f,
-                "usage: hybridgc replay or run or load SEED or audit, with --buckets N, --long N, --rounds N, --sweepers N"
+                "usage: hybridgc replay or run or load SEED or audit or dump, with --buckets N, --long N, --rounds N, --sweepers N"
             ),
             Status::BadScript { line, code } => write!(f, "script record {line}: {code}"),
             Status::ReadFault => write!(f, "read fault"),

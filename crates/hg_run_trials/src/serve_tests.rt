@@ -43,7 +43,7 @@ fn call<R: Threads + Wait + Sync>(
 }
 
 const ENDED: &str = "\
-2 usage: hybridgc replay or run or load SEED or audit, with --buckets N, --long N, --rounds N, --sweepers N = replay replay
+2 usage: hybridgc replay or run or load SEED or audit or dump, with --buckets N, --long N, --rounds N, --sweepers N = replay replay
 3 script record 2: Name = replay
 4 read fault = run
 ";

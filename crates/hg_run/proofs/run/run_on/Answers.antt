@@ -124,7 +124,7 @@ returns-clause-driven g c =
     let rest : List Line = sweep_lines 1 told.group.sweeps.items ++ (sweep_lines 1 told.table.sweeps.items ++ sweep_lines 1 told.interval.sweeps.items) in
     subst (λ (new : List Session). IfOk c.gather-transcript.result (λ (t : Shown). HasDrivenAll z long rounds script.records old before t.lines new after)) (sym new_is)
     (on_gathered (lines_in c.as_slice.result.now ++ rest) (AreWilling c.as_slice.result.now told) (λ lines. HasDrivenAll z long rounds script.records old before lines (sessions_in now) after) c.gather-transcript.result c.gather-transcript.ensures.lines c.gather-transcript.ensures.willing
-    (λ lines told_is willing. driven_all e long rounds script old now before after told lines c.requires.lawful c.requires.sessions c.requires.all many ended c.run_beside.ensures.made
+    (λ lines told_is willing. driven_all e long rounds script old now before after told lines c.requires.lawful c.requires.sessions many ended c.run_beside.ensures.made
     (subst (λ (ws : List Worker). AreWilling ws told) value-2 willing) (told_is ∙ ap (λ (ws : List Worker). lines_in ws ++ rest) value-2)))
 
 pub returns-clause-many : goal.returns-clause-many

@@ -1,0 +1,40 @@
+-- What a dump prints.
+use Rattle.std.specs.Prelude.{◌≡◌, ℕ, ◌≤◌, List, [], ◌∷◌, ◌++◌, length, codes, decimal}
+use Rattle.hg_backup.specs.Reader.{IsSoundWith}
+use Rattle.hg_base.specs.declared.line.Line.{Line}
+use Rattle.hg_base.specs.declared.line.Printed.{Printed}
+use Rattle.hg_base.specs.History.{History}
+use Rattle.hg_base.specs.Script.{Script}
+use Rattle.hg_base.specs.Sound.{all_said}
+use Rattle.hg_base.specs.Text.{text_of}
+use Rattle.hg_base.specs.Transcript.{history_of}
+use Rattle.hg_report.specs.Bytes.{record_bytes}
+use Rattle.hg_source.specs.Records.{dump_text}
+use Rattle.hg_source.specs.Rows.{rows_at}
+use Rattle.hg_run.specs.Printing.{ReportsRoundsWith, rounds_beside}
+use Rattle.hg_run.specs.Words.{Settings}
+
+-- the history that lines print
+abbrev pub printed_history : Settings → Script → List Line → History
+printed_history settings script lines = history_of (all_said settings.mode script lines)
+
+-- a dump under the number of its snapshot
+abbrev pub part_text : ℕ → List ℕ → List ℕ
+part_text at dump = codes "snapshot," ++ decimal at ++ codes "\n" ++ dump
+
+-- that of a history at a snapshot
+abbrev pub dump_part : Script → History → ℕ → List ℕ
+dump_part script h at = part_text at (dump_text script (rows_at script.tables h at))
+
+-- A text that a dump may print under these settings: that of a printed value which is sound for the script concurrently with a reader
+-- of all tables at a snapshot, and reports rounds that were made as the settings say. Then the dump of its history at that snapshot
+-- follows, and the dump of its history at its end.
+pub record IsDumpedFor (settings : Settings) (script : Script) (text : List ℕ) : Type 0 where
+  pub printed : Printed
+  pub at : ℕ
+  pub sound : IsSoundWith (rounds_beside settings.mode) script (at ∷ []) printed
+  pub within : at ≤ length (printed_history settings script printed.lines)
+  pub rounds : ReportsRoundsWith 1 settings script printed.lines
+  pub same : text ≡ text_of record_bytes script printed
+      ++ (dump_part script (printed_history settings script printed.lines) at
+      ++ dump_part script (printed_history settings script printed.lines) (length (printed_history settings script printed.lines)))
