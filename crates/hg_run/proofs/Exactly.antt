@@ -10,7 +10,7 @@ use Rattle.hg_script.specs.Fields.{rows_of}
 use Rattle.hg_script.specs.Meaning.{refusal_of}
 use Rattle.hg_run.specs.declared.status.Status.{Status}
 use Rattle.hg_run.specs.declared.status.Status.TheVariants.{Done, Usage, BadScript, ReadFault, WriteFault, TooLong, NoMemory}
-use Rattle.hg_run.specs.Words.{AsksFor, IsMaking, IsReading, Task, audits, makes, reads, task_of}
+use Rattle.hg_run.specs.Words.{AsksFor, IsMaking, IsReading, Task, audits, dumps, makes, reads, task_of}
 use Rattle.hg_run.specs.Serving.{Change, Answers, FailsToRead, Gives, HasFailed, IsScriptIn, IsTooLong, ReadsAll, Refuses, WritesAll, WritesPart, Comes, IsUnlessNoMemory}
 use Rattle.hg_run.specs.Parting.{AreParts}
 use Rattle.hg_run.proofs.Parted.{one_script}
@@ -67,6 +67,7 @@ not_both words reading making = clash (task_of making.options) (subst IsReading 
     clash (reads settings) r m = m
     clash (makes seed settings) r m = r
     clash audits r m = m
+    clash (dumps settings) r m = m
 
 -- words that ask for something are not refused
 not_usage : (words : List (List ℕ)) (P : Task → Type 0) → AsksFor words P → options_of words ≡ None → ⊥
@@ -81,6 +82,7 @@ refuses_read : (task : Task) (source : Change) (line : ℕ) (code : Code) → Re
 refuses_read (reads settings) source line code r = tt
 refuses_read (makes seed settings) source line code r = r.refused.within
 refuses_read audits source line code r = tt
+refuses_read (dumps settings) source line code r = tt
 
 -- a script that is made wants no source
 pub loaded : (words : List (List ℕ)) (source sink : Change) (status : Status) → Comes words source sink status → AsksFor words IsMaking → (HasFailed sink → ⊥) → IsUnlessNoMemory status Done
@@ -104,6 +106,7 @@ one_within : (task : Task) (bytes s t : List ℕ) → IsScriptIn task bytes s �
 one_within (reads settings) bytes s t a b = a ∙ sym b
 one_within (makes seed settings) bytes s t a b = absurd a
 one_within audits bytes s t a b = one_script bytes s a.0 t b.0 a.1 b.1
+one_within (dumps settings) bytes s t a b = a ∙ sym b
 
 -- what is answered of the source is answered of its bytes
 module _ (source : Change) (bytes : List ℕ) (gives : Gives source bytes) where
@@ -117,6 +120,7 @@ module _ (source : Change) (bytes : List ℕ) (gives : Gives source bytes) where
   -- where there is an answer, the script is valid
   valid_in : (task : Task) (script text : List ℕ) → IsScriptIn task bytes script → Answers task source text → refusal_of (rows_of script) ≡ None
   valid_in (reads settings) script text within answers = ap (λ (s : List ℕ). refusal_of (rows_of s)) (within ∙ reads_all source bytes answers.bytes gives answers.all) ∙ answers.text_for.valid
+  valid_in (dumps settings) script text within answers = ap (λ (s : List ℕ). refusal_of (rows_of s)) (within ∙ reads_all source bytes answers.bytes gives answers.all) ∙ answers.text_for.valid
   valid_in (makes seed settings) script text within answers = absurd within
   valid_in audits script text within answers =
       let judged = answers.text_for in
@@ -128,6 +132,7 @@ module _ (source : Change) (bytes : List ℕ) (gives : Gives source bytes) where
   short_in (reads settings) text reading answers = rw (reads_all source bytes answers.bytes gives answers.all) answers.all.short
   short_in (makes seed settings) text reading answers = absurd reading
   short_in audits text reading answers = rw (reads_all source bytes answers.bytes gives answers.all) answers.all.short
+  short_in (dumps settings) text reading answers = rw (reads_all source bytes answers.bytes gives answers.all) answers.all.short
 
 module _ (words : List (List ℕ)) (source sink : Change) (bytes : List ℕ) where
   -- a source with too many bytes is read no further

@@ -26,8 +26,12 @@ mod Asking
 mod Begun
 mod Closes
 mod Brought
+mod Opened
+mod Dumps
+mod Readers
 mod WholeRun
 mod WholeDump
+mod Dumped
 -- A session's worker, and rounds beside it.
 mod Teams
 mod Working

@@ -5,7 +5,8 @@ use Rattle.std.specs.declared.alloc.Global.{Global}
 use Rattle.hg_backup.specs.Reader.{HasReadAll, IsSoundWith, reader_of}
 use Rattle.hg_backup.specs.Ran.{HasRunWith}
 use Rattle.hg_backup.proofs.Looks.{read_closed}
-use Rattle.hg_backup.proofs.Runs.{sound_some}
+use Rattle.hg_backup.proofs.Runs.{sound_with}
+use Rattle.hg_backup.proofs.Shown.{many_same, rows_same}
 use Rattle.hg_base.specs.declared.line.Line.{Line}
 use Rattle.hg_base.specs.declared.line.Totals.{Totals}
 use Rattle.hg_base.specs.declared.report.Kind.{Kind}
@@ -13,8 +14,11 @@ use Rattle.hg_base.specs.declared.report.Kind.TheVariants.{Group, Table, Interva
 use Rattle.hg_base.specs.declared.report.Report.{Report}
 use Rattle.hg_base.specs.declared.statement.Record.{Record}
 use Rattle.hg_base.specs.Lists.{Each, greatest}
-use Rattle.hg_base.specs.Script.{Script}
-use Rattle.hg_base.specs.Transcript.{of_session}
+use Rattle.hg_base.specs.History.{History}
+use Rattle.hg_base.specs.Script.{Script, run}
+use Rattle.hg_base.specs.Sound.{all_said}
+use Rattle.hg_base.specs.Transcript.{history_of, of_session}
+use Rattle.hg_source.specs.Rows.{rows_at}
 use Rattle.hg_core.specs.declared.log.LogEntry.{LogEntry}
 use Rattle.hg_core.specs.Events.{put}
 use Rattle.hg_core.specs.Logs.{current}
@@ -74,12 +78,9 @@ module _ (e : Engine) (long rounds : ℕ) (script : Script) (old new : List Sess
   abbrev worked : ℕ → List LogEntry
   worked k = (d.worked k).log
 
-  -- the logs before the last rollbacks, and what they were when the reader had read once
+  -- the logs before the last rollbacks
   abbrev logs : ℕ → List LogEntry
   logs = put worked j (log_in last)
-
-  logs_then : ℕ → List LogEntry
-  logs_then = put logs j (log_in first)
 
   -- one session's log goes to that of the reader, and each other one to its own
   closes_with : (p : SessionPass) → current (log_in p) ≡ None → (k : ℕ) → Closes (put worked j (log_in p) k) (logs_of (list_with alloc new p) k)
@@ -97,10 +98,10 @@ module _ (e : Engine) (long rounds : ℕ) (script : Script) (old new : List Sess
   closes_then : (k : ℕ) → Closes (put logs j (log_in first) k) (logs_of (list_with alloc new first) k)
   closes_then k = subst (λ l. Closes l (logs_of (list_with alloc new first) k)) (sym (put_twice k)) (closes_with first (read_closed (at ∷ []) (log_in first) once) k)
 
-  told_of : (kind : Kind) → (reports : List Report) × (AreReports t.history (put logs j (log_in first)) kind rounds reports × (report_lines 1 reports ≡ sweep_lines 1 (d.sweeps kind)))
+  pub told_of : (kind : Kind) → (reports : List Report) × (AreReports t.history (put logs j (log_in first)) kind rounds reports × (report_lines 1 reports ≡ sweep_lines 1 (d.sweeps kind)))
   told_of kind = reports_of e long rounds script old new before after all d t.history (put logs j (log_in first)) kind (t.groups kind) (began_before (put logs j (log_in first)) (logs_of (list_with alloc new first)) (view_in kind after).events closes_then (met kind))
 
-  abbrev reports : Kind → List Report
+  abbrev pub reports : Kind → List Report
   reports kind = (told_of kind).0
 
   pub ran_with_reader : HasRunWith (engine_sizes e).buckets t.history logs rounds script (at ∷ []) d.lines (reports Group) (reports Table) (reports Interval)
@@ -133,4 +134,19 @@ module _ (e : Engine) (long rounds : ℕ) (script : Script) (old new : List Sess
   pub sound_with_reader : IsSoundWith rounds script (at ∷ []) (record { lines = all; totals = totals })
   sound_with_reader =
       subst (λ (ls : List Line). IsSoundWith rounds script (at ∷ []) (record { lines = ls; totals = totals })) (sym lines_with_reader)
-      (sound_some (engine_sizes e).buckets t.history logs rounds script at [] d.lines (reports Group) (reports Table) (reports Interval) ran_with_reader (logs_of (list_with alloc new last)) closes totals counted)
+      (sound_with (engine_sizes e).buckets t.history logs (logs_of (list_with alloc new last)) rounds script (at ∷ []) d.lines (reports Group) (reports Table) (reports Interval) totals ran_with_reader closes counted)
+
+  -- ---- what the lines print
+
+  abbrev printed : History
+  printed = history_of (all_said (run rounds) script all)
+
+  pub rows_printed : (s : ℕ) → rows_at script.tables t.history s ≡ rows_at script.tables printed s
+  rows_printed s =
+      rows_same (engine_sizes e).buckets t.history logs rounds script (at ∷ []) d.lines (reports Group) (reports Table) (reports Interval) ran_with_reader s
+      ∙ ap (λ (ls : List Line). rows_at script.tables (history_of (all_said (run rounds) script ls)) s) (sym lines_with_reader)
+
+  pub groups_printed : length t.history ≡ length printed
+  groups_printed =
+      many_same (engine_sizes e).buckets t.history logs rounds script (at ∷ []) d.lines (reports Group) (reports Table) (reports Interval) ran_with_reader
+      ∙ ap (λ (ls : List Line). length (history_of (all_said (run rounds) script ls))) (sym lines_with_reader)

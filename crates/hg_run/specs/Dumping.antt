@@ -3,6 +3,7 @@ use Rattle.std.specs.Prelude.{◌≡◌, ℕ, ◌≤◌, List, [], ◌∷◌, �
 use Rattle.hg_backup.specs.Reader.{IsSoundWith}
 use Rattle.hg_base.specs.declared.line.Line.{Line}
 use Rattle.hg_base.specs.declared.line.Printed.{Printed}
+use Rattle.hg_base.specs.declared.line.Totals.{Totals}
 use Rattle.hg_base.specs.History.{History}
 use Rattle.hg_base.specs.Script.{Script}
 use Rattle.hg_base.specs.Sound.{all_said}
@@ -11,6 +12,7 @@ use Rattle.hg_base.specs.Transcript.{history_of}
 use Rattle.hg_report.specs.Bytes.{record_bytes}
 use Rattle.hg_source.specs.Records.{dump_text}
 use Rattle.hg_source.specs.Rows.{rows_at}
+use Rattle.hg_run.specs.declared.dump.Dumps.{Dumps}
 use Rattle.hg_run.specs.Printing.{ReportsRoundsWith, rounds_beside}
 use Rattle.hg_run.specs.Words.{Settings}
 
@@ -38,3 +40,13 @@ pub record IsDumpedFor (settings : Settings) (script : Script) (text : List ℕ)
   pub same : text ≡ text_of record_bytes script printed
       ++ (dump_part script (printed_history settings script printed.lines) at
       ++ dump_part script (printed_history settings script printed.lines) (length (printed_history settings script printed.lines)))
+
+-- The lines and the totals of a run with a reader, and what it read: the first dump at a snapshot, and the last one at the end of the
+-- history that the lines print.
+pub record HasReadBoth (settings : Settings) (script : Script) (lines : List Line) (totals : Totals) (dumps : Dumps) : Type 0 where
+  pub sound : IsSoundWith (rounds_beside settings.mode) script (dumps.at ∷ []) (record { lines = lines; totals = totals })
+  pub within : dumps.at ≤ length (printed_history settings script lines)
+  pub rounds : ReportsRoundsWith 1 settings script lines
+  pub first : dumps.first.items ≡ dump_text script (rows_at script.tables (printed_history settings script lines) dumps.at)
+  pub end_is : dumps.end ≡ length (printed_history settings script lines)
+  pub last : dumps.last.items ≡ dump_text script (rows_at script.tables (printed_history settings script lines) dumps.end)

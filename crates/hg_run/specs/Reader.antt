@@ -1,11 +1,12 @@
 -- What a dump reads, and what is left of the pass that read.
-use Rattle.std.specs.Prelude.{◌≡◌, ℕ, suc, List, [], ◌∷◌, ◌++◌, length, Result, IfOk, OnErr}
+use Rattle.std.specs.Prelude.{◌≡◌, ℕ, suc, List, [], ◌∷◌, ◌++◌, length, map, max, Result, IfOk, OnErr}
 use Rattle.std.specs.declared.alloc.Global.{Global}
 use Rattle.hg_base.specs.declared.fault.NoMemory.{NoMemory}
 use Rattle.hg_base.specs.declared.report.Kind.{Kind}
 use Rattle.hg_base.specs.declared.line.Totals.{Totals}
 use Rattle.hg_base.specs.History.{History}
-use Rattle.hg_base.specs.Lists.{Each}
+use Rattle.hg_base.specs.declared.statement.Record.{Record}
+use Rattle.hg_base.specs.Lists.{Each, greatest}
 use Rattle.hg_base.specs.Script.{Script}
 use Rattle.hg_core.specs.declared.log.LogEntry.{LogEntry}
 use Rattle.hg_core.specs.Logs.{UpTo}
@@ -19,7 +20,8 @@ use Rattle.hg_session.specs.declared.engine.Engine.{Engine}
 use Rattle.hg_session.specs.declared.session.Session.{Session}
 use Rattle.hg_session.specs.Engines.{engine_board_id, engine_sizes}
 use Rattle.hg_session.specs.Finished.{logs_of}
-use Rattle.hg_session.specs.Opened.{seated}
+use Rattle.hg_rule.specs.New.{EachFrom}
+use Rattle.hg_session.specs.Opened.{seated, IsNewOf}
 use Rattle.hg_session.specs.Sessions.{pass_of}
 use Rattle.hg_source.specs.Records.{dump_text}
 use Rattle.hg_source.specs.Rows.{rows_at}
@@ -59,6 +61,9 @@ pub record HasTried (e : Engine) (script : Script) (result : Result ℕ NoMemory
 pub record IsOpenedBeside (script : Script) (buckets : ℕ) (e : Engine) (list : List Session) (collectors : Collectors) (pass : SessionPass) : Type 0 where
   pub last : Session
   pub opened : IsOpenedWith 1 script buckets e (list ++ last ∷ []) collectors
+  pub many : length list ≡ max 1 (greatest (map (λ (r : Record). r.session) script.records))
+  pub more : (engine_sizes e).sessions ≡ suc (length list)
+  pub new : EachFrom (IsNewOf e (engine_sizes e).quota) 1 list
   pub pass_is : pass ≡ pass_of last
   pub may : MayExport (engine_board_id e) (engine_sizes e) pass
 

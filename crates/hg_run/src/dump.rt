@@ -6,11 +6,13 @@
 //!
 //! The text is that of the run, and then each dump under the number of its snapshot.
 
-ghost use Rattle.std.specs.Prelude.{◌≡◌, ℕ, suc, ◌++◌, ◌<◌, ◌≤◌, length, map, max, None, IfOk, OnErr, OnOk, codes, decimal, string_bytes};
+ghost use Rattle.std.specs.Prelude.{◌≡◌, ℕ, [], suc, ◌++◌, ◌<◌, ◌≤◌, length, map, max, None, IfOk, OnErr, OnOk, codes, decimal, string_bytes};
 ghost use Rattle.hg_base.specs.Lists.{Each, greatest};
-ghost use Rattle.hg_base.specs.Script.{run};
+ghost use Rattle.hg_base.specs.Script.{Script, run};
+ghost use Rattle.hg_base.specs.Text.{text_of};
 ghost use Rattle.hg_base.specs.Transcript.{of_session};
 ghost use Rattle.hg_dump.specs.Exports.{MayExport};
+ghost use Rattle.hg_report.specs.Bytes.{record_bytes};
 ghost use Rattle.hg_rule.specs.New.{EachFrom};
 ghost use Rattle.hg_rule.specs.Seats.{session_view, IsSessionOf};
 ghost use Rattle.hg_script.specs.Lawful.{IsLawful};
@@ -21,7 +23,7 @@ ghost use Rattle.hg_session.specs.Sessions.{cursor_of};
 ghost use Rattle.hg_words.specs.Options.{AreWithin};
 ghost use Rattle.hg_run.specs.Collecting.{AreCollectors};
 ghost use Rattle.hg_run.specs.Driven.{HasDrivenAll, HasDriven, MayDrive};
-ghost use Rattle.hg_run.specs.Dumping.{IsDumpedFor, part_text};
+ghost use Rattle.hg_run.specs.Dumping.{HasReadBoth, IsDumpedFor, part_text};
 ghost use Rattle.hg_run.specs.Reader.{HasDumped, HasTried, engine_in, script_in};
 ghost use Rattle.hg_run.specs.Words.{settings_in};
 
@@ -31,7 +33,7 @@ use crate::opening::open_beside;
 use crate::pace::Pace;
 use crate::reader::Reader;
 use crate::run::run_on;
-use hg_base::{Gate, NoMemory};
+use hg_base::{Gate, NoMemory, Totals};
 use hg_report::Transcript;
 use hg_rule::SessionPass;
 use hg_script::Script;
@@ -123,6 +125,73 @@ pub fn dump_on<'a, R: Threads + Wait + Sync, G: Gate + Sync>(
     }
 }
 
+/// Two dumps, each with its snapshot.
+#[derive(Drop)]
+pub(crate) struct Dumps {
+    pub(crate) first: Vec<u8>,
+    pub(crate) at: u64,
+    pub(crate) last: Vec<u8>,
+    pub(crate) end: u64,
+}
+
+// Runs a script in threads, with a reader. The dumps are empty at first.
+fn run_and_read<'a, R: Threads + Wait + Sync, G: Gate + Sync>(
+    rt: &R,
+    alloc: Global,
+    script: &'a Script,
+    options: &Options,
+    gate: &G,
+    dumps: &mut Dumps,
+) -> Result<(Transcript<'a>, Totals), NoMemory>
+    requires lawful { IsLawful script.now }
+    requires within { AreWithin options.now }
+    requires empty { (dumps.old.first.items ≡ []) × (dumps.old.last.items ≡ []) }
+    ensures read { IfOk result (λ r. HasReadBoth (settings_in (run options.now.rounds) options.now) script.now r.0.lines r.1 dumps.new) }
+    ensures tables { IfOk result (λ r. r.0.tables ≡ script.now.tables) }
+{
+    let (engine, list, collectors, extra) = open_beside(alloc, script, options)?;
+    let mut list = list;
+    let mut collectors = collectors;
+    let mut extra = extra;
+    let (transcript, at) = dump_on(
+        rt,
+        alloc,
+        script,
+        options,
+        gate,
+        &engine,
+        &mut list,
+        &mut collectors,
+        &mut extra,
+        &mut dumps.first,
+    )?;
+    dumps.at = at;
+    let reader = Reader {
+        alloc,
+        engine: &engine,
+        script,
+    };
+    let (totals, end) = close_read(rt, &reader, list.into_vec(), collectors, extra, &mut dumps.last)?;
+    dumps.end = end;
+    Ok((transcript, totals))
+}
+
+// The text of a run, and then the dumps.
+fn text_with(
+    alloc: Global,
+    transcript: Transcript,
+    totals: &Totals,
+    dumps: &Dumps,
+) -> Result<Vec<u8>, NoMemory>
+    ensures { (script : Script) → script.tables ≡ transcript.entry.tables → IfOk result (λ text. text.items ≡
+        text_of record_bytes script (record { lines = transcript.entry.lines; totals = totals.now }) ++ (part_text dumps.now.at dumps.now.first.items ++ part_text dumps.now.end dumps.now.last.items)) }
+{
+    let mut text = transcript.with_totals(totals)?;
+    add_part(alloc, &mut text, dumps.at, &dumps.first)?;
+    add_part(alloc, &mut text, dumps.end, &dumps.last)?;
+    Ok(text)
+}
+
 /// Runs a script in threads, and gives the text that is printed for it, with a dump that was read meanwhile and one of the end.
 pub(crate) fn dump_all<R: Threads + Wait + Sync, G: Gate + Sync>(
     rt: &R,
@@ -135,33 +204,13 @@ pub(crate) fn dump_all<R: Threads + Wait + Sync, G: Gate + Sync>(
     requires within { AreWithin options.now }
     ensures { IfOk result (λ text. IsDumpedFor (settings_in (run options.now.rounds) options.now) script.now text.items) }
 {
-    let (engine, list, collectors, extra) = open_beside(alloc, script, options)?;
-    let mut list = list;
-    let mut collectors = collectors;
-    let mut extra = extra;
     let pace = Pace::new(alloc, script, options.rounds, gate)?;
-    let mut first = Vec::new(alloc);
-    let (transcript, at) = dump_on(
-        rt,
-        alloc,
-        script,
-        options,
-        &pace,
-        &engine,
-        &mut list,
-        &mut collectors,
-        &mut extra,
-        &mut first,
-    )?;
-    let reader = Reader {
-        alloc,
-        engine: &engine,
-        script,
+    let mut dumps = Dumps {
+        first: Vec::new(alloc),
+        at: 0,
+        last: Vec::new(alloc),
+        end: 0,
     };
-    let mut second = Vec::new(alloc);
-    let (totals, last) = close_read(rt, &reader, list.into_vec(), collectors, extra, &mut second)?;
-    let mut text = transcript.with_totals(&totals)?;
-    add_part(alloc, &mut text, at, &first)?;
-    add_part(alloc, &mut text, last, &second)?;
-    Ok(text)
+    let (transcript, totals) = run_and_read(rt, alloc, script, options, &pace, &mut dumps)?;
+    text_with(alloc, transcript, &totals, &dumps)
 }

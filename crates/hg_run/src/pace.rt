@@ -7,10 +7,13 @@
 //!     records    ------+------+--------+-----+------+--------+------
 //!     rounds         group  table  interval group  table  interval
 //!
+//! The reader of a dump waits until half of the records are begun.
+//!
 //! Nothing is claimed of when a round is made: a sleep may end early, and where for a while no session begins a record, since a gate
 //! holds all of them, say, or a system with no threads left runs the collectors first, nobody waits until one does.
 
 use crate::beside::{GROUP, INTERVAL};
+use crate::reader::READER;
 use hg_base::{Gate, NoMemory};
 use hg_script::Script;
 use std::alloc::Global;
@@ -113,6 +116,8 @@ impl<'a, G: Gate> Gate for Pace<'a, G> {
     fn at<R: Wait>(&self, rt: &R, worker: u32, statement: u32) {
         if worker >= GROUP && worker <= INTERVAL {
             self.wait(rt, self.due(worker, statement));
+        } else if worker == READER && statement == 1 {
+            self.wait(rt, self.records / 2);
         } else if let Some(begun) = self.begun.get(LINE * worker as usize) {
             begun.store(statement as u64, SeqCst);
         }

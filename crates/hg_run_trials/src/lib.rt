@@ -4,6 +4,7 @@
 //!     run_tests      scripts that run in threads
 //!     audit_tests    what was printed, audited, and with one number changed
 //!     cursor_tests   scans in parts, in a replay and in a run
+//!     dump_tests     dumps that are read while a script runs, and what they put back
 //!     cases          scripts and what is printed for them
 //!     text_tests     texts of any bytes, and what scripts leave, written out as scripts again
 //!     order          a gate that holds workers, so that they meet
@@ -18,6 +19,8 @@ mod audit_tests;
 mod cases;
 #[cfg(test)]
 mod cursor_tests;
+#[cfg(test)]
+mod dump_tests;
 #[cfg(test)]
 mod order;
 #[cfg(test)]

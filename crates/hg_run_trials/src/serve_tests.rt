@@ -45,6 +45,7 @@ fn call<R: Threads + Wait + Sync>(
 const ENDED: &str = "\
 2 usage: hybridgc replay or run or load SEED or audit or dump, with --buckets N, --long N, --rounds N, --sweepers N = replay replay
 3 script record 2: Name = replay
+3 script record 2: Name = dump
 4 read fault = run
 ";
 
@@ -94,6 +95,7 @@ replay --buckets 1025
 replay --long 0
 run --rounds 1001
 replay 7
+dump 7
 load
 walk
 --help

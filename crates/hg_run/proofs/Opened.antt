@@ -1,0 +1,34 @@
+-- An engine that was opened with one session more than the script has.
+use Rattle.std.proofs.Common.{◌≡◌, ℕ, suc, ◌+◌, List, [], ◌∷◌, ◌++◌, length, refl, sym, ap, ◌∙◌, arith}
+use Rattle.std.specs.Prelude.{map, max}
+use Rattle.hg_base.specs.declared.statement.Record.{Record}
+use Rattle.hg_base.specs.Lists.{greatest}
+use Rattle.hg_base.specs.Script.{Script}
+use Rattle.hg_rule.specs.New.{EachFrom}
+use Rattle.hg_session.specs.declared.engine.Engine.{Engine}
+use Rattle.hg_session.specs.declared.session.Session.{Session}
+use Rattle.hg_session.specs.Engines.{engine_sizes}
+use Rattle.hg_session.specs.Opened.{IsNewOf}
+use Rattle.hg_run.specs.declared.collecting.Collectors.{Collectors}
+use Rattle.hg_run.specs.Driven.{IsOpenedWith}
+
+pub length_more : (list : List Session) (s : Session) → length (list ++ s ∷ []) ≡ suc (length list)
+length_more [] s = refl
+length_more (x ∷ list) s = ap (λ n. suc n) (length_more list s)
+
+row_first : (e : Engine) (q i : ℕ) (list : List Session) (s : Session) → EachFrom (IsNewOf e q) i (list ++ s ∷ []) → EachFrom (IsNewOf e q) i list
+row_first e q i [] s r = tt
+row_first e q i (x ∷ list) s r = (r.0, row_first e q (suc i) list s r.1)
+
+module _ (script : Script) (buckets : ℕ) (e : Engine) (list : List Session) (last : Session) (collectors : Collectors) (o : IsOpenedWith 1 script buckets e (list ++ last ∷ []) collectors) where
+  pub more_is : (engine_sizes e).sessions ≡ suc (length list)
+  more_is = sym o.all ∙ length_more list last
+
+  pub own_many : length list ≡ max 1 (greatest (map (λ (r : Record). r.session) script.records))
+  own_many = go (max 1 (greatest (map (λ (r : Record). r.session) script.records))) (sym more_is ∙ o.sessions)
+    where
+      go : (m : ℕ) → suc (length list) ≡ 1 + m → length list ≡ m
+      go m e = omega (arith, e)
+
+  pub own_new : EachFrom (IsNewOf e (engine_sizes e).quota) 1 list
+  own_new = row_first e (engine_sizes e).quota 1 list last o.new
