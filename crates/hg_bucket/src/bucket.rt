@@ -47,7 +47,9 @@ impl Model for Bucket {
 impl Bucket {
     /// No record. It takes no memory.
     pub fn new(alloc: Global) -> Bucket
-        ensures { result ≡ record { records = []; long = []; made = 0; undone = 0; group = 0; table = 0; interval = 0 } }
+        ensures { result ≡
+            record
+            { records = []; long = []; made = 0; undone = 0; group = 0; table = 0; interval = 0 } }
     {
         Bucket {
             records: Records::new(alloc),
@@ -77,14 +79,22 @@ impl Bucket {
         by: Writer,
     ) -> Result<bool, WriteRefusal>
         requires { self.old.made < 2 ^ 40 }
-        ensures open { IfSome (holder by mark (versions_of self.old.records rid)) (λ w. result ≡ Err (Open w.session w.transaction)) }
-        ensures newer { holder by mark (versions_of self.old.records rid) ≡ None → IfSome (newer snapshot (versions_of self.old.records rid)) (λ n. result ≡ Err (Newer n)) }
+        ensures open { IfSome (holder by mark (versions_of self.old.records rid))
+            (λ w. result ≡ Err (Open w.session w.transaction)) }
+        ensures newer { holder by mark (versions_of self.old.records rid) ≡ None →
+            IfSome (newer snapshot (versions_of self.old.records rid))
+            (λ n. result ≡ Err (Newer n)) }
         ensures cause { IfErr result (IsCause by snapshot mark (versions_of self.old.records rid)) }
-        ensures replaced { IsTrue (begins_open by (versions_of self.old.records rid)) → IsOk result }
-        ensures stored { OnOk result (versions_of self.new.records rid ≡ installed by image (versions_of self.old.records rid)) }
+        ensures replaced { IsTrue (begins_open by (versions_of self.old.records rid)) →
+            IsOk result }
+        ensures stored { OnOk result (versions_of self.new.records rid ≡
+            installed by image (versions_of self.old.records rid)) }
         ensures others { OthersStay self.old.records self.new.records rid }
-        ensures added { IfOk result (λ added. added ≡ not (begins_open by (versions_of self.old.records rid))) }
-        ensures made { OnOk result (self.new ≡ record self.old { records = self.new.records; long = self.new.long; made = self.old.made + (if begins_open by (versions_of self.old.records rid) then 0 else 1) }) }
+        ensures added { IfOk result
+            (λ added. added ≡ not (begins_open by (versions_of self.old.records rid))) }
+        ensures made { OnOk result (self.new ≡
+            record self.old
+            { records = self.new.records; long = self.new.long; made = self.old.made + (if begins_open by (versions_of self.old.records rid) then 0 else 1) }) }
         ensures refused { OnErr result (self.new ≡ self.old) }
     {
         let added = self.records.write(rid, image, snapshot, mark, by)?;
@@ -95,9 +105,12 @@ impl Bucket {
     /// Removes the transaction's open write of a record. A record that has no other version is dropped.
     pub fn undo(&mut self, rid: Rid, by: Writer)
         requires { IsTrue (begins_open by (versions_of self.old.records rid)) }
-        ensures here { versions_of self.new.records rid ≡ drop 1 (versions_of self.old.records rid) }
+        ensures here { versions_of self.new.records rid ≡
+            drop 1 (versions_of self.old.records rid) }
         ensures others { OthersStay self.old.records self.new.records rid }
-        ensures undone { self.new ≡ record self.old { records = self.new.records; long = self.new.long; undone = self.old.undone + 1 } }
+        ensures undone { self.new ≡
+            record self.old
+            { records = self.new.records; long = self.new.long; undone = self.old.undone + 1 } }
     {
         self.records.undo(rid, by);
         self.undone += 1;
@@ -107,19 +120,25 @@ impl Bucket {
     pub fn stamp(&mut self, rid: Rid, by: Writer, number: u64)
         requires open_write { IsTrue (begins_open by (versions_of self.old.records rid)) }
         requires over { Each (IsBelow number) (drop 1 (versions_of self.old.records rid)) }
-        ensures here { versions_of self.new.records rid ≡ stamped by number (versions_of self.old.records rid) }
+        ensures here { versions_of self.new.records rid ≡
+            stamped by number (versions_of self.old.records rid) }
         ensures others { OthersStay self.old.records self.new.records rid }
-        ensures counters { self.new ≡ record self.old { records = self.new.records; long = self.new.long } }
+        ensures counters { self.new ≡
+            record self.old { records = self.new.records; long = self.new.long } }
     {
         self.records.stamp(rid, by, number);
     }
 
     /// Cuts a record's versions at a bound, for the group collector. The answer says how many went.
     pub fn cut_record(&mut self, rid: Rid, bound: u64) -> u64
-        ensures here { versions_of self.new.records rid ≡ cut_at bound (versions_of self.old.records rid) }
+        ensures here { versions_of self.new.records rid ≡
+            cut_at bound (versions_of self.old.records rid) }
         ensures others { OthersStay self.old.records self.new.records rid }
-        ensures gone { length (versions_of self.new.records rid) + result ≡ length (versions_of self.old.records rid) }
-        ensures group { self.new ≡ record self.old { records = self.new.records; long = self.new.long; group = self.old.group + result } }
+        ensures gone { length (versions_of self.new.records rid) + result ≡
+            length (versions_of self.old.records rid) }
+        ensures group { self.new ≡
+            record self.old
+            { records = self.new.records; long = self.new.long; group = self.old.group + result } }
     {
         let gone = self.records.cut(rid, bound);
         self.group += gone;
@@ -147,11 +166,16 @@ impl Bucket {
     /// answer says how many versions went.
     pub fn cut_long(&mut self, rid: Rid, at: usize, bound: u64) -> u64
         requires { slice_get (long_keys self.old rid.table) at ≡ Some rid.key }
-        ensures here { versions_of self.new.records rid ≡ cut_at bound (versions_of self.old.records rid) }
+        ensures here { versions_of self.new.records rid ≡
+            cut_at bound (versions_of self.old.records rid) }
         ensures others { OthersStay self.old.records self.new.records rid }
-        ensures gone { length (versions_of self.new.records rid) + result ≡ length (versions_of self.old.records rid) }
-        ensures table { self.new ≡ record self.old { records = self.new.records; long = self.new.long; table = self.old.table + result } }
-        ensures front { take at (long_keys self.new rid.table) ≡ take at (long_keys self.old rid.table) }
+        ensures gone { length (versions_of self.new.records rid) + result ≡
+            length (versions_of self.old.records rid) }
+        ensures table { self.new ≡
+            record self.old
+            { records = self.new.records; long = self.new.long; table = self.old.table + result } }
+        ensures front { take at (long_keys self.new rid.table) ≡
+            take at (long_keys self.old rid.table) }
     {
         let gone = self.records.cut_long(rid, at, bound);
         self.table += gone;
@@ -170,14 +194,22 @@ impl Bucket {
     ) -> u64
         requires stands { slice_get (long_keys self.old rid.table) at ≡ Some rid.key }
         requires rises { Rises snapshots.now }
-        ensures here { versions_of self.new.records rid ≡ swept horizon snapshots.now (versions_of self.old.records rid) }
+        ensures here { versions_of self.new.records rid ≡
+            swept horizon snapshots.now (versions_of self.old.records rid) }
         ensures clean { IsClean horizon snapshots.now (versions_of self.new.records rid) }
-        ensures seen { (s : ℕ) (own : Writer) → IsGuarded horizon snapshots.now s → read_at own s (versions_of self.new.records rid) ≡ read_at own s (versions_of self.old.records rid) }
+        ensures seen { (s : ℕ) (own : Writer) → IsGuarded horizon snapshots.now s →
+            read_at own s (versions_of self.new.records rid) ≡
+            read_at own s (versions_of self.old.records rid) }
         ensures others { OthersStay self.old.records self.new.records rid }
-        ensures gone { length (versions_of self.new.records rid) + result ≡ length (versions_of self.old.records rid) }
-        ensures interval { self.new ≡ record self.old { records = self.new.records; long = self.new.long; interval = self.old.interval + result } }
-        ensures front { take at (long_keys self.new rid.table) ≡ take at (long_keys self.old rid.table) }
-        ensures cost { steps.new ≤ steps.old + record_steps snapshots.now (versions_of self.old.records rid) }
+        ensures gone { length (versions_of self.new.records rid) + result ≡
+            length (versions_of self.old.records rid) }
+        ensures interval { self.new ≡
+            record self.old
+            { records = self.new.records; long = self.new.long; interval = self.old.interval + result } }
+        ensures front { take at (long_keys self.new rid.table) ≡
+            take at (long_keys self.old rid.table) }
+        ensures cost { steps.new ≤
+            steps.old + record_steps snapshots.now (versions_of self.old.records rid) }
     {
         let swept = self.records.sweep_long(rid, at, horizon, snapshots, steps);
         self.interval += swept;
@@ -187,10 +219,15 @@ impl Bucket {
     /// Cuts each record of a table at a bound. The answer says how many versions went. A record that has only its oldest
     /// image is passed over.
     pub fn cut_table(&mut self, table: TableId, bound: u64) -> u64
-        ensures each { (k : ℕ) → versions_of self.new.records (record_at table k) ≡ cut_at bound (versions_of self.old.records (record_at table k)) }
-        ensures others { (q : Rid) → (q.table ≡ table → ⊥) → versions_of self.new.records q ≡ versions_of self.old.records q }
+        ensures each { (k : ℕ) →
+            versions_of self.new.records (record_at table k) ≡
+            cut_at bound (versions_of self.old.records (record_at table k)) }
+        ensures others { (q : Rid) → (q.table ≡ table → ⊥) →
+            versions_of self.new.records q ≡ versions_of self.old.records q }
         ensures gone { left self.new.records + result ≡ left self.old.records }
-        ensures counted { self.new ≡ record self.old { records = self.new.records; long = self.new.long; table = self.old.table + result } }
+        ensures counted { self.new ≡
+            record self.old
+            { records = self.new.records; long = self.new.long; table = self.old.table + result } }
     {
         let gone = self.records.cut_table(table, bound);
         self.table += gone;
@@ -208,12 +245,20 @@ impl Bucket {
         steps: &mut Steps<L>,
     ) -> u64
         requires { Rises snapshots.now }
-        ensures each { (k : ℕ) → versions_of self.new.records (record_at table k) ≡ swept horizon snapshots.now (versions_of self.old.records (record_at table k)) }
-        ensures clean { (k : ℕ) → IsClean horizon snapshots.now (versions_of self.new.records (record_at table k)) }
-        ensures seen { (k s : ℕ) (own : Writer) → IsGuarded horizon snapshots.now s → read_at own s (versions_of self.new.records (record_at table k)) ≡ read_at own s (versions_of self.old.records (record_at table k)) }
-        ensures others { (q : Rid) → (q.table ≡ table → ⊥) → versions_of self.new.records q ≡ versions_of self.old.records q }
+        ensures each { (k : ℕ) →
+            versions_of self.new.records (record_at table k) ≡
+            swept horizon snapshots.now (versions_of self.old.records (record_at table k)) }
+        ensures clean { (k : ℕ) →
+            IsClean horizon snapshots.now (versions_of self.new.records (record_at table k)) }
+        ensures seen { (k s : ℕ) (own : Writer) → IsGuarded horizon snapshots.now s →
+            read_at own s (versions_of self.new.records (record_at table k)) ≡
+            read_at own s (versions_of self.old.records (record_at table k)) }
+        ensures others { (q : Rid) → (q.table ≡ table → ⊥) →
+            versions_of self.new.records q ≡ versions_of self.old.records q }
         ensures gone { left self.new.records + result ≡ left self.old.records }
-        ensures counted { self.new ≡ record self.old { records = self.new.records; long = self.new.long; interval = self.old.interval + result } }
+        ensures counted { self.new ≡
+            record self.old
+            { records = self.new.records; long = self.new.long; interval = self.old.interval + result } }
         ensures cost { steps.new ≤ steps.old + sweep_steps table snapshots.now self.old.records }
     {
         let gone = self.records.sweep_table(table, horizon, snapshots, steps);
@@ -224,7 +269,8 @@ impl Bucket {
     /// The least key of a table at or over a number, of those that have a version.
     pub fn next_key(&self, table: TableId, from: u64) -> Option<u64>
         ensures next { IsNextKey self.now.records table from result }
-        ensures there { IfSome result (λ key. 0 < length (versions_of self.now.records (record_at table key))) }
+        ensures there { IfSome result
+            (λ key. 0 < length (versions_of self.now.records (record_at table key))) }
     {
         self.records.next_key(table, from)
     }

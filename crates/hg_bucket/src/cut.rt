@@ -25,11 +25,18 @@ pub(crate) fn cut(
     requires has { place_of index.old rid ≡ Some place }
     requires few { left (records_of index.old chains.old space.old.places) ≤ 2 ^ 40 }
     ensures kept { AreKept index.new chains.new space.new.places longs.new }
-    ensures here { versions_of (records_of index.new chains.new space.new.places) rid ≡ cut_at bound (versions_of (records_of index.old chains.old space.old.places) rid) }
-    ensures others { OthersStay (records_of index.old chains.old space.old.places) (records_of index.new chains.new space.new.places) rid }
-    ensures gone { length (versions_of (records_of index.new chains.new space.new.places) rid) + result ≡ length (versions_of (records_of index.old chains.old space.old.places) rid) }
-    ensures left { left (records_of index.new chains.new space.new.places) + result ≡ left (records_of index.old chains.old space.old.places) }
-    ensures front { (at : ℕ) → slice_get (keys_in (longs_of longs.old) rid.table) at ≡ Some rid.key → take at (keys_in (longs_of longs.new) rid.table) ≡ take at (keys_in (longs_of longs.old) rid.table) }
+    ensures here { versions_of (records_of index.new chains.new space.new.places) rid ≡
+        cut_at bound (versions_of (records_of index.old chains.old space.old.places) rid) }
+    ensures others { OthersStay (records_of index.old chains.old space.old.places)
+        (records_of index.new chains.new space.new.places) rid }
+    ensures gone { length (versions_of (records_of index.new chains.new space.new.places) rid) +
+        result ≡ length (versions_of (records_of index.old chains.old space.old.places) rid) }
+    ensures left { left (records_of index.new chains.new space.new.places) + result ≡
+        left (records_of index.old chains.old space.old.places) }
+    ensures front { (at : ℕ) →
+        slice_get (keys_in (longs_of longs.old) rid.table) at ≡ Some rid.key →
+        take at (keys_in (longs_of longs.new) rid.table) ≡
+        take at (keys_in (longs_of longs.old) rid.table) }
 {
     let Cut { image, gone } = chains.cut(place, bound);
     let Some(newest) = image else {

@@ -22,7 +22,8 @@ use hg_space::{RidIndex, Roster, TableSpace};
 
 /// What a transaction reads of a record's chain.
 pub(crate) fn read_chain(chains: &Chains, place: u64, snapshot: u64, own: Writer) -> Option<&Image>
-    ensures { let vs = list_at chains.now place in option_copied result ≡ option_or (image_by own vs) (image_at snapshot vs) }
+    ensures { let vs = list_at chains.now place in option_copied result ≡
+        option_or (image_by own vs) (image_at snapshot vs) }
 {
     match chains.own(place, own) {
         Some(image) => Some(image),
@@ -54,7 +55,9 @@ pub(crate) fn number(space: &TableSpace, place: u64) -> Option<u64>
 // Whether a record's oldest image is over the snapshot.
 fn newer(space: &TableSpace, place: u64, snapshot: u64) -> Option<WriteRefusal>
     requires { IsTaken space.now.places place }
-    ensures { result ≡ option_and_then (λ oldest. if nat_lt snapshot oldest.0 then Some (Newer oldest.0) else None) (seat.image_at space.now.places place) }
+    ensures { result ≡
+        option_and_then (λ oldest. if nat_lt snapshot oldest.0 then Some (Newer oldest.0) else None)
+        (seat.image_at space.now.places place) }
 {
     let (number, _) = space.image(place)?;
     if snapshot < number {
@@ -73,7 +76,9 @@ pub(crate) fn conflict(
     mark: u64,
 ) -> Option<WriteRefusal>
     requires { IsTaken space.now.places place }
-    ensures refusal { result ≡ conflict by snapshot mark (whole (list_at chains.now place) (seat.image_at space.now.places place)) }
+    ensures refusal { result ≡
+        conflict by snapshot mark
+        (whole (list_at chains.now place) (seat.image_at space.now.places place)) }
     ensures free { result ≡ None → NoOther by (list_at chains.now place) }
 {
     match chains.newest(place) {
@@ -94,12 +99,16 @@ pub(crate) fn add(
 ) -> Result<bool, NoMemory>
     requires place { place < 2 ^ 40 }
     requires own { NoOther by (list_at chains.old place) }
-    requires not_listed { OnTrue (length (list_at chains.old place) == 0) (StandsNowhere longs.old place) }
-    ensures here { OnOk result (list_at chains.new place ≡ installed by image (list_at chains.old place)) }
+    requires not_listed { OnTrue (length (list_at chains.old place) == 0)
+        (StandsNowhere longs.old place) }
+    ensures here { OnOk result
+        (list_at chains.new place ≡ installed by image (list_at chains.old place)) }
     ensures others { ListsStay place chains.old chains.new }
     ensures added { IfOk result (λ added. added ≡ not (is_open_by by (list_at chains.old place))) }
-    ensures entered { OnOk result (OnTrue (length (list_at chains.old place) == 0) (Enters longs.old longs.new rid place)) }
-    ensures listed { OnOk result (OnFalse (length (list_at chains.old place) == 0) (longs.new ≡ longs.old)) }
+    ensures entered { OnOk result (OnTrue (length (list_at chains.old place) == 0)
+        (Enters longs.old longs.new rid place)) }
+    ensures listed { OnOk result
+        (OnFalse (length (list_at chains.old place) == 0) (longs.new ≡ longs.old)) }
     ensures refused { OnErr result (ListsAlike chains.old chains.new) }
     ensures lists { OnErr result (longs.new ≡ longs.old) }
     ensures replaced { IsTrue (is_open_by by (list_at chains.old place)) → IsOk result }
@@ -122,7 +131,8 @@ pub(crate) fn add(
 /// A record whose chain has become empty leaves its table's list.
 pub(crate) fn leave_bare(longs: &mut Roster, chains: &Chains, rid: Rid, place: u64)
     requires { StandsIn (list_of longs.old rid.table.0) place }
-    ensures bare { OnTrue (length (list_at chains.now place) == 0) (Leaves longs.old longs.new rid place) }
+    ensures bare { OnTrue (length (list_at chains.now place) == 0)
+        (Leaves longs.old longs.new rid place) }
     ensures listed { OnFalse (length (list_at chains.now place) == 0) (longs.new ≡ longs.old) }
 {
     if chains.is_empty(place) {
@@ -151,8 +161,12 @@ pub(crate) fn take(space: &mut TableSpace) -> Result<u64, NoMemory>
 /// says how many versions went.
 pub(crate) fn settle(space: &mut TableSpace, place: u64, newest: (u64, Image)) -> u64
     requires { IsTaken space.old.places place }
-    ensures set { space.new.places ≡ slice_set space.old.places place (seat.taken (settled (Some newest) (seat.image_at space.old.places place))) }
-    ensures gone { result ≡ (if is_some (seat.image_at space.old.places place) then 1 else 0) + (if is_some newest.1.row then 0 else 1) }
+    ensures set { space.new.places ≡
+        slice_set space.old.places place
+        (seat.taken (settled (Some newest) (seat.image_at space.old.places place))) }
+    ensures gone { result ≡
+        (if is_some (seat.image_at space.old.places place) then 1 else 0) +
+        (if is_some newest.1.row then 0 else 1) }
 {
     let (number, image) = newest;
     if image.row.is_none() {
@@ -185,10 +199,14 @@ pub(crate) fn drop_bare(
     requires has { place_of index.old rid ≡ Some place }
     requires bare { MayBeBare place index.old chains.now space.old.places }
     ensures whole { AreWhole index.new chains.now space.new.places }
-    ensures lists { (longs : List (List Listed)) → AreListed index.old chains.now longs → AreListed index.new chains.now longs }
-    ensures here { versions_of (records_of index.new chains.now space.new.places) rid ≡ versions_of (records_of index.old chains.now space.old.places) rid }
-    ensures others { OthersStay (records_of index.old chains.now space.old.places) (records_of index.new chains.now space.new.places) rid }
-    ensures left { left (records_of index.new chains.now space.new.places) ≡ left (records_of index.old chains.now space.old.places) }
+    ensures lists { (longs : List (List Listed)) → AreListed index.old chains.now longs →
+        AreListed index.new chains.now longs }
+    ensures here { versions_of (records_of index.new chains.now space.new.places) rid ≡
+        versions_of (records_of index.old chains.now space.old.places) rid }
+    ensures others { OthersStay (records_of index.old chains.now space.old.places)
+        (records_of index.new chains.now space.new.places) rid }
+    ensures left { left (records_of index.new chains.now space.new.places) ≡
+        left (records_of index.old chains.now space.old.places) }
 {
     if !chains.is_empty(place) {
         return;

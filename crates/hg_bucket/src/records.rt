@@ -69,7 +69,8 @@ impl Records {
     /// The least key of a table at or over a number, of those that have a version.
     pub fn next_key(&self, table: TableId, from: u64) -> Option<u64>
         ensures next { IsNextKey self.now.records table from result }
-        ensures there { IfSome result (λ key. 0 < length (versions_of self.now.records (record_at table key))) }
+        ensures there { IfSome result
+            (λ key. 0 < length (versions_of self.now.records (record_at table key))) }
     {
         self.index.next_key(table, from)
     }
@@ -90,7 +91,8 @@ impl Records {
         mark: u64,
         by: Writer,
     ) -> Result<bool, WriteRefusal>
-        ensures writes { Writes by image snapshot mark self.old.records self.new.records rid result }
+        ensures writes { Writes by image snapshot mark self.old.records self.new.records rid
+            result }
         ensures refused { OnErr result (self.new ≡ self.old) }
     {
         let Some(place) = self.index.place(rid) else {
@@ -137,7 +139,8 @@ impl Records {
     /// Removes the transaction's open write of a record. A record that has no other version is dropped.
     pub fn undo(&mut self, rid: Rid, by: Writer)
         requires { IsTrue (begins_open by (versions_of self.old.records rid)) }
-        ensures here { versions_of self.new.records rid ≡ drop 1 (versions_of self.old.records rid) }
+        ensures here { versions_of self.new.records rid ≡
+            drop 1 (versions_of self.old.records rid) }
         ensures others { OthersStay self.old.records self.new.records rid }
         ensures left { left self.new.records + 1 ≡ left self.old.records }
     {
@@ -153,7 +156,8 @@ impl Records {
     pub fn stamp(&mut self, rid: Rid, by: Writer, number: u64)
         requires open_write { IsTrue (begins_open by (versions_of self.old.records rid)) }
         requires over { Each (IsBelow number) (drop 1 (versions_of self.old.records rid)) }
-        ensures here { versions_of self.new.records rid ≡ stamped by number (versions_of self.old.records rid) }
+        ensures here { versions_of self.new.records rid ≡
+            stamped by number (versions_of self.old.records rid) }
         ensures others { OthersStay self.old.records self.new.records rid }
         ensures left { left self.new.records ≡ left self.old.records }
     {
@@ -165,9 +169,11 @@ impl Records {
     /// Cuts a record's versions at a bound. The answer says how many went.
     pub fn cut(&mut self, rid: Rid, bound: u64) -> u64
         requires { left self.old.records ≤ 2 ^ 40 }
-        ensures here { versions_of self.new.records rid ≡ cut_at bound (versions_of self.old.records rid) }
+        ensures here { versions_of self.new.records rid ≡
+            cut_at bound (versions_of self.old.records rid) }
         ensures others { OthersStay self.old.records self.new.records rid }
-        ensures gone { length (versions_of self.new.records rid) + result ≡ length (versions_of self.old.records rid) }
+        ensures gone { length (versions_of self.new.records rid) + result ≡
+            length (versions_of self.old.records rid) }
         ensures left { left self.new.records + result ≡ left self.old.records }
     {
         let Some(place) = self.index.place(rid) else {
@@ -188,11 +194,14 @@ impl Records {
     pub fn cut_long(&mut self, rid: Rid, at: usize, bound: u64) -> u64
         requires stands { slice_get (keys_in self.old.long rid.table) at ≡ Some rid.key }
         requires few { left self.old.records ≤ 2 ^ 40 }
-        ensures here { versions_of self.new.records rid ≡ cut_at bound (versions_of self.old.records rid) }
+        ensures here { versions_of self.new.records rid ≡
+            cut_at bound (versions_of self.old.records rid) }
         ensures others { OthersStay self.old.records self.new.records rid }
-        ensures gone { length (versions_of self.new.records rid) + result ≡ length (versions_of self.old.records rid) }
+        ensures gone { length (versions_of self.new.records rid) + result ≡
+            length (versions_of self.old.records rid) }
         ensures left { left self.new.records + result ≡ left self.old.records }
-        ensures front { take at (keys_in self.new.long rid.table) ≡ take at (keys_in self.old.long rid.table) }
+        ensures front { take at (keys_in self.new.long rid.table) ≡
+            take at (keys_in self.old.long rid.table) }
     {
         self.index.stands_once();
         let place = self.longs.place(rid.table, at);
@@ -228,8 +237,11 @@ impl Records {
     /// Cuts each record of a table at a bound. The answer says how many versions went.
     pub fn cut_table(&mut self, table: TableId, bound: u64) -> u64
         requires { left self.old.records ≤ 2 ^ 40 }
-        ensures each { (k : ℕ) → versions_of self.new.records (record_at table k) ≡ cut_at bound (versions_of self.old.records (record_at table k)) }
-        ensures others { (q : Rid) → (q.table ≡ table → ⊥) → versions_of self.new.records q ≡ versions_of self.old.records q }
+        ensures each { (k : ℕ) →
+            versions_of self.new.records (record_at table k) ≡
+            cut_at bound (versions_of self.old.records (record_at table k)) }
+        ensures others { (q : Rid) → (q.table ≡ table → ⊥) →
+            versions_of self.new.records q ≡ versions_of self.old.records q }
         ensures left { left self.new.records + result ≡ left self.old.records }
     {
         let mut gone = 0;
@@ -255,13 +267,16 @@ impl Records {
         requires stands { slice_get (keys_in self.old.long rid.table) at ≡ Some rid.key }
         requires rises { Rises snapshots.now }
         requires few { left self.old.records ≤ 2 ^ 40 }
-        ensures here { versions_of self.new.records rid ≡ swept horizon snapshots.now (versions_of self.old.records rid) }
+        ensures here { versions_of self.new.records rid ≡
+            swept horizon snapshots.now (versions_of self.old.records rid) }
         ensures clean { IsClean horizon snapshots.now (versions_of self.new.records rid) }
         ensures others { OthersStay self.old.records self.new.records rid }
-        ensures gone { length (versions_of self.new.records rid) + result ≡ length (versions_of self.old.records rid) }
+        ensures gone { length (versions_of self.new.records rid) + result ≡
+            length (versions_of self.old.records rid) }
         ensures left { left self.new.records + result ≡ left self.old.records }
         ensures listed { self.new.long ≡ self.old.long }
-        ensures cost { steps.new ≤ steps.old + record_steps snapshots.now (versions_of self.old.records rid) }
+        ensures cost { steps.new ≤
+            steps.old + record_steps snapshots.now (versions_of self.old.records rid) }
     {
         self.index.stands_once();
         let place = self.longs.place(rid.table, at);
@@ -289,9 +304,13 @@ impl Records {
     ) -> u64
         requires rises { Rises snapshots.now }
         requires few { left self.old.records ≤ 2 ^ 40 }
-        ensures each { (k : ℕ) → versions_of self.new.records (record_at table k) ≡ swept horizon snapshots.now (versions_of self.old.records (record_at table k)) }
-        ensures clean { (k : ℕ) → IsClean horizon snapshots.now (versions_of self.new.records (record_at table k)) }
-        ensures others { (q : Rid) → (q.table ≡ table → ⊥) → versions_of self.new.records q ≡ versions_of self.old.records q }
+        ensures each { (k : ℕ) →
+            versions_of self.new.records (record_at table k) ≡
+            swept horizon snapshots.now (versions_of self.old.records (record_at table k)) }
+        ensures clean { (k : ℕ) →
+            IsClean horizon snapshots.now (versions_of self.new.records (record_at table k)) }
+        ensures others { (q : Rid) → (q.table ≡ table → ⊥) →
+            versions_of self.new.records q ≡ versions_of self.old.records q }
         ensures left { left self.new.records + result ≡ left self.old.records }
         ensures cost { steps.new ≤ steps.old + sweep_steps table snapshots.now self.old.records }
     {

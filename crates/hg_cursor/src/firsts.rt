@@ -75,7 +75,8 @@ impl Firsts {
 
     /// The first of the rows up to `limit`, by key: as many as are to be returned, or all.
     pub(crate) fn into_rows(self, limit: u64) -> Vec<(u64, Row)>
-        ensures { Keeps self.most limit (rows_upto limit self.rows) result.items (passed self.most limit result.items) }
+        ensures { Keeps self.most limit (rows_upto limit self.rows) result.items
+            (passed self.most limit result.items) }
     {
         let Firsts { rows, most, .. } = self;
         let mut rows = rows;

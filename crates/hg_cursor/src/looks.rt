@@ -28,9 +28,11 @@ pub(crate) struct Look {
 // The least key of a table from a number to `high`, of those that have a version in the bucket held.
 fn next_there(held: &Held<'_>, table: TableId, from: u64, high: u64) -> Option<u64>
     ensures within { IsWithin from high result }
-    ensures there { (v : View) → Holds v held.now → IfSome result (HasVersion (bucket_in v).content table) }
+    ensures there { (v : View) → Holds v held.now →
+        IfSome result (HasVersion (bucket_in v).content table) }
     // no key with a version is passed over
-    ensures leads { (v : View) → Holds v held.now → LeadsOn (HasVersion (bucket_in v).content table) from high result }
+    ensures leads { (v : View) → Holds v held.now →
+        LeadsOn (HasVersion (bucket_in v).content table) from high result }
 {
     match held.next_key(table, from) {
         Some(key) if key <= high => Some(key),
@@ -43,8 +45,10 @@ fn next_there(held: &Held<'_>, table: TableId, from: u64, high: u64) -> Option<u
 fn next_from(held: &Held<'_>, table: TableId, count: u64, own: u64, high: u64) -> Option<u64>
     requires { own ≤ high }
     ensures within { IsWithin own high result }
-    ensures own { WhereOwn held.now count table own (λ v b. IfSome result (IsOwnKey count b table)) }
-    ensures leads { (v : View) → Holds v held.now → LeadsOn (HasVersion (bucket_in v).content table) own high result }
+    ensures own { WhereOwn held.now count table own
+        (λ v b. IfSome result (IsOwnKey count b table)) }
+    ensures leads { (v : View) → Holds v held.now →
+        LeadsOn (HasVersion (bucket_in v).content table) own high result }
 {
     if high - own < count {
         Some(own)
@@ -66,7 +70,8 @@ fn next_after(
     requires some { 0 < count }
     requires within { key ≤ high }
     ensures within { IsWithin (key + 1) high result }
-    ensures own { WhereOwn held.now count table key (λ v b. IfSome result (IsOwnKey count b table)) }
+    ensures own { WhereOwn held.now count table key
+        (λ v b. IfSome result (IsOwnKey count b table)) }
     ensures leads { WhereOwn held.now count table key
         (λ v b. LeadsOn (HasVersion (bucket_in v).content table) (key + 1) high result) }
 {

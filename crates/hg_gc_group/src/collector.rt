@@ -43,7 +43,8 @@ impl GroupCollector {
         tables: u32,
     ) -> Result<GroupCollector, (CollectorPass, NoMemory)>
         requires tables { tables ≤ 64 }
-        ensures collector { (t : BoardId) (z : Sizes) → IsPassOf t pass → z.sessions ≡ sessions → z.tables ≡ tables → IfOk result (IsCollectorOf t z) }
+        ensures collector { (t : BoardId) (z : Sizes) → IsPassOf t pass → z.sessions ≡ sessions →
+            z.tables ≡ tables → IfOk result (IsCollectorOf t z) }
         ensures same { IfOk result (λ c. pass_of c ≡ pass) }
         ensures refused { IfErr result (λ e. e.0 ≡ pass) }
     {
@@ -94,11 +95,16 @@ impl GroupCollector {
         store: &Store,
         groups: &GroupList,
     )
-        requires own { IsCollectorOf (trackers_board_id trackers.now) (board_sizes trackers.now) self.old }
-        requires boards { (store_board_id store.now ≡ trackers_board_id trackers.now) × (groups_board_id groups.now ≡ trackers_board_id trackers.now) }
-        requires buckets { (0 < store_buckets store.now) × (store_buckets store.now ≡ (board_sizes trackers.now).buckets) }
-        ensures collects { Collects (board_sizes trackers.now) (view_of self.old) (report_in self.new) (view_of self.new) }
-        ensures own { IsCollectorOf (trackers_board_id trackers.now) (board_sizes trackers.now) self.new }
+        requires own { IsCollectorOf (trackers_board_id trackers.now) (board_sizes trackers.now)
+            self.old }
+        requires boards { (store_board_id store.now ≡ trackers_board_id trackers.now) ×
+            (groups_board_id groups.now ≡ trackers_board_id trackers.now) }
+        requires buckets { (0 < store_buckets store.now) ×
+            (store_buckets store.now ≡ (board_sizes trackers.now).buckets) }
+        ensures collects { Collects (board_sizes trackers.now) (view_of self.old)
+            (report_in self.new) (view_of self.new) }
+        ensures own { IsCollectorOf (trackers_board_id trackers.now) (board_sizes trackers.now)
+            self.new }
     {
         let board = trackers.board();
         trackers.gather(&mut self.pass, &mut self.gathered);
@@ -116,10 +122,15 @@ impl GroupCollector {
         store: &Store,
         groups: &GroupList,
     ) -> &Report
-        requires own { IsCollectorOf (trackers_board_id trackers.now) (board_sizes trackers.now) self.old }
-        requires boards { (store_board_id store.now ≡ trackers_board_id trackers.now) × (groups_board_id groups.now ≡ trackers_board_id trackers.now) }
-        requires buckets { (0 < store_buckets store.now) × (store_buckets store.now ≡ (board_sizes trackers.now).buckets) }
-        ensures* ends { sem 𝓛 (EndsAs self.entry (λ c. Collects (board_sizes trackers.now) (view_of self.old) result.now (view_of c) × IsCollectorOf (trackers_board_id trackers.now) (board_sizes trackers.now) c)) }
+        requires own { IsCollectorOf (trackers_board_id trackers.now) (board_sizes trackers.now)
+            self.old }
+        requires boards { (store_board_id store.now ≡ trackers_board_id trackers.now) ×
+            (groups_board_id groups.now ≡ trackers_board_id trackers.now) }
+        requires buckets { (0 < store_buckets store.now) ×
+            (store_buckets store.now ≡ (board_sizes trackers.now).buckets) }
+        ensures* ends { sem 𝓛 (EndsAs self.entry (λ c.
+            Collects (board_sizes trackers.now) (view_of self.old) result.now (view_of c) ×
+            IsCollectorOf (trackers_board_id trackers.now) (board_sizes trackers.now) c)) }
     {
         self.collect(rt, trackers, store, groups);
         &self.report

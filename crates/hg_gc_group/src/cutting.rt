@@ -26,14 +26,16 @@ fn cut_held(
     bound: u64,
 ) -> u64
     requires own { IsPassOf (board_id board.now) pass.old }
-    requires whole { IsWhole (sizes_of board.now).sessions (record_of (own_pass (pass_view pass.old))) }
+    requires whole { IsWhole (sizes_of board.now).sessions
+        (record_of (own_pass (pass_view pass.old))) }
     requires bound { bound ≡ group_bound (record_of (own_pass (pass_view pass.old))) }
     requires holds { Holds (pass_view pass.old) held.old }
     requires here { AreIn (sizes_of board.now).buckets (held_number held.old) rids.now }
     requires few { total (bucket (pass_view pass.old)).content ≤ 2 ^ 40 }
     ensures cuts { CutsHeld bound (pass_view pass.old) rids.now result (pass_view pass.new) }
     ensures holds { Holds (pass_view pass.new) held.new }
-    ensures held { (held_board_id held.new ≡ held_board_id held.old) × (held_number held.new ≡ held_number held.old) }
+    ensures held { (held_board_id held.new ≡ held_board_id held.old) ×
+        (held_number held.new ≡ held_number held.old) }
     ensures own { IsPassOf (board_id board.now) pass.new }
 {
     let mut gone = 0;
@@ -54,13 +56,16 @@ fn cut_run<R: Wait>(
     bound: u64,
 ) -> u64
     requires board { store_board_id store.now ≡ board_id board.now }
-    requires buckets { (0 < store_buckets store.now) × (store_buckets store.now ≡ (sizes_of board.now).buckets) }
+    requires buckets { (0 < store_buckets store.now) ×
+        (store_buckets store.now ≡ (sizes_of board.now).buckets) }
     requires own { IsPassOf (board_id board.now) pass.old }
-    requires whole { IsWhole (sizes_of board.now).sessions (record_of (own_pass (pass_view pass.old))) }
+    requires whole { IsWhole (sizes_of board.now).sessions
+        (record_of (own_pass (pass_view pass.old))) }
     requires bound { bound ≡ group_bound (record_of (own_pass (pass_view pass.old))) }
     requires some { 0 < length rids.now }
     requires one { (b : ℕ) × AreIn (sizes_of board.now).buckets b rids.now }
-    ensures cuts { CutsAll (sizes_of board.now).buckets bound (pass_view pass.old) rids.now result (pass_view pass.new) }
+    ensures cuts { CutsAll (sizes_of board.now).buckets bound (pass_view pass.old) rids.now result
+        (pass_view pass.new) }
     ensures few { removed_all Group (own_pass (pass_view pass.new)).visits ≤ 2 ^ 41 }
     ensures own { IsPassOf (board_id board.now) pass.new }
 {
@@ -96,12 +101,15 @@ pub(crate) fn cut_all<R: Wait>(
     bound: u64,
 ) -> u64
     requires board { store_board_id store.now ≡ board_id board.now }
-    requires buckets { (0 < store_buckets store.now) × (store_buckets store.now ≡ (sizes_of board.now).buckets) }
+    requires buckets { (0 < store_buckets store.now) ×
+        (store_buckets store.now ≡ (sizes_of board.now).buckets) }
     requires own { IsPassOf (board_id board.now) pass.old }
-    requires whole { IsWhole (sizes_of board.now).sessions (record_of (own_pass (pass_view pass.old))) }
+    requires whole { IsWhole (sizes_of board.now).sessions
+        (record_of (own_pass (pass_view pass.old))) }
     requires bound { bound ≡ group_bound (record_of (own_pass (pass_view pass.old))) }
     requires few { removed_all Group (own_pass (pass_view pass.old)).visits ≤ 2 ^ 41 }
-    ensures cuts { CutsAll (sizes_of board.now).buckets bound (pass_view pass.old) rids.now result (pass_view pass.new) }
+    ensures cuts { CutsAll (sizes_of board.now).buckets bound (pass_view pass.old) rids.now result
+        (pass_view pass.new) }
     ensures few { removed_all Group (own_pass (pass_view pass.new)).visits ≤ 2 ^ 41 }
     ensures own { IsPassOf (board_id board.now) pass.new }
 {
@@ -126,12 +134,15 @@ pub(crate) fn cut_batch<R: Wait>(
     bound: u64,
 ) -> u64
     requires board { store_board_id store.now ≡ board_id board.now }
-    requires buckets { (0 < store_buckets store.now) × (store_buckets store.now ≡ (sizes_of board.now).buckets) }
+    requires buckets { (0 < store_buckets store.now) ×
+        (store_buckets store.now ≡ (sizes_of board.now).buckets) }
     requires own { IsPassOf (board_id board.now) pass.old }
-    requires whole { IsWhole (sizes_of board.now).sessions (record_of (own_pass (pass_view pass.old))) }
+    requires whole { IsWhole (sizes_of board.now).sessions
+        (record_of (own_pass (pass_view pass.old))) }
     requires bound { bound ≡ group_bound (record_of (own_pass (pass_view pass.old))) }
     requires few { removed_all Group (own_pass (pass_view pass.old)).visits ≤ 2 ^ 41 }
-    ensures cuts { CutsAll (sizes_of board.now).buckets bound (pass_view pass.old) rids.old.items result (pass_view pass.new) }
+    ensures cuts { CutsAll (sizes_of board.now).buckets bound (pass_view pass.old) rids.old.items
+        result (pass_view pass.new) }
     ensures empty { rids.new.items ≡ [] }
     ensures few { removed_all Group (own_pass (pass_view pass.new)).visits ≤ 2 ^ 41 }
     ensures own { IsPassOf (board_id board.now) pass.new }

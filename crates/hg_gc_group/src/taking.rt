@@ -31,15 +31,20 @@ impl GroupCollector {
         groups: &GroupList,
         bound: u64,
     ) -> u64
-        requires boards { (store_board_id store.now ≡ board_id board.now) × (groups_board_id groups.now ≡ board_id board.now) }
-        requires buckets { (0 < store_buckets store.now) × (store_buckets store.now ≡ (sizes_of board.now).buckets) }
+        requires boards { (store_board_id store.now ≡ board_id board.now) ×
+            (groups_board_id groups.now ≡ board_id board.now) }
+        requires buckets { (0 < store_buckets store.now) ×
+            (store_buckets store.now ≡ (sizes_of board.now).buckets) }
         requires own { IsPassOf (board_id board.now) (pass_of self.old) }
-        requires whole { IsWhole (sizes_of board.now).sessions (record_of (own_pass (view_of self.old))) }
+        requires whole { IsWhole (sizes_of board.now).sessions
+            (record_of (own_pass (view_of self.old))) }
         requires bound { bound ≡ group_bound (record_of (own_pass (view_of self.old))) }
         requires few { removed_all Group (own_pass (view_of self.old)).visits ≤ 2 ^ 41 }
-        ensures takes { TakesAll (sizes_of board.now).buckets bound (view_of self.old) result (view_of self.new) }
+        ensures takes { TakesAll (sizes_of board.now).buckets bound (view_of self.old) result
+            (view_of self.new) }
         ensures own { IsPassOf (board_id board.now) (pass_of self.new) }
-        ensures same { (self.new.gathered ≡ self.old.gathered) × (self.new.report ≡ self.old.report) }
+        ensures same { (self.new.gathered ≡ self.old.gathered) ×
+            (self.new.report ≡ self.old.report) }
     {
         let mut gone = 0;
         while let Some(last) = groups.take_some(rt, board, bound, &mut self.rids, &mut self.pass) {

@@ -41,7 +41,8 @@ impl IntervalCollector {
         tables: u32,
     ) -> Result<IntervalCollector, (CollectorPass, NoMemory)>
         requires tables { tables ≤ 64 }
-        ensures collector { (t : BoardId) (z : Sizes) → IsPassOf t pass → z.sessions ≡ sessions → z.tables ≡ tables → IfOk result (IsCollectorOf t z) }
+        ensures collector { (t : BoardId) (z : Sizes) → IsPassOf t pass → z.sessions ≡ sessions →
+            z.tables ≡ tables → IfOk result (IsCollectorOf t z) }
         ensures same { IfOk result (λ c. pass_of c ≡ pass) }
         ensures refused { IfErr result (λ e. e.0 ≡ pass) }
     {
@@ -88,12 +89,17 @@ impl IntervalCollector {
         store: &Store,
         steps: &mut Steps<L>,
     )
-        requires own { IsCollectorOf (trackers_board_id trackers.now) (board_sizes trackers.now) self.old }
+        requires own { IsCollectorOf (trackers_board_id trackers.now) (board_sizes trackers.now)
+            self.old }
         requires board { store_board_id store.now ≡ trackers_board_id trackers.now }
         requires buckets { store_buckets store.now ≡ (board_sizes trackers.now).buckets }
-        ensures sweeps { Sweeps (board_sizes trackers.now) (view_of self.old) (report_in self.new) (view_of self.new) }
-        ensures cost { VisitsCost (board_sizes trackers.now) (record_of (own_pass (view_of self.new))) (board_sizes trackers.now).buckets steps.old steps.new }
-        ensures own { IsCollectorOf (trackers_board_id trackers.now) (board_sizes trackers.now) self.new }
+        ensures sweeps { Sweeps (board_sizes trackers.now) (view_of self.old) (report_in self.new)
+            (view_of self.new) }
+        ensures cost { VisitsCost (board_sizes trackers.now)
+            (record_of (own_pass (view_of self.new))) (board_sizes trackers.now).buckets
+            steps.old steps.new }
+        ensures own { IsCollectorOf (trackers_board_id trackers.now) (board_sizes trackers.now)
+            self.new }
     {
         trackers.gather(&mut self.pass, &mut self.gathered);
         let removed = visit_all(rt, trackers, store, &mut self.pass, &self.gathered, steps);
@@ -108,10 +114,15 @@ impl IntervalCollector {
         store: &Store,
         steps: &mut Steps<L>,
     ) -> &Report
-        requires own { IsCollectorOf (trackers_board_id trackers.now) (board_sizes trackers.now) self.old }
+        requires own { IsCollectorOf (trackers_board_id trackers.now) (board_sizes trackers.now)
+            self.old }
         requires board { store_board_id store.now ≡ trackers_board_id trackers.now }
         requires buckets { store_buckets store.now ≡ (board_sizes trackers.now).buckets }
-        ensures* ends { sem 𝓛 (EndsAs self.entry (λ c. Sweeps (board_sizes trackers.now) (view_of self.old) result.now (view_of c) × IsCollectorOf (trackers_board_id trackers.now) (board_sizes trackers.now) c × VisitsCost (board_sizes trackers.now) (record_of (own_pass (view_of c))) (board_sizes trackers.now).buckets steps.old steps.new)) }
+        ensures* ends { sem 𝓛 (EndsAs self.entry (λ c.
+            Sweeps (board_sizes trackers.now) (view_of self.old) result.now (view_of c) ×
+            IsCollectorOf (trackers_board_id trackers.now) (board_sizes trackers.now) c ×
+            VisitsCost (board_sizes trackers.now) (record_of (own_pass (view_of c)))
+            (board_sizes trackers.now).buckets steps.old steps.new)) }
     {
         self.collect(rt, trackers, store, steps);
         &self.report

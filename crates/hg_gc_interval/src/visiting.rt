@@ -32,14 +32,18 @@ fn sweep_tables<L: Ledger>(
 ) -> u64
     requires own { IsPassOf (board_id board.now) pass.old }
     requires tables { tables_in gathered.now ≡ (sizes_of board.now).tables }
-    requires shown { IsGatherOf (sizes_of board.now).sessions (own_pass (pass_view pass.old)) gathered.now }
+    requires shown { IsGatherOf (sizes_of board.now).sessions (own_pass (pass_view pass.old))
+        gathered.now }
     requires holds { Holds (pass_view pass.old) held.old }
     requires few { total (bucket (pass_view pass.old)).content ≤ 2 ^ 40 }
-    ensures clears { ClearsTables Interval (IsCleanBy (record_of (own_pass (pass_view pass.old)))) (sizes_of board.now).tables result (pass_view pass.old) (pass_view pass.new) }
+    ensures clears { ClearsTables Interval (IsCleanBy (record_of (own_pass (pass_view pass.old))))
+        (sizes_of board.now).tables result (pass_view pass.old) (pass_view pass.new) }
     ensures holds { Holds (pass_view pass.new) held.new }
-    ensures held { (held_board_id held.new ≡ held_board_id held.old) × (held_number held.new ≡ held_number held.old) }
+    ensures held { (held_board_id held.new ≡ held_board_id held.old) ×
+        (held_number held.new ≡ held_number held.old) }
     ensures own { IsPassOf (board_id board.now) pass.new }
-    ensures cost { SpendsTables (sizes_of board.now).tables (record_of (own_pass (pass_view pass.old))) (pass_view pass.old) steps.old steps.new }
+    ensures cost { SpendsTables (sizes_of board.now).tables
+        (record_of (own_pass (pass_view pass.old))) (pass_view pass.old) steps.old steps.new }
 {
     let horizon = gathered.horizon();
     let mut gone = 0;
@@ -65,12 +69,16 @@ pub fn visit_bucket<R: Wait, L: Ledger>(
     requires own { IsPassOf (trackers_board_id trackers.now) pass.old }
     requires board { store_board_id store.now ≡ trackers_board_id trackers.now }
     requires tables { tables_in gathered.now ≡ (board_sizes trackers.now).tables }
-    requires shown { IsGatherOf (board_sizes trackers.now).sessions (own_pass (pass_view pass.old)) gathered.now }
+    requires shown { IsGatherOf (board_sizes trackers.now).sessions (own_pass (pass_view pass.old))
+        gathered.now }
     requires bucket { b < store_buckets store.now }
-    ensures visits { Visits Interval (IsCleanBy (record_of (own_pass (pass_view pass.old)))) b result (pass_view pass.old) (pass_view pass.new) }
-    ensures shown { IsGatherOf (board_sizes trackers.now).sessions (own_pass (pass_view pass.new)) gathered.now }
+    ensures visits { Visits Interval (IsCleanBy (record_of (own_pass (pass_view pass.old)))) b
+        result (pass_view pass.old) (pass_view pass.new) }
+    ensures shown { IsGatherOf (board_sizes trackers.now).sessions (own_pass (pass_view pass.new))
+        gathered.now }
     ensures few { removed_all Interval (own_pass (pass_view pass.new)).visits ≤ 2 ^ 41 }
-    ensures cost { VisitCosts (board_sizes trackers.now) (record_of (own_pass (pass_view pass.old))) b steps.old steps.new }
+    ensures cost { VisitCosts (board_sizes trackers.now) (record_of (own_pass (pass_view pass.old)))
+        b steps.old steps.new }
     ensures own { IsPassOf (trackers_board_id trackers.now) pass.new }
 {
     let board = trackers.board();
@@ -92,9 +100,12 @@ pub(crate) fn visit_all<R: Wait, L: Ledger>(
     requires own { IsPassOf (trackers_board_id trackers.now) pass.old }
     requires board { store_board_id store.now ≡ trackers_board_id trackers.now }
     requires tables { tables_in gathered.now ≡ (board_sizes trackers.now).tables }
-    requires shown { IsGatherOf (board_sizes trackers.now).sessions (own_pass (pass_view pass.old)) gathered.now }
-    ensures visits { VisitsAll Interval (IsCleanBy (record_of (own_pass (pass_view pass.old)))) (store_buckets store.now) result (pass_view pass.old) (pass_view pass.new) }
-    ensures cost { VisitsCost (board_sizes trackers.now) (record_of (own_pass (pass_view pass.old))) (store_buckets store.now) steps.old steps.new }
+    requires shown { IsGatherOf (board_sizes trackers.now).sessions (own_pass (pass_view pass.old))
+        gathered.now }
+    ensures visits { VisitsAll Interval (IsCleanBy (record_of (own_pass (pass_view pass.old))))
+        (store_buckets store.now) result (pass_view pass.old) (pass_view pass.new) }
+    ensures cost { VisitsCost (board_sizes trackers.now) (record_of (own_pass (pass_view pass.old)))
+        (store_buckets store.now) steps.old steps.new }
     ensures own { IsPassOf (trackers_board_id trackers.now) pass.new }
 {
     let mut gone = 0;

@@ -38,7 +38,8 @@ impl TableCollector {
         tables: u32,
     ) -> Result<TableCollector, (CollectorPass, NoMemory)>
         requires tables { tables ≤ 64 }
-        ensures collector { (t : BoardId) (z : Sizes) → IsPassOf t pass → z.sessions ≡ sessions → z.tables ≡ tables → IfOk result (IsCollectorOf t z) }
+        ensures collector { (t : BoardId) (z : Sizes) → IsPassOf t pass → z.sessions ≡ sessions →
+            z.tables ≡ tables → IfOk result (IsCollectorOf t z) }
         ensures same { IfOk result (λ c. pass_of c ≡ pass) }
         ensures refused { IfErr result (λ e. e.0 ≡ pass) }
     {
@@ -80,12 +81,15 @@ impl TableCollector {
     /// One round. A snapshot is long in use where it is `long` commits or more behind the mark. It waits for buckets' locks, one
     /// at a time. All that the rule says of the pass's view is known at its end.
     pub fn collect<R: Wait>(&mut self, rt: &R, trackers: &Trackers, store: &Store, long: u64)
-        requires own { IsCollectorOf (trackers_board_id trackers.now) (board_sizes trackers.now) self.old }
+        requires own { IsCollectorOf (trackers_board_id trackers.now) (board_sizes trackers.now)
+            self.old }
         requires board { store_board_id store.now ≡ trackers_board_id trackers.now }
         requires buckets { store_buckets store.now ≡ (board_sizes trackers.now).buckets }
-        ensures cuts { Cuts (board_sizes trackers.now) long (view_of self.old) (report_in self.new) (view_of self.new) }
+        ensures cuts { Cuts (board_sizes trackers.now) long (view_of self.old) (report_in self.new)
+            (view_of self.new) }
         ensures backed { (mark : ℕ) × IsBacked (board_sizes trackers.now) mark (view_of self.new) }
-        ensures own { IsCollectorOf (trackers_board_id trackers.now) (board_sizes trackers.now) self.new }
+        ensures own { IsCollectorOf (trackers_board_id trackers.now) (board_sizes trackers.now)
+            self.new }
     {
         trackers.gather(&mut self.pass, &mut self.gathered);
         trackers.move_long(&mut self.pass, &mut self.gathered, long);
@@ -102,10 +106,13 @@ impl TableCollector {
         store: &Store,
         long: u64,
     ) -> &Report
-        requires own { IsCollectorOf (trackers_board_id trackers.now) (board_sizes trackers.now) self.old }
+        requires own { IsCollectorOf (trackers_board_id trackers.now) (board_sizes trackers.now)
+            self.old }
         requires board { store_board_id store.now ≡ trackers_board_id trackers.now }
         requires buckets { store_buckets store.now ≡ (board_sizes trackers.now).buckets }
-        ensures* ends { sem 𝓛 (EndsAs self.entry (λ c. Cuts (board_sizes trackers.now) long (view_of self.old) result.now (view_of c) × IsCollectorOf (trackers_board_id trackers.now) (board_sizes trackers.now) c)) }
+        ensures* ends { sem 𝓛 (EndsAs self.entry (λ c.
+            Cuts (board_sizes trackers.now) long (view_of self.old) result.now (view_of c) ×
+            IsCollectorOf (trackers_board_id trackers.now) (board_sizes trackers.now) c)) }
     {
         self.collect(rt, trackers, store, long);
         &self.report

@@ -24,12 +24,15 @@ use std::sync::Wait;
 fn cut_tables(board: &Board, pass: &mut CollectorPass, held: &mut Held, gathered: &Gathered) -> u64
     requires own { IsPassOf (board_id board.now) pass.old }
     requires tables { tables_in gathered.now ≡ (sizes_of board.now).tables }
-    requires shown { IsGatherOf (sizes_of board.now).sessions (own_pass (pass_view pass.old)) gathered.now }
+    requires shown { IsGatherOf (sizes_of board.now).sessions (own_pass (pass_view pass.old))
+        gathered.now }
     requires holds { Holds (pass_view pass.old) held.old }
     requires few { total (bucket (pass_view pass.old)).content ≤ 2 ^ 40 }
-    ensures clears { ClearsTables Table (IsCutBy (record_of (own_pass (pass_view pass.old)))) (sizes_of board.now).tables result (pass_view pass.old) (pass_view pass.new) }
+    ensures clears { ClearsTables Table (IsCutBy (record_of (own_pass (pass_view pass.old))))
+        (sizes_of board.now).tables result (pass_view pass.old) (pass_view pass.new) }
     ensures holds { Holds (pass_view pass.new) held.new }
-    ensures held { (held_board_id held.new ≡ held_board_id held.old) × (held_number held.new ≡ held_number held.old) }
+    ensures held { (held_board_id held.new ≡ held_board_id held.old) ×
+        (held_number held.new ≡ held_number held.old) }
     ensures own { IsPassOf (board_id board.now) pass.new }
 {
     let mut gone = 0;
@@ -54,10 +57,13 @@ fn visit_bucket<R: Wait>(
     requires own { IsPassOf (trackers_board_id trackers.now) pass.old }
     requires board { store_board_id store.now ≡ trackers_board_id trackers.now }
     requires tables { tables_in gathered.now ≡ (board_sizes trackers.now).tables }
-    requires shown { IsGatherOf (board_sizes trackers.now).sessions (own_pass (pass_view pass.old)) gathered.now }
+    requires shown { IsGatherOf (board_sizes trackers.now).sessions (own_pass (pass_view pass.old))
+        gathered.now }
     requires bucket { b < store_buckets store.now }
-    ensures visits { Visits Table (IsCutBy (record_of (own_pass (pass_view pass.old)))) b result (pass_view pass.old) (pass_view pass.new) }
-    ensures shown { IsGatherOf (board_sizes trackers.now).sessions (own_pass (pass_view pass.new)) gathered.now }
+    ensures visits { Visits Table (IsCutBy (record_of (own_pass (pass_view pass.old)))) b result
+        (pass_view pass.old) (pass_view pass.new) }
+    ensures shown { IsGatherOf (board_sizes trackers.now).sessions (own_pass (pass_view pass.new))
+        gathered.now }
     ensures few { removed_all Table (own_pass (pass_view pass.new)).visits ≤ 2 ^ 41 }
     ensures own { IsPassOf (trackers_board_id trackers.now) pass.new }
 {
@@ -79,8 +85,10 @@ pub(crate) fn visit_all<R: Wait>(
     requires own { IsPassOf (trackers_board_id trackers.now) pass.old }
     requires board { store_board_id store.now ≡ trackers_board_id trackers.now }
     requires tables { tables_in gathered.now ≡ (board_sizes trackers.now).tables }
-    requires shown { IsGatherOf (board_sizes trackers.now).sessions (own_pass (pass_view pass.old)) gathered.now }
-    ensures visits { VisitsAll Table (IsCutBy (record_of (own_pass (pass_view pass.old)))) (store_buckets store.now) result (pass_view pass.old) (pass_view pass.new) }
+    requires shown { IsGatherOf (board_sizes trackers.now).sessions (own_pass (pass_view pass.old))
+        gathered.now }
+    ensures visits { VisitsAll Table (IsCutBy (record_of (own_pass (pass_view pass.old))))
+        (store_buckets store.now) result (pass_view pass.old) (pass_view pass.new) }
     ensures own { IsPassOf (trackers_board_id trackers.now) pass.new }
 {
     let mut gone = 0;

@@ -28,7 +28,8 @@ impl Queue {
         _seat: &CommitSeat,
     ) -> Result<(Queue, QueuePass, QueuePass), NoMemory>
         ensures passes { IfOk result (λ q. IsPassOf q.0 q.1 × IsPassOf q.0 q.2) }
-        ensures known { IfOk result (λ q. (known q.1 ≡ leader A.board) × (known q.2 ≡ pusher A.board)) }
+        ensures known { IfOk result
+            (λ q. (known q.1 ≡ leader A.board) × (known q.2 ≡ pusher A.board)) }
     {
         let (line, mut pass) = Line::with_rule(alloc)?;
         let other = line.another::<Opening<A>>(&mut pass);
@@ -42,7 +43,9 @@ impl Queue {
     /// An empty queue of the seat's board, with the pass that pops and one that pushes.
     pub fn new(alloc: Global, seat: &CommitSeat) -> Result<(Queue, QueuePass, QueuePass), NoMemory>
         ensures passes { IfOk result (λ q. IsPassOf q.0 q.1 × IsPassOf q.0 q.2) }
-        ensures known { IfOk result (λ q. (known q.1 ≡ leader (commit_seat seat.now).table_id) × (known q.2 ≡ pusher (commit_seat seat.now).table_id)) }
+        ensures known { IfOk result (λ q.
+            (known q.1 ≡ leader (commit_seat seat.now).table_id) ×
+            (known q.2 ≡ pusher (commit_seat seat.now).table_id)) }
     {
         Queue::new_as::<Brand>(alloc, seat)
     }

@@ -14,7 +14,7 @@ use Rattle.hg_base.specs.History.{History}
 use Rattle.hg_base.specs.Lists.{greatest}
 use Rattle.hg_base.specs.Script.{Script}
 use Rattle.hg_base.specs.Text.{text_of}
-use Rattle.hg_report.specs.Bytes.{record_bytes}
+use Rattle.hg_csv.specs.Bytes.{record_bytes}
 use Rattle.hg_core.specs.declared.log.LogEntry.{LogEntry}
 use Rattle.hg_core.specs.declared.log.LogEntry.TheVariants.{Began, Over}
 use Rattle.hg_core.specs.Logs.{begans, current, open_in, UpTo}
@@ -83,10 +83,10 @@ module _ (script : Script) (buckets : ℕ) (e : Engine) (list : List Session) (c
     own = own;
     rests = r.rests;
     begins = (
-      let more : begans (log_in q) ≡ suc (begans (log_in pass)) = ap begans r.log ∙ looks_begans r.entries (Began at All ∷ log_in pass) r.each in
-      let none : begans (log_in pass) ≡ 0 = ap begans no_log in
-      let two = o.opened.reads in
-      omega (arith, more, none, two));
+        let more : begans (log_in q) ≡ suc (begans (log_in pass)) = ap begans r.log ∙ looks_begans r.entries (Began at All ∷ log_in pass) r.each in
+        let none : begans (log_in pass) ≡ 0 = ap begans no_log in
+        let two = o.opened.reads in
+        omega (arith, more, none, two));
   }
 
 -- ---- what was read

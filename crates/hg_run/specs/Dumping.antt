@@ -9,7 +9,7 @@ use Rattle.hg_base.specs.Script.{Script}
 use Rattle.hg_base.specs.Sound.{all_said}
 use Rattle.hg_base.specs.Text.{text_of}
 use Rattle.hg_base.specs.Transcript.{history_of}
-use Rattle.hg_report.specs.Bytes.{record_bytes}
+use Rattle.hg_csv.specs.Bytes.{record_bytes}
 use Rattle.hg_source.specs.Records.{dump_text}
 use Rattle.hg_source.specs.Rows.{rows_at}
 use Rattle.hg_run.specs.declared.dump.Dumps.{Dumps}

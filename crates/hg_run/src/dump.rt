@@ -12,7 +12,7 @@ ghost use Rattle.hg_base.specs.Script.{Script, run};
 ghost use Rattle.hg_base.specs.Text.{text_of};
 ghost use Rattle.hg_base.specs.Transcript.{of_session};
 ghost use Rattle.hg_dump.specs.Exports.{MayExport};
-ghost use Rattle.hg_report.specs.Bytes.{record_bytes};
+ghost use Rattle.hg_csv.specs.Bytes.{record_bytes};
 ghost use Rattle.hg_rule.specs.New.{EachFrom};
 ghost use Rattle.hg_rule.specs.Seats.{session_view, IsSessionOf};
 ghost use Rattle.hg_script.specs.Lawful.{IsLawful};
@@ -171,7 +171,14 @@ fn run_and_read<'a, R: Threads + Wait + Sync, G: Gate + Sync>(
         engine: &engine,
         script,
     };
-    let (totals, end) = close_read(rt, &reader, list.into_vec(), collectors, extra, &mut dumps.last)?;
+    let (totals, end) = close_read(
+        rt,
+        &reader,
+        list.into_vec(),
+        collectors,
+        extra,
+        &mut dumps.last,
+    )?;
     dumps.end = end;
     Ok((transcript, totals))
 }

@@ -81,7 +81,8 @@ impl RidIndex {
         requires new_record { place_of self.old rid ≡ None }
         requires new_place { (q : Rid) → HasPlace self.old q place → ⊥ }
         ensures here { OnOk result (place_of self.new rid ≡ Some place) }
-        ensures others { (q : Rid) → IsFalse (same_rid rid q) → place_of self.new q ≡ place_of self.old q }
+        ensures others { (q : Rid) → IsFalse (same_rid rid q) →
+            place_of self.new q ≡ place_of self.old q }
         ensures list { OnOk result (self.new ≡ insert_entry rid_cmp self.old rid place) }
         ensures refused { OnErr result (self.new ≡ self.old) }
     {
@@ -99,7 +100,8 @@ impl RidIndex {
     pub fn remove(&mut self, rid: Rid) -> Option<u64>
         ensures place { result ≡ place_of self.old rid }
         ensures gone { place_of self.new rid ≡ None }
-        ensures others { (q : Rid) → IsFalse (same_rid rid q) → place_of self.new q ≡ place_of self.old q }
+        ensures others { (q : Rid) → IsFalse (same_rid rid q) →
+            place_of self.new q ≡ place_of self.old q }
         ensures list { self.new ≡ remove_entry (same_rid rid) self.old }
     {
         let place = self.places.remove(&rid).map(u64::from);

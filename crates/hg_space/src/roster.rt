@@ -85,7 +85,8 @@ impl Roster {
     /// The place of one of them.
     pub fn place(&self, table: TableId, at: usize) -> u64
         requires { at < length (list_of self.now table.0) }
-        ensures { option_map (λ e. e.place) (slice_get (list_of self.now table.0) at) ≡ Some result }
+        ensures { option_map (λ e. e.place) (slice_get (list_of self.now table.0) at) ≡
+            Some result }
     {
         let list = &self.lists[table.0 as usize];
         list[at].place
@@ -96,7 +97,8 @@ impl Roster {
     pub fn enter(&mut self, table: TableId, key: u64, place: u64) -> Result<(), NoMemory>
         requires new_place { StandsNowhere self.old place }
         requires small { place < 2 ^ 40 }
-        ensures last { OnOk result (list_of self.new table.0 ≡ list_of self.old table.0 ++ record { key = key; place = place } ∷ []) }
+        ensures last { OnOk result (list_of self.new table.0 ≡
+            list_of self.old table.0 ++ record { key = key; place = place } ∷ []) }
         ensures others { (t : ℕ) → (t ≡ table.0 → ⊥) → list_of self.new t ≡ list_of self.old t }
         ensures refused { OnErr result (self.new ≡ self.old) }
     {
@@ -109,9 +111,15 @@ impl Roster {
     /// Takes the record of a place out of its table's list. The last one of the list comes to its index.
     pub fn leave(&mut self, table: TableId, place: u64)
         requires { StandsIn (list_of self.old table.0) place }
-        ensures moved { (at : ℕ) (e : Listed) → slice_get (list_of self.old table.0) at ≡ Some e → e.place ≡ place → list_of self.new table.0 ≡ swap_remove (list_of self.old table.0) at e }
-        ensures front { (at : ℕ) (e : Listed) → slice_get (list_of self.old table.0) at ≡ Some e → e.place ≡ place → take at (list_of self.new table.0) ≡ take at (list_of self.old table.0) }
-        ensures stay { (e : Listed) → Has (list_of self.new table.0) e ↔ (Has (list_of self.old table.0) e × (e.place ≡ place → ⊥)) }
+        ensures moved { (at : ℕ) (e : Listed) → slice_get (list_of self.old table.0) at ≡ Some e →
+            e.place ≡ place →
+            list_of self.new table.0 ≡ swap_remove (list_of self.old table.0) at e }
+        ensures front { (at : ℕ) (e : Listed) → slice_get (list_of self.old table.0) at ≡ Some e →
+            e.place ≡ place →
+            take at (list_of self.new table.0) ≡ take at (list_of self.old table.0) }
+        ensures stay { (e : Listed) →
+            Has (list_of self.new table.0) e ↔
+            (Has (list_of self.old table.0) e × (e.place ≡ place → ⊥)) }
         ensures others { (t : ℕ) → (t ≡ table.0 → ⊥) → list_of self.new t ≡ list_of self.old t }
     {
         let at = self.standings[place as usize].at;
@@ -124,7 +132,8 @@ impl Roster {
 // Begins lists, so that a table has one.
 fn begin(lists: &mut Vec<Vec<Listed>>, table: TableId, alloc: Global) -> Result<(), NoMemory>
     ensures there { OnOk result (table.0 < vec_len lists.new) }
-    ensures same { (t : ℕ) → list_of (lists_in lists.new.items) t ≡ list_of (lists_in lists.old.items) t }
+    ensures same { (t : ℕ) →
+        list_of (lists_in lists.new.items) t ≡ list_of (lists_in lists.old.items) t }
 {
     while lists.len() <= table.0 as usize {
         lists.push(Vec::new(alloc))?;
@@ -140,9 +149,12 @@ fn append(
     alloc: Global,
 ) -> Result<u32, NoMemory>
     ensures at { IfOk result (λ at. at ≡ length (list_of (lists_in lists.old.items) table.0)) }
-    ensures last { OnOk result (list_of (lists_in lists.new.items) table.0 ≡ list_of (lists_in lists.old.items) table.0 ++ listed ∷ []) }
-    ensures others { (t : ℕ) → (t ≡ table.0 → ⊥) → list_of (lists_in lists.new.items) t ≡ list_of (lists_in lists.old.items) t }
-    ensures refused { OnErr result ((t : ℕ) → list_of (lists_in lists.new.items) t ≡ list_of (lists_in lists.old.items) t) }
+    ensures last { OnOk result (list_of (lists_in lists.new.items) table.0 ≡
+        list_of (lists_in lists.old.items) table.0 ++ listed ∷ []) }
+    ensures others { (t : ℕ) → (t ≡ table.0 → ⊥) →
+        list_of (lists_in lists.new.items) t ≡ list_of (lists_in lists.old.items) t }
+    ensures refused { OnErr result ((t : ℕ) →
+        list_of (lists_in lists.new.items) t ≡ list_of (lists_in lists.old.items) t) }
 {
     begin(lists, table, alloc)?;
     let list = &mut lists[table.0 as usize];
@@ -155,7 +167,8 @@ fn append(
 fn reach(standings: &mut Vec<Standing>, place: u64) -> Result<(), NoMemory>
     requires { place < 2 ^ 40 }
     ensures there { OnOk result (place < vec_len standings.new) }
-    ensures stay { (p : ℕ) → p < length standings.old.items → slice_get standings.new.items p ≡ slice_get standings.old.items p }
+    ensures stay { (p : ℕ) → p < length standings.old.items →
+        slice_get standings.new.items p ≡ slice_get standings.old.items p }
 {
     let many = place as usize + 1;
     if standings.len() < many {
@@ -171,9 +184,14 @@ fn reach(standings: &mut Vec<Standing>, place: u64) -> Result<(), NoMemory>
 // Takes one record out of a table's list. The answer is the place of the one that has come to its index, if one has.
 fn take_out(lists: &mut Vec<Vec<Listed>>, table: TableId, at: usize) -> Option<u64>
     requires { at < length (list_of (lists_in lists.old.items) table.0) }
-    ensures list { (e : Listed) → slice_get (list_of (lists_in lists.old.items) table.0) at ≡ Some e → list_of (lists_in lists.new.items) table.0 ≡ swap_remove (list_of (lists_in lists.old.items) table.0) at e }
-    ensures moved { result ≡ option_map (λ e. e.place) (slice_get (list_of (lists_in lists.new.items) table.0) at) }
-    ensures others { (t : ℕ) → (t ≡ table.0 → ⊥) → list_of (lists_in lists.new.items) t ≡ list_of (lists_in lists.old.items) t }
+    ensures list { (e : Listed) →
+        slice_get (list_of (lists_in lists.old.items) table.0) at ≡ Some e →
+        list_of (lists_in lists.new.items) table.0 ≡
+        swap_remove (list_of (lists_in lists.old.items) table.0) at e }
+    ensures moved { result ≡
+        option_map (λ e. e.place) (slice_get (list_of (lists_in lists.new.items) table.0) at) }
+    ensures others { (t : ℕ) → (t ≡ table.0 → ⊥) →
+        list_of (lists_in lists.new.items) t ≡ list_of (lists_in lists.old.items) t }
 {
     let list = &mut lists[table.0 as usize];
     let _left = list.swap_remove(at);

@@ -60,9 +60,12 @@ impl TableSpace {
     /// Takes a free place, and adds one only where none is free. The place has no image yet.
     pub fn take_place(&mut self) -> u64
         requires { 1 ≤ self.old.spare }
-        ensures free { OnTrue (has_free self.old.places) (slice_get self.old.places result ≡ Some free) }
+        ensures free { OnTrue (has_free self.old.places)
+            (slice_get self.old.places result ≡ Some free) }
         ensures added { OnFalse (has_free self.old.places) (result ≡ length self.old.places) }
-        ensures taken { self.new.places ≡ (if has_free self.old.places then slice_set self.old.places result (taken None) else self.old.places ++ taken None ∷ []) }
+        ensures taken { self.new.places ≡
+            (if has_free self.old.places then slice_set self.old.places result (taken None) else
+            self.old.places ++ taken None ∷ []) }
         ensures spare { self.new.spare + 1 ≡ self.old.spare }
     {
         let Some(place) = self.first else {

@@ -29,14 +29,16 @@ impl<'a> Held<'a> {
         bound: u64,
     ) -> u64
         requires own { IsPassOf (board_id board.now) pass.old }
-        requires whole { IsWhole (sizes_of board.now).sessions (record_of (own_pass (pass_view pass.old))) }
+        requires whole { IsWhole (sizes_of board.now).sessions
+            (record_of (own_pass (pass_view pass.old))) }
         requires holds { Holds (pass_view pass.old) self.old }
         requires here { bucket_of (sizes_of board.now).buckets rid ≡ held_number self.old }
         requires bound { bound ≡ group_bound (record_of (own_pass (pass_view pass.old))) }
         ensures step { Reclaims (pass_view pass.old) rid Group (pass_view pass.new) }
         ensures gone { result ≡ removed_of (pass_view pass.old) rid Group }
         ensures holds { Holds (pass_view pass.new) self.new }
-        ensures held { (held_board_id self.new ≡ held_board_id self.old) × (held_number self.new ≡ held_number self.old) }
+        ensures held { (held_board_id self.new ≡ held_board_id self.old) ×
+            (held_number self.new ≡ held_number self.old) }
         ensures own { IsPassOf (board_id board.now) pass.new }
     {
         board.reclaim(pass, rid, Kind::Group);
@@ -53,16 +55,21 @@ impl<'a> Held<'a> {
         bound: u64,
     ) -> u64
         requires own { IsPassOf (board_id board.now) pass.old }
-        requires whole { IsWhole (sizes_of board.now).sessions (record_of (own_pass (pass_view pass.old))) }
+        requires whole { IsWhole (sizes_of board.now).sessions
+            (record_of (own_pass (pass_view pass.old))) }
         requires holds { Holds (pass_view pass.old) self.old }
         requires bound { bound ≡ table_bound table (record_of (own_pass (pass_view pass.old))) }
         ensures steps { Clears (pass_view pass.old) table Table (pass_view pass.new) }
-        ensures each { (k : ℕ) → held (pass_view pass.new) (record_at table k) ≡ left_of (pass_view pass.old) (record_at table k) Table }
+        ensures each { (k : ℕ) →
+            held (pass_view pass.new) (record_at table k) ≡
+            left_of (pass_view pass.old) (record_at table k) Table }
         ensures cut { (k : ℕ) → IsCutAt bound (held (pass_view pass.new) (record_at table k)) }
-        ensures others { (r : Rid) → (r.table ≡ table → ⊥) → held (pass_view pass.new) r ≡ held (pass_view pass.old) r }
+        ensures others { (r : Rid) → (r.table ≡ table → ⊥) →
+            held (pass_view pass.new) r ≡ held (pass_view pass.old) r }
         ensures gone { Counts (pass_view pass.old) Table result (pass_view pass.new) }
         ensures holds { Holds (pass_view pass.new) self.new }
-        ensures held { (held_board_id self.new ≡ held_board_id self.old) × (held_number self.new ≡ held_number self.old) }
+        ensures held { (held_board_id self.new ≡ held_board_id self.old) ×
+            (held_number self.new ≡ held_number self.old) }
         ensures own { IsPassOf (board_id board.now) pass.new }
     {
         board.look_at(pass);
@@ -86,16 +93,20 @@ impl<'a> Held<'a> {
         bound: u64,
     ) -> u64
         requires own { IsPassOf (board_id board.now) pass.old }
-        requires whole { IsWhole (sizes_of board.now).sessions (record_of (own_pass (pass_view pass.old))) }
+        requires whole { IsWhole (sizes_of board.now).sessions
+            (record_of (own_pass (pass_view pass.old))) }
         requires holds { Holds (pass_view pass.old) self.old }
         requires here { bucket_of (sizes_of board.now).buckets rid ≡ held_number self.old }
-        requires stands { slice_get (long_keys (held_records self.old) rid.table) at ≡ Some rid.key }
+        requires stands { slice_get (long_keys (held_records self.old) rid.table) at ≡
+            Some rid.key }
         requires bound { bound ≡ table_bound rid.table (record_of (own_pass (pass_view pass.old))) }
         ensures step { Reclaims (pass_view pass.old) rid Table (pass_view pass.new) }
         ensures gone { result ≡ removed_of (pass_view pass.old) rid Table }
         ensures holds { Holds (pass_view pass.new) self.new }
-        ensures held { (held_board_id self.new ≡ held_board_id self.old) × (held_number self.new ≡ held_number self.old) }
-        ensures front { take at (long_keys (held_records self.new) rid.table) ≡ take at (long_keys (held_records self.old) rid.table) }
+        ensures held { (held_board_id self.new ≡ held_board_id self.old) ×
+            (held_number self.new ≡ held_number self.old) }
+        ensures front { take at (long_keys (held_records self.new) rid.table) ≡
+            take at (long_keys (held_records self.old) rid.table) }
         ensures own { IsPassOf (board_id board.now) pass.new }
     {
         board.reclaim(pass, rid, Kind::Table);

@@ -30,7 +30,8 @@ impl<'a> Held<'a> {
         requires own { IsSeatOf (board_id board.now) (P.seat_of pass.old) }
         requires holds { Holds (view (P.seat_of pass.old)) self }
         ensures view { view (P.seat_of pass.new) ≡ without_bucket (view (P.seat_of pass.old)) }
-        ensures own { IsSeatOf (board_id board.now) (P.seat_of pass.new) × (P.rest_of pass.new ≡ P.rest_of pass.old) }
+        ensures own { IsSeatOf (board_id board.now) (P.seat_of pass.new) ×
+            (P.rest_of pass.new ≡ P.rest_of pass.old) }
     {
         let Held {
             locks,

@@ -17,8 +17,10 @@ use hg_base::{Image, Rid, TableId, Totals, Writer};
 impl<'a> Held<'a> {
     /// What a transaction reads of a record: a deletion is an image of nothing, and none is where it sees no version.
     pub fn read(&self, rid: Rid, snapshot: u64, own: Writer) -> Option<&Image>
-        ensures exact { option_copied result ≡ read_at own snapshot (versions_of (held_records self.now).records rid) }
-        ensures shown { (v : View) → Holds v self.now → unwrap_or (option_copied result) nothing ≡ read_by own snapshot (held v rid) }
+        ensures exact { option_copied result ≡
+            read_at own snapshot (versions_of (held_records self.now).records rid) }
+        ensures shown { (v : View) → Holds v self.now →
+            unwrap_or (option_copied result) nothing ≡ read_by own snapshot (held v rid) }
     {
         self.bucket.read(rid, snapshot, own)
     }
@@ -26,8 +28,10 @@ impl<'a> Held<'a> {
     /// The least key of a table at or over a number, of those that have a version.
     pub fn next_key(&self, table: TableId, from: u64) -> Option<u64>
         ensures next { IsNextKey (held_records self.now).records table from result }
-        ensures there { (v : View) → Holds v self.now → IfSome result (λ key. 0 < length (look (record_at table key) (bucket v).content)) }
-        ensures none { (v : View) → Holds v self.now → NoneBetween (bucket v).content table from result }
+        ensures there { (v : View) → Holds v self.now →
+            IfSome result (λ key. 0 < length (look (record_at table key) (bucket v).content)) }
+        ensures none { (v : View) → Holds v self.now →
+            NoneBetween (bucket v).content table from result }
     {
         self.bucket.next_key(table, from)
     }

@@ -61,7 +61,8 @@ impl Store {
     pub fn new(alloc: Global, seats: BucketSeatList) -> Result<Store, NoMemory>
         requires some { (0 < length seats) × (length seats < 2 ^ 32) }
         requires seats { (t : BoardId) × EachFrom (IsNewBucket t) 0 seats }
-        ensures board { (t : BoardId) → EachFrom (IsNewBucket t) 0 seats → IfOk result (λ store. store_board_id store ≡ t) }
+        ensures board { (t : BoardId) → EachFrom (IsNewBucket t) 0 seats →
+            IfOk result (λ store. store_board_id store ≡ t) }
         ensures count { IfOk result (λ store. store_buckets store ≡ length seats) }
     {
         let seats = seats.into_vec();
@@ -100,13 +101,16 @@ impl Store {
         pass: &mut P,
     ) -> Held<'_>
         requires board { store_board_id self.now ≡ board_id board.now }
-        requires own { IsSeatOf (board_id board.now) (P.seat_of pass.old) × HasFirst (view (P.seat_of pass.old)) }
+        requires own { IsSeatOf (board_id board.now) (P.seat_of pass.old) ×
+            HasFirst (view (P.seat_of pass.old)) }
         requires bucket { bucket < store_buckets self.now }
         ensures held { (held_board_id result ≡ board_id board.now) × (held_number result ≡ bucket) }
         ensures view { Takes (view (P.seat_of pass.old)) bucket (view (P.seat_of pass.new)) }
         ensures holds { Holds (view (P.seat_of pass.new)) result }
-        ensures backed { (mark : ℕ) × IsBacked (sizes_of board.now) mark (view (P.seat_of pass.new)) }
-        ensures own { IsSeatOf (board_id board.now) (P.seat_of pass.new) × (P.rest_of pass.new ≡ P.rest_of pass.old) }
+        ensures backed { (mark : ℕ) ×
+            IsBacked (sizes_of board.now) mark (view (P.seat_of pass.new)) }
+        ensures own { IsSeatOf (board_id board.now) (P.seat_of pass.new) ×
+            (P.rest_of pass.new ≡ P.rest_of pass.old) }
     {
         let (slot, loan) = self.locks.take(rt, bucket as usize);
         let Slot { bucket: data, seat } = slot;

@@ -36,21 +36,31 @@ impl<'a> Held<'a> {
         steps: &mut Steps<L>,
     ) -> u64
         requires own { IsPassOf (board_id board.now) pass.old }
-        requires whole { IsWhole (sizes_of board.now).sessions (record_of (own_pass (pass_view pass.old))) }
+        requires whole { IsWhole (sizes_of board.now).sessions
+            (record_of (own_pass (pass_view pass.old))) }
         requires holds { Holds (pass_view pass.old) self.old }
         requires horizon { horizon ≡ own_horizon (record_of (own_pass (pass_view pass.old))) }
         requires rises { IsNonDecreasing snapshots.now }
-        requires snapshots { HaveSame snapshots.now (recorded table (record_of (own_pass (pass_view pass.old)))) }
+        requires snapshots { HaveSame snapshots.now
+            (recorded table (record_of (own_pass (pass_view pass.old)))) }
         ensures steps { Clears (pass_view pass.old) table Interval (pass_view pass.new) }
-        ensures each { (k : ℕ) → held (pass_view pass.new) (record_at table k) ≡ left_of (pass_view pass.old) (record_at table k) Interval }
-        ensures clean { (k : ℕ) → IsClean horizon (recorded table (record_of (own_pass (pass_view pass.old)))) (held (pass_view pass.new) (record_at table k)) }
-        ensures others { (r : Rid) → (r.table ≡ table → ⊥) → held (pass_view pass.new) r ≡ held (pass_view pass.old) r }
+        ensures each { (k : ℕ) →
+            held (pass_view pass.new) (record_at table k) ≡
+            left_of (pass_view pass.old) (record_at table k) Interval }
+        ensures clean { (k : ℕ) →
+            IsClean horizon (recorded table (record_of (own_pass (pass_view pass.old))))
+            (held (pass_view pass.new) (record_at table k)) }
+        ensures others { (r : Rid) → (r.table ≡ table → ⊥) →
+            held (pass_view pass.new) r ≡ held (pass_view pass.old) r }
         ensures gone { Counts (pass_view pass.old) Interval result (pass_view pass.new) }
         ensures holds { Holds (pass_view pass.new) self.new }
-        ensures held { (held_board_id self.new ≡ held_board_id self.old) × (held_number self.new ≡ held_number self.old) }
+        ensures held { (held_board_id self.new ≡ held_board_id self.old) ×
+            (held_number self.new ≡ held_number self.old) }
         ensures own { IsPassOf (board_id board.now) pass.new }
-        ensures cost { steps.new ≤ steps.old + sweep_steps table snapshots.now (held_records self.old).records }
-        ensures spends { Spends (pass_view pass.old) table (length snapshots.now) steps.old steps.new }
+        ensures cost { steps.new ≤
+            steps.old + sweep_steps table snapshots.now (held_records self.old).records }
+        ensures spends { Spends (pass_view pass.old) table (length snapshots.now) steps.old
+            steps.new }
     {
         board.look_at(pass);
         let mut gone = 0;
@@ -83,20 +93,27 @@ impl<'a> Held<'a> {
         steps: &mut Steps<L>,
     ) -> u64
         requires own { IsPassOf (board_id board.now) pass.old }
-        requires whole { IsWhole (sizes_of board.now).sessions (record_of (own_pass (pass_view pass.old))) }
+        requires whole { IsWhole (sizes_of board.now).sessions
+            (record_of (own_pass (pass_view pass.old))) }
         requires holds { Holds (pass_view pass.old) self.old }
         requires here { bucket_of (sizes_of board.now).buckets rid ≡ held_number self.old }
-        requires stands { slice_get (long_keys (held_records self.old) rid.table) at ≡ Some rid.key }
+        requires stands { slice_get (long_keys (held_records self.old) rid.table) at ≡
+            Some rid.key }
         requires horizon { horizon ≡ own_horizon (record_of (own_pass (pass_view pass.old))) }
         requires rises { IsNonDecreasing snapshots.now }
-        requires snapshots { HaveSame snapshots.now (recorded rid.table (record_of (own_pass (pass_view pass.old)))) }
+        requires snapshots { HaveSame snapshots.now
+            (recorded rid.table (record_of (own_pass (pass_view pass.old)))) }
         ensures step { Reclaims (pass_view pass.old) rid Interval (pass_view pass.new) }
         ensures gone { result ≡ removed_of (pass_view pass.old) rid Interval }
         ensures holds { Holds (pass_view pass.new) self.new }
-        ensures held { (held_board_id self.new ≡ held_board_id self.old) × (held_number self.new ≡ held_number self.old) }
-        ensures front { take at (long_keys (held_records self.new) rid.table) ≡ take at (long_keys (held_records self.old) rid.table) }
+        ensures held { (held_board_id self.new ≡ held_board_id self.old) ×
+            (held_number self.new ≡ held_number self.old) }
+        ensures front { take at (long_keys (held_records self.new) rid.table) ≡
+            take at (long_keys (held_records self.old) rid.table) }
         ensures own { IsPassOf (board_id board.now) pass.new }
-        ensures cost { steps.new ≤ steps.old + record_steps snapshots.now (versions_of (held_records self.old).records rid) }
+        ensures cost { steps.new ≤
+            steps.old +
+            record_steps snapshots.now (versions_of (held_records self.old).records rid) }
     {
         board.reclaim(pass, rid, Kind::Interval);
         self.bucket.sweep_long(rid, at, horizon, snapshots, steps)

@@ -30,7 +30,8 @@ impl<'a> Held<'a> {
         requires unstamped { (session (session_view pass.old)).stamped ≡ false }
         requires holds { Holds (session_view pass.old) self.now }
         requires table { IsTrue (has (tables (session_view pass.old)) table) }
-        ensures step { (mark : ℕ) × Looks (session_view pass.old) (Read table low high) mark (session_view pass.new) }
+        ensures step { (mark : ℕ) ×
+            Looks (session_view pass.old) (Read table low high) mark (session_view pass.new) }
         ensures holds { Holds (session_view pass.new) self.now }
         ensures own { IsSessionOf (board_id board.now) (sizes_of board.now) pass.new }
     {
@@ -44,10 +45,12 @@ impl<'a> Held<'a> {
         requires holds { Holds (session_view pass.old) self.old }
         requires here { bucket_of (sizes_of board.now).buckets rid ≡ held_number self.old }
         requires by { by ≡ writer_of (session_view pass.old) }
-        requires mine { IsOpenBy (writer_of (session_view pass.old)) (held (session_view pass.old) rid) }
+        requires mine { IsOpenBy (writer_of (session_view pass.old))
+            (held (session_view pass.old) rid) }
         ensures step { Undoes (session_view pass.old) rid (session_view pass.new) }
         ensures holds { Holds (session_view pass.new) self.new }
-        ensures held { (held_board_id self.new ≡ held_board_id self.old) × (held_number self.new ≡ held_number self.old) }
+        ensures held { (held_board_id self.new ≡ held_board_id self.old) ×
+            (held_number self.new ≡ held_number self.old) }
         ensures own { IsSessionOf (board_id board.now) (sizes_of board.now) pass.new }
     {
         self.bucket.undo(rid, by);
@@ -65,18 +68,23 @@ impl<'a> Held<'a> {
         number: u64,
     )
         requires own { IsAwayOf (board_id board.now) (sizes_of board.now) pass.old }
-        requires received { AreLent (farther (session_view pass.old)) × IsTrue (is_in (who (members (farther (session_view pass.old)))) by.session) }
-        requires plain { IsTrue (is_plain (part_of by.session (members (farther (session_view pass.old)))).log) }
+        requires received { AreLent (farther (session_view pass.old)) ×
+            IsTrue (is_in (who (members (farther (session_view pass.old)))) by.session) }
+        requires plain { IsTrue
+            (is_plain (part_of by.session (members (farther (session_view pass.old)))).log) }
         requires holds { Holds (session_view pass.old) self.old }
         requires here { bucket_of (sizes_of board.now).buckets rid ≡ held_number self.old }
         requires both { HasBoth (session_view pass.old) }
         requires next { number ≡ suc (length (commit_behind (session_view pass.old)).history.list) }
         requires by { by ≡ writer_at by.session (members (farther (session_view pass.old))) }
         requires mine { IsOpenBy by (held (session_view pass.old) rid) }
-        ensures step { Stamps (session_view pass.old) by.session rid number (session_view pass.new) }
+        ensures step { Stamps (session_view pass.old) by.session rid number
+            (session_view pass.new) }
         ensures holds { Holds (session_view pass.new) self.new }
-        ensures held { (held_board_id self.new ≡ held_board_id self.old) × (held_number self.new ≡ held_number self.old) }
-        ensures own { IsAwayOf (board_id board.now) (sizes_of board.now) pass.new × (pass.new.number ≡ pass.old.number) }
+        ensures held { (held_board_id self.new ≡ held_board_id self.old) ×
+            (held_number self.new ≡ held_number self.old) }
+        ensures own { IsAwayOf (board_id board.now) (sizes_of board.now) pass.new ×
+            (pass.new.number ≡ pass.old.number) }
     {
         board.look_at(pass);
         self.bucket.stamp(rid, by, number);
@@ -100,15 +108,19 @@ impl<'a> Held<'a> {
         requires unstamped { (session (session_view pass.old)).stamped ≡ false }
         requires holds { Holds (session_view pass.old) self.old }
         requires here { bucket_of (sizes_of board.now).buckets rid ≡ held_number self.old }
-        requires table { IsTrue (has (tables (session_view pass.old)) rid.table) × (rid.table.0 < (sizes_of board.now).tables) }
+        requires table { IsTrue (has (tables (session_view pass.old)) rid.table) ×
+            (rid.table.0 < (sizes_of board.now).tables) }
         requires room { wrotes (session (session_view pass.old)).log < (sizes_of board.now).quota }
         requires by { by ≡ writer_of (session_view pass.old) }
         requires snapshot { snapshot ≡ snapshot_of (session_view pass.old) }
         ensures step { Writes (session_view pass.old) rid image result (session_view pass.new) }
-        ensures added { IfOk result (λ added. added ≡ not (is_some (open_in rid (session (session_view pass.old)).log))) }
-        ensures owner { IfErr result (IsAnothers (sizes_of board.now) (number (session_view pass.old))) }
+        ensures added { IfOk result (λ added.
+            added ≡ not (is_some (open_in rid (session (session_view pass.old)).log))) }
+        ensures owner { IfErr result
+            (IsAnothers (sizes_of board.now) (number (session_view pass.old))) }
         ensures holds { Holds (session_view pass.new) self.new }
-        ensures held { (held_board_id self.new ≡ held_board_id self.old) × (held_number self.new ≡ held_number self.old) }
+        ensures held { (held_board_id self.new ≡ held_board_id self.old) ×
+            (held_number self.new ≡ held_number self.old) }
         ensures own { IsSessionOf (board_id board.now) (sizes_of board.now) pass.new }
     {
         let mark = board.look(pass, &Ask::Write(rid));

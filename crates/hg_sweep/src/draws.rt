@@ -121,7 +121,8 @@ impl Draws {
     /// Sets the word back to 0. All drawers are joined to this one, so it has drawn all numbers below some number, each once.
     pub(crate) fn restart(&self, drawer: &mut Drawer)
         requires own { IsDrawerOf (draws_id self.now) drawer.old }
-        requires all { (drawn_by drawer.old).left + length (drawn_by drawer.old).numbers ≡ whole_quota }
+        requires all { (drawn_by drawer.old).left + length (drawn_by drawer.old).numbers ≡
+            whole_quota }
         ensures all { AreAll (drawn_by drawer.old).numbers }
         ensures fresh { drawn_by drawer.new ≡ fresh }
         ensures own { IsDrawerOf (draws_id self.now) drawer.new }

@@ -13,7 +13,9 @@ use std::alloc::Global;
 /// sessions.
 pub fn new_report(alloc: Global, kind: Kind, sessions: u32) -> Result<Report, NoMemory>
     ensures kind { IfOk result (λ report. report.kind ≡ kind) }
-    ensures none { IfOk result (λ report. (report.mark ≡ 0) × (report.horizon ≡ 0) × (report.removed ≡ 0) × (report.entries.list ≡ [])) }
+    ensures none { IfOk result (λ report.
+        (report.mark ≡ 0) × (report.horizon ≡ 0) × (report.removed ≡ 0) ×
+        (report.entries.list ≡ [])) }
     ensures room { IfOk result (λ report. sessions ≤ report.entries.room) }
 {
     Ok(Report {
@@ -27,8 +29,10 @@ pub fn new_report(alloc: Global, kind: Kind, sessions: u32) -> Result<Report, No
 
 /// Replaces the last round's report by what was gathered now and how many versions were removed. Allocates nothing.
 pub fn rewrite(report: &mut Report, kind: Kind, gathered: &Gathered, removed: u64)
-    requires room { (sessions : ℕ) × (part : PassPart) × IsGatherOf sessions part gathered.now × (sessions ≤ report.old.entries.room) }
-    ensures reports { (sessions : ℕ) (part : PassPart) → IsGatherOf sessions part gathered.now → IsReportBy kind part removed report.new }
+    requires room { (sessions : ℕ) × (part : PassPart) × IsGatherOf sessions part gathered.now ×
+        (sessions ≤ report.old.entries.room) }
+    ensures reports { (sessions : ℕ) (part : PassPart) → IsGatherOf sessions part gathered.now →
+        IsReportBy kind part removed report.new }
     ensures room { report.old.entries.room ≤ report.new.entries.room }
 {
     report.kind = kind;

@@ -1,7 +1,7 @@
 use Rattle.std.proofs.Common.{sym, ap, ◌∙◌, subst, ◌++◌, ℕ}
 use Rattle.hg_base.specs.Script.{run}
 use Rattle.hg_base.specs.Text.{text_of}
-use Rattle.hg_report.specs.Bytes.{record_bytes}
+use Rattle.hg_csv.specs.Bytes.{record_bytes}
 use Rattle.hg_run.specs.Dumping.{dump_part, part_text, printed_history}
 use Rattle.hg_run.specs.Words.{settings_in}
 use Rattle.hg_run.proofs.Dumped.{on_text}

@@ -7,7 +7,7 @@ use Rattle.hg_base.specs.Script.{run}
 use Rattle.hg_base.specs.Text.{text_of}
 use Rattle.hg_base.proofs.ListFacts.{each_keeps}
 use Rattle.hg_dump.specs.Exports.{MayExport}
-use Rattle.hg_report.specs.Bytes.{record_bytes}
+use Rattle.hg_csv.specs.Bytes.{record_bytes}
 use Rattle.hg_rule.specs.New.{EachFrom}
 use Rattle.hg_rule.specs.Seats.{session_view}
 use Rattle.hg_script.specs.Lawful.{IsStatement}
