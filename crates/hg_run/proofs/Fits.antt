@@ -11,7 +11,6 @@ use Rattle.std.proofs.lemmas.List.Sums.{sum_by-cons}
 use Rattle.hg_base.specs.declared.rid.Rid.{Rid}
 use Rattle.hg_base.specs.declared.rid.TableId.{TableId}
 use Rattle.hg_base.specs.declared.image.Image.{Image}
-use Rattle.hg_base.specs.declared.scope.Scope.{Scope}
 use Rattle.hg_base.specs.declared.statement.Statement.{Statement}
 use Rattle.hg_base.specs.declared.statement.Statement.TheVariants.{Begin, Get, Put, Del, Scan, CursorOpen, Fetch, CursorClose, Commit as CommitIt, Rollback, Gc}
 use Rattle.hg_base.specs.declared.statement.Record.{Record}
@@ -39,7 +38,6 @@ use Rattle.hg_base.specs.Sound.{IsRight, IsSound, all_said}
 use Rattle.hg_base.specs.Text.{Fits64, Fits32, FitsRow, FitsBegin, FitsGet, FitsPut, FitsDel, FitsScan, FitsFetch, FitsClose, FitsCommit, FitsRollback, FitsSweep, FitsReport, FitsGc, FitsAnswer, FitsReply, FitTotals, Fits, IsFit, IsReport, asked, cursor_before, is_write}
 use Rattle.hg_base.proofs.ListFacts.{false_true, not_equal, each_after_keeps, each_keeps, if_some_keeps}
 use Rattle.hg_headline.proofs.Orderly.{orderly_nothing}
-use Rattle.hg_headline.proofs.Parts.{ascends_over, ascends_rest}
 use Rattle.hg_headline.proofs.Whole.{said_says}
 use Rattle.hg_headline.proofs.Words.{same_number}
 use Rattle.hg_core.specs.Answered.{is_gc}

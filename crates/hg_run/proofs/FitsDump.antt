@@ -1,6 +1,6 @@
 -- What is sound with a reader, for a lawful script, fits the script.
 use Rattle.std.proofs.Common.{◌≡◌, ◌⊎◌, inl, inr, ℕ, ◌<◌, ◌≤◌, ◌^◌, List, [], ◌∷◌, length, true, sym, subst, arith}
-use Rattle.std.specs.Prelude.{◌==◌, ◌||◌, IsTrue}
+use Rattle.std.specs.Prelude.{◌==◌}
 use Rattle.std.specs.List.{list_any}
 use Rattle.std.proofs.lemmas.Bool.{or_cases}
 use Rattle.std.proofs.lemmas.Bool.Decides.{Decides-eqb}
@@ -8,7 +8,7 @@ use Rattle.hg_base.specs.declared.report.Told.{Told}
 use Rattle.hg_base.specs.declared.line.Printed.{Printed}
 use Rattle.hg_base.specs.Freshness.{IsHeld}
 use Rattle.hg_base.specs.History.{History}
-use Rattle.hg_base.specs.Lists.{Each, EachAfter}
+use Rattle.hg_base.specs.Lists.{Each}
 use Rattle.hg_base.specs.Script.{Script, run}
 use Rattle.hg_base.specs.Shape.{report_of}
 use Rattle.hg_base.specs.Sound.{all_said}
