@@ -21,5 +21,6 @@ pub fn a_held_reader_is_sound_with_its_lines()
 /// The dump of that run at its end has one row, and its replay prints sound lines.
 pub fn a_dump_is_replayed()
     ensures rows { rows_at worked.script.tables headline.history 1 ≡ worked.rows }
-    ensures lines { LinesAreSound replay (dump_of worked.script headline.history 1) worked.replayed }
+    ensures lines { LinesAreSound replay (dump_of worked.script headline.history 1)
+        worked.replayed }
 {}

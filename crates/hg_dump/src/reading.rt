@@ -44,7 +44,8 @@ impl<'a> Reading<'a> {
         into: &mut Vec<u8>,
     ) -> Result<(), NoMemory>
         requires board { IsOfBoard self.now }
-        requires own { IsSessionOf (board_id (board_in self.now)) (sizes_of (board_in self.now)) pass.old }
+        requires own { IsSessionOf (board_id (board_in self.now)) (sizes_of (board_in self.now))
+            pass.old }
         requires reads { ReadsAt (at_of cursor.old) (table_of cursor.old) (session_view pass.old) }
         requires table { table_of cursor.old ≡ table }
         ensures rows { OnOk result (HasWritten (script_in self.now).tables (store_buckets (store_in self.now))
@@ -52,7 +53,8 @@ impl<'a> Reading<'a> {
         ensures starts { StartsWith into.new.items into.old.items }
         ensures looks { Looks (session_view pass.old) (session_view pass.new) }
         ensures reads { ReadsAt (at_of cursor.old) (table_of cursor.old) (session_view pass.new) }
-        ensures own { IsSessionOf (board_id (board_in self.now)) (sizes_of (board_in self.now)) pass.new }
+        ensures own { IsSessionOf (board_id (board_in self.now)) (sizes_of (board_in self.now))
+            pass.new }
     {
         let rows = cursor.fetch(rt, self.alloc, self.board, self.store, pass, FETCHED)?;
         puts_text(self.alloc, self.script, table, rows.as_slice(), into)?;
@@ -68,14 +70,16 @@ impl<'a> Reading<'a> {
         into: &mut Vec<u8>,
     ) -> Result<(), NoMemory>
         requires board { IsOfBoard self.now }
-        requires own { IsSessionOf (board_id (board_in self.now)) (sizes_of (board_in self.now)) pass.old }
+        requires own { IsSessionOf (board_id (board_in self.now)) (sizes_of (board_in self.now))
+            pass.old }
         requires reads { IsReading (at_in self.now) (session_view pass.old) }
         ensures rows { OnOk result (HasWrittenTable (script_in self.now).tables (store_buckets (store_in self.now))
             (at_in self.now) table (session_view pass.new) into.old.items into.new.items) }
         ensures starts { StartsWith into.new.items into.old.items }
         ensures looks { Looks (session_view pass.old) (session_view pass.new) }
         ensures reads { IsReading (at_in self.now) (session_view pass.new) }
-        ensures own { IsSessionOf (board_id (board_in self.now)) (sizes_of (board_in self.now)) pass.new }
+        ensures own { IsSessionOf (board_id (board_in self.now)) (sizes_of (board_in self.now))
+            pass.new }
     {
         let mut cursor = Cursor::over(self.at, table, 0, u64::MAX);
         for _ in rt.forever() {
@@ -95,14 +99,16 @@ impl<'a> Reading<'a> {
         into: &mut Vec<u8>,
     ) -> Result<(), NoMemory>
         requires board { IsOfBoard self.now }
-        requires own { IsSessionOf (board_id (board_in self.now)) (sizes_of (board_in self.now)) pass.old }
+        requires own { IsSessionOf (board_id (board_in self.now)) (sizes_of (board_in self.now))
+            pass.old }
         requires reads { IsReading (at_in self.now) (session_view pass.old) }
         ensures rows { OnOk result (HasWrittenTables (script_in self.now).tables (script_in self.now).tables
             (store_buckets (store_in self.now)) (at_in self.now) (session_view pass.new) into.old.items into.new.items) }
         ensures starts { StartsWith into.new.items into.old.items }
         ensures looks { Looks (session_view pass.old) (session_view pass.new) }
         ensures reads { IsReading (at_in self.now) (session_view pass.new) }
-        ensures own { IsSessionOf (board_id (board_in self.now)) (sizes_of (board_in self.now)) pass.new }
+        ensures own { IsSessionOf (board_id (board_in self.now)) (sizes_of (board_in self.now))
+            pass.new }
     {
         for i in 0..self.script.tables().len() {
             self.write_table(rt, TableId(i as u8), pass, into)?;
@@ -118,14 +124,16 @@ impl<'a> Reading<'a> {
         into: &mut Vec<u8>,
     ) -> Result<(), NoMemory>
         requires board { IsOfBoard self.now }
-        requires own { IsSessionOf (board_id (board_in self.now)) (sizes_of (board_in self.now)) pass.old }
+        requires own { IsSessionOf (board_id (board_in self.now)) (sizes_of (board_in self.now))
+            pass.old }
         requires reads { IsReading (at_in self.now) (session_view pass.old) }
         ensures rows { OnOk result (HasWrittenAll (script_in self.now) (store_buckets (store_in self.now))
             (at_in self.now) (session_view pass.new) into.old.items into.new.items) }
         ensures starts { StartsWith into.new.items into.old.items }
         ensures looks { Looks (session_view pass.old) (session_view pass.new) }
         ensures reads { IsReading (at_in self.now) (session_view pass.new) }
-        ensures own { IsSessionOf (board_id (board_in self.now)) (sizes_of (board_in self.now)) pass.new }
+        ensures own { IsSessionOf (board_id (board_in self.now)) (sizes_of (board_in self.now))
+            pass.new }
     {
         heading_text(self.alloc, self.script, into)?;
         self.write_tables(rt, pass, into)?;

@@ -58,15 +58,19 @@ pub(crate) fn lead<R: Wait>(
     sessions: usize,
 ) -> Batches
     requires boards { store_board_id store.now ≡ board_id board.now }
-    requires buckets { (0 < store_buckets store.now) × (store_buckets store.now ≡ (sizes_of board.now).buckets) }
+    requires buckets { (0 < store_buckets store.now) ×
+        (store_buckets store.now ≡ (sizes_of board.now).buckets) }
     requires own { IsAwayOf (board_id board.now) (sizes_of board.now) pass.old }
     requires alone { others (session_view pass.old) ≡ [] }
-    requires kept { IsKept (board_id board.now) (sizes_of board.now).sessions kept × IsPassOf queue.now kept.line }
+    requires kept { IsKept (board_id board.now) (sizes_of board.now).sessions kept ×
+        IsPassOf queue.now kept.line }
     requires most { sessions ≡ (sizes_of board.now).sessions }
-    ensures kept { IsKept (board_id board.now) (sizes_of board.now).sessions result × IsPassOf queue.now result.line }
+    ensures kept { IsKept (board_id board.now) (sizes_of board.now).sessions result ×
+        IsPassOf queue.now result.line }
     ensures led { Leads (session_view pass.old) (session_view pass.new) }
     ensures turn { TakesTurn (session_view pass.old) (session_view pass.new) }
-    ensures own { IsAwayOf (board_id board.now) (sizes_of board.now) pass.new × (pass.new.number ≡ pass.old.number) }
+    ensures own { IsAwayOf (board_id board.now) (sizes_of board.now) pass.new ×
+        (pass.new.number ≡ pass.old.number) }
 {
     let Batches {
         seat,

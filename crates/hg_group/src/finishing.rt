@@ -33,15 +33,19 @@ fn ready<R: Wait>(
     index: usize,
 ) -> Batches
     requires boards { store_board_id store.now ≡ board_id board.now }
-    requires buckets { (0 < store_buckets store.now) × (store_buckets store.now ≡ (sizes_of board.now).buckets) }
+    requires buckets { (0 < store_buckets store.now) ×
+        (store_buckets store.now ≡ (sizes_of board.now).buckets) }
     requires own { IsAwayOf (board_id board.now) (sizes_of board.now) pass.old }
     requires alone { others (session_view pass.old) ≡ [] }
-    requires kept { IsKept (board_id board.now) (sizes_of board.now).sessions kept × IsPassOf queue.now kept.line }
+    requires kept { IsKept (board_id board.now) (sizes_of board.now).sessions kept ×
+        IsPassOf queue.now kept.line }
     requires sessions { (sessions ≡ (sizes_of board.now).sessions) × (index < sessions) }
-    ensures kept { IsKept (board_id board.now) (sizes_of board.now).sessions result × IsPassOf queue.now result.line }
+    ensures kept { IsKept (board_id board.now) (sizes_of board.now).sessions result ×
+        IsPassOf queue.now result.line }
     ensures led { Leads (session_view pass.old) (session_view pass.new) }
     ensures turn { TakesTurn (session_view pass.old) (session_view pass.new) }
-    ensures own { IsAwayOf (board_id board.now) (sizes_of board.now) pass.new × (pass.new.number ≡ pass.old.number) }
+    ensures own { IsAwayOf (board_id board.now) (sizes_of board.now) pass.new ×
+        (pass.new.number ≡ pass.old.number) }
 {
     if kept.book.laid[index].is_none() {
         return lead(rt, board, store, queue, pass, kept, sessions as usize);
@@ -52,7 +56,8 @@ fn ready<R: Wait>(
 // What is laid at a place is taken from there.
 fn take_laid(kept: &mut Batches, index: usize) -> Option<Laid>
     requires index { index < length kept.old.book.value.laid.items }
-    ensures taken { (t : BoardId) (sessions : ℕ) → IsKept t sessions kept.old → IsKept t sessions kept.new × IfSome result (IsLaid t (suc index)) }
+    ensures taken { (t : BoardId) (sessions : ℕ) → IsKept t sessions kept.old →
+        IsKept t sessions kept.new × IfSome result (IsLaid t (suc index)) }
     ensures line { kept.new.line ≡ kept.old.line }
 {
     kept.book.laid[index].take()
@@ -66,15 +71,20 @@ pub(crate) fn finish<R: Wait>(
     groups: &GroupList,
     pass: &mut SessionPass,
 ) -> Result<Receipt, OpenTx>
-    requires boards { (store_board_id store.now ≡ board_id board.now) × (groups_board_id groups.now ≡ board_id board.now) }
-    requires buckets { (0 < store_buckets store.now) × (store_buckets store.now ≡ (sizes_of board.now).buckets) }
+    requires boards { (store_board_id store.now ≡ board_id board.now) ×
+        (groups_board_id groups.now ≡ board_id board.now) }
+    requires buckets { (0 < store_buckets store.now) ×
+        (store_buckets store.now ≡ (sizes_of board.now).buckets) }
     requires sessions { groups_sessions groups.now ≡ (sizes_of board.now).sessions }
     requires own { IsAwayOf (board_id board.now) (sizes_of board.now) pass.old }
     requires alone { others (session_view pass.old) ≡ [] }
     requires may { MayCommit (session (session_view pass.old)) }
-    ensures finished { IfOk result (λ receipt. HasFinished (session_view pass.old) receipt (session_view pass.new)) }
-    ensures refused { IfErr result (λ tx. IsRefused (session_view pass.old) tx (session_view pass.new)) }
-    ensures own { IsSessionOf (board_id board.now) (sizes_of board.now) pass.new × (pass.new.number ≡ pass.old.number) }
+    ensures finished { IfOk result
+        (λ receipt. HasFinished (session_view pass.old) receipt (session_view pass.new)) }
+    ensures refused { IfErr result
+        (λ tx. IsRefused (session_view pass.old) tx (session_view pass.new)) }
+    ensures own { IsSessionOf (board_id board.now) (sizes_of board.now) pass.new ×
+        (pass.new.number ≡ pass.old.number) }
 {
     for _ in rt.forever() {
         if let Some(laid) = groups.turn(rt, board, store, pass) {
@@ -97,8 +107,10 @@ impl GroupList {
         store: &Store,
         pass: &mut SessionPass,
     ) -> Option<Laid>
-        requires boards { (store_board_id store.now ≡ board_id board.now) × (groups_board_id self.now ≡ board_id board.now) }
-        requires buckets { (0 < store_buckets store.now) × (store_buckets store.now ≡ (sizes_of board.now).buckets) }
+        requires boards { (store_board_id store.now ≡ board_id board.now) ×
+            (groups_board_id self.now ≡ board_id board.now) }
+        requires buckets { (0 < store_buckets store.now) ×
+            (store_buckets store.now ≡ (sizes_of board.now).buckets) }
         requires sessions { groups_sessions self.now ≡ (sizes_of board.now).sessions }
         requires own { IsAwayOf (board_id board.now) (sizes_of board.now) pass.old }
         requires alone { others (session_view pass.old) ≡ [] }
@@ -106,7 +118,8 @@ impl GroupList {
         ensures turn { TakesTurn (session_view pass.old) (session_view pass.new) }
         ensures led { Leads (session_view pass.old) (session_view pass.new) }
         ensures laid { IfSome result (IsLaid (board_id board.now) pass.new.number) }
-        ensures own { IsAwayOf (board_id board.now) (sizes_of board.now) pass.new × (pass.new.number ≡ pass.old.number) }
+        ensures own { IsAwayOf (board_id board.now) (sizes_of board.now) pass.new ×
+            (pass.new.number ≡ pass.old.number) }
     {
         let index = pass.writer().session as usize - 1;
         let (kept, loan) = self.batches.take(rt, 0);

@@ -22,12 +22,17 @@ pub(crate) fn gather<R: Wait>(
 )
     requires own { IsAwayOf (board_id board.now) (sizes_of board.now) pass.old }
     requires alone { others (session_view pass.old) ≡ [] }
-    requires line { IsPassOf queue.now line.old × ((known line.old).opens ≡ false) × ((known line.old).leads ≡ true) × ((known line.old).board.id ≡ board_id board.now) }
+    requires line { IsPassOf queue.now line.old × ((known line.old).opens ≡ false) ×
+        ((known line.old).leads ≡ true) × ((known line.old).board.id ≡ board_id board.now) }
     requires room { (popped.old.items ≡ []) × (most ≤ vec_capacity popped.old) }
-    ensures gathered { Gathers (session_view pass.old) (known line.old).pairs popped.new.items (known line.new).pairs (session_view pass.new) }
-    ensures own { IsAwayOf (board_id board.now) (sizes_of board.now) pass.new × (pass.new.number ≡ pass.old.number) }
-    ensures line { IsPassOf queue.now line.new × ((known line.new).opens ≡ false) × ((known line.new).leads ≡ true) × ((known line.new).board.id ≡ board_id board.now) }
-    ensures room { (vec_capacity popped.new ≡ vec_capacity popped.old) × (length popped.new.items ≤ most) }
+    ensures gathered { Gathers (session_view pass.old) (known line.old).pairs popped.new.items
+        (known line.new).pairs (session_view pass.new) }
+    ensures own { IsAwayOf (board_id board.now) (sizes_of board.now) pass.new ×
+        (pass.new.number ≡ pass.old.number) }
+    ensures line { IsPassOf queue.now line.new × ((known line.new).opens ≡ false) ×
+        ((known line.new).leads ≡ true) × ((known line.new).board.id ≡ board_id board.now) }
+    ensures room { (vec_capacity popped.new ≡ vec_capacity popped.old) ×
+        (length popped.new.items ≤ most) }
 {
     for turn in 0..most {
         let Some(handed) = queue.pop(rt, line) else {

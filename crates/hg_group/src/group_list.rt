@@ -49,7 +49,8 @@ impl GroupList {
     /// Nothing is committed, and nothing waits. The seat is the committer's of a new board with so many sessions.
     pub fn new(alloc: Global, seat: CommitSeat, sessions: u32) -> Result<GroupList, NoMemory>
         requires seat { (t : BoardId) × IsNewCommit t seat }
-        ensures board { (t : BoardId) → IsNewCommit t seat → IfOk result (λ groups. groups_board_id groups ≡ t) }
+        ensures board { (t : BoardId) → IsNewCommit t seat →
+            IfOk result (λ groups. groups_board_id groups ≡ t) }
         ensures sessions { IfOk result (λ groups. groups_sessions groups ≡ sessions) }
     {
         let (queue, line, mut pushing) = Queue::new(alloc, &seat)?;
@@ -96,12 +97,21 @@ impl GroupList {
         requires own { IsSessionOf (board_id board.now) (sizes_of board.now) pass.old }
         requires only { HasOnlySession (session_view pass.old) }
         requires may { MayCommit (session (session_view pass.old)) }
-        requires tx { IsOpenTxOf (number (session_view pass.old)) (session (session_view pass.old)) tx }
+        requires tx { IsOpenTxOf (number (session_view pass.old)) (session (session_view pass.old))
+            tx }
         requires some { 0 < length tx.records.list }
-        ensures submitted { IfOk result (λ submitted. IsSubmittedTo self.now submitted × (((mark : ℕ) × HasSubmitted (session_view pass.old) mark (session_view pass.new)) × IsAwayOf (board_id board.now) (sizes_of board.now) pass.new)) }
-        ensures pair { IfOk result (λ submitted. has_pushed (number (session_view pass.old)) tx.writer.transaction submitted) }
-        ensures lock { IfOk result (λ submitted. held_lock submitted + 1 ≡ number (session_view pass.old)) }
-        ensures refused { IfErr result (λ e. (e.0 ≡ tx) × (IsBackAgain (session_view pass.old) (session_view pass.new) × IsSessionOf (board_id board.now) (sizes_of board.now) pass.new)) }
+        ensures submitted { IfOk result (λ submitted.
+            IsSubmittedTo self.now submitted ×
+            (((mark : ℕ) × HasSubmitted (session_view pass.old) mark (session_view pass.new)) ×
+            IsAwayOf (board_id board.now) (sizes_of board.now) pass.new)) }
+        ensures pair { IfOk result (λ submitted.
+            has_pushed (number (session_view pass.old)) tx.writer.transaction submitted) }
+        ensures lock { IfOk result
+            (λ submitted. held_lock submitted + 1 ≡ number (session_view pass.old)) }
+        ensures refused { IfErr result (λ e.
+            (e.0 ≡ tx) ×
+            (IsBackAgain (session_view pass.old) (session_view pass.new) ×
+            IsSessionOf (board_id board.now) (sizes_of board.now) pass.new)) }
         ensures number { pass.new.number ≡ pass.old.number }
     {
         let index = pass.writer().session as usize - 1;
@@ -125,16 +135,21 @@ impl GroupList {
         submitted: Submitted,
         pass: &mut SessionPass,
     ) -> Result<Receipt, (OpenTx, NoMemory)>
-        requires boards { (store_board_id store.now ≡ board_id board.now) × (groups_board_id self.now ≡ board_id board.now) }
-        requires buckets { (0 < store_buckets store.now) × (store_buckets store.now ≡ (sizes_of board.now).buckets) }
+        requires boards { (store_board_id store.now ≡ board_id board.now) ×
+            (groups_board_id self.now ≡ board_id board.now) }
+        requires buckets { (0 < store_buckets store.now) ×
+            (store_buckets store.now ≡ (sizes_of board.now).buckets) }
         requires sessions { groups_sessions self.now ≡ (sizes_of board.now).sessions }
         requires submitted { IsSubmittedTo self.now submitted }
         requires own { IsAwayOf (board_id board.now) (sizes_of board.now) pass.old }
         requires alone { others (session_view pass.old) ≡ [] }
         requires may { MayCommit (session (session_view pass.old)) }
-        ensures finished { IfOk result (λ receipt. HasFinished (session_view pass.old) receipt (session_view pass.new)) }
-        ensures refused { IfErr result (λ e. IsRefused (session_view pass.old) e.0 (session_view pass.new)) }
-        ensures own { IsSessionOf (board_id board.now) (sizes_of board.now) pass.new × (pass.new.number ≡ pass.old.number) }
+        ensures finished { IfOk result
+            (λ receipt. HasFinished (session_view pass.old) receipt (session_view pass.new)) }
+        ensures refused { IfErr result
+            (λ e. IsRefused (session_view pass.old) e.0 (session_view pass.new)) }
+        ensures own { IsSessionOf (board_id board.now) (sizes_of board.now) pass.new ×
+            (pass.new.number ≡ pass.old.number) }
     {
         let finished = finish(rt, board, store, self, pass);
         let Submitted { pusher, loan } = submitted;
@@ -155,17 +170,24 @@ impl GroupList {
         tx: OpenTx,
         pass: &mut SessionPass,
     ) -> Result<Receipt, (OpenTx, NoMemory)>
-        requires boards { (store_board_id store.now ≡ board_id board.now) × (groups_board_id self.now ≡ board_id board.now) }
-        requires buckets { (0 < store_buckets store.now) × (store_buckets store.now ≡ (sizes_of board.now).buckets) }
+        requires boards { (store_board_id store.now ≡ board_id board.now) ×
+            (groups_board_id self.now ≡ board_id board.now) }
+        requires buckets { (0 < store_buckets store.now) ×
+            (store_buckets store.now ≡ (sizes_of board.now).buckets) }
         requires sessions { groups_sessions self.now ≡ (sizes_of board.now).sessions }
         requires own { IsSessionOf (board_id board.now) (sizes_of board.now) pass.old }
         requires only { HasOnlySession (session_view pass.old) }
         requires may { MayCommit (session (session_view pass.old)) }
-        requires tx { IsOpenTxOf (number (session_view pass.old)) (session (session_view pass.old)) tx }
+        requires tx { IsOpenTxOf (number (session_view pass.old)) (session (session_view pass.old))
+            tx }
         requires some { 0 < length tx.records.list }
-        ensures committed { IfOk result (λ receipt. HasCommitted (session_view pass.old) receipt (session_view pass.new)) }
-        ensures refused { IfErr result (λ e. IsOpenTxOf (number (session_view pass.old)) (session (session_view pass.old)) e.0 × IsBackAgain (session_view pass.old) (session_view pass.new)) }
-        ensures own { IsSessionOf (board_id board.now) (sizes_of board.now) pass.new × (pass.new.number ≡ pass.old.number) }
+        ensures committed { IfOk result
+            (λ receipt. HasCommitted (session_view pass.old) receipt (session_view pass.new)) }
+        ensures refused { IfErr result (λ e.
+            IsOpenTxOf (number (session_view pass.old)) (session (session_view pass.old)) e.0 ×
+            IsBackAgain (session_view pass.old) (session_view pass.new)) }
+        ensures own { IsSessionOf (board_id board.now) (sizes_of board.now) pass.new ×
+            (pass.new.number ≡ pass.old.number) }
     {
         let submitted = self.submit(rt, board, tx, pass)?;
         self.finish(rt, board, store, submitted, pass)

@@ -19,12 +19,16 @@ pub(crate) fn lay(
     place: u64,
 )
     requires own { IsAwayOf (board_id board.now) (sizes_of board.now) pass.old }
-    requires group { HasGroup (sizes_of board.now).sessions (session_view pass.old) popped.now number place }
-    requires laid { AreLaid (board_id board.now) 1 laid.old.items × (length laid.old.items ≡ (sizes_of board.now).sessions) }
+    requires group { HasGroup (sizes_of board.now).sessions (session_view pass.old) popped.now
+        number place }
+    requires laid { AreLaid (board_id board.now) 1 laid.old.items ×
+        (length laid.old.items ≡ (sizes_of board.now).sessions) }
     requires small { place + length popped.now < 2 ^ 64 }
-    ensures laid { AreLaid (board_id board.now) 1 laid.new.items × (length laid.new.items ≡ (sizes_of board.now).sessions) }
+    ensures laid { AreLaid (board_id board.now) 1 laid.new.items ×
+        (length laid.new.items ≡ (sizes_of board.now).sessions) }
     ensures all { LaysAll (session_view pass.old) popped.now (session_view pass.new) }
-    ensures own { IsAwayOf (board_id board.now) (sizes_of board.now) pass.new × (pass.new.number ≡ pass.old.number) }
+    ensures own { IsAwayOf (board_id board.now) (sizes_of board.now) pass.new ×
+        (pass.new.number ≡ pass.old.number) }
 {
     for i in 0..popped.len() {
         let session = popped[i].writer.session;

@@ -37,7 +37,9 @@ pub(crate) fn make_pushers(
     sessions: u32,
 ) -> Result<Vec<Pusher>, NoMemory>
     requires queue { founding.now.value.queue.value ≡ queue.now }
-    requires line { IsPassOf queue.now line.old × ((known line.old).opens ≡ false) × ((known line.old).leads ≡ false) × ((known line.old).board.id ≡ founding_board_id founding.now.value) }
+    requires line { IsPassOf queue.now line.old × ((known line.old).opens ≡ false) ×
+        ((known line.old).leads ≡ false) ×
+        ((known line.old).board.id ≡ founding_board_id founding.now.value) }
     ensures fit { IfOk result (λ pushers. EachFits (PusherFits founding.now) pushers.items) }
     ensures count { IfOk result (λ pushers. length pushers.items ≡ sessions) }
 {

@@ -29,9 +29,11 @@ fn pop_below(
     requires mark { length (commit (pass_view pass.old)).history.list ≡ mark }
     requires taken { (commit (pass_view pass.old)).taken ≤ mark }
     requires bound { bound ≤ mark }
-    requires contexts { AreContexts (commit (pass_view pass.old)).history.list (commit (pass_view pass.old)).taken contexts.old.items }
+    requires contexts { AreContexts (commit (pass_view pass.old)).history.list
+        (commit (pass_view pass.old)).taken contexts.old.items }
     ensures popped { PopsBelow (pass_view pass.old) bound result (pass_view pass.new) }
-    ensures contexts { AreContexts (commit (pass_view pass.new)).history.list (commit (pass_view pass.new)).taken contexts.new.items }
+    ensures contexts { AreContexts (commit (pass_view pass.new)).history.list
+        (commit (pass_view pass.new)).taken contexts.new.items }
     ensures own { IsPassOf (board_id board.now) pass.new }
 {
     let taken = mark - contexts.len() as u64;
@@ -72,9 +74,12 @@ fn pop_some(
     requires mark { length (commit (pass_view pass.old)).history.list ≡ mark }
     requires taken { (commit (pass_view pass.old)).taken ≤ mark }
     requires bound { bound ≤ mark }
-    requires contexts { AreContexts (commit (pass_view pass.old)).history.list (commit (pass_view pass.old)).taken contexts.old.items }
-    ensures popped { PopsSome (pass_view pass.old) bound into.old.items result into.new.items (pass_view pass.new) }
-    ensures contexts { AreContexts (commit (pass_view pass.new)).history.list (commit (pass_view pass.new)).taken contexts.new.items }
+    requires contexts { AreContexts (commit (pass_view pass.old)).history.list
+        (commit (pass_view pass.old)).taken contexts.old.items }
+    ensures popped { PopsSome (pass_view pass.old) bound into.old.items result into.new.items
+        (pass_view pass.new) }
+    ensures contexts { AreContexts (commit (pass_view pass.new)).history.list
+        (commit (pass_view pass.new)).taken contexts.new.items }
     ensures own { IsPassOf (board_id board.now) pass.new }
 {
     while let Some(context) = pop_below(board, pass, contexts, mark, bound) {
@@ -128,7 +133,8 @@ impl GroupList {
         requires board { groups_board_id self.now ≡ board_id board.now }
         requires own { IsPassOf (board_id board.now) pass.old }
         requires bound { bound ≤ (own_pass (pass_view pass.old)).mark }
-        ensures taken { TakesSome (pass_view pass.old) bound into.old.items result into.new.items (pass_view pass.new) }
+        ensures taken { TakesSome (pass_view pass.old) bound into.old.items result into.new.items
+            (pass_view pass.new) }
         ensures own { IsPassOf (board_id board.now) pass.new }
     {
         let (mut held, seat) = self.take(rt);

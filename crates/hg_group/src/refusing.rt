@@ -16,11 +16,15 @@ pub(crate) fn lay_back(
     popped: &mut Vec<OpenTx>,
 )
     requires own { IsAwayOf (board_id board.now) (sizes_of board.now) pass.old }
-    requires batch { HasBatch (sizes_of board.now).sessions (session_view pass.old) popped.old.items }
-    requires laid { AreLaid (board_id board.now) 1 laid.old.items × (length laid.old.items ≡ (sizes_of board.now).sessions) }
-    ensures laid { AreLaid (board_id board.now) 1 laid.new.items × (length laid.new.items ≡ (sizes_of board.now).sessions) }
+    requires batch { HasBatch (sizes_of board.now).sessions (session_view pass.old)
+        popped.old.items }
+    requires laid { AreLaid (board_id board.now) 1 laid.old.items ×
+        (length laid.old.items ≡ (sizes_of board.now).sessions) }
+    ensures laid { AreLaid (board_id board.now) 1 laid.new.items ×
+        (length laid.new.items ≡ (sizes_of board.now).sessions) }
     ensures all { LaysAll (session_view pass.old) popped.old.items (session_view pass.new) }
-    ensures own { IsAwayOf (board_id board.now) (sizes_of board.now) pass.new × (pass.new.number ≡ pass.old.number) }
+    ensures own { IsAwayOf (board_id board.now) (sizes_of board.now) pass.new ×
+        (pass.new.number ≡ pass.old.number) }
     ensures popped { (popped.new.items ≡ []) × (vec_capacity popped.new ≡ vec_capacity popped.old) }
 {
     for turn in 0..popped.len() {

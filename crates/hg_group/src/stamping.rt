@@ -27,17 +27,23 @@ fn stamp_one<R: Wait>(
     number: u64,
 )
     requires board { store_board_id store.now ≡ board_id board.now }
-    requires buckets { (0 < store_buckets store.now) × (store_buckets store.now ≡ (sizes_of board.now).buckets) }
+    requires buckets { (0 < store_buckets store.now) ×
+        (store_buckets store.now ≡ (sizes_of board.now).buckets) }
     requires own { IsAwayOf (board_id board.now) (sizes_of board.now) pass.old }
     requires commit { HasCommit (session_view pass.old) }
-    requires received { (beyond (session_view pass.old) ≡ lent (members (beyond (session_view pass.old)))) × IsTrue (is_in (who (members (beyond (session_view pass.old)))) by.session) }
-    requires plain { IsTrue (is_plain (part_of by.session (members (beyond (session_view pass.old)))).log) }
+    requires received { (beyond (session_view pass.old) ≡ lent (members (beyond (session_view pass.old)))) ×
+        IsTrue (is_in (who (members (beyond (session_view pass.old)))) by.session) }
+    requires plain { IsTrue
+        (is_plain (part_of by.session (members (beyond (session_view pass.old)))).log) }
     requires next { number ≡ suc (length (commit (session_view pass.old)).history.list) }
     requires by { by ≡ writer_at by.session (members (beyond (session_view pass.old))) }
-    requires mine { IsSome (open_in rid (part_of by.session (members (beyond (session_view pass.old)))).log) }
+    requires mine { IsSome
+        (open_in rid (part_of by.session (members (beyond (session_view pass.old)))).log) }
     requires once { is_stamped by.session rid (commit (session_view pass.old)).stamped ≡ false }
-    ensures stamped { StampsOne (session_view pass.old) by.session rid number (session_view pass.new) }
-    ensures own { IsAwayOf (board_id board.now) (sizes_of board.now) pass.new × (pass.new.number ≡ pass.old.number) }
+    ensures stamped { StampsOne (session_view pass.old) by.session rid number
+        (session_view pass.new) }
+    ensures own { IsAwayOf (board_id board.now) (sizes_of board.now) pass.new ×
+        (pass.new.number ≡ pass.old.number) }
 {
     let mut held = store.take(rt, board, store.bucket_of(rid), pass);
     held.stamp(board, pass, rid, by, number);
@@ -54,14 +60,20 @@ pub(crate) fn stamp_batch<R: Wait>(
     number: u64,
 )
     requires board { store_board_id store.now ≡ board_id board.now }
-    requires buckets { (0 < store_buckets store.now) × (store_buckets store.now ≡ (sizes_of board.now).buckets) }
+    requires buckets { (0 < store_buckets store.now) ×
+        (store_buckets store.now ≡ (sizes_of board.now).buckets) }
     requires own { IsAwayOf (board_id board.now) (sizes_of board.now) pass.old }
-    requires commit { HasCommit (session_view pass.old) × ((commit (session_view pass.old)).stamped ≡ []) }
-    requires received { beyond (session_view pass.old) ≡ lent (members (beyond (session_view pass.old))) }
-    requires taken { AreTaken popped.now (members (beyond (session_view pass.old))) × NoNumberTwice (who (members (beyond (session_view pass.old)))) }
+    requires commit { HasCommit (session_view pass.old) ×
+        ((commit (session_view pass.old)).stamped ≡ []) }
+    requires received { beyond (session_view pass.old) ≡
+        lent (members (beyond (session_view pass.old))) }
+    requires taken { AreTaken popped.now (members (beyond (session_view pass.old))) ×
+        NoNumberTwice (who (members (beyond (session_view pass.old)))) }
     requires next { number ≡ suc (length (commit (session_view pass.old)).history.list) }
-    ensures stamped { Stamped (session_view pass.old) (all_pairs popped.now) (session_view pass.new) }
-    ensures own { IsAwayOf (board_id board.now) (sizes_of board.now) pass.new × (pass.new.number ≡ pass.old.number) }
+    ensures stamped { Stamped (session_view pass.old) (all_pairs popped.now)
+        (session_view pass.new) }
+    ensures own { IsAwayOf (board_id board.now) (sizes_of board.now) pass.new ×
+        (pass.new.number ≡ pass.old.number) }
 {
     for tx in popped {
         for rid in tx.records.as_slice() {

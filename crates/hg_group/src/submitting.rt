@@ -26,12 +26,21 @@ pub(crate) fn submit<R: Wait>(
     requires may { MayCommit (session (session_view pass.old)) }
     requires tx { IsOpenTxOf (number (session_view pass.old)) (session (session_view pass.old)) tx }
     requires some { 0 < length tx.records.list }
-    requires line { IsPassOf queue.now line.old × ((known line.old).opens ≡ false) × ((known line.old).leads ≡ false) × ((known line.old).board.id ≡ board_id board.now) }
-    ensures submitted { IfOk result (λ mark. HasSubmitted (session_view pass.old) mark (session_view pass.new) × IsAwayOf (board_id board.now) (sizes_of board.now) pass.new) }
-    ensures pair { IfOk result (λ mark. ends_with (number (session_view pass.old)) tx.writer.transaction (known line.old) (known line.new)) }
-    ensures refused { IfErr result (λ x. (x ≡ tx) × (IsBackAgain (session_view pass.old) (session_view pass.new) × IsSessionOf (board_id board.now) (sizes_of board.now) pass.new)) }
+    requires line { IsPassOf queue.now line.old × ((known line.old).opens ≡ false) ×
+        ((known line.old).leads ≡ false) × ((known line.old).board.id ≡ board_id board.now) }
+    ensures submitted { IfOk result (λ mark.
+        HasSubmitted (session_view pass.old) mark (session_view pass.new) ×
+        IsAwayOf (board_id board.now) (sizes_of board.now) pass.new) }
+    ensures pair { IfOk result (λ mark.
+        ends_with (number (session_view pass.old)) tx.writer.transaction (known line.old)
+        (known line.new)) }
+    ensures refused { IfErr result (λ x.
+        (x ≡ tx) ×
+        (IsBackAgain (session_view pass.old) (session_view pass.new) ×
+        IsSessionOf (board_id board.now) (sizes_of board.now) pass.new)) }
     ensures number { pass.new.number ≡ pass.old.number }
-    ensures line { IsPassOf queue.now line.new × ((known line.new).opens ≡ false) × ((known line.new).leads ≡ false) × ((known line.new).board.id ≡ board_id board.now) }
+    ensures line { IsPassOf queue.now line.new × ((known line.new).opens ≡ false) ×
+        ((known line.new).leads ≡ false) × ((known line.new).board.id ≡ board_id board.now) }
 {
     let (mark, seat) = board.hand_over(pass);
     match queue.push(rt, line, Handed { tx, seat }) {

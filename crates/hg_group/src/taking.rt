@@ -21,9 +21,12 @@ pub(crate) fn take_back(
     requires alone { others (session_view pass.old) ≡ [] }
     requires may { MayCommit (session (session_view pass.old)) }
     requires laid { IsLaid (board_id board.now) pass.old.number laid }
-    ensures finished { IfOk result (λ receipt. HasFinished (session_view pass.old) receipt (session_view pass.new)) }
-    ensures refused { IfErr result (λ tx. IsRefused (session_view pass.old) tx (session_view pass.new)) }
-    ensures own { IsSessionOf (board_id board.now) (sizes_of board.now) pass.new × (pass.new.number ≡ pass.old.number) }
+    ensures finished { IfOk result
+        (λ receipt. HasFinished (session_view pass.old) receipt (session_view pass.new)) }
+    ensures refused { IfErr result
+        (λ tx. IsRefused (session_view pass.old) tx (session_view pass.new)) }
+    ensures own { IsSessionOf (board_id board.now) (sizes_of board.now) pass.new ×
+        (pass.new.number ≡ pass.old.number) }
 {
     let Laid { seat, outcome } = laid;
     board.resume(pass, seat);

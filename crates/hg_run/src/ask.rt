@@ -22,7 +22,8 @@ pub(crate) fn ask<R: Wait>(
     requires may { MayAsk session.old statement }
     requires tables { IsOnTables (engine_sizes engine.now).tables statement }
     requires other { collector_asked statement ≡ None }
-    ensures answers { IfOk result (λ reply. IsAnswered (engine_sizes engine.now) session.old statement reply session.new) }
+    ensures answers { IfOk result (λ reply.
+        IsAnswered (engine_sizes engine.now) session.old statement reply session.new) }
     ensures left { left_of session.old ≤ left_of session.new + 1 }
     ensures number { number_of session.new ≡ number_of session.old }
     ensures own { IsOf engine.now session.new }

@@ -26,7 +26,9 @@ fn why_text(why: Why) -> &'static str
 }
 
 fn unsound_text(alloc: Global, line: u64, why: &str) -> Result<String, AllocError>
-    ensures { IfOk result (λ text. string_bytes text ≡ codes "unsound," ++ (decimal line ++ (codes "," ++ (why.now ++ codes "\n")))) }
+    ensures { IfOk result (λ text.
+        string_bytes text ≡
+        codes "unsound," ++ (decimal line ++ (codes "," ++ (why.now ++ codes "\n")))) }
 {
     format!(in alloc; "unsound,{line},{why}\n")
 }

@@ -63,7 +63,8 @@ fn run_workers<G: Gate + Sync, R: Threads + Wait + Sync>(
     workers: &mut [Worker],
 )
     requires { All (IsHired engine.now) workers.old }
-    ensures { (i : ℕ) (d : Worker) → i < length workers.old → HasEnded engine.now (slice_index_or workers.old i d) (slice_index_or workers.new i d) }
+    ensures { (i : ℕ) (d : Worker) → i < length workers.old →
+        HasEnded engine.now (slice_index_or workers.old i d) (slice_index_or workers.new i d) }
 {
     let count = workers.len().max(1);
     thread::for_each_mut(
@@ -84,7 +85,8 @@ fn run_collectors<G: Gate + Sync, R: Threads + Wait + Sync>(
 )
     requires own { AreCollectors engine.now collectors.old }
     requires places { HavePlaces plan.now.rounds told.old }
-    ensures made { HaveMadeAll (engine_sizes engine.now) plan.now.long plan.now.rounds collectors.old told.new collectors.new }
+    ensures made { HaveMadeAll (engine_sizes engine.now) plan.now.long plan.now.rounds
+        collectors.old told.new collectors.new }
     ensures own { AreCollectors engine.now collectors.new }
 {
     let Collectors {
@@ -100,23 +102,45 @@ fn run_collectors<G: Gate + Sync, R: Threads + Wait + Sync>(
     thread::join_mut(
         rt,
         &mut ||
-            requires { groups.IsCollectorOf (engine_board_id engine.now) (engine_sizes engine.now) group.now × HasPlaces plan.now.rounds group_told.now }
-            ensures { HasMadeAll kinds.Group (engine_sizes engine.entry.now) plan.entry.now.long plan.entry.now.rounds (groups.view_of group.entry.now) group_told.exit.now (groups.view_of group.exit.now) × groups.IsCollectorOf (engine_board_id engine.entry.now) (engine_sizes engine.entry.now) group.exit.now }
+            requires { groups.IsCollectorOf (engine_board_id engine.now) (engine_sizes engine.now)
+                group.now × HasPlaces plan.now.rounds group_told.now }
+            ensures { HasMadeAll kinds.Group (engine_sizes engine.entry.now) plan.entry.now.long
+                plan.entry.now.rounds (groups.view_of group.entry.now) group_told.exit.now
+                (groups.view_of group.exit.now) ×
+                groups.IsCollectorOf (engine_board_id engine.entry.now)
+                (engine_sizes engine.entry.now) group.exit.now }
         { make_rounds(rt, engine, plan, GROUP, group, group_told) },
         &mut ||
-            requires { (tables.IsCollectorOf (engine_board_id engine.now) (engine_sizes engine.now) table.now × HasPlaces plan.now.rounds table_told.now) × (intervals.IsCollectorOf (engine_board_id engine.now) (engine_sizes engine.now) interval.now × HasPlaces plan.now.rounds interval_told.now) }
+            requires { (tables.IsCollectorOf (engine_board_id engine.now) (engine_sizes engine.now)
+                table.now × HasPlaces plan.now.rounds table_told.now) ×
+                (intervals.IsCollectorOf (engine_board_id engine.now) (engine_sizes engine.now)
+                interval.now × HasPlaces plan.now.rounds interval_told.now) }
             ensures { (HasMadeAll kinds.Table (engine_sizes engine.entry.now) plan.entry.now.long plan.entry.now.rounds (tables.view_of table.entry.now) table_told.exit.now (tables.view_of table.exit.now) × tables.IsCollectorOf (engine_board_id engine.entry.now) (engine_sizes engine.entry.now) table.exit.now)
                 × (HasMadeAll kinds.Interval (engine_sizes engine.entry.now) plan.entry.now.long plan.entry.now.rounds (intervals.view_of interval.entry.now) interval_told.exit.now (intervals.view_of interval.exit.now) × intervals.IsCollectorOf (engine_board_id engine.entry.now) (engine_sizes engine.entry.now) interval.exit.now) }
         {
             thread::join_mut(
                 rt,
                 &mut ||
-                    requires { tables.IsCollectorOf (engine_board_id engine.now) (engine_sizes engine.now) table.now × HasPlaces plan.now.rounds table_told.now }
-                    ensures { HasMadeAll kinds.Table (engine_sizes engine.entry.now) plan.entry.now.long plan.entry.now.rounds (tables.view_of table.entry.now) table_told.exit.now (tables.view_of table.exit.now) × tables.IsCollectorOf (engine_board_id engine.entry.now) (engine_sizes engine.entry.now) table.exit.now }
+                    requires { tables.IsCollectorOf (engine_board_id engine.now)
+                        (engine_sizes engine.now) table.now ×
+                        HasPlaces plan.now.rounds table_told.now }
+                    ensures { HasMadeAll kinds.Table (engine_sizes engine.entry.now)
+                        plan.entry.now.long plan.entry.now.rounds
+                        (tables.view_of table.entry.now) table_told.exit.now
+                        (tables.view_of table.exit.now) ×
+                        tables.IsCollectorOf (engine_board_id engine.entry.now)
+                        (engine_sizes engine.entry.now) table.exit.now }
                 { make_rounds(rt, engine, plan, TABLE, table, table_told) },
                 &mut ||
-                    requires { intervals.IsCollectorOf (engine_board_id engine.now) (engine_sizes engine.now) interval.now × HasPlaces plan.now.rounds interval_told.now }
-                    ensures { HasMadeAll kinds.Interval (engine_sizes engine.entry.now) plan.entry.now.long plan.entry.now.rounds (intervals.view_of interval.entry.now) interval_told.exit.now (intervals.view_of interval.exit.now) × intervals.IsCollectorOf (engine_board_id engine.entry.now) (engine_sizes engine.entry.now) interval.exit.now }
+                    requires { intervals.IsCollectorOf (engine_board_id engine.now)
+                        (engine_sizes engine.now) interval.now ×
+                        HasPlaces plan.now.rounds interval_told.now }
+                    ensures { HasMadeAll kinds.Interval (engine_sizes engine.entry.now)
+                        plan.entry.now.long plan.entry.now.rounds
+                        (intervals.view_of interval.entry.now) interval_told.exit.now
+                        (intervals.view_of interval.exit.now) ×
+                        intervals.IsCollectorOf (engine_board_id engine.entry.now)
+                        (engine_sizes engine.entry.now) interval.exit.now }
                 { make_sweeps(rt, engine, plan, INTERVAL, interval, interval_told) },
             );
         },
@@ -135,8 +159,10 @@ pub(crate) fn run_beside<G: Gate + Sync, R: Threads + Wait + Sync>(
     requires hired { All (IsHired engine.now) workers.old }
     requires own { AreCollectors engine.now collectors.old }
     requires places { HavePlaces plan.now.rounds told.old }
-    ensures ended { (i : ℕ) (d : Worker) → i < length workers.old → HasEnded engine.now (slice_index_or workers.old i d) (slice_index_or workers.new i d) }
-    ensures made { HaveMadeAll (engine_sizes engine.now) plan.now.long plan.now.rounds collectors.old told.new collectors.new }
+    ensures ended { (i : ℕ) (d : Worker) → i < length workers.old →
+        HasEnded engine.now (slice_index_or workers.old i d) (slice_index_or workers.new i d) }
+    ensures made { HaveMadeAll (engine_sizes engine.now) plan.now.long plan.now.rounds
+        collectors.old told.new collectors.new }
     ensures own { AreCollectors engine.now collectors.new }
 {
     let gate = plan.gate;
@@ -144,11 +170,16 @@ pub(crate) fn run_beside<G: Gate + Sync, R: Threads + Wait + Sync>(
         rt,
         &mut ||
             requires { All (IsHired engine.now) workers.now }
-            ensures { (i : ℕ) (d : Worker) → i < length workers.entry.now → HasEnded engine.entry.now (slice_index_or workers.entry.now i d) (slice_index_or workers.exit.now i d) }
+            ensures { (i : ℕ) (d : Worker) → i < length workers.entry.now →
+                HasEnded engine.entry.now (slice_index_or workers.entry.now i d)
+                (slice_index_or workers.exit.now i d) }
         { run_workers(rt, engine, gate, workers) },
         &mut ||
-            requires { AreCollectors engine.now collectors.now × HavePlaces plan.now.rounds told.now }
-            ensures { HaveMadeAll (engine_sizes engine.entry.now) plan.entry.now.long plan.entry.now.rounds collectors.entry.now told.exit.now collectors.exit.now × AreCollectors engine.entry.now collectors.exit.now }
+            requires { AreCollectors engine.now collectors.now ×
+                HavePlaces plan.now.rounds told.now }
+            ensures { HaveMadeAll (engine_sizes engine.entry.now) plan.entry.now.long
+                plan.entry.now.rounds collectors.entry.now told.exit.now collectors.exit.now
+                × AreCollectors engine.entry.now collectors.exit.now }
         { run_collectors(rt, engine, plan, collectors, told) },
     );
 }

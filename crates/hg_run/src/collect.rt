@@ -39,8 +39,12 @@ pub(crate) trait Collect {
     /// One round, as it is told. The round is made where memory for what is told is refused, too.
     fn round<R: Wait>(&mut self, rt: &R, engine: &Engine, long: u64) -> Result<Sweep, NoMemory>
         requires own { is_of engine.now self.old }
-        ensures round { IfOk result (λ sweep. IsRoundBy kind (engine_sizes engine.now) long (view_of self.old) sweep (view_of self.new)) }
-        ensures made { (sweep : Sweep) × IsRoundBy kind (engine_sizes engine.now) long (view_of self.old) sweep (view_of self.new) }
+        ensures round { IfOk result (λ sweep.
+            IsRoundBy kind (engine_sizes engine.now) long (view_of self.old) sweep
+            (view_of self.new)) }
+        ensures made { (sweep : Sweep) ×
+            IsRoundBy kind (engine_sizes engine.now) long (view_of self.old) sweep
+            (view_of self.new) }
         ensures own { is_of engine.now self.new };
 }
 
@@ -77,13 +81,19 @@ fn sweep_intervals<R: Wait, L: Ledger>(
     engine: &Engine,
     blank: Blank,
 ) -> Result<Sweep, NoMemory>
-    requires own { one.IsCollectorOf (engine_board_id engine.now) (engine_sizes engine.now) collector.old }
+    requires own { one.IsCollectorOf (engine_board_id engine.now) (engine_sizes engine.now)
+        collector.old }
     requires name { blank.name ≡ L.name }
     requires parts { blank.parts ≡ L.parts }
     requires some { 0 < blank.parts }
-    ensures round { IfOk result (λ sweep. IsRoundBy kinds.Interval (engine_sizes engine.now) 0 (one.view_of collector.old) sweep (one.view_of collector.new)) }
-    ensures made { (sweep : Sweep) × IsRoundBy kinds.Interval (engine_sizes engine.now) 0 (one.view_of collector.old) sweep (one.view_of collector.new) }
-    ensures own { one.IsCollectorOf (engine_board_id engine.now) (engine_sizes engine.now) collector.new }
+    ensures round { IfOk result (λ sweep.
+        IsRoundBy kinds.Interval (engine_sizes engine.now) 0 (one.view_of collector.old) sweep
+        (one.view_of collector.new)) }
+    ensures made { (sweep : Sweep) ×
+        IsRoundBy kinds.Interval (engine_sizes engine.now) 0 (one.view_of collector.old) sweep
+        (one.view_of collector.new) }
+    ensures own { one.IsCollectorOf (engine_board_id engine.now) (engine_sizes engine.now)
+        collector.new }
 {
     let mut steps: Steps<L> = Steps::new(blank);
     collector.collect(rt, engine.trackers(), engine.store(), &mut steps);
@@ -98,8 +108,12 @@ fn sweep_beside<R: Threads + Wait + Sync, G: Gate + Sync>(
     gate: &G,
 ) -> Result<Sweep, NoMemory>
     requires own { teams.IsTeamOf (engine_board_id engine.now) (engine_sizes engine.now) team.old }
-    ensures round { IfOk result (λ sweep. IsRoundBy kinds.Interval (engine_sizes engine.now) 0 (teams.view_of team.old) sweep (teams.view_of team.new)) }
-    ensures made { (sweep : Sweep) × IsRoundBy kinds.Interval (engine_sizes engine.now) 0 (teams.view_of team.old) sweep (teams.view_of team.new) }
+    ensures round { IfOk result (λ sweep.
+        IsRoundBy kinds.Interval (engine_sizes engine.now) 0 (teams.view_of team.old) sweep
+        (teams.view_of team.new)) }
+    ensures made { (sweep : Sweep) ×
+        IsRoundBy kinds.Interval (engine_sizes engine.now) 0 (teams.view_of team.old) sweep
+        (teams.view_of team.new) }
     ensures own { teams.IsTeamOf (engine_board_id engine.now) (engine_sizes engine.now) team.new }
 {
     team.collect(rt, engine.trackers(), engine.store(), gate);
@@ -114,10 +128,16 @@ pub(crate) fn sweep_round<R: Threads + Wait + Sync, G: Gate + Sync>(
     gate: &G,
     worker: &mut IntervalWorker,
 ) -> Result<Sweep, NoMemory>
-    requires own { interval.IsCollectorOf (engine_board_id engine.now) (engine_sizes engine.now) worker.old }
-    ensures round { IfOk result (λ sweep. IsRoundBy kinds.Interval (engine_sizes engine.now) 0 (interval.view_of worker.old) sweep (interval.view_of worker.new)) }
-    ensures made { (sweep : Sweep) × IsRoundBy kinds.Interval (engine_sizes engine.now) 0 (interval.view_of worker.old) sweep (interval.view_of worker.new) }
-    ensures own { interval.IsCollectorOf (engine_board_id engine.now) (engine_sizes engine.now) worker.new }
+    requires own { interval.IsCollectorOf (engine_board_id engine.now) (engine_sizes engine.now)
+        worker.old }
+    ensures round { IfOk result (λ sweep.
+        IsRoundBy kinds.Interval (engine_sizes engine.now) 0 (interval.view_of worker.old) sweep
+        (interval.view_of worker.new)) }
+    ensures made { (sweep : Sweep) ×
+        IsRoundBy kinds.Interval (engine_sizes engine.now) 0 (interval.view_of worker.old) sweep
+        (interval.view_of worker.new) }
+    ensures own { interval.IsCollectorOf (engine_board_id engine.now) (engine_sizes engine.now)
+        worker.new }
 {
     match worker {
         IntervalWorker::One(one) => sweep_intervals::<R, Brand>(one, rt, engine, Blank::new(1)),

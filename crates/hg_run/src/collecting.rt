@@ -43,7 +43,8 @@ impl Collectors {
         requires tables { tables ≤ 64 }
         requires sweepers { sweepers ≤ 16 }
         ensures same { IfOk result (λ c. passes_of c ≡ passes) }
-        ensures own { (e : Engine) → AreAlone e passes → (engine_sizes e).sessions ≡ sessions → (engine_sizes e).tables ≡ tables → IfOk result (AreCollectors e) }
+        ensures own { (e : Engine) → AreAlone e passes → (engine_sizes e).sessions ≡ sessions →
+            (engine_sizes e).tables ≡ tables → IfOk result (AreCollectors e) }
     {
         let Passes {
             group,
@@ -125,10 +126,15 @@ impl Collectors {
         long: u64,
     ) -> Result<Sweep, NoMemory>
         requires own { AreCollectors engine.now self.old }
-        ensures round { IfOk result (λ sweep. IsRoundBy kind (engine_sizes engine.now) long (view_in kind self.old) sweep (view_in kind self.new)) }
+        ensures round { IfOk result (λ sweep.
+            IsRoundBy kind (engine_sizes engine.now) long (view_in kind self.old) sweep
+            (view_in kind self.new)) }
         ensures others { (k : Kind) → k ≢ kind → view_in k self.new ≡ view_in k self.old }
-        ensures swept { IfOk result (λ sweep. HasSwept kind (engine_sizes engine.now).sessions (view_in kind self.old) sweep (view_in kind self.new)) }
-        ensures removed { IfOk result (λ sweep. (k : Kind) → removed_of k self.new ≡ removed_of k self.old + swept_by k sweep) }
+        ensures swept { IfOk result (λ sweep.
+            HasSwept kind (engine_sizes engine.now).sessions (view_in kind self.old) sweep
+            (view_in kind self.new)) }
+        ensures removed { IfOk result (λ sweep.
+            (k : Kind) → removed_of k self.new ≡ removed_of k self.old + swept_by k sweep) }
         ensures own { AreCollectors engine.now self.new }
     {
         match kind {

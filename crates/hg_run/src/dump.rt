@@ -46,7 +46,8 @@ use std::thread::Threads;
 
 // The title of a part: `snapshot,` and a number.
 fn title(alloc: Global, at: u64) -> Result<String, AllocError>
-    ensures { IfOk result (λ text. string_bytes text ≡ codes "snapshot," ++ (decimal at ++ codes "\n")) }
+    ensures { IfOk result
+        (λ text. string_bytes text ≡ codes "snapshot," ++ (decimal at ++ codes "\n")) }
 {
     format!(in alloc; "snapshot,{at}\n")
 }
@@ -76,11 +77,13 @@ pub fn dump_on<'a, R: Threads + Wait + Sync, G: Gate + Sync>(
     into: &mut Vec<u8>,
 ) -> Result<(Transcript<'a>, u64), NoMemory>
     requires lawful { IsLawful script.now }
-    requires sessions { length sessions.old ≡ max 1 (greatest (map (λ r. r.session) script.now.records)) }
+    requires sessions { length sessions.old ≡
+        max 1 (greatest (map (λ r. r.session) script.now.records)) }
     requires more { (engine_sizes engine.now).sessions ≡ suc (length sessions.old) }
     requires tables { (engine_sizes engine.now).tables ≡ length script.now.tables }
     requires some { 0 < (engine_sizes engine.now).buckets }
-    requires quota { (j : ℕ) → length (of_session j script.now.records) ≤ (engine_sizes engine.now).quota }
+    requires quota { (j : ℕ) →
+        length (of_session j script.now.records) ≤ (engine_sizes engine.now).quota }
     requires new { EachFrom (IsNewOf engine.now (engine_sizes engine.now).quota) 1 sessions.old }
     requires collectors { AreCollectors engine.now collectors.old }
     requires extra { MayExport (engine_board_id engine.now) (engine_sizes engine.now) extra.old }
@@ -91,7 +94,9 @@ pub fn dump_on<'a, R: Threads + Wait + Sync, G: Gate + Sync>(
     ensures closed { EachFrom (IsClosed engine.now) 1 sessions.new }
     ensures cursors { Each (λ s. cursor_of s ≡ None) sessions.new }
     ensures collectors { AreCollectors engine.now collectors.new }
-    ensures dumped { IfOk result (λ r. HasDumped engine.now script.now r.1 (session_view extra.old) (session_view extra.new) into.old.items into.new.items) }
+    ensures dumped { IfOk result (λ r.
+        HasDumped engine.now script.now r.1 (session_view extra.old) (session_view extra.new)
+        into.old.items into.new.items) }
     ensures refused { OnErr result (into.new.items ≡ into.old.items) }
     ensures extra { IsSessionOf (engine_board_id engine.now) (engine_sizes engine.now) extra.new }
 {
@@ -105,15 +110,19 @@ pub fn dump_on<'a, R: Threads + Wait + Sync, G: Gate + Sync>(
         rt,
         &mut ||
             requires { MayDrive engine.now script.now sessions.now collectors.now }
-            ensures { HasDriven engine.entry.now options.entry.now script.entry.now sessions.entry.now collectors.entry.now result sessions.exit.now collectors.exit.now }
+            ensures { HasDriven engine.entry.now options.entry.now script.entry.now
+                sessions.entry.now collectors.entry.now result sessions.exit.now
+                collectors.exit.now }
         {
             run_on(
                 rt, alloc, script, options, gate, engine, sessions, collectors,
             )
         },
         &mut ||
-            requires { MayExport (engine_board_id (engine_in reader)) (engine_sizes (engine_in reader)) extra.now }
-            ensures { HasTried (engine_in reader.entry) (script_in reader.entry) result extra.entry.now extra.exit.now into.entry.now.items into.exit.now.items }
+            requires { MayExport (engine_board_id (engine_in reader))
+                (engine_sizes (engine_in reader)) extra.now }
+            ensures { HasTried (engine_in reader.entry) (script_in reader.entry) result
+                extra.entry.now extra.exit.now into.entry.now.items into.exit.now.items }
         { reader.work(rt, gate, extra, into) },
     );
     match (driven, read) {
@@ -146,7 +155,9 @@ fn run_and_read<'a, R: Threads + Wait + Sync, G: Gate + Sync>(
     requires lawful { IsLawful script.now }
     requires within { AreWithin options.now }
     requires empty { (dumps.old.first.items ≡ []) × (dumps.old.last.items ≡ []) }
-    ensures read { IfOk result (λ r. HasReadBoth (settings_in (run options.now.rounds) options.now) script.now r.0.lines r.1 dumps.new) }
+    ensures read { IfOk result (λ r.
+        HasReadBoth (settings_in (run options.now.rounds) options.now) script.now r.0.lines r.1
+        dumps.new) }
     ensures tables { IfOk result (λ r. r.0.tables ≡ script.now.tables) }
 {
     let (engine, list, collectors, extra) = open_beside(alloc, script, options)?;
@@ -209,7 +220,8 @@ pub(crate) fn dump_all<R: Threads + Wait + Sync, G: Gate + Sync>(
 ) -> Result<Vec<u8>, NoMemory>
     requires lawful { IsLawful script.now }
     requires within { AreWithin options.now }
-    ensures { IfOk result (λ text. IsDumpedFor (settings_in (run options.now.rounds) options.now) script.now text.items) }
+    ensures { IfOk result (λ text.
+        IsDumpedFor (settings_in (run options.now.rounds) options.now) script.now text.items) }
 {
     let pace = Pace::new(alloc, script, options.rounds, gate)?;
     let mut dumps = Dumps {

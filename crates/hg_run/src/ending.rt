@@ -55,10 +55,14 @@ fn close_at<R: Wait>(rt: &R, engine: &Engine, list: &mut Vec<Session>, i: usize)
     requires own { (d : Session) → IsOf engine.now (get_or list.old.items i d) }
     ensures many { length list.new.items ≡ length list.old.items }
     ensures closed { (d : Session) → open_of (get_or list.new.items i d) ≡ None }
-    ensures closes { (d : Session) → Closes (log_of (get_or list.old.items i d)) (log_of (get_or list.new.items i d)) }
-    ensures number { (d : Session) → number_of (get_or list.new.items i d) ≡ number_of (get_or list.old.items i d) }
-    ensures kept { (d : Session) → StartsWith (seen_by (get_or list.new.items i d)) (seen_by (get_or list.old.items i d)) }
-    ensures rest { (d : Session) (k : ℕ) → k ≢ i → get_or list.new.items k d ≡ get_or list.old.items k d }
+    ensures closes { (d : Session) →
+        Closes (log_of (get_or list.old.items i d)) (log_of (get_or list.new.items i d)) }
+    ensures number { (d : Session) →
+        number_of (get_or list.new.items i d) ≡ number_of (get_or list.old.items i d) }
+    ensures kept { (d : Session) →
+        StartsWith (seen_by (get_or list.new.items i d)) (seen_by (get_or list.old.items i d)) }
+    ensures rest { (d : Session) (k : ℕ) → k ≢ i →
+        get_or list.new.items k d ≡ get_or list.old.items k d }
     ensures own { (d : Session) → IsOf engine.now (get_or list.new.items i d) }
 {
     close_one(rt, engine, &mut list[i]);
@@ -66,11 +70,13 @@ fn close_at<R: Wait>(rt: &R, engine: &Engine, list: &mut Vec<Session>, i: usize)
 
 /// Closes every open cursor and rolls every open transaction back, in the order of sessions.
 pub(crate) fn close_all<R: Wait>(rt: &R, engine: &Engine, list: &mut Vec<Session>)
-    requires { (d : Session) (k : ℕ) → k < length list.old.items → IsPlaced engine.now k (get_or list.old.items k d) }
+    requires { (d : Session) (k : ℕ) → k < length list.old.items →
+        IsPlaced engine.now k (get_or list.old.items k d) }
     ensures many { length list.new.items ≡ length list.old.items }
     ensures closed { EachFrom (IsClosed engine.now) 1 list.new.items }
     ensures closes { (j : ℕ) → Closes (logs_of list.old.items j) (logs_of list.new.items j) }
-    ensures kept { (d : Session) (k : ℕ) → k < length list.old.items → StartsWith (seen_by (get_or list.new.items k d)) (seen_by (get_or list.old.items k d)) }
+    ensures kept { (d : Session) (k : ℕ) → k < length list.old.items →
+        StartsWith (seen_by (get_or list.new.items k d)) (seen_by (get_or list.old.items k d)) }
 {
     for i in 0..list.len() {
         close_at(rt, engine, list, i);
@@ -138,8 +144,10 @@ pub(crate) fn close_read<R: Wait>(
     requires many { suc (length list.items) ≡ (engine_sizes (engine_in reader.now)).sessions }
     requires closed { EachFrom (IsClosed (engine_in reader.now)) 1 list.items }
     requires collectors { AreCollectors (engine_in reader.now) collectors }
-    requires reads { MayExport (engine_board_id (engine_in reader.now)) (engine_sizes (engine_in reader.now)) pass }
-    requires last { IsClosed (engine_in reader.now) (suc (length list.items)) (seated (alloc_in reader.now) 0 pass) }
+    requires reads { MayExport (engine_board_id (engine_in reader.now))
+        (engine_sizes (engine_in reader.now)) pass }
+    requires last { IsClosed (engine_in reader.now) (suc (length list.items))
+        (seated (alloc_in reader.now) 0 pass) }
     ensures closed { IfOk result (λ r. IsReadAndClosed (alloc_in reader.now) (engine_in reader.now) (script_in reader.now)
         list.items collectors pass into.old.items into.new.items r.0 r.1) }
     ensures refused { OnErr result (into.new.items ≡ into.old.items) }

@@ -36,11 +36,16 @@ fn meet_at(
     requires own { (d : Session) → IsOf engine.now (get_or list.old.items i d) }
     requires collectors { AreCollectors engine.now collectors.old }
     ensures many { length list.new.items ≡ length list.old.items }
-    ensures met { (d : Session) → HasMetPass (view_in kind collectors.old) (get_or list.old.items i d) (get_or list.new.items i d) }
-    ensures rest { (d : Session) (k : ℕ) → k ≢ i → get_or list.new.items k d ≡ get_or list.old.items k d }
+    ensures met { (d : Session) →
+        HasMetPass (view_in kind collectors.old) (get_or list.old.items i d)
+        (get_or list.new.items i d) }
+    ensures rest { (d : Session) (k : ℕ) → k ≢ i →
+        get_or list.new.items k d ≡ get_or list.old.items k d }
     ensures own { (d : Session) → IsOf engine.now (get_or list.new.items i d) }
-    ensures pass { (k : Kind) → HasMetSessions (view_in k collectors.old) (view_in k collectors.new) }
-    ensures heard { (d : Session) → AreAmong (seen_by (get_or list.old.items i d)) (view_in kind collectors.new).sights }
+    ensures pass { (k : Kind) →
+        HasMetSessions (view_in k collectors.old) (view_in k collectors.new) }
+    ensures heard { (d : Session) →
+        AreAmong (seen_by (get_or list.old.items i d)) (view_in kind collectors.new).sights }
     ensures removed { (k : Kind) → removed_of k collectors.new ≡ removed_of k collectors.old }
     ensures collectors { AreCollectors engine.now collectors.new }
 {
@@ -49,12 +54,17 @@ fn meet_at(
 
 // Each session does.
 fn meet_all(engine: &Engine, list: &mut Vec<Session>, collectors: &mut Collectors, kind: Kind)
-    requires own { (d : Session) (k : ℕ) → k < length list.old.items → IsOf engine.now (get_or list.old.items k d) }
+    requires own { (d : Session) (k : ℕ) → k < length list.old.items →
+        IsOf engine.now (get_or list.old.items k d) }
     requires collectors { AreCollectors engine.now collectors.old }
     ensures many { length list.new.items ≡ length list.old.items }
-    ensures met { (d : Session) (k : ℕ) → k < length list.old.items → HasMetPass (view_in kind collectors.old) (get_or list.old.items k d) (get_or list.new.items k d) }
-    ensures own { (d : Session) (k : ℕ) → k < length list.old.items → IsOf engine.now (get_or list.new.items k d) }
-    ensures pass { (k : Kind) → HasMetSessions (view_in k collectors.old) (view_in k collectors.new) }
+    ensures met { (d : Session) (k : ℕ) → k < length list.old.items →
+        HasMetPass (view_in kind collectors.old) (get_or list.old.items k d)
+        (get_or list.new.items k d) }
+    ensures own { (d : Session) (k : ℕ) → k < length list.old.items →
+        IsOf engine.now (get_or list.new.items k d) }
+    ensures pass { (k : Kind) →
+        HasMetSessions (view_in k collectors.old) (view_in k collectors.new) }
     ensures removed { (k : Kind) → removed_of k collectors.new ≡ removed_of k collectors.old }
     ensures collectors { AreCollectors engine.now collectors.new }
 {
@@ -75,10 +85,16 @@ pub(crate) fn sweep<R: Threads + Wait + Sync>(
 ) -> Result<Reply, NoMemory>
     requires ready { AreReady engine.now i none_left list.old.items }
     requires collectors { AreCollectors engine.now collectors.old }
-    ensures replied { IfOk result (λ reply. Replies engine.now list.old.items i (say.Gc kind) reply list.new.items) }
-    ensures ready { OnOk result ((left : ℕ → ℕ) → AreReady engine.now i left list.old.items → AreReady engine.now i left list.new.items) }
-    ensures removed { IfOk result (λ reply. (k : Kind) → removed_of k collectors.new ≡ removed_of k collectors.old + told_of k reply) }
-    ensures rounds { IfOk result (λ reply. HaveMade (engine_sizes engine.now) long collectors.old (λ k. sweeps_in k reply) collectors.new) }
+    ensures replied { IfOk result
+        (λ reply. Replies engine.now list.old.items i (say.Gc kind) reply list.new.items) }
+    ensures ready { OnOk result ((left : ℕ → ℕ) → AreReady engine.now i left list.old.items →
+        AreReady engine.now i left list.new.items) }
+    ensures removed { IfOk result (λ reply.
+        (k : Kind) →
+        removed_of k collectors.new ≡ removed_of k collectors.old + told_of k reply) }
+    ensures rounds { IfOk result (λ reply.
+        HaveMade (engine_sizes engine.now) long collectors.old (λ k. sweeps_in k reply)
+        collectors.new) }
     ensures placed { ArePlaced engine.now list.new.items }
     ensures collectors { AreCollectors engine.now collectors.new }
 {

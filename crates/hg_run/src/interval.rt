@@ -39,7 +39,9 @@ impl IntervalWorker {
         requires tables { tables ≤ 64 }
         requires helpers { helpers ≤ 16 }
         ensures same { IfOk result (λ w. pass_of w ≡ pass) }
-        ensures own { (e : Engine) (p : ℕ) → IsAlonePass (engine_board_id e) p pass → (engine_sizes e).sessions ≡ sessions → (engine_sizes e).tables ≡ tables → IfOk result (IsCollectorOf (engine_board_id e) (engine_sizes e)) }
+        ensures own { (e : Engine) (p : ℕ) → IsAlonePass (engine_board_id e) p pass →
+            (engine_sizes e).sessions ≡ sessions → (engine_sizes e).tables ≡ tables →
+            IfOk result (IsCollectorOf (engine_board_id e) (engine_sizes e)) }
     {
         if helpers > 1 {
             let Ok(team) = SweepTeam::new(alloc, pass, helpers, sessions, tables) else {
@@ -65,13 +67,17 @@ impl IntervalWorker {
 
     /// A session meets the pass, between two rounds.
     pub(crate) fn meet(&mut self, engine: &Engine, session: &mut Session)
-        requires own { IsCollectorOf (engine_board_id engine.now) (engine_sizes engine.now) self.old × IsOf engine.now session.old }
-        ensures agrees { AgreesWith (view_of self.old) (number_of session.old) (session_part (session_view session.old)) }
+        requires own { IsCollectorOf (engine_board_id engine.now) (engine_sizes engine.now) self.old
+            × IsOf engine.now session.old }
+        ensures agrees { AgreesWith (view_of self.old) (number_of session.old)
+            (session_part (session_view session.old)) }
         ensures pass { view_of self.new ≡ meeting (view_of self.old) (session_view session.old) }
-        ensures view { session_view session.new ≡ meeting (session_view session.old) (view_of self.new) }
+        ensures view { session_view session.new ≡
+            meeting (session_view session.old) (view_of self.new) }
         ensures kept { left_of session.new ≡ left_of session.old }
         ensures cursor { cursor_of session.new ≡ cursor_of session.old }
-        ensures own { IsCollectorOf (engine_board_id engine.now) (engine_sizes engine.now) self.new × IsOf engine.now session.new }
+        ensures own { IsCollectorOf (engine_board_id engine.now) (engine_sizes engine.now) self.new
+            × IsOf engine.now session.new }
     {
         match self {
             IntervalWorker::One(one) => session.meet_pass(engine, one.lend()),

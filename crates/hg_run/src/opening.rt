@@ -17,7 +17,8 @@ use std::alloc::Global;
 // The tables that a script declares, each with its columns. An engine counts them, and reads no columns.
 fn declared(alloc: Global, script: &Script) -> Result<Vec<TableDecl>, NoMemory>
     ensures many { IfOk result (λ tables. length tables.items ≡ length script.now.tables) }
-    ensures columns { IfOk result (λ tables. map (λ t. t.columns) tables.items ≡ map (λ d. length d.kinds) script.now.tables) }
+    ensures columns { IfOk result (λ tables.
+        map (λ t. t.columns) tables.items ≡ map (λ d. length d.kinds) script.now.tables) }
 {
     let mut tables = Vec::new(alloc);
     for table in script.tables() {

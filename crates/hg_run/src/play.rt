@@ -60,10 +60,17 @@ fn reply_at<R: Threads + Wait + Sync>(
     requires may { (d : Session) → MayAsk (get_or list.old.items i d) statement }
     requires tables { IsOnTables (engine_sizes engine.now).tables statement }
     requires collectors { AreCollectors engine.now collectors.old }
-    ensures replied { IfOk result (λ reply. Replies engine.now list.old.items i statement reply list.new.items) }
-    ensures ready { OnOk result ((left : ℕ → ℕ) → AreReady engine.now i (one_more (suc i) left) list.old.items → AreReady engine.now i left list.new.items) }
-    ensures removed { IfOk result (λ reply. (k : Kind) → removed_of k collectors.new ≡ removed_of k collectors.old + told_of k reply) }
-    ensures rounds { IfOk result (λ reply. HaveMade (engine_sizes engine.now) long collectors.old (λ k. sweeps_in k reply) collectors.new) }
+    ensures replied { IfOk result
+        (λ reply. Replies engine.now list.old.items i statement reply list.new.items) }
+    ensures ready { OnOk result ((left : ℕ → ℕ) →
+        AreReady engine.now i (one_more (suc i) left) list.old.items →
+        AreReady engine.now i left list.new.items) }
+    ensures removed { IfOk result (λ reply.
+        (k : Kind) →
+        removed_of k collectors.new ≡ removed_of k collectors.old + told_of k reply) }
+    ensures rounds { IfOk result (λ reply.
+        HaveMade (engine_sizes engine.now) long collectors.old (λ k. sweeps_in k reply)
+        collectors.new) }
     ensures placed { ArePlaced engine.now list.new.items }
     ensures collectors { AreCollectors engine.now collectors.new }
 {
@@ -84,14 +91,18 @@ pub(crate) fn play<'a, R: Threads + Wait + Sync>(
     long: u64,
 ) -> Result<Transcript<'a>, NoMemory>
     requires lawful { IsLawful script.now }
-    requires sessions { (engine_sizes engine.now).sessions ≡ max 1 (greatest (map (λ r. r.session) script.now.records)) }
+    requires sessions { (engine_sizes engine.now).sessions ≡
+        max 1 (greatest (map (λ r. r.session) script.now.records)) }
     requires tables { (engine_sizes engine.now).tables ≡ length script.now.tables }
     requires some { 0 < (engine_sizes engine.now).buckets }
-    requires ready { AreReady engine.now 0 (λ j. length (of_session j script.now.records)) list.old.items }
+    requires ready { AreReady engine.now 0 (λ j. length (of_session j script.now.records))
+        list.old.items }
     requires none { (j : ℕ) → logs_of list.old.items j ≡ [] }
     requires collectors { AreCollectors engine.now collectors.old }
     ensures tables { IfOk result (λ transcript. transcript.tables ≡ script.now.tables) }
-    ensures played { IfOk result (λ transcript. HasPlayed engine.now long collectors.old collectors.new list.new.items script.now transcript.lines) }
+    ensures played { IfOk result (λ transcript.
+        HasPlayed engine.now long collectors.old collectors.new list.new.items script.now
+        transcript.lines) }
     ensures placed { ArePlaced engine.now list.new.items }
     ensures collectors { AreCollectors engine.now collectors.new }
 {

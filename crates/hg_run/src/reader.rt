@@ -35,12 +35,14 @@ impl<'a> Reader<'a> {
         pass: &mut SessionPass,
         into: &mut Vec<u8>,
     ) -> Result<u64, NoMemory>
-        requires { MayExport (engine_board_id (engine_in self.now)) (engine_sizes (engine_in self.now)) pass.old }
+        requires { MayExport (engine_board_id (engine_in self.now))
+            (engine_sizes (engine_in self.now)) pass.old }
         ensures dumped { IfOk result (λ at. HasDumped (engine_in self.now) (script_in self.now) at
             (session_view pass.old) (session_view pass.new) into.old.items into.new.items) }
         ensures starts { StartsWith into.new.items into.old.items }
         ensures refused { OnErr result (into.new.items ≡ into.old.items) }
-        ensures own { IsSessionOf (engine_board_id (engine_in self.now)) (engine_sizes (engine_in self.now)) pass.new }
+        ensures own { IsSessionOf (engine_board_id (engine_in self.now))
+            (engine_sizes (engine_in self.now)) pass.new }
     {
         export(
             rt,
@@ -61,12 +63,14 @@ impl<'a> Reader<'a> {
         pass: &mut SessionPass,
         into: &mut Vec<u8>,
     ) -> Result<u64, NoMemory>
-        requires { MayExport (engine_board_id (engine_in self.now)) (engine_sizes (engine_in self.now)) pass.old }
+        requires { MayExport (engine_board_id (engine_in self.now))
+            (engine_sizes (engine_in self.now)) pass.old }
         ensures dumped { IfOk result (λ at. HasDumped (engine_in self.now) (script_in self.now) at
             (session_view pass.old) (session_view pass.new) into.old.items into.new.items) }
         ensures starts { StartsWith into.new.items into.old.items }
         ensures refused { OnErr result (into.new.items ≡ into.old.items) }
-        ensures own { IsSessionOf (engine_board_id (engine_in self.now)) (engine_sizes (engine_in self.now)) pass.new }
+        ensures own { IsSessionOf (engine_board_id (engine_in self.now))
+            (engine_sizes (engine_in self.now)) pass.new }
     {
         gate.at(rt, READER, 1);
         let at = self.read(rt, pass, into);

@@ -45,15 +45,21 @@ pub fn replay_on<'a, R: Threads + Wait + Sync>(
     collectors: &mut Collectors,
 ) -> Result<Transcript<'a>, NoMemory>
     requires lawful { IsLawful script.now }
-    requires sessions { (engine_sizes engine.now).sessions ≡ max 1 (greatest (map (λ r. r.session) script.now.records)) }
+    requires sessions { (engine_sizes engine.now).sessions ≡
+        max 1 (greatest (map (λ r. r.session) script.now.records)) }
     requires tables { (engine_sizes engine.now).tables ≡ length script.now.tables }
     requires some { 0 < (engine_sizes engine.now).buckets }
-    requires quota { (j : ℕ) → length (of_session j script.now.records) ≤ (engine_sizes engine.now).quota }
+    requires quota { (j : ℕ) →
+        length (of_session j script.now.records) ≤ (engine_sizes engine.now).quota }
     requires all { length sessions.old ≡ (engine_sizes engine.now).sessions }
     requires new { EachFrom (IsNewOf engine.now (engine_sizes engine.now).quota) 1 sessions.old }
     requires collectors { AreCollectors engine.now collectors.old }
-    ensures driven { IfOk result (λ transcript. HasDrivenOne (engine_sizes engine.now) options.now.long script.now.records sessions.old collectors.old transcript.lines sessions.new collectors.new) }
-    ensures played { IfOk result (λ transcript. HasPlayedOut engine.now collectors.old collectors.new sessions.new script.now transcript.lines) }
+    ensures driven { IfOk result (λ transcript.
+        HasDrivenOne (engine_sizes engine.now) options.now.long script.now.records sessions.old
+        collectors.old transcript.lines sessions.new collectors.new) }
+    ensures played { IfOk result (λ transcript.
+        HasPlayedOut engine.now collectors.old collectors.new sessions.new script.now
+        transcript.lines) }
     ensures tables { IfOk result (λ transcript. transcript.tables ≡ script.now.tables) }
     ensures many { length sessions.new ≡ length sessions.old }
     ensures closed { EachFrom (IsClosed engine.now) 1 sessions.new }
@@ -84,9 +90,11 @@ pub(crate) fn replay_lines<'a, R: Threads + Wait + Sync>(
 ) -> Result<(Transcript<'a>, Totals), NoMemory>
     requires lawful { IsLawful script.now }
     requires within { AreWithin options.now }
-    ensures sound { IfOk result (λ p. IsSound replay script.now (record { lines = p.0.lines; totals = p.1 })) }
+    ensures sound { IfOk result
+        (λ p. IsSound replay script.now (record { lines = p.0.lines; totals = p.1 })) }
     ensures fit { IfOk result (λ p. IsFit script.now (record { lines = p.0.lines; totals = p.1 })) }
-    ensures rounds { IfOk result (λ p. ReportsRounds (settings_in replay options.now) script.now p.0.lines) }
+    ensures rounds { IfOk result
+        (λ p. ReportsRounds (settings_in replay options.now) script.now p.0.lines) }
     ensures tables { IfOk result (λ p. p.0.tables ≡ script.now.tables) }
 {
     let (engine, list, collectors) = open_for(alloc, script, options)?;
@@ -114,7 +122,8 @@ pub(crate) fn replay<R: Threads + Wait + Sync>(
 ) -> Result<Vec<u8>, NoMemory>
     requires lawful { IsLawful script.now }
     requires within { AreWithin options.now }
-    ensures { IfOk result (λ text. IsPrintedFor (settings_in replay options.now) script.now text.items) }
+    ensures { IfOk result
+        (λ text. IsPrintedFor (settings_in replay options.now) script.now text.items) }
 {
     let (transcript, totals) = replay_lines(rt, alloc, script, options)?;
     let text = transcript.with_totals(&totals)?;

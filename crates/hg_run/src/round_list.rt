@@ -59,7 +59,8 @@ pub(crate) fn make_rounds<C: Collect, G: Gate, R: Wait>(
 )
     requires own { C.is_of engine.now collector.old }
     requires places { HasPlaces plan.now.rounds told.old }
-    ensures made { HasMadeAll C.kind (engine_sizes engine.now) plan.now.long plan.now.rounds (C.view_of collector.old) told.new (C.view_of collector.new) }
+    ensures made { HasMadeAll C.kind (engine_sizes engine.now) plan.now.long plan.now.rounds
+        (C.view_of collector.old) told.new (C.view_of collector.new) }
     ensures own { C.is_of engine.now collector.new }
 {
     for round in 0..plan.rounds {
@@ -81,10 +82,13 @@ pub(crate) fn make_sweeps<G: Gate + Sync, R: Threads + Wait + Sync>(
     collector: &mut IntervalWorker,
     told: &mut RoundList,
 )
-    requires own { interval.IsCollectorOf (engine_board_id engine.now) (engine_sizes engine.now) collector.old }
+    requires own { interval.IsCollectorOf (engine_board_id engine.now) (engine_sizes engine.now)
+        collector.old }
     requires places { HasPlaces plan.now.rounds told.old }
-    ensures made { HasMadeAll kinds.Interval (engine_sizes engine.now) plan.now.long plan.now.rounds (interval.view_of collector.old) told.new (interval.view_of collector.new) }
-    ensures own { interval.IsCollectorOf (engine_board_id engine.now) (engine_sizes engine.now) collector.new }
+    ensures made { HasMadeAll kinds.Interval (engine_sizes engine.now) plan.now.long plan.now.rounds
+        (interval.view_of collector.old) told.new (interval.view_of collector.new) }
+    ensures own { interval.IsCollectorOf (engine_board_id engine.now) (engine_sizes engine.now)
+        collector.new }
 {
     for round in 0..plan.rounds {
         plan.gate.at(rt, worker, round + 1);

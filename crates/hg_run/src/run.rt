@@ -82,7 +82,8 @@ fn retire(workers: Vec<Worker>, sessions: Vec<Session>) -> Vec<Session>
 
 // Adds the lines of a collector's rounds, of which none was refused memory.
 fn add_rounds(transcript: &mut Transcript, told: RoundList) -> Result<(), NoMemory>
-    ensures lines { OnOk result (transcript.new.lines ≡ transcript.old.lines ++ sweep_lines 1 told.sweeps.items) }
+    ensures lines { OnOk result
+        (transcript.new.lines ≡ transcript.old.lines ++ sweep_lines 1 told.sweeps.items) }
     ensures tables { transcript.new.tables ≡ transcript.old.tables }
     ensures willing { OnOk result (told.refused ≡ false) }
 {
@@ -109,7 +110,12 @@ fn gather<'a>(
     told: RoundLists,
 ) -> Result<Transcript<'a>, NoMemory>
     requires { Each (λ (w : Worker). w.transcript.tables ≡ script.now.tables) workers.now }
-    ensures lines { IfOk result (λ transcript. transcript.lines ≡ lines_in workers.now ++ (sweep_lines 1 told.group.sweeps.items ++ (sweep_lines 1 told.table.sweeps.items ++ sweep_lines 1 told.interval.sweeps.items))) }
+    ensures lines { IfOk result (λ transcript.
+        transcript.lines ≡
+        lines_in workers.now ++
+        (sweep_lines 1 told.group.sweeps.items ++
+        (sweep_lines 1 told.table.sweeps.items ++
+        sweep_lines 1 told.interval.sweeps.items))) }
     ensures tables { IfOk result (λ transcript. transcript.tables ≡ script.now.tables) }
     ensures willing { OnOk result (AreWilling workers.now told) }
 {
@@ -146,14 +152,19 @@ pub fn run_on<'a, R: Threads + Wait + Sync, G: Gate + Sync>(
     collectors: &mut Collectors,
 ) -> Result<Transcript<'a>, NoMemory>
     requires lawful { IsLawful script.now }
-    requires sessions { length sessions.old ≡ max 1 (greatest (map (λ r. r.session) script.now.records)) }
+    requires sessions { length sessions.old ≡
+        max 1 (greatest (map (λ r. r.session) script.now.records)) }
     requires tables { (engine_sizes engine.now).tables ≡ length script.now.tables }
     requires some { 0 < (engine_sizes engine.now).buckets }
-    requires quota { (j : ℕ) → length (of_session j script.now.records) ≤ (engine_sizes engine.now).quota }
+    requires quota { (j : ℕ) →
+        length (of_session j script.now.records) ≤ (engine_sizes engine.now).quota }
     requires most { length sessions.old ≤ (engine_sizes engine.now).sessions }
     requires new { EachFrom (IsNewOf engine.now (engine_sizes engine.now).quota) 1 sessions.old }
     requires collectors { AreCollectors engine.now collectors.old }
-    ensures driven { IfOk result (λ transcript. HasDrivenAll (engine_sizes engine.now) options.now.long options.now.rounds script.now.records sessions.old collectors.old transcript.lines sessions.new collectors.new) }
+    ensures driven { IfOk result (λ transcript.
+        HasDrivenAll (engine_sizes engine.now) options.now.long options.now.rounds
+        script.now.records sessions.old collectors.old transcript.lines sessions.new
+        collectors.new) }
     ensures tables { IfOk result (λ transcript. transcript.tables ≡ script.now.tables) }
     ensures many { length sessions.new ≡ length sessions.old }
     ensures closed { EachFrom (IsClosed engine.now) 1 sessions.new }
@@ -201,7 +212,8 @@ pub(crate) fn run_all<R: Threads + Wait + Sync, G: Gate + Sync>(
 ) -> Result<Vec<u8>, NoMemory>
     requires lawful { IsLawful script.now }
     requires within { AreWithin options.now }
-    ensures { IfOk result (λ text. IsPrintedFor (settings_in (run options.now.rounds) options.now) script.now text.items) }
+    ensures { IfOk result (λ text.
+        IsPrintedFor (settings_in (run options.now.rounds) options.now) script.now text.items) }
 {
     let (engine, list, collectors) = open_for(alloc, script, options)?;
     let mut list = list;

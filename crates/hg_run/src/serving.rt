@@ -33,7 +33,8 @@ fn text_of_bytes<R: Threads + Wait + Sync, G: Gate + Sync>(
     gate: &G,
 ) -> Result<Vec<u8>, Status>
     requires { AreWithin options.now }
-    ensures text { IfOk result (λ text. IsTextFor (settings_of options.now) bytes.items text.items) }
+    ensures text { IfOk result
+        (λ text. IsTextFor (settings_of options.now) bytes.items text.items) }
     ensures refused { IfErr result (RefusesBytes (reads (settings_of options.now)) bytes.items) }
 {
     let script = read_script(alloc, &bytes)?;
@@ -54,9 +55,13 @@ fn text_of_source<R: Threads + Wait + Sync, S: Source, G: Gate + Sync>(
     gate: &G,
 ) -> Result<Vec<u8>, Status>
     requires { AreWithin options.now }
-    ensures text { IfOk result (λ text. Answers (reads (settings_of options.now)) (change_of S.left S.faults source.old source.new) text.items) }
-    ensures refused { IfErr result (RefusesTask (reads (settings_of options.now)) (change_of S.left S.faults source.old source.new)) }
-    ensures no_more { HasGiven (MOST_SCRIPT_BYTES + 1) (change_of S.left S.faults source.old source.new) }
+    ensures text { IfOk result (λ text.
+        Answers (reads (settings_of options.now))
+        (change_of S.left S.faults source.old source.new) text.items) }
+    ensures refused { IfErr result (RefusesTask (reads (settings_of options.now))
+        (change_of S.left S.faults source.old source.new)) }
+    ensures no_more { HasGiven (MOST_SCRIPT_BYTES + 1)
+        (change_of S.left S.faults source.old source.new) }
 {
     let bytes = read_all(alloc, source)?;
     text_of_bytes(rt, alloc, options, bytes, gate)
@@ -71,8 +76,10 @@ fn dump_of_bytes<R: Threads + Wait + Sync, G: Gate + Sync>(
     gate: &G,
 ) -> Result<Vec<u8>, Status>
     requires { AreWithin options.now }
-    ensures text { IfOk result (λ text. IsDumpFor (settings_in (run options.now.rounds) options.now) bytes.items text.items) }
-    ensures refused { IfErr result (RefusesBytes (dumps (settings_in (run options.now.rounds) options.now)) bytes.items) }
+    ensures text { IfOk result (λ text.
+        IsDumpFor (settings_in (run options.now.rounds) options.now) bytes.items text.items) }
+    ensures refused { IfErr result
+        (RefusesBytes (dumps (settings_in (run options.now.rounds) options.now)) bytes.items) }
 {
     let script = read_script(alloc, &bytes)?;
     drop(bytes);
@@ -93,7 +100,8 @@ fn dump_of_source<R: Threads + Wait + Sync, S: Source, G: Gate + Sync>(
         (change_of S.left S.faults source.old source.new) text.items) }
     ensures refused { IfErr result (RefusesTask (dumps (settings_in (run options.now.rounds) options.now))
         (change_of S.left S.faults source.old source.new)) }
-    ensures no_more { HasGiven (MOST_SCRIPT_BYTES + 1) (change_of S.left S.faults source.old source.new) }
+    ensures no_more { HasGiven (MOST_SCRIPT_BYTES + 1)
+        (change_of S.left S.faults source.old source.new) }
 {
     let bytes = read_all(alloc, source)?;
     dump_of_bytes(rt, alloc, options, bytes, gate)
@@ -101,9 +109,12 @@ fn dump_of_source<R: Threads + Wait + Sync, S: Source, G: Gate + Sync>(
 
 // The verdict on the text that follows the script in a source.
 fn audit_source<S: Source>(alloc: Global, source: &mut S) -> Result<Vec<u8>, Status>
-    ensures text { IfOk result (λ text. Answers audits (change_of S.left S.faults source.old source.new) text.items) }
-    ensures refused { IfErr result (RefusesTask audits (change_of S.left S.faults source.old source.new)) }
-    ensures no_more { HasGiven (MOST_SCRIPT_BYTES + 1) (change_of S.left S.faults source.old source.new) }
+    ensures text { IfOk result
+        (λ text. Answers audits (change_of S.left S.faults source.old source.new) text.items) }
+    ensures refused { IfErr result
+        (RefusesTask audits (change_of S.left S.faults source.old source.new)) }
+    ensures no_more { HasGiven (MOST_SCRIPT_BYTES + 1)
+        (change_of S.left S.faults source.old source.new) }
 {
     let bytes = read_all(alloc, source)?;
     audit_bytes(alloc, &bytes)
@@ -118,10 +129,14 @@ fn text_for<R: Threads + Wait + Sync, S: Source, G: Gate + Sync>(
     gate: &G,
 ) -> Result<Vec<u8>, Status>
     requires { AreWithin options.now }
-    ensures text { IfOk result (λ text. Answers (task_of options.now) (change_of S.left S.faults source.old source.new) text.items) }
-    ensures refused { IfErr result (RefusesTask (task_of options.now) (change_of S.left S.faults source.old source.new)) }
+    ensures text { IfOk result (λ text.
+        Answers (task_of options.now) (change_of S.left S.faults source.old source.new)
+        text.items) }
+    ensures refused { IfErr result
+        (RefusesTask (task_of options.now) (change_of S.left S.faults source.old source.new)) }
     ensures unread { IsMaking (task_of options.now) → source.new ≡ source.old }
-    ensures no_more { HasGiven (MOST_SCRIPT_BYTES + 1) (change_of S.left S.faults source.old source.new) }
+    ensures no_more { HasGiven (MOST_SCRIPT_BYTES + 1)
+        (change_of S.left S.faults source.old source.new) }
 {
     match options.command {
         Command::Load(seed) => Ok(load(rt, alloc, seed, options)?),
@@ -142,10 +157,12 @@ fn outcome<R: Threads + Wait + Sync, So: Source, Si: Sink, G: Gate + Sync>(
 ) -> Status
     ensures comes { Comes (map string_bytes words.now) (change_of So.left So.faults source.old source.new)
         (change_of Si.taken Si.faults sink.old sink.new) result }
-    ensures refused { options_of (map string_bytes words.now) ≡ None → IsUnlessNoMemory result Status.Usage }
+    ensures refused { options_of (map string_bytes words.now) ≡ None →
+        IsUnlessNoMemory result Status.Usage }
     ensures unread { result ≡ Status.Usage → source.new ≡ source.old }
     ensures made { AsksFor (map string_bytes words.now) IsMaking → source.new ≡ source.old }
-    ensures no_more { HasGiven (MOST_SCRIPT_BYTES + 1) (change_of So.left So.faults source.old source.new) }
+    ensures no_more { HasGiven (MOST_SCRIPT_BYTES + 1)
+        (change_of So.left So.faults source.old source.new) }
     ensures untouched { IsFalse (may_write result) → sink.new ≡ sink.old }
 {
     let options = match read_words(alloc, words) {
@@ -185,13 +202,15 @@ pub fn serve<R: Threads + Wait + Sync, So: Source, Si: Sink, G: Gate + Sync>(
     // Words that ask for nothing are refused before anything is read, a script that is made needs no source, and a script is refused
     // before anything is written.
     ensures usage { result ≡ Status.Usage → options_of (map string_bytes words.now) ≡ None }
-    ensures refused { options_of (map string_bytes words.now) ≡ None → IsUnlessNoMemory result Status.Usage }
+    ensures refused { options_of (map string_bytes words.now) ≡ None →
+        IsUnlessNoMemory result Status.Usage }
     ensures unread { result ≡ Status.Usage → source.new ≡ source.old }
     ensures made { AsksFor (map string_bytes words.now) IsMaking → source.new ≡ source.old }
     ensures untouched { IsFalse (may_write result) → sink.new ≡ sink.old }
 
     // However the call ends, at most one byte more than a script may have was read.
-    ensures no_more { HasGiven (MOST_SCRIPT_BYTES + 1) (change_of So.left So.faults source.old source.new) }
+    ensures no_more { HasGiven (MOST_SCRIPT_BYTES + 1)
+        (change_of So.left So.faults source.old source.new) }
 
     // What a source holds that tells its bytes and does not fail decides the answer, where memory is found. Whether there is one hangs
     // on the script's bytes alone, which are all of them, or those before the line that parts them.

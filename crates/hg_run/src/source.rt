@@ -44,13 +44,19 @@ const CHUNK: usize = 65_536;
 /// All bytes of a source, up to the first read that gives none. Of a source with more than a script may have, one byte more is read and
 /// then nothing, not even to find out whether the source fails.
 pub(crate) fn read_all<S: Source>(alloc: Global, source: &mut S) -> Result<Vec<u8>, ReadError>
-    ensures whole { IfOk result (λ bytes. Consumes (S.left source.old) (S.left source.new) bytes.items) }
+    ensures whole { IfOk result
+        (λ bytes. Consumes (S.left source.old) (S.left source.new) bytes.items) }
     ensures end { OnOk result (IsAtEnd (S.left source.new)) }
     ensures short { IfOk result (λ bytes. length bytes.items ≤ MOST_SCRIPT_BYTES) }
-    ensures too_long { IsErrOf result ReadError.TooLong → (bytes : List ℕ) × Consumes (S.left source.old) (S.left source.new) bytes × (length bytes ≡ MOST_SCRIPT_BYTES + 1) }
-    ensures no_more { HasGiven (MOST_SCRIPT_BYTES + 1) (change_of S.left S.faults source.old source.new) }
-    ensures fault { IsErrOf result ReadError.Fault → Rose (S.faults source.old) (S.faults source.new) }
-    ensures within { IsErrOf result ReadError.Fault → HasGiven MOST_SCRIPT_BYTES (change_of S.left S.faults source.old source.new) }
+    ensures too_long { IsErrOf result ReadError.TooLong →
+        (bytes : List ℕ) × Consumes (S.left source.old) (S.left source.new) bytes ×
+        (length bytes ≡ MOST_SCRIPT_BYTES + 1) }
+    ensures no_more { HasGiven (MOST_SCRIPT_BYTES + 1)
+        (change_of S.left S.faults source.old source.new) }
+    ensures fault { IsErrOf result ReadError.Fault →
+        Rose (S.faults source.old) (S.faults source.new) }
+    ensures within { IsErrOf result ReadError.Fault →
+        HasGiven MOST_SCRIPT_BYTES (change_of S.left S.faults source.old source.new) }
     ensures later { S.faults source.old ≤ S.faults source.new }
 {
     let mut bytes = Vec::new(alloc);

@@ -28,7 +28,8 @@ pub fn serve_steadily<R: Threads + Wait + Sync, G: Gate + Sync>(
     ensures writes { ¬ (result ≡ Status.WriteFault) }
 
     // What `serve` says of each status, and of what was read.
-    ensures comes { Comes (map string_bytes words.now) (steady_source source.old source.new) steady_sink result }
+    ensures comes { Comes (map string_bytes words.now) (steady_source source.old source.new)
+        steady_sink result }
     ensures no_more { HasGiven (MOST_SCRIPT_BYTES + 1) (steady_source source.old source.new) }
 
     // The bytes of the source decide.
@@ -39,7 +40,8 @@ pub fn serve_steadily<R: Threads + Wait + Sync, G: Gate + Sync>(
         → IsUnlessNoMemory result (Status.BadScript line code) }
     ensures too_long { AsksFor (map string_bytes words.now) IsReading → MOST_SCRIPT_BYTES < length source.old.left
         → IsUnlessNoMemory result Status.TooLong }
-    ensures loaded { AsksFor (map string_bytes words.now) IsMaking → IsUnlessNoMemory result Status.Done }
+    ensures loaded { AsksFor (map string_bytes words.now) IsMaking →
+        IsUnlessNoMemory result Status.Done }
 {
     serve(rt, alloc, words, source, sink, gate)
 }

@@ -27,15 +27,30 @@ fn meet_two(engine: &Engine, list: &mut Vec<Session>, i: usize, j: usize)
     requires first { i < length list.old.items }
     requires second { j < length list.old.items }
     requires apart { i ≢ j }
-    requires own { (d : Session) → IsOf engine.now (get_or list.old.items i d) × IsOf engine.now (get_or list.old.items j d) }
+    requires own { (d : Session) →
+        IsOf engine.now (get_or list.old.items i d) × IsOf engine.now (get_or list.old.items j d) }
     ensures many { length list.new.items ≡ length list.old.items }
-    ensures backed { (d : Session) → IsMet (engine_sizes engine.now) (joined (view_of (get_or list.old.items i d)) (view_of (get_or list.old.items j d))) }
-    ensures this { (d : Session) → view_of (get_or list.new.items i d) ≡ meeting (view_of (get_or list.old.items i d)) (view_of (get_or list.old.items j d)) }
-    ensures other { (d : Session) → view_of (get_or list.new.items j d) ≡ meeting (view_of (get_or list.old.items j d)) (meeting (view_of (get_or list.old.items i d)) (view_of (get_or list.old.items j d))) }
-    ensures left { (d : Session) → (left_of (get_or list.new.items i d) ≡ left_of (get_or list.old.items i d)) × (left_of (get_or list.new.items j d) ≡ left_of (get_or list.old.items j d)) }
-    ensures cursor { (d : Session) → (cursor_of (get_or list.new.items i d) ≡ cursor_of (get_or list.old.items i d)) × (cursor_of (get_or list.new.items j d) ≡ cursor_of (get_or list.old.items j d)) }
-    ensures rest { (d : Session) (k : ℕ) → k ≢ i → k ≢ j → get_or list.new.items k d ≡ get_or list.old.items k d }
-    ensures own { (d : Session) → IsOf engine.now (get_or list.new.items i d) × IsOf engine.now (get_or list.new.items j d) }
+    ensures backed { (d : Session) →
+        IsMet (engine_sizes engine.now) (joined (view_of (get_or list.old.items i d))
+        (view_of (get_or list.old.items j d))) }
+    ensures this { (d : Session) →
+        view_of (get_or list.new.items i d) ≡
+        meeting (view_of (get_or list.old.items i d)) (view_of (get_or list.old.items j d)) }
+    ensures other { (d : Session) →
+        view_of (get_or list.new.items j d) ≡
+        meeting (view_of (get_or list.old.items j d)) (meeting
+        (view_of (get_or list.old.items i d))
+        (view_of (get_or list.old.items j d))) }
+    ensures left { (d : Session) →
+        (left_of (get_or list.new.items i d) ≡ left_of (get_or list.old.items i d)) ×
+        (left_of (get_or list.new.items j d) ≡ left_of (get_or list.old.items j d)) }
+    ensures cursor { (d : Session) →
+        (cursor_of (get_or list.new.items i d) ≡ cursor_of (get_or list.old.items i d)) ×
+        (cursor_of (get_or list.new.items j d) ≡ cursor_of (get_or list.old.items j d)) }
+    ensures rest { (d : Session) (k : ℕ) → k ≢ i → k ≢ j →
+        get_or list.new.items k d ≡ get_or list.old.items k d }
+    ensures own { (d : Session) →
+        IsOf engine.now (get_or list.new.items i d) × IsOf engine.now (get_or list.new.items j d) }
 {
     if i < j {
         let (front, back) = list.split_at_mut(j);
@@ -53,7 +68,8 @@ pub(crate) fn turn(engine: &Engine, list: &mut Vec<Session>, i: usize, last: usi
     ensures logs { logs_of list.new.items ≡ logs_of list.old.items }
     ensures cursors { KeepCursors list.old.items list.new.items }
     ensures saw { (seen : ℕ) → SawAt seen last list.old.items → SawAt seen i list.new.items }
-    ensures ready { (left : ℕ → ℕ) → AreReady engine.now last left list.old.items → AreReady engine.now i left list.new.items }
+    ensures ready { (left : ℕ → ℕ) → AreReady engine.now last left list.old.items →
+        AreReady engine.now i left list.new.items }
 {
     if i != last {
         meet_two(engine, list, i, last);
@@ -75,10 +91,16 @@ fn ask_at<R: Wait>(
     requires tables { IsOnTables (engine_sizes engine.now).tables statement }
     requires other { collector_asked statement ≡ None }
     ensures many { length list.new.items ≡ length list.old.items }
-    ensures number { (d : Session) → number_of (get_or list.new.items i d) ≡ number_of (get_or list.old.items i d) }
-    ensures answers { (d : Session) → IfOk result (λ reply. IsAnswered (engine_sizes engine.now) (get_or list.old.items i d) statement reply (get_or list.new.items i d)) }
-    ensures left { (d : Session) → left_of (get_or list.old.items i d) ≤ left_of (get_or list.new.items i d) + 1 }
-    ensures rest { (d : Session) (k : ℕ) → k ≢ i → get_or list.new.items k d ≡ get_or list.old.items k d }
+    ensures number { (d : Session) →
+        number_of (get_or list.new.items i d) ≡ number_of (get_or list.old.items i d) }
+    ensures answers { (d : Session) →
+        IfOk result (λ reply.
+        IsAnswered (engine_sizes engine.now) (get_or list.old.items i d) statement reply
+        (get_or list.new.items i d)) }
+    ensures left { (d : Session) →
+        left_of (get_or list.old.items i d) ≤ left_of (get_or list.new.items i d) + 1 }
+    ensures rest { (d : Session) (k : ℕ) → k ≢ i →
+        get_or list.new.items k d ≡ get_or list.old.items k d }
     ensures own { (d : Session) → IsOf engine.now (get_or list.new.items i d) }
 {
     ask(rt, engine, &mut list[i], statement)
@@ -87,12 +109,16 @@ fn ask_at<R: Wait>(
 // Where a write of the session at i is refused for another's, it meets that other session.
 fn show(engine: &Engine, list: &mut Vec<Session>, i: usize, answer: &Answer)
     requires ready { AreReady engine.now i none_left list.old.items }
-    requires other { (writer : Writer) → answer.now ≡ Answer.OpenBy writer → IsSession (engine_sizes engine.now).sessions writer.session × (writer.session ≢ suc i) }
-    ensures backed { (d : Session) (writer : Writer) → answer.now ≡ Answer.OpenBy writer → IsMet (engine_sizes engine.now) (joined (view_of (get_or list.old.items i d)) (view_of (get_or list.old.items (writer.session - 1) d))) }
+    requires other { (writer : Writer) → answer.now ≡ Answer.OpenBy writer →
+        IsSession (engine_sizes engine.now).sessions writer.session × (writer.session ≢ suc i) }
+    ensures backed { (d : Session) (writer : Writer) → answer.now ≡ Answer.OpenBy writer →
+        IsMet (engine_sizes engine.now) (joined (view_of (get_or list.old.items i d))
+        (view_of (get_or list.old.items (writer.session - 1) d))) }
     ensures logs { logs_of list.new.items ≡ logs_of list.old.items }
     ensures cursors { KeepCursors list.old.items list.new.items }
     ensures saw { (seen : ℕ) → SawAt seen i list.old.items → SawAt seen i list.new.items }
-    ensures ready { (left : ℕ → ℕ) → AreReady engine.now i left list.old.items → AreReady engine.now i left list.new.items }
+    ensures ready { (left : ℕ → ℕ) → AreReady engine.now i left list.old.items →
+        AreReady engine.now i left list.new.items }
 {
     if let Answer::OpenBy(writer) = answer {
         meet_two(engine, list, i, writer.session as usize - 1);
@@ -112,8 +138,11 @@ pub(crate) fn answer<R: Wait>(
     requires may { (d : Session) → MayAsk (get_or list.old.items i d) statement }
     requires tables { IsOnTables (engine_sizes engine.now).tables statement }
     requires other { collector_asked statement ≡ None }
-    ensures replied { IfOk result (λ reply. Replies engine.now list.old.items i statement reply list.new.items) }
-    ensures ready { OnOk result ((left : ℕ → ℕ) → AreReady engine.now i (one_more (suc i) left) list.old.items → AreReady engine.now i left list.new.items) }
+    ensures replied { IfOk result
+        (λ reply. Replies engine.now list.old.items i statement reply list.new.items) }
+    ensures ready { OnOk result ((left : ℕ → ℕ) →
+        AreReady engine.now i (one_more (suc i) left) list.old.items →
+        AreReady engine.now i left list.new.items) }
     ensures placed { ArePlaced engine.now list.new.items }
 {
     let reply = ask_at(rt, engine, list, i, statement)?;

@@ -39,7 +39,8 @@ fn answer_beside<R: Wait>(
     requires left { 0 < left_of session.old }
     requires may { MayAsk session.old statement }
     requires tables { IsOnTables (engine_sizes engine.now).tables statement }
-    ensures taken { IfOk result (λ reply. HasTaken (engine_sizes engine.now).buckets session.old statement reply session.new) }
+    ensures taken { IfOk result (λ reply.
+        HasTaken (engine_sizes engine.now).buckets session.old statement reply session.new) }
     ensures left { left_of session.old ≤ left_of session.new + 1 }
     ensures number { number_of session.new ≡ number_of session.old }
     ensures own { IsOf engine.now session.new }
@@ -61,10 +62,12 @@ impl<'a> Worker<'a> {
         requires left { 0 < left_of self.old.session }
         requires may { MayAsk self.old.session asked.statement }
         requires tables { IsOnTables (engine_sizes engine.now).tables asked.statement }
-        ensures answered { OnOk result (HasAnswered (engine_sizes engine.now).buckets asked self.old self.new) }
+        ensures answered { OnOk result
+            (HasAnswered (engine_sizes engine.now).buckets asked self.old self.new) }
         ensures left { left_of self.old.session ≤ left_of self.new.session + 1 }
         ensures number { number_of self.new.session ≡ number_of self.old.session }
-        ensures kept { (self.new.records ≡ self.old.records) × (self.new.refused ≡ self.old.refused) }
+        ensures kept { (self.new.records ≡ self.old.records) ×
+            (self.new.refused ≡ self.old.refused) }
         ensures tables { self.new.transcript.tables ≡ self.old.transcript.tables }
         ensures own { IsOf engine.now self.new.session }
     {
@@ -86,8 +89,10 @@ impl<'a> Worker<'a> {
         number: u32,
     ) -> Result<bool, NoMemory>
         requires hired { IsReady engine.now self.old }
-        ensures more { IfOk result (λ more. more ≡ true → (r : Record) × HasStepped engine.now r self.old self.new) }
-        ensures over { IfOk result (λ more. more ≡ false → (self.old.records ≡ []) × (self.new ≡ self.old)) }
+        ensures more { IfOk result
+            (λ more. more ≡ true → (r : Record) × HasStepped engine.now r self.old self.new) }
+        ensures over { IfOk result
+            (λ more. more ≡ false → (self.old.records ≡ []) × (self.new ≡ self.old)) }
         ensures number { number_of self.new.session ≡ number_of self.old.session }
         ensures kept { self.new.refused ≡ self.old.refused }
         ensures tables { self.new.transcript.tables ≡ self.old.transcript.tables }

@@ -90,7 +90,10 @@ fn the_driver_reads_between_two_puts(rt: HostRuntime) -> Result<(), Fail> {
     let (into, at) = dumped_by_driver(&rt, rt.alloc(), &script, &order)?;
     assert!(rt; order.was_kept());
     assert_eq!(rt; at, 1);
-    assert_eq!(rt; into.as_slice(), b"before\ntable,t,1\n1,put,t,5,7\n".as_slice());
+    assert_eq!(rt;
+        into.as_slice(),
+        b"before\ntable,t,1\n1,put,t,5,7\n".as_slice()
+    );
     Ok(())
 }
 

@@ -29,12 +29,17 @@ impl Session {
     ) -> Result<Option<Receipt>, NoMemory>
         requires own { IsIn engine.now 0 0 self.old }
         requires opened { opened_of self.old ≡ Some snapshot }
-        ensures gains { IfOk result (λ receipt. Gains (view_of self.old) (close (receipt_number receipt)) (view_of self.new)) }
-        ensures wrote { IfOk result (λ receipt. is_some receipt ≡ is_written (own_writes (log_of self.old))) }
-        ensures after { IfOk result (λ receipt. IfSome (receipt_number receipt) (IsAfter (seen_by self.old) snapshot.at)) }
-        ensures placed { IfOk result (λ receipt. IfSome receipt (HasPlace (view_of self.old) (view_of self.new))) }
+        ensures gains { IfOk result (λ receipt.
+            Gains (view_of self.old) (close (receipt_number receipt)) (view_of self.new)) }
+        ensures wrote { IfOk result
+            (λ receipt. is_some receipt ≡ is_written (own_writes (log_of self.old))) }
+        ensures after { IfOk result (λ receipt.
+            IfSome (receipt_number receipt) (IsAfter (seen_by self.old) snapshot.at)) }
+        ensures placed { IfOk result
+            (λ receipt. IfSome receipt (HasPlace (view_of self.old) (view_of self.new))) }
         ensures closed { OnOk result (opened_of self.new ≡ None) }
-        ensures refused { OnErr result (Gains (view_of self.old) [] (view_of self.new) × (opened_of self.new ≡ opened_of self.old)) }
+        ensures refused { OnErr result (Gains (view_of self.old) [] (view_of self.new) ×
+            (opened_of self.new ≡ opened_of self.old)) }
         ensures left { left_of self.new ≡ left_of self.old }
         ensures retries { retries_of self.new ≡ retries_of self.old }
         ensures own { IsIn engine.now 0 0 self.new }
@@ -71,9 +76,13 @@ impl Session {
         requires own { IsOf engine.now self.old }
         requires opened { IsSome (open_of self.old) }
         requires cursor { cursor_of self.old ≡ None }
-        ensures answers { IfOk result (λ ended. Answers (engine_sizes engine.now) (view_of self.old) say.Commit (inside (commit_answer (receipt_number ended.receipt))) (view_of self.new)) }
-        ensures refused { OnErr result (Gains (view_of self.old) [] (view_of self.new) × (open_of self.new ≡ open_of self.old)) }
-        ensures placed { IfOk result (λ ended. IfSome ended.receipt (HasPlace (view_of self.old) (view_of self.new))) }
+        ensures answers { IfOk result (λ ended.
+            Answers (engine_sizes engine.now) (view_of self.old) say.Commit
+            (inside (commit_answer (receipt_number ended.receipt))) (view_of self.new)) }
+        ensures refused { OnErr result (Gains (view_of self.old) [] (view_of self.new) ×
+            (open_of self.new ≡ open_of self.old)) }
+        ensures placed { IfOk result
+            (λ ended. IfSome ended.receipt (HasPlace (view_of self.old) (view_of self.new))) }
         ensures over { OnOk result (open_of self.new ≡ None) }
         ensures cursor { cursor_of self.new ≡ None }
         ensures left { left_of self.new ≡ left_of self.old }

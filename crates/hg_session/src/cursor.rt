@@ -40,7 +40,8 @@ impl Session {
         requires table { table.0 < (engine_sizes engine.now).tables }
         ensures answers { Answers (engine_sizes engine.now) (view_of self.old) (say.CursorOpen table low high) (inside (Begun result))
             (view_of self.new) }
-        ensures open { open_of self.new ≡ Some (record { at = result; scope = only_table (Some table) }) }
+        ensures open { open_of self.new ≡
+            Some (record { at = result; scope = only_table (Some table) }) }
         ensures cursor { IsSome (cursor_of self.new) }
         ensures rest { HasLeft self.new (Some (record { table = table; low = low; high = high })) }
         ensures left { left_of self.new + 1 ≡ left_of self.old }
@@ -70,7 +71,8 @@ impl Session {
             AnswersFrom rest (engine_sizes engine.now) (view_of self.old) (say.Fetch most) (inside (Rows rows)) (view_of self.new)) }
         ensures moved { (rest : Option Rest) → HasLeft self.old rest → IfOk result (λ rows.
             HasLeft self.new (rest_after (say.Fetch most) (Rows rows) rest)) }
-        ensures refused { OnErr result (HasLookedOn (cursor_of self.old) (view_of self.old) (view_of self.new)) }
+        ensures refused { OnErr result
+            (HasLookedOn (cursor_of self.old) (view_of self.old) (view_of self.new)) }
         ensures kept { OnErr result (cursor_of self.new ≡ cursor_of self.old) }
         ensures cursor { IsSome (cursor_of self.new) }
         ensures open { open_of self.new ≡ open_of self.old }
@@ -93,7 +95,8 @@ impl Session {
     pub fn close_cursor(&mut self, engine: &Engine)
         requires own { IsOf engine.now self.old }
         requires cursor { IsSome (cursor_of self.old) }
-        ensures answers { Answers (engine_sizes engine.now) (view_of self.old) say.CursorClose (inside Ended) (view_of self.new) }
+        ensures answers { Answers (engine_sizes engine.now) (view_of self.old) say.CursorClose
+            (inside Ended) (view_of self.new) }
         ensures over { open_of self.new ≡ None }
         ensures cursor { cursor_of self.new ≡ None }
         ensures left { left_of self.new ≡ left_of self.old }

@@ -38,8 +38,12 @@ impl Session {
         requires own { IsIn engine.now 0 1 self.old }
         requires opened { opened_of self.old ≡ Some snapshot }
         requires table { IsTrue (has snapshot.scope rid.table) }
-        ensures gains { (row : Option (List Value)) × (Gains (view_of self.old) (saw (engine_sizes engine.now).buckets rid (rows_at rid.key row) ∷ []) (view_of self.new) × (result ≡ is_some row)) }
-        ensures kept { (opened_of self.new ≡ opened_of self.old) × (written_of self.new ≡ written_of self.old) × (left_of self.new ≡ left_of self.old) }
+        ensures gains { (row : Option (List Value)) ×
+            (Gains (view_of self.old)
+            (saw (engine_sizes engine.now).buckets rid (rows_at rid.key row) ∷ [])
+            (view_of self.new) × (result ≡ is_some row)) }
+        ensures kept { (opened_of self.new ≡ opened_of self.old) ×
+            (written_of self.new ≡ written_of self.old) × (left_of self.new ≡ left_of self.old) }
         ensures retries { retries_of self.new ≡ retries_of self.old }
         ensures own { IsIn engine.now 0 1 self.new }
     {
@@ -59,10 +63,14 @@ impl Session {
         requires cursor { cursor_of self.old ≡ None }
         requires left { 0 < left_of self.old }
         requires table { rid.table.0 < (engine_sizes engine.now).tables }
-        ensures reply { IfSome (del_reply (is_alone self.old) result) (λ reply. Answers (engine_sizes engine.now) (view_of self.old) (say.Del rid) reply (view_of self.new)) }
+        ensures reply { IfSome (del_reply (is_alone self.old) result) (λ reply.
+            Answers (engine_sizes engine.now) (view_of self.old) (say.Del rid) reply
+            (view_of self.new)) }
         ensures at { IsAtOwn (open_of self.old) (del_at result) }
-        ensures undeclared { IsRefusedIf (open_of self.old) rid.table result (refusal.Undeclared rid.table) }
-        ensures refused { result ≡ Err refusal.NoMemory → LeavesNoWrite (open_of self.old) rid nothing (view_of self.old) (view_of self.new) }
+        ensures undeclared { IsRefusedIf (open_of self.old) rid.table result
+            (refusal.Undeclared rid.table) }
+        ensures refused { result ≡ Err refusal.NoMemory →
+            LeavesNoWrite (open_of self.old) rid nothing (view_of self.old) (view_of self.new) }
         ensures open { open_of self.new ≡ open_of self.old }
         ensures cursor { cursor_of self.new ≡ None }
         ensures left { left_of self.new + 1 ≡ left_of self.old }
@@ -86,10 +94,14 @@ impl Session {
         requires own { IsIn engine.now 1 1 self.old }
         requires opened { opened_of self.old ≡ Some snapshot }
         requires table { rid.table.0 < (engine_sizes engine.now).tables }
-        ensures reply { IfSome (del_reply false result) (λ reply. Answers (engine_sizes engine.now) (view_of self.old) (say.Del rid) reply (view_of self.new)) }
+        ensures reply { IfSome (del_reply false result) (λ reply.
+            Answers (engine_sizes engine.now) (view_of self.old) (say.Del rid) reply
+            (view_of self.new)) }
         ensures at { IsAtOwn (Some snapshot) (del_at result) }
-        ensures undeclared { IsRefusedIf (Some snapshot) rid.table result (refusal.Undeclared rid.table) }
-        ensures refused { result ≡ Err refusal.NoMemory → HasLooked rid.table rid.key rid.key (view_of self.old) (view_of self.new) }
+        ensures undeclared { IsRefusedIf (Some snapshot) rid.table result
+            (refusal.Undeclared rid.table) }
+        ensures refused { result ≡ Err refusal.NoMemory →
+            HasLooked rid.table rid.key rid.key (view_of self.old) (view_of self.new) }
         ensures open { opened_of self.new ≡ opened_of self.old }
         ensures left { left_of self.new ≡ left_of self.old }
         ensures retries { retries_of self.new ≡ retries_of self.old }
@@ -126,9 +138,12 @@ impl Session {
         requires own { IsIn engine.now 1 1 self.old }
         requires closed { opened_of self.old ≡ None }
         requires table { rid.table.0 < (engine_sizes engine.now).tables }
-        ensures reply { IfSome (del_reply true result) (λ reply. Answers (engine_sizes engine.now) (view_of self.old) (say.Del rid) reply (view_of self.new)) }
+        ensures reply { IfSome (del_reply true result) (λ reply.
+            Answers (engine_sizes engine.now) (view_of self.old) (say.Del rid) reply
+            (view_of self.new)) }
         ensures declared { (t : TableId) → result ≡ Err (refusal.Undeclared t) → ⊥ }
-        ensures refused { result ≡ Err refusal.NoMemory → LeavesNoWrite None rid nothing (view_of self.old) (view_of self.new) }
+        ensures refused { result ≡ Err refusal.NoMemory →
+            LeavesNoWrite None rid nothing (view_of self.old) (view_of self.new) }
         ensures open { opened_of self.new ≡ None }
         ensures left { left_of self.new ≡ left_of self.old }
         ensures retries { retries_of self.new ≡ retries_of self.old }

@@ -28,9 +28,13 @@ pub fn join_all(
     ensures passes { HasAllPasses (pass_view pass.new) }
     ensures count { passes_in (pass_view pass.new).parts ≡ 3 }
     ensures none { HasNoSession (pass_view pass.new) }
-    ensures visits { visits_in (pass_view pass.new) ≡ visits_of (passes_with group pass.old interval) }
-    ensures seen { AreAmong (pass_view group).sights (pass_view pass.new).sights × AreAmong (pass_view pass.old).sights (pass_view pass.new).sights × AreAmong (pass_view interval).sights (pass_view pass.new).sights }
-    ensures did { AreDone (pass_view group).events (pass_view pass.new).sights × AreDone (pass_view interval).events (pass_view pass.new).sights }
+    ensures visits { visits_in (pass_view pass.new) ≡
+        visits_of (passes_with group pass.old interval) }
+    ensures seen { AreAmong (pass_view group).sights (pass_view pass.new).sights ×
+        AreAmong (pass_view pass.old).sights (pass_view pass.new).sights ×
+        AreAmong (pass_view interval).sights (pass_view pass.new).sights }
+    ensures did { AreDone (pass_view group).events (pass_view pass.new).sights ×
+        AreDone (pass_view interval).events (pass_view pass.new).sights }
     ensures events { (pass_view pass.new).events ≡ (pass_view pass.old).events }
     ensures own { IsPassOf (engine_board_id engine.now) pass.new }
 {

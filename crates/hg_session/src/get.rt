@@ -66,8 +66,12 @@ impl Session {
         requires own { IsIn engine.now 0 1 self.old }
         requires opened { opened_of self.old ≡ Some snapshot }
         requires table { IsTrue (has snapshot.scope rid.table) }
-        ensures gains { (row : Option (List Value)) × (Gains (view_of self.old) (saw (engine_sizes engine.now).buckets rid (rows_at rid.key row) ∷ []) (view_of self.new) × IfOk result (λ r. r ≡ row)) }
-        ensures kept { (opened_of self.new ≡ opened_of self.old) × (written_of self.new ≡ written_of self.old) × (left_of self.new ≡ left_of self.old) }
+        ensures gains { (row : Option (List Value)) ×
+            (Gains (view_of self.old)
+            (saw (engine_sizes engine.now).buckets rid (rows_at rid.key row) ∷ [])
+            (view_of self.new) × IfOk result (λ r. r ≡ row)) }
+        ensures kept { (opened_of self.new ≡ opened_of self.old) ×
+            (written_of self.new ≡ written_of self.old) × (left_of self.new ≡ left_of self.old) }
         ensures retries { retries_of self.new ≡ retries_of self.old }
         ensures own { IsIn engine.now 0 1 self.new }
     {
@@ -88,7 +92,8 @@ impl Session {
         requires table { table.0 < (engine_sizes engine.now).tables }
         ensures is { result ≡ not (has snapshot.scope table) }
         ensures gains { Gains (view_of self.old) (outside_entries result table) (view_of self.new) }
-        ensures kept { (opened_of self.new ≡ opened_of self.old) × (written_of self.new ≡ written_of self.old) × (left_of self.new ≡ left_of self.old) }
+        ensures kept { (opened_of self.new ≡ opened_of self.old) ×
+            (written_of self.new ≡ written_of self.old) × (left_of self.new ≡ left_of self.old) }
         ensures retries { retries_of self.new ≡ retries_of self.old }
         ensures own { IsIn engine.now 0 1 self.new }
     {
@@ -105,10 +110,15 @@ impl Session {
         requires cursor { cursor_of self.old ≡ None }
         requires left { 0 < left_of self.old }
         requires table { rid.table.0 < (engine_sizes engine.now).tables }
-        ensures reply { IfSome (get_reply (is_alone self.old) result) (λ reply. Answers (engine_sizes engine.now) (view_of self.old) (say.Get rid) reply (view_of self.new)) }
+        ensures reply { IfSome (get_reply (is_alone self.old) result) (λ reply.
+            Answers (engine_sizes engine.now) (view_of self.old) (say.Get rid) reply
+            (view_of self.new)) }
         ensures at { IsAtOwn (open_of self.old) (get_at result) }
-        ensures undeclared { IsRefusedIf (open_of self.old) rid.table result (refusal.Undeclared rid.table) }
-        ensures refused { result ≡ Err refusal.NoMemory → LeavesLooks (open_of self.old) rid.table rid.key rid.key (view_of self.old) (view_of self.new) }
+        ensures undeclared { IsRefusedIf (open_of self.old) rid.table result
+            (refusal.Undeclared rid.table) }
+        ensures refused { result ≡ Err refusal.NoMemory →
+            LeavesLooks (open_of self.old) rid.table rid.key rid.key (view_of self.old)
+            (view_of self.new) }
         ensures open { open_of self.new ≡ open_of self.old }
         ensures cursor { cursor_of self.new ≡ None }
         ensures left { left_of self.new + 1 ≡ left_of self.old }
@@ -132,10 +142,14 @@ impl Session {
         requires own { IsIn engine.now 1 1 self.old }
         requires opened { opened_of self.old ≡ Some snapshot }
         requires table { rid.table.0 < (engine_sizes engine.now).tables }
-        ensures reply { IfSome (get_reply false result) (λ reply. Answers (engine_sizes engine.now) (view_of self.old) (say.Get rid) reply (view_of self.new)) }
+        ensures reply { IfSome (get_reply false result) (λ reply.
+            Answers (engine_sizes engine.now) (view_of self.old) (say.Get rid) reply
+            (view_of self.new)) }
         ensures at { IsAtOwn (Some snapshot) (get_at result) }
-        ensures undeclared { IsRefusedIf (Some snapshot) rid.table result (refusal.Undeclared rid.table) }
-        ensures refused { result ≡ Err refusal.NoMemory → HasLooked rid.table rid.key rid.key (view_of self.old) (view_of self.new) }
+        ensures undeclared { IsRefusedIf (Some snapshot) rid.table result
+            (refusal.Undeclared rid.table) }
+        ensures refused { result ≡ Err refusal.NoMemory →
+            HasLooked rid.table rid.key rid.key (view_of self.old) (view_of self.new) }
         ensures open { opened_of self.new ≡ opened_of self.old }
         ensures left { left_of self.new ≡ left_of self.old }
         ensures retries { retries_of self.new ≡ retries_of self.old }
@@ -156,8 +170,11 @@ impl Session {
         requires own { IsIn engine.now 1 1 self.old }
         requires closed { opened_of self.old ≡ None }
         requires table { rid.table.0 < (engine_sizes engine.now).tables }
-        ensures reply { IfOk result (λ read. Answers (engine_sizes engine.now) (view_of self.old) (say.Get rid) (reading true read.at (row_answer read.row)) (view_of self.new)) }
-        ensures refused { OnErr result (HasGivenUp rid.table rid.key rid.key [] (view_of self.old) (view_of self.new)) }
+        ensures reply { IfOk result (λ read.
+            Answers (engine_sizes engine.now) (view_of self.old) (say.Get rid)
+            (reading true read.at (row_answer read.row)) (view_of self.new)) }
+        ensures refused { OnErr result
+            (HasGivenUp rid.table rid.key rid.key [] (view_of self.old) (view_of self.new)) }
         ensures open { opened_of self.new ≡ None }
         ensures left { left_of self.new ≡ left_of self.old }
         ensures retries { retries_of self.new ≡ retries_of self.old }

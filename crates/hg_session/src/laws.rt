@@ -23,7 +23,8 @@ ghost use Rattle.hg_session.specs.Ties.{IsHeard};
 /// Each commit has a place of its own. Receipts with one place, for commits in beginnings of one history, are for one commit.
 /// So two commits of sessions, of which one view has seen what both have seen, are one transaction of one session.
 pub fn places_differ()
-    ensures histories { (h g k : History) (p q : Receipt) (c d : Commit) → StartsWith h g → StartsWith h k → StandsIn g p c → StandsIn k q d → p.place ≡ q.place → c ≡ d }
+    ensures histories { (h g k : History) (p q : Receipt) (c d : Commit) → StartsWith h g →
+        StartsWith h k → StandsIn g p c → StandsIn k q d → p.place ≡ q.place → c ≡ d }
     ensures sessions { (z : Sizes) (mark : ℕ) (v a b c d : View) (p q : Receipt) → IsBacked z mark v → AreAmong b.sights v.sights → AreAmong d.sights v.sights → HasPlace a b p → HasPlace c d q → p.place ≡ q.place →
         (number a ≡ number c) × (begans (session a).log ≡ begans (session c).log) }
 {}

@@ -21,12 +21,16 @@ impl Session {
     /// Afterwards each has seen what either had seen.
     pub fn meet(&mut self, engine: &Engine, other: &mut Session)
         requires own { IsOf engine.now self.old × IsOf engine.now other.old }
-        ensures backed { IsMet (engine_sizes engine.now) (joined (view_of self.old) (view_of other.old)) }
+        ensures backed { IsMet (engine_sizes engine.now)
+            (joined (view_of self.old) (view_of other.old)) }
         ensures view { view_of self.new ≡ meeting (view_of self.old) (view_of other.old) }
         ensures other { view_of other.new ≡ meeting (view_of other.old) (view_of self.new) }
-        ensures kept { (left_of self.new ≡ left_of self.old) × (left_of other.new ≡ left_of other.old) }
-        ensures cursor { (cursor_of self.new ≡ cursor_of self.old) × (cursor_of other.new ≡ cursor_of other.old) }
-        ensures retries { (retries_of self.new ≡ retries_of self.old) × (retries_of other.new ≡ retries_of other.old) }
+        ensures kept { (left_of self.new ≡ left_of self.old) ×
+            (left_of other.new ≡ left_of other.old) }
+        ensures cursor { (cursor_of self.new ≡ cursor_of self.old) ×
+            (cursor_of other.new ≡ cursor_of other.old) }
+        ensures retries { (retries_of self.new ≡ retries_of self.old) ×
+            (retries_of other.new ≡ retries_of other.old) }
         ensures own { IsOf engine.now self.new × IsOf engine.now other.new }
     {
         self.pass.meet(engine.board(), &mut other.pass);
@@ -35,8 +39,10 @@ impl Session {
     /// Afterwards each has seen what either had seen. What the pass did and loaded agrees with the session's log and phase.
     pub fn meet_pass(&mut self, engine: &Engine, pass: &mut CollectorPass)
         requires own { IsOf engine.now self.old × IsPassOf (engine_board_id engine.now) pass.old }
-        ensures backed { IsMet (engine_sizes engine.now) (joined (pass_view pass.old) (view_of self.old)) }
-        ensures agrees { AgreesWith (pass_view pass.old) (number_of self.old) (session (view_of self.old)) }
+        ensures backed { IsMet (engine_sizes engine.now)
+            (joined (pass_view pass.old) (view_of self.old)) }
+        ensures agrees { AgreesWith (pass_view pass.old) (number_of self.old)
+            (session (view_of self.old)) }
         ensures pass { pass_view pass.new ≡ meeting (pass_view pass.old) (view_of self.old) }
         ensures view { view_of self.new ≡ meeting (view_of self.old) (pass_view pass.new) }
         ensures kept { left_of self.new ≡ left_of self.old }
@@ -64,10 +70,12 @@ impl Session {
     pub fn into_pass(self) -> SessionPass
         requires closed { open_of self ≡ None }
         ensures same { result ≡ pass_of self }
-        ensures own { (e : Engine) → IsOf e self → IsSessionOf (engine_board_id e) (engine_sizes e) result }
+        ensures own { (e : Engine) → IsOf e self →
+            IsSessionOf (engine_board_id e) (engine_sizes e) result }
         ensures only { (e : Engine) → IsOf e self → HasOnlySession (session_view result) }
         ensures idle { (e : Engine) → IsOf e self → (session (session_view result)).phase ≡ Idle }
-        ensures unstamped { (e : Engine) → IsOf e self → (session (session_view result)).stamped ≡ false }
+        ensures unstamped { (e : Engine) → IsOf e self →
+            (session (session_view result)).stamped ≡ false }
         ensures begins { (e : Engine) → IsOf e self →
             begans (session (session_view result)).log + left_of self ≤ (engine_sizes e).quota }
     {

@@ -63,11 +63,17 @@ impl Engine {
         requires tables { length tables.now ≤ 64 }
         requires buckets { 0 < buckets }
         requires room { sessions * quota ≤ 2 ^ 40 }
-        ensures sizes { IfOk result (λ o. engine_sizes o.0 ≡ record { sessions = sessions; tables = length tables.now; buckets = buckets; quota = quota }) }
+        ensures sizes { IfOk result (λ o.
+            engine_sizes o.0 ≡
+            record
+            { sessions = sessions; tables = length tables.now; buckets = buckets; quota = quota }) }
         ensures count { IfOk result (λ o. length o.1 ≡ sessions) }
         ensures sessions { IfOk result (λ o. EachFrom (IsNewOf o.0 quota) 1 o.1) }
         ensures alone { IfOk result (λ o. AreAlone o.0 o.2) }
-        ensures passes { IfOk result (λ o. IsNewPass (engine_board_id o.0) 0 o.2.group × IsNewPass (engine_board_id o.0) 1 o.2.table × IsNewPass (engine_board_id o.0) 2 o.2.interval) }
+        ensures passes { IfOk result (λ o.
+            IsNewPass (engine_board_id o.0) 0 o.2.group ×
+            IsNewPass (engine_board_id o.0) 1 o.2.table ×
+            IsNewPass (engine_board_id o.0) 2 o.2.interval) }
     {
         let (board, seats) = Board::new(alloc, sessions, tables.len() as u32, buckets, quota)?;
         let Seats {

@@ -51,10 +51,13 @@ impl Session {
     ) -> Result<(), WriteRefusal>
         requires own { IsIn engine.now 0 1 self.old }
         requires opened { opened_of self.old ≡ Some snapshot }
-        requires table { IsTrue (has snapshot.scope rid.table) × (rid.table.0 < (engine_sizes engine.now).tables) }
+        requires table { IsTrue (has snapshot.scope rid.table) ×
+            (rid.table.0 < (engine_sizes engine.now).tables) }
         ensures gains { Gains (view_of self.old) (entries_of rid image result) (view_of self.new) }
-        ensures refused { IfErr result (IsRefusedBy (engine_sizes engine.now) (view_of self.old) snapshot.at) }
-        ensures kept { (opened_of self.new ≡ opened_of self.old) × (left_of self.new ≡ left_of self.old) }
+        ensures refused { IfErr result
+            (IsRefusedBy (engine_sizes engine.now) (view_of self.old) snapshot.at) }
+        ensures kept { (opened_of self.new ≡ opened_of self.old) ×
+            (left_of self.new ≡ left_of self.old) }
         ensures retries { retries_of self.new ≡ retries_of self.old }
         ensures unwritten { OnErr result (written_of self.new ≡ written_of self.old) }
         ensures own { IsIn engine.now 0 0 self.new }
@@ -85,9 +88,12 @@ impl Session {
         requires own { IsIn engine.now 0 1 self.old }
         requires opened { opened_of self.old ≡ Some snapshot }
         requires unwritten { written_of self.old ≡ [] }
-        requires table { IsTrue (has snapshot.scope rid.table) × (rid.table.0 < (engine_sizes engine.now).tables) }
-        ensures stored { IfOk result (WritesAlone (view_of self.old) rid image snapshot.at (view_of self.new)) }
-        ensures refused { IfErr result (IsRefusedAlone (engine_sizes engine.now) (view_of self.old) rid image snapshot.at (view_of self.new)) }
+        requires table { IsTrue (has snapshot.scope rid.table) ×
+            (rid.table.0 < (engine_sizes engine.now).tables) }
+        ensures stored { IfOk result
+            (WritesAlone (view_of self.old) rid image snapshot.at (view_of self.new)) }
+        ensures refused { IfErr result (IsRefusedAlone (engine_sizes engine.now) (view_of self.old)
+            rid image snapshot.at (view_of self.new)) }
         ensures over { opened_of self.new ≡ None }
         ensures left { left_of self.new ≡ left_of self.old }
         ensures retries { retries_of self.new ≡ retries_of self.old }
@@ -119,10 +125,15 @@ impl Session {
         requires cursor { cursor_of self.old ≡ None }
         requires left { 0 < left_of self.old }
         requires table { rid.table.0 < (engine_sizes engine.now).tables }
-        ensures reply { IfSome (put_reply (is_alone self.old) result) (λ reply. Answers (engine_sizes engine.now) (view_of self.old) (say.Put rid row) reply (view_of self.new)) }
+        ensures reply { IfSome (put_reply (is_alone self.old) result) (λ reply.
+            Answers (engine_sizes engine.now) (view_of self.old) (say.Put rid row) reply
+            (view_of self.new)) }
         ensures at { IsAtOwn (open_of self.old) (put_at result) }
-        ensures undeclared { IsRefusedIf (open_of self.old) rid.table result (refusal.Undeclared rid.table) }
-        ensures refused { result ≡ Err refusal.NoMemory → LeavesNoWrite (open_of self.old) rid (record { row = Some row }) (view_of self.old) (view_of self.new) }
+        ensures undeclared { IsRefusedIf (open_of self.old) rid.table result
+            (refusal.Undeclared rid.table) }
+        ensures refused { result ≡ Err refusal.NoMemory →
+            LeavesNoWrite (open_of self.old) rid (record { row = Some row }) (view_of self.old)
+            (view_of self.new) }
         ensures open { open_of self.new ≡ open_of self.old }
         ensures cursor { cursor_of self.new ≡ None }
         ensures left { left_of self.new + 1 ≡ left_of self.old }
@@ -147,10 +158,14 @@ impl Session {
         requires own { IsIn engine.now 1 1 self.old }
         requires opened { opened_of self.old ≡ Some snapshot }
         requires table { rid.table.0 < (engine_sizes engine.now).tables }
-        ensures reply { IfSome (put_reply false result) (λ reply. Answers (engine_sizes engine.now) (view_of self.old) (say.Put rid row) reply (view_of self.new)) }
+        ensures reply { IfSome (put_reply false result) (λ reply.
+            Answers (engine_sizes engine.now) (view_of self.old) (say.Put rid row) reply
+            (view_of self.new)) }
         ensures at { IsAtOwn (Some snapshot) (put_at result) }
-        ensures undeclared { IsRefusedIf (Some snapshot) rid.table result (refusal.Undeclared rid.table) }
-        ensures refused { result ≡ Err refusal.NoMemory → HasLooked rid.table rid.key rid.key (view_of self.old) (view_of self.new) }
+        ensures undeclared { IsRefusedIf (Some snapshot) rid.table result
+            (refusal.Undeclared rid.table) }
+        ensures refused { result ≡ Err refusal.NoMemory →
+            HasLooked rid.table rid.key rid.key (view_of self.old) (view_of self.new) }
         ensures open { opened_of self.new ≡ opened_of self.old }
         ensures left { left_of self.new ≡ left_of self.old }
         ensures retries { retries_of self.new ≡ retries_of self.old }
@@ -180,9 +195,13 @@ impl Session {
         requires own { IsIn engine.now 1 1 self.old }
         requires closed { opened_of self.old ≡ None }
         requires table { rid.table.0 < (engine_sizes engine.now).tables }
-        ensures reply { IfSome (put_reply true result) (λ reply. Answers (engine_sizes engine.now) (view_of self.old) (say.Put rid row) reply (view_of self.new)) }
+        ensures reply { IfSome (put_reply true result) (λ reply.
+            Answers (engine_sizes engine.now) (view_of self.old) (say.Put rid row) reply
+            (view_of self.new)) }
         ensures declared { (t : TableId) → result ≡ Err (refusal.Undeclared t) → ⊥ }
-        ensures refused { result ≡ Err refusal.NoMemory → LeavesNoWrite None rid (record { row = Some row }) (view_of self.old) (view_of self.new) }
+        ensures refused { result ≡ Err refusal.NoMemory →
+            LeavesNoWrite None rid (record { row = Some row }) (view_of self.old)
+            (view_of self.new) }
         ensures open { opened_of self.new ≡ None }
         ensures left { left_of self.new ≡ left_of self.old }
         ensures retries { retries_of self.new ≡ retries_of self.old }

@@ -53,7 +53,8 @@ fn undo_each<R: Wait>(
     requires unstamped { (session (session_view pass.old)).stamped ≡ false }
     requires by { by ≡ writer_of (session_view pass.old) }
     requires once { NoneTwice records.old.list }
-    requires mine { (rid : Rid) → IsTrue (is_among rid records.old.list) → IsSome (open_in rid (session (session_view pass.old)).log) }
+    requires mine { (rid : Rid) → IsTrue (is_among rid records.old.list) →
+        IsSome (open_in rid (session (session_view pass.old)).log) }
     ensures undone { HasUndone (session_view pass.old) records.old.list (session_view pass.new) }
     ensures emptied { records.new.list ≡ [] }
     ensures own { IsSessionOf (engine_board_id engine.now) (engine_sizes engine.now) pass.new }
@@ -68,7 +69,9 @@ impl Session {
     pub(crate) fn undo_open<R: Wait>(&mut self, rt: &R, engine: &Engine)
         requires own { IsIn engine.now 0 0 self.old }
         requires opened { IsSome (opened_of self.old) }
-        ensures gains { (undone : List Rid) × (UndoesAll (own_writes (log_of self.old)) undone × Gains (view_of self.old) (Over ∷ map Undid undone) (view_of self.new)) }
+        ensures gains { (undone : List Rid) ×
+            (UndoesAll (own_writes (log_of self.old)) undone ×
+            Gains (view_of self.old) (Over ∷ map Undid undone) (view_of self.new)) }
         ensures kept { (opened_of self.new ≡ None) × (left_of self.new ≡ left_of self.old) }
         ensures retries { retries_of self.new ≡ retries_of self.old }
         ensures own { IsIn engine.now 0 0 self.new }
@@ -84,7 +87,8 @@ impl Session {
         requires own { IsOf engine.now self.old }
         requires opened { IsSome (open_of self.old) }
         requires cursor { cursor_of self.old ≡ None }
-        ensures answers { Answers (engine_sizes engine.now) (view_of self.old) say.Rollback (inside Undone) (view_of self.new) }
+        ensures answers { Answers (engine_sizes engine.now) (view_of self.old) say.Rollback
+            (inside Undone) (view_of self.new) }
         ensures over { open_of self.new ≡ None }
         ensures cursor { cursor_of self.new ≡ None }
         ensures left { left_of self.new ≡ left_of self.old }

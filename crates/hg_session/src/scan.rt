@@ -73,7 +73,8 @@ fn first_key(bucket: u32, home: u32, count: u32, range: Range) -> Option<u64>
 // The least key from a number to `high` of those that have a version in the bucket held.
 fn next_there(held: &Held<'_>, table: TableId, from: u64, high: u64) -> Option<u64>
     ensures within { IsWithin from high result }
-    ensures leads { (v : View) → Holds v held.now → LeadsOn (HasVersion (bucket_in v).content table) from high result }
+    ensures leads { (v : View) → Holds v held.now →
+        LeadsOn (HasVersion (bucket_in v).content table) from high result }
 {
     match held.next_key(table, from) {
         Some(key) if key <= high => Some(key),
@@ -89,7 +90,9 @@ fn push_row(
     by: Writer,
     rows: &mut Vec<(u64, Row)>,
 ) -> Result<(), NoMemory>
-    ensures { (v : View) → Holds v held.now → OnOk result (rows.new.items ≡ rows.old.items ++ rows_at rid.key (read_by by at (held_in v rid)).row) }
+    ensures { (v : View) → Holds v held.now →
+        OnOk result (rows.new.items ≡
+        rows.old.items ++ rows_at rid.key (read_by by at (held_in v rid)).row) }
 {
     if let Some(Image { row: Some(row) }) = held.read(rid, at, by) {
         rows.push((rid.key, row.copy()?))?;
@@ -103,7 +106,9 @@ impl Engine {
     fn next_within(&self, held: &Held<'_>, bucket: u32, range: Range) -> Option<u64>
         requires bucket { bucket < (engine_sizes self.now).buckets }
         ensures within { IsWithin range.low range.high result }
-        ensures leads { (v : View) → Holds v held.now → AreOwn (engine_sizes self.now).buckets bucket (bucket_in v).content → LeadsOn (HasVersion (bucket_in v).content range.table) range.low range.high result }
+        ensures leads { (v : View) → Holds v held.now →
+            AreOwn (engine_sizes self.now).buckets bucket (bucket_in v).content →
+            LeadsOn (HasVersion (bucket_in v).content range.table) range.low range.high result }
     {
         let count = self.store.buckets();
         let home = self.bucket_of(range.first());
@@ -119,7 +124,9 @@ impl Engine {
     fn next_after(&self, held: &Held<'_>, bucket: u32, range: Range, key: u64) -> Option<u64>
         requires bucket { bucket < (engine_sizes self.now).buckets }
         ensures within { IsWithin (key + 1) range.high result }
-        ensures leads { (v : View) → Holds v held.now → AreOwn (engine_sizes self.now).buckets bucket (bucket_in v).content → LeadsOn (HasVersion (bucket_in v).content range.table) (key + 1) range.high result }
+        ensures leads { (v : View) → Holds v held.now →
+            AreOwn (engine_sizes self.now).buckets bucket (bucket_in v).content →
+            LeadsOn (HasVersion (bucket_in v).content range.table) (key + 1) range.high result }
     {
         if key < range.high {
             self.next_within(held, bucket, range.over(key))
@@ -139,7 +146,10 @@ impl Engine {
         rows: &mut Vec<(u64, Row)>,
     ) -> Result<(), NoMemory>
         requires bucket { bucket < (engine_sizes self.now).buckets }
-        ensures { (v : View) → Holds v held.now → AreOwn (engine_sizes self.now).buckets bucket (bucket_in v).content → OnOk result (Appends (read_of by at range.table (bucket_in v).content) range.low range.high rows.old.items rows.new.items) }
+        ensures { (v : View) → Holds v held.now →
+            AreOwn (engine_sizes self.now).buckets bucket (bucket_in v).content →
+            OnOk result (Appends (read_of by at range.table (bucket_in v).content) range.low
+            range.high rows.old.items rows.new.items) }
     {
         let mut next = self.next_within(held, bucket, range);
         while let Some(key) = next {
@@ -169,8 +179,11 @@ impl Session {
         requires opened { opened_of self.old ≡ Some snapshot }
         requires table { IsTrue (has snapshot.scope range.table) }
         requires bucket { bucket < (engine_sizes engine.now).buckets }
-        ensures sees { Sees (engine_sizes engine.now).buckets (view_of self.old) range.table range.low range.high bucket rows.old.items result (view_of self.new) rows.new.items }
-        ensures kept { (opened_of self.new ≡ opened_of self.old) × (written_of self.new ≡ written_of self.old) × (left_of self.new ≡ left_of self.old) }
+        ensures sees { Sees (engine_sizes engine.now).buckets (view_of self.old) range.table
+            range.low range.high bucket rows.old.items result (view_of self.new)
+            rows.new.items }
+        ensures kept { (opened_of self.new ≡ opened_of self.old) ×
+            (written_of self.new ≡ written_of self.old) × (left_of self.new ≡ left_of self.old) }
         ensures retries { retries_of self.new ≡ retries_of self.old }
         ensures own { IsIn engine.now 0 1 self.new }
     {
@@ -194,8 +207,10 @@ impl Session {
         requires own { IsIn engine.now 0 1 self.old }
         requires opened { opened_of self.old ≡ Some snapshot }
         requires table { IsTrue (has snapshot.scope range.table) }
-        ensures gains { Scans (engine_sizes engine.now).buckets (view_of self.old) range.table range.low range.high result (view_of self.new) }
-        ensures kept { (opened_of self.new ≡ opened_of self.old) × (written_of self.new ≡ written_of self.old) × (left_of self.new ≡ left_of self.old) }
+        ensures gains { Scans (engine_sizes engine.now).buckets (view_of self.old) range.table
+            range.low range.high result (view_of self.new) }
+        ensures kept { (opened_of self.new ≡ opened_of self.old) ×
+            (written_of self.new ≡ written_of self.old) × (left_of self.new ≡ left_of self.old) }
         ensures retries { retries_of self.new ≡ retries_of self.old }
         ensures own { IsIn engine.now 0 1 self.new }
     {
@@ -224,10 +239,14 @@ impl Session {
         requires cursor { cursor_of self.old ≡ None }
         requires left { 0 < left_of self.old }
         requires table { table.0 < (engine_sizes engine.now).tables }
-        ensures reply { IfSome (scan_reply (is_alone self.old) result) (λ reply. Answers (engine_sizes engine.now) (view_of self.old) (say.Scan table low high) reply (view_of self.new)) }
+        ensures reply { IfSome (scan_reply (is_alone self.old) result) (λ reply.
+            Answers (engine_sizes engine.now) (view_of self.old) (say.Scan table low high) reply
+            (view_of self.new)) }
         ensures at { IsAtOwn (open_of self.old) (scan_at result) }
-        ensures undeclared { IsRefusedIf (open_of self.old) table result (refusal.Undeclared table) }
-        ensures refused { result ≡ Err refusal.NoMemory → LeavesLooks (open_of self.old) table low high (view_of self.old) (view_of self.new) }
+        ensures undeclared { IsRefusedIf (open_of self.old) table result
+            (refusal.Undeclared table) }
+        ensures refused { result ≡ Err refusal.NoMemory →
+            LeavesLooks (open_of self.old) table low high (view_of self.old) (view_of self.new) }
         ensures open { open_of self.new ≡ open_of self.old }
         ensures cursor { cursor_of self.new ≡ None }
         ensures left { left_of self.new + 1 ≡ left_of self.old }
@@ -252,10 +271,14 @@ impl Session {
         requires own { IsIn engine.now 1 1 self.old }
         requires opened { opened_of self.old ≡ Some snapshot }
         requires table { range.table.0 < (engine_sizes engine.now).tables }
-        ensures reply { IfSome (scan_reply false result) (λ reply. Answers (engine_sizes engine.now) (view_of self.old) (say.Scan range.table range.low range.high) reply (view_of self.new)) }
+        ensures reply { IfSome (scan_reply false result) (λ reply.
+            Answers (engine_sizes engine.now) (view_of self.old)
+            (say.Scan range.table range.low range.high) reply (view_of self.new)) }
         ensures at { IsAtOwn (Some snapshot) (scan_at result) }
-        ensures undeclared { IsRefusedIf (Some snapshot) range.table result (refusal.Undeclared range.table) }
-        ensures refused { result ≡ Err refusal.NoMemory → HasLooked range.table range.low range.high (view_of self.old) (view_of self.new) }
+        ensures undeclared { IsRefusedIf (Some snapshot) range.table result
+            (refusal.Undeclared range.table) }
+        ensures refused { result ≡ Err refusal.NoMemory →
+            HasLooked range.table range.low range.high (view_of self.old) (view_of self.new) }
         ensures open { opened_of self.new ≡ opened_of self.old }
         ensures left { left_of self.new ≡ left_of self.old }
         ensures retries { retries_of self.new ≡ retries_of self.old }
@@ -282,8 +305,12 @@ impl Session {
         requires own { IsIn engine.now 1 1 self.old }
         requires closed { opened_of self.old ≡ None }
         requires table { range.table.0 < (engine_sizes engine.now).tables }
-        ensures reply { IfOk result (λ scanned. Answers (engine_sizes engine.now) (view_of self.old) (say.Scan range.table range.low range.high) (reading true scanned.at (Rows scanned.rows)) (view_of self.new)) }
-        ensures refused { OnErr result (HasGivenUp range.table range.low range.high [] (view_of self.old) (view_of self.new)) }
+        ensures reply { IfOk result (λ scanned.
+            Answers (engine_sizes engine.now) (view_of self.old)
+            (say.Scan range.table range.low range.high)
+            (reading true scanned.at (Rows scanned.rows)) (view_of self.new)) }
+        ensures refused { OnErr result (HasGivenUp range.table range.low range.high []
+            (view_of self.old) (view_of self.new)) }
         ensures open { opened_of self.new ≡ None }
         ensures left { left_of self.new ≡ left_of self.old }
         ensures retries { retries_of self.new ≡ retries_of self.old }

@@ -43,7 +43,8 @@ impl Session {
         ensures gains { Gains (view_of self.old) (Began result.at scope ∷ []) (view_of self.new) }
         ensures scope { result.scope ≡ scope }
         ensures fresh { Each (AtMost result.at) (seen_by self.old) }
-        ensures kept { (opened_of self.new ≡ Some result) × (written_of self.new ≡ []) × (left_of self.new ≡ left_of self.old) }
+        ensures kept { (opened_of self.new ≡ Some result) × (written_of self.new ≡ []) ×
+            (left_of self.new ≡ left_of self.old) }
         ensures retries { retries_of self.new ≡ retries_of self.old }
         ensures own { IsIn engine.now 0 1 self.new }
     {
@@ -70,8 +71,11 @@ impl Session {
     pub(crate) fn spend(&mut self)
         requires left { 0 < left_of self.old }
         ensures own { (e : Engine) → IsOf e self.old → IsOf e self.new }
-        ensures may { (e : Engine) → IsOf e self.old → cursor_of self.old ≡ None → IsIn e 1 1 self.new }
-        ensures kept { (view_of self.new ≡ view_of self.old) × (opened_of self.new ≡ opened_of self.old) × (written_of self.new ≡ written_of self.old) }
+        ensures may { (e : Engine) → IsOf e self.old → cursor_of self.old ≡ None →
+            IsIn e 1 1 self.new }
+        ensures kept { (view_of self.new ≡ view_of self.old) ×
+            (opened_of self.new ≡ opened_of self.old) ×
+            (written_of self.new ≡ written_of self.old) }
         ensures cursor { cursor_of self.new ≡ cursor_of self.old }
         ensures left { left_of self.new + 1 ≡ left_of self.old }
         ensures retries { retries_of self.new ≡ retries_of self.old }
@@ -107,7 +111,8 @@ impl Session {
         requires closed { open_of self.old ≡ None }
         requires left { 0 < left_of self.old }
         requires tables { IsBelow (engine_sizes engine.now).tables scope }
-        ensures answers { Answers (engine_sizes engine.now) (view_of self.old) (say.Begin scope) (inside (Begun result)) (view_of self.new) }
+        ensures answers { Answers (engine_sizes engine.now) (view_of self.old) (say.Begin scope)
+            (inside (Begun result)) (view_of self.new) }
         ensures open { open_of self.new ≡ Some (record { at = result; scope = scope }) }
         ensures cursor { cursor_of self.new ≡ None }
         ensures left { left_of self.new + 1 ≡ left_of self.old }

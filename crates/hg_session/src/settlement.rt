@@ -22,17 +22,26 @@ use std::sync::Wait;
 /// is done (`round`). All other parts were joined to the collector's pass, which knows every session's whole log. So each bucket is
 /// given back with its records cut at the greatest number of the logs (`settled`), and no version is removed for another collector.
 pub fn settle<R: Wait>(rt: &R, engine: &Engine, collector: &mut TableCollector)
-    requires own { IsCollectorOf (engine_board_id engine.now) (engine_sizes engine.now) collector.old }
+    requires own { IsCollectorOf (engine_board_id engine.now) (engine_sizes engine.now)
+        collector.old }
     requires ended { IsEnded (engine_sizes engine.now) (view_of collector.old) }
     requires heard { HasHeardAll (engine_sizes engine.now) (view_of collector.old) }
-    ensures round { Cuts (engine_sizes engine.now) (2 ^ 64 - 1) (view_of collector.old) (report_in collector.new) (view_of collector.new) }
-    ensures settled { (b : ℕ) → b < (engine_sizes engine.now).buckets → WasLeftCut (engine_sizes engine.now).buckets (newest_of (engine_sizes engine.now).sessions (logs_in (view_of collector.old))) (passes_in (view_of collector.new).parts) (visits_in (view_of collector.new)) b }
-    ensures removed { (p : ℕ) → RemovesForTables (visits_in (view_of collector.old) p) (visits_in (view_of collector.new) p) }
+    ensures round { Cuts (engine_sizes engine.now) (2 ^ 64 - 1) (view_of collector.old)
+        (report_in collector.new) (view_of collector.new) }
+    ensures settled { (b : ℕ) → b < (engine_sizes engine.now).buckets →
+        WasLeftCut (engine_sizes engine.now).buckets
+        (newest_of (engine_sizes engine.now).sessions (logs_in (view_of collector.old)))
+        (passes_in (view_of collector.new).parts) (visits_in (view_of collector.new)) b }
+    ensures removed { (p : ℕ) →
+        RemovesForTables (visits_in (view_of collector.old) p)
+        (visits_in (view_of collector.new) p) }
     ensures logs { logs_in (view_of collector.new) ≡ logs_in (view_of collector.old) }
-    ensures passes { passes_in (view_of collector.new).parts ≡ passes_in (view_of collector.old).parts }
+    ensures passes { passes_in (view_of collector.new).parts ≡
+        passes_in (view_of collector.old).parts }
     ensures ended { IsEnded (engine_sizes engine.now) (view_of collector.new) }
     ensures heard { HasHeardAll (engine_sizes engine.now) (view_of collector.new) }
-    ensures own { IsCollectorOf (engine_board_id engine.now) (engine_sizes engine.now) collector.new }
+    ensures own { IsCollectorOf (engine_board_id engine.now) (engine_sizes engine.now)
+        collector.new }
 {
     // No snapshot is in use, so none is moved, however long one would have to be in use.
     collector.collect(rt, engine.trackers(), &engine.store, u64::MAX);

@@ -61,7 +61,8 @@ fn count_bucket<R: Wait>(
     requires board { store_board_id store.now ≡ board_id board.now }
     requires own { IsPassOf (board_id board.now) pass.old }
     requires bucket { bucket < store_buckets store.now }
-    ensures counts { Counts (sizes_of board.now) (pass_view pass.old) bucket result (pass_view pass.new) }
+    ensures counts { Counts (sizes_of board.now) (pass_view pass.old) bucket result
+        (pass_view pass.new) }
     ensures own { IsPassOf (board_id board.now) pass.new }
 {
     let held = store.take(rt, board, bucket, pass);
@@ -84,13 +85,19 @@ pub(crate) fn counted<R: Wait>(
     requires commit { HoldsCommit (pass_view pass.old) }
     requires ended { IsEnded (sizes_of board.now) (pass_view pass.old) }
     requires backed { (mark : ℕ) × IsBacked (sizes_of board.now) mark (pass_view pass.old) }
-    ensures totals { TotalsTell (sizes_of board.now).sessions (sizes_of board.now).buckets (passes_in (pass_view pass.old).parts) (logs_in (pass_view pass.old)) (visits_in (pass_view pass.old)) (commit (pass_view pass.old)).history.list result }
-    ensures logged { Logged (sizes_of board.now).buckets (commit (pass_view pass.old)).history.list (logs_in (pass_view pass.old)) }
-    ensures mark { length (commit (pass_view pass.old)).history.list ≡ newest_of (sizes_of board.now).sessions (logs_in (pass_view pass.old)) }
-    ensures visited { HasVisited (pass_view pass.old) (sizes_of board.now).buckets (pass_view pass.new) }
+    ensures totals { TotalsTell (sizes_of board.now).sessions (sizes_of board.now).buckets
+        (passes_in (pass_view pass.old).parts) (logs_in (pass_view pass.old))
+        (visits_in (pass_view pass.old)) (commit (pass_view pass.old)).history.list result }
+    ensures logged { Logged (sizes_of board.now).buckets (commit (pass_view pass.old)).history.list
+        (logs_in (pass_view pass.old)) }
+    ensures mark { length (commit (pass_view pass.old)).history.list ≡
+        newest_of (sizes_of board.now).sessions (logs_in (pass_view pass.old)) }
+    ensures visited { HasVisited (pass_view pass.old) (sizes_of board.now).buckets
+        (pass_view pass.new) }
     ensures logs { logs_in (pass_view pass.new) ≡ logs_in (pass_view pass.old) }
     ensures passes { passes_in (pass_view pass.new).parts ≡ passes_in (pass_view pass.old).parts }
-    ensures commit { HoldsCommit (pass_view pass.new) × (commit (pass_view pass.new) ≡ commit (pass_view pass.old)) }
+    ensures commit { HoldsCommit (pass_view pass.new) ×
+        (commit (pass_view pass.new) ≡ commit (pass_view pass.old)) }
     ensures own { IsPassOf (board_id board.now) pass.new }
 {
     let mut sums = Totals {
@@ -123,14 +130,22 @@ pub(crate) fn totals_with<R: Wait>(
     requires own { IsPassOf (board_id board.now) pass.old }
     requires commit { IsCommitOf (board_id board.now) seat }
     requires ended { IsEnded (sizes_of board.now) (pass_view pass.old) }
-    ensures totals { TotalsTell (sizes_of board.now).sessions (sizes_of board.now).buckets (passes_in (pass_view pass.old).parts) (logs_in (pass_view pass.old)) (visits_in (pass_view pass.old)) (committed seat).history.list result.0 }
-    ensures logged { Logged (sizes_of board.now).buckets (committed seat).history.list (logs_in (pass_view pass.old)) }
-    ensures mark { length (committed seat).history.list ≡ newest_of (sizes_of board.now).sessions (logs_in (pass_view pass.old)) }
-    ensures visited { HasVisited (pass_view pass.old) (sizes_of board.now).buckets (pass_view pass.new) }
+    ensures totals { TotalsTell (sizes_of board.now).sessions (sizes_of board.now).buckets
+        (passes_in (pass_view pass.old).parts) (logs_in (pass_view pass.old))
+        (visits_in (pass_view pass.old)) (committed seat).history.list result.0 }
+    ensures logged { Logged (sizes_of board.now).buckets (committed seat).history.list
+        (logs_in (pass_view pass.old)) }
+    ensures mark { length (committed seat).history.list ≡
+        newest_of (sizes_of board.now).sessions (logs_in (pass_view pass.old)) }
+    ensures visited { HasVisited (pass_view pass.old) (sizes_of board.now).buckets
+        (pass_view pass.new) }
     ensures logs { logs_in (pass_view pass.new) ≡ logs_in (pass_view pass.old) }
     ensures passes { passes_in (pass_view pass.new).parts ≡ passes_in (pass_view pass.old).parts }
-    ensures removed { (kind : Kind) (p : ℕ) → removed_all kind (visits_in (pass_view pass.new) p) ≡ removed_all kind (visits_in (pass_view pass.old) p) }
-    ensures seat { IsCommitOf (board_id board.now) result.1 × (committed result.1 ≡ committed seat) }
+    ensures removed { (kind : Kind) (p : ℕ) →
+        removed_all kind (visits_in (pass_view pass.new) p) ≡
+        removed_all kind (visits_in (pass_view pass.old) p) }
+    ensures seat { IsCommitOf (board_id board.now) result.1 ×
+        (committed result.1 ≡ committed seat) }
     ensures ended { IsEnded (sizes_of board.now) (pass_view pass.new) }
     ensures own { IsPassOf (board_id board.now) pass.new }
 {
@@ -148,10 +163,14 @@ impl Engine {
         requires own { IsPassOf (engine_board_id self.now) pass.old }
         requires ended { IsEnded (engine_sizes self.now) (pass_view pass.old) }
         ensures totals { AreTotals (engine_sizes self.now) (pass_view pass.old) result }
-        ensures visited { HasVisited (pass_view pass.old) (engine_sizes self.now).buckets (pass_view pass.new) }
+        ensures visited { HasVisited (pass_view pass.old) (engine_sizes self.now).buckets
+            (pass_view pass.new) }
         ensures logs { logs_in (pass_view pass.new) ≡ logs_in (pass_view pass.old) }
-        ensures passes { passes_in (pass_view pass.new).parts ≡ passes_in (pass_view pass.old).parts }
-        ensures removed { (kind : Kind) (p : ℕ) → removed_all kind (visits_in (pass_view pass.new) p) ≡ removed_all kind (visits_in (pass_view pass.old) p) }
+        ensures passes { passes_in (pass_view pass.new).parts ≡
+            passes_in (pass_view pass.old).parts }
+        ensures removed { (kind : Kind) (p : ℕ) →
+            removed_all kind (visits_in (pass_view pass.new) p) ≡
+            removed_all kind (visits_in (pass_view pass.old) p) }
         ensures ended { IsEnded (engine_sizes self.now) (pass_view pass.new) }
         ensures own { IsPassOf (engine_board_id self.now) pass.new }
     {

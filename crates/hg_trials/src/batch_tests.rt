@@ -29,7 +29,10 @@ fn begin(board: &Board, pass: &mut SessionPass) -> u64
     requires rests { (session (session_view pass.old)).phase ≡ Idle }
     requires room { begans (session (session_view pass.old)).log < (sizes_of board.now).quota }
     ensures own { IsSessionOf (board_id board.now) (sizes_of board.now) pass.new }
-    ensures parts { (session_view pass.new).parts ≡ OfSession (number (session_view pass.old)) (logging (Began result All) (Live result All) (session (session_view pass.old))) ∷ [] }
+    ensures parts { (session_view pass.new).parts ≡
+        OfSession (number (session_view pass.old))
+        (logging (Began result All) (Live result All) (session (session_view pass.old)))
+        ∷ [] }
 {
     board.declare(pass, Scope::All);
     let from = board.probe(pass);
@@ -55,7 +58,8 @@ fn write<R: Wait>(
     at: u64,
 ) -> (Writer, bool)
     requires board { store_board_id store.now ≡ board_id board.now }
-    requires buckets { (0 < store_buckets store.now) × (store_buckets store.now ≡ (sizes_of board.now).buckets) }
+    requires buckets { (0 < store_buckets store.now) ×
+        (store_buckets store.now ≡ (sizes_of board.now).buckets) }
     requires own { IsSessionOf (board_id board.now) (sizes_of board.now) pass.old }
     requires only { HasOnlySession (session_view pass.old) }
     requires live { (session (session_view pass.old)).phase ≡ Live at All }
@@ -65,7 +69,10 @@ fn write<R: Wait>(
     requires room { 0 < (sizes_of board.now).quota }
     ensures own { IsSessionOf (board_id board.now) (sizes_of board.now) pass.new }
     ensures by { result.0 ≡ writer (session_view pass.old) }
-    ensures stored { result.1 ≡ true → (session_view pass.new).parts ≡ OfSession (number (session_view pass.old)) (with_entry (Wrote rid image) (session (session_view pass.old))) ∷ [] }
+    ensures stored { result.1 ≡ true →
+        (session_view pass.new).parts ≡
+        OfSession (number (session_view pass.old))
+        (with_entry (Wrote rid image) (session (session_view pass.old))) ∷ [] }
 {
     let by = pass.writer();
     let mut held = store.take(rt, board, store.bucket_of(rid), pass);
@@ -84,7 +91,8 @@ fn put<R: Wait>(
     key: u64,
 ) -> Result<Option<OpenTx>, NoMemory>
     requires board { store_board_id store.now ≡ board_id board.now }
-    requires buckets { (0 < store_buckets store.now) × (store_buckets store.now ≡ (sizes_of board.now).buckets) }
+    requires buckets { (0 < store_buckets store.now) ×
+        (store_buckets store.now ≡ (sizes_of board.now).buckets) }
     requires own { IsSessionOf (board_id board.now) (sizes_of board.now) pass.old }
     requires only { HasOnlySession (session_view pass.old) }
     requires rests { (session (session_view pass.old)).phase ≡ Idle }
@@ -92,7 +100,13 @@ fn put<R: Wait>(
     requires unstamped { (session (session_view pass.old)).stamped ≡ false }
     requires room { (0 < (sizes_of board.now).tables) × (0 < (sizes_of board.now).quota) }
     ensures own { IsSessionOf (board_id board.now) (sizes_of board.now) pass.new }
-    ensures ready { IfOk result (λ r. IfSome r (λ tx. HasOnlySession (session_view pass.new) × (MayCommit (session (session_view pass.new)) × (IsOpenTxOf (number (session_view pass.new)) (session (session_view pass.new)) tx × (0 < length tx.records.list))))) }
+    ensures ready { IfOk result (λ r.
+        IfSome r (λ tx.
+        HasOnlySession (session_view pass.new) ×
+        (MayCommit (session (session_view pass.new)) ×
+        (IsOpenTxOf (number (session_view pass.new))
+        (session (session_view pass.new)) tx ×
+        (0 < length tx.records.list))))) }
 {
     let image = image(alloc, 10)?;
     let mut records = RidList::new(alloc);

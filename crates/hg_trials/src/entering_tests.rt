@@ -36,7 +36,9 @@ fn begin(board: &Board, pass: &mut SessionPass, scope: Scope) -> u64
     requires rests { Rests pass.old }
     requires tables { IsBelow (sizes_of board.now).tables scope }
     requires room { begans (own_session pass.old).log < (sizes_of board.now).quota }
-    ensures parts { (session_view pass.new).parts ≡ OfSession (number (session_view pass.old)) (logging (entries.Began result scope) (Live result scope) (own_session pass.old)) ∷ [] }
+    ensures parts { (session_view pass.new).parts ≡
+        OfSession (number (session_view pass.old)) (logging (entries.Began result scope)
+        (Live result scope) (own_session pass.old)) ∷ [] }
     ensures own { IsAlone (board_id board.now) (sizes_of board.now) pass.new }
 {
     board.declare(pass, scope);
@@ -56,16 +58,21 @@ fn write(
     image: &Image,
 ) -> BucketSeat
     requires own { IsAlone (board_id board.now) (sizes_of board.now) pass.old }
-    requires live { IsSome (snapshot_in (own_session pass.old).phase) × (tables (session_view pass.old) ≡ All) }
-    requires open { IsTrue (is_plain (own_session pass.old).log) × ((own_session pass.old).stamped ≡ false) }
+    requires live { IsSome (snapshot_in (own_session pass.old).phase) ×
+        (tables (session_view pass.old) ≡ All) }
+    requires open { IsTrue (is_plain (own_session pass.old).log) ×
+        ((own_session pass.old).stamped ≡ false) }
     requires room { wrotes (own_session pass.old).log < (sizes_of board.now).quota }
     requires bucket { IsBucketOf (board_id board.now) bucket × (bucket.number ≡ 0) }
     requires there { bucket_of (sizes_of board.now).buckets rid ≡ 0 }
     requires table { rid.table.0 < (sizes_of board.now).tables }
     requires free { look rid (own_bucket bucket).content ≡ [] }
-    ensures parts { (session_view pass.new).parts ≡ OfSession (number (session_view pass.old)) (with_entry (entries.Wrote rid image.now) (own_session pass.old)) ∷ [] }
+    ensures parts { (session_view pass.new).parts ≡
+        OfSession (number (session_view pass.old))
+        (with_entry (entries.Wrote rid image.now) (own_session pass.old)) ∷ [] }
     ensures bucket { IsBucketOf (board_id board.now) result × (result.number ≡ 0) }
-    ensures written { own_bucket result ≡ installing (writer (session_view pass.old)) rid image.now (own_bucket bucket) }
+    ensures written { own_bucket result ≡
+        installing (writer (session_view pass.old)) rid image.now (own_bucket bucket) }
     ensures own { IsAlone (board_id board.now) (sizes_of board.now) pass.new }
 {
     board.join_bucket(pass, bucket);
@@ -87,14 +94,23 @@ fn commit_alone(
     requires unstamped { (own_session pass.old).stamped ≡ false }
     requires bucket { IsBucketOf (board_id board.now) bucket × (bucket.number ≡ 0) }
     requires there { bucket_of (sizes_of board.now).buckets rid ≡ 0 }
-    requires mine { IsOpenBy (writer (session_view pass.old)) (look rid (own_bucket bucket).content) }
-    requires only { (r : Rid) → IsSome (open_in r (own_session pass.old).log) → same_rid rid r ≡ true }
+    requires mine { IsOpenBy (writer (session_view pass.old))
+        (look rid (own_bucket bucket).content) }
+    requires only { (r : Rid) → IsSome (open_in r (own_session pass.old).log) →
+        same_rid rid r ≡ true }
     requires commit { IsCommitOf (board_id board.now) commit × ((own_commit commit).stamped ≡ []) }
-    ensures parts { (session_view pass.new).parts ≡ OfSession (number (session_view pass.old)) (with_published (suc (length (own_commit commit).history.list)) (own_session pass.old)) ∷ [] }
+    ensures parts { (session_view pass.new).parts ≡
+        OfSession (number (session_view pass.old)) (with_published
+        (suc (length (own_commit commit).history.list)) (own_session pass.old)) ∷
+        [] }
     ensures bucket { IsBucketOf (board_id board.now) result.0 × (result.0.number ≡ 0) }
-    ensures stamped { own_bucket result.0 ≡ stamping (suc (length (own_commit commit).history.list)) (writer (session_view pass.old)) rid (own_bucket bucket) }
-    ensures commit { IsCommitOf (board_id board.now) result.1 × ((own_commit result.1).stamped ≡ []) }
-    ensures published { length (own_commit result.1).history.list ≡ length (own_commit commit).history.list + 1 }
+    ensures stamped { own_bucket result.0 ≡
+        stamping (suc (length (own_commit commit).history.list)) (writer (session_view pass.old))
+        rid (own_bucket bucket) }
+    ensures commit { IsCommitOf (board_id board.now) result.1 ×
+        ((own_commit result.1).stamped ≡ []) }
+    ensures published { length (own_commit result.1).history.list ≡
+        length (own_commit commit).history.list + 1 }
     ensures own { IsAlone (board_id board.now) (sizes_of board.now) pass.new }
 {
     let session = pass.writer().session;
@@ -120,17 +136,21 @@ fn commit_one(
     key: u64,
 ) -> (BucketSeat, CommitSeat)
     requires own { IsAlone (board_id board.now) (sizes_of board.now) pass.old × Rests pass.old }
-    requires room { (begans (own_session pass.old).log < (sizes_of board.now).quota) × (wrotes (own_session pass.old).log < (sizes_of board.now).quota) }
+    requires room { (begans (own_session pass.old).log < (sizes_of board.now).quota) ×
+        (wrotes (own_session pass.old).log < (sizes_of board.now).quota) }
     requires sizes { (0 < (sizes_of board.now).tables) × ((sizes_of board.now).buckets ≡ 1) }
     requires bucket { IsBucketOf (board_id board.now) bucket × (bucket.number ≡ 0) }
     requires free { IsFreeFrom key (own_bucket bucket).content }
     requires commit { IsCommitOf (board_id board.now) commit × ((own_commit commit).stamped ≡ []) }
     ensures own { IsAlone (board_id board.now) (sizes_of board.now) pass.new × Rests pass.new }
-    ensures counts { (begans (own_session pass.new).log ≡ begans (own_session pass.old).log + 1) × (wrotes (own_session pass.new).log ≡ wrotes (own_session pass.old).log + 1) }
+    ensures counts { (begans (own_session pass.new).log ≡ begans (own_session pass.old).log + 1) ×
+        (wrotes (own_session pass.new).log ≡ wrotes (own_session pass.old).log + 1) }
     ensures bucket { IsBucketOf (board_id board.now) result.0 × (result.0.number ≡ 0) }
     ensures free { IsFreeFrom (key + 1) (own_bucket result.0).content }
-    ensures commit { IsCommitOf (board_id board.now) result.1 × ((own_commit result.1).stamped ≡ []) }
-    ensures history { length (own_commit result.1).history.list ≡ length (own_commit commit).history.list + 1 }
+    ensures commit { IsCommitOf (board_id board.now) result.1 ×
+        ((own_commit result.1).stamped ≡ []) }
+    ensures history { length (own_commit result.1).history.list ≡
+        length (own_commit commit).history.list + 1 }
 {
     let table = TableId(0);
     let rid = Rid { table, key };
@@ -152,18 +172,22 @@ fn commit_some(
     count: u64,
 ) -> (BucketSeat, CommitSeat)
     requires own { IsAlone (board_id board.now) (sizes_of board.now) pass.old × Rests pass.old }
-    requires room { (begans (own_session pass.old).log + count ≤ (sizes_of board.now).quota) × (wrotes (own_session pass.old).log + count ≤ (sizes_of board.now).quota) }
+    requires room { (begans (own_session pass.old).log + count ≤ (sizes_of board.now).quota) ×
+        (wrotes (own_session pass.old).log + count ≤ (sizes_of board.now).quota) }
     requires sizes { (0 < (sizes_of board.now).tables) × ((sizes_of board.now).buckets ≡ 1) }
     requires keys { first + count < 2 ^ 64 }
     requires bucket { IsBucketOf (board_id board.now) bucket × (bucket.number ≡ 0) }
     requires free { IsFreeFrom first (own_bucket bucket).content }
     requires commit { IsCommitOf (board_id board.now) commit × ((own_commit commit).stamped ≡ []) }
     ensures own { IsAlone (board_id board.now) (sizes_of board.now) pass.new × Rests pass.new }
-    ensures counts { (begans (own_session pass.new).log ≡ begans (own_session pass.old).log + count) × (wrotes (own_session pass.new).log ≡ wrotes (own_session pass.old).log + count) }
+    ensures counts { (begans (own_session pass.new).log ≡ begans (own_session pass.old).log + count)
+        × (wrotes (own_session pass.new).log ≡ wrotes (own_session pass.old).log + count) }
     ensures bucket { IsBucketOf (board_id board.now) result.0 × (result.0.number ≡ 0) }
     ensures free { IsFreeFrom (first + count) (own_bucket result.0).content }
-    ensures commit { IsCommitOf (board_id board.now) result.1 × ((own_commit result.1).stamped ≡ []) }
-    ensures history { length (own_commit result.1).history.list ≡ length (own_commit commit).history.list + count }
+    ensures commit { IsCommitOf (board_id board.now) result.1 ×
+        ((own_commit result.1).stamped ≡ []) }
+    ensures history { length (own_commit result.1).history.list ≡
+        length (own_commit commit).history.list + count }
 {
     let mut seats = (bucket, commit);
     for i in 0..count {
@@ -223,10 +247,13 @@ fn load_mask(board: &Board, pass: &mut CollectorPass) -> u64
     requires own { IsPassOf (board_id board.now) pass.old }
     requires session { IsSession (sizes_of board.now).sessions 1 }
     requires mark { (own_pass (pass_view pass.old)).mark ≡ 4 }
-    requires loaded { (own_pass (pass_view pass.old)).loaded ≡ (1, record { register = registers.Live 2 true false; mask = None }) ∷ [] }
+    requires loaded { (own_pass (pass_view pass.old)).loaded ≡
+        (1, record { register = registers.Live 2 true false; mask = None }) ∷ [] }
     ensures horizon { horizon (record_of (own_pass (pass_view pass.new))) ≡ 4 }
-    ensures recorded { (table : TableId) → recorded table (record_of (own_pass (pass_view pass.new))) ≡ 2 ∷ [] }
-    ensures loaded { (own_pass (pass_view pass.new)).loaded ≡ (1, record { register = registers.Live 2 true false; mask = Some result }) ∷ [] }
+    ensures recorded { (table : TableId) →
+        recorded table (record_of (own_pass (pass_view pass.new))) ≡ 2 ∷ [] }
+    ensures loaded { (own_pass (pass_view pass.new)).loaded ≡
+        (1, record { register = registers.Live 2 true false; mask = Some result }) ∷ [] }
     ensures own { IsPassOf (board_id board.now) pass.new }
 {
     board.sample_mask(pass, 1)

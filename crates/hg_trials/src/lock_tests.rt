@@ -31,7 +31,9 @@ impl Fits for Till {
 type Tills = Locks<Till>;
 
 fn tills(alloc: Global, list: u64, count: usize) -> Result<Vec<Till>, AllocError>
-    ensures fits { IfOk result (λ tills. (k : ℕ) (till : _) → slice_get tills.items k ≡ Some till → (till.list ≡ list) × (till.lock ≡ k)) }
+    ensures fits { IfOk result (λ tills.
+        (k : ℕ) (till : _) → slice_get tills.items k ≡ Some till →
+        (till.list ≡ list) × (till.lock ≡ k)) }
     ensures count { IfOk result (λ tills. length tills.items ≡ count) }
 {
     let mut tills = Vec::new(alloc);

@@ -27,7 +27,8 @@ fn first_of(
     requires first { (session_view pass.old).parts ≡ session_part pass.old.number ∷ [] }
     requires room { (0 < (sizes_of board.now).tables) × (0 < (sizes_of board.now).quota) }
     requires bucket { IsBucketOf (board_id board.now) bucket × (bucket.number ≡ key) }
-    requires place { bucket_of (sizes_of board.now).buckets record { table = record { 0 = 0 }; key = key } ≡ key }
+    requires place { bucket_of (sizes_of board.now).buckets record
+        { table = record { 0 = 0 }; key = key } ≡ key }
     requires empty { (bucket_view bucket).parts ≡ OfBucket bucket.number new_bucket ∷ [] }
     ensures handed { IfOk result (IsHandedOf (board_id board.now)) }
     ensures session { IfOk result (λ x. x.tx.writer.session ≡ pass.old.number) }

@@ -25,9 +25,11 @@ fn begin_and_end(trackers: &Trackers, pass: &mut SessionPass)
 
 fn gather_often(trackers: &Trackers, pass: &mut CollectorPass, gathered: &mut Gathered)
     requires own { IsPassOf (trackers_board_id trackers.now) pass.old }
-    requires made { IsMadeFor (board_sizes trackers.now).sessions (board_sizes trackers.now).tables gathered.old }
+    requires made { IsMadeFor (board_sizes trackers.now).sessions (board_sizes trackers.now).tables
+        gathered.old }
     ensures own { IsPassOf (trackers_board_id trackers.now) pass.new }
-    ensures made { IsMadeFor (board_sizes trackers.now).sessions (board_sizes trackers.now).tables gathered.new }
+    ensures made { IsMadeFor (board_sizes trackers.now).sessions (board_sizes trackers.now).tables
+        gathered.new }
 {
     for _ in 0..50 {
         trackers.gather(pass, gathered);
@@ -36,7 +38,8 @@ fn gather_often(trackers: &Trackers, pass: &mut CollectorPass, gathered: &mut Ga
 }
 
 fn run_sessions<R: Threads + Sync>(rt: &R, trackers: &Trackers, passes: &mut [SessionPass])
-    requires { All (IsReady (trackers_board_id trackers.now) (board_sizes trackers.now) 100) passes.old }
+    requires { All (IsReady (trackers_board_id trackers.now) (board_sizes trackers.now) 100)
+        passes.old }
 {
     thread::for_each_mut(rt, passes, 4, &|_, pass| begin_and_end(trackers, pass));
 }
@@ -48,20 +51,28 @@ fn run_beside<R: Threads + Sync>(
     pass: &mut CollectorPass,
     gathered: &mut Gathered,
 )
-    requires sessions { All (IsReady (trackers_board_id trackers.now) (board_sizes trackers.now) 100) passes.old }
+    requires sessions { All
+        (IsReady (trackers_board_id trackers.now) (board_sizes trackers.now) 100) passes.old }
     requires own { IsPassOf (trackers_board_id trackers.now) pass.old }
-    requires made { IsMadeFor (board_sizes trackers.now).sessions (board_sizes trackers.now).tables gathered.old }
+    requires made { IsMadeFor (board_sizes trackers.now).sessions (board_sizes trackers.now).tables
+        gathered.old }
     ensures own { IsPassOf (trackers_board_id trackers.now) pass.new }
-    ensures made { IsMadeFor (board_sizes trackers.now).sessions (board_sizes trackers.now).tables gathered.new }
+    ensures made { IsMadeFor (board_sizes trackers.now).sessions (board_sizes trackers.now).tables
+        gathered.new }
 {
     thread::join_mut(
         rt,
         &mut ||
-            requires { All (IsReady (trackers_board_id trackers.now) (board_sizes trackers.now) 100) passes.now }
+            requires { All (IsReady (trackers_board_id trackers.now) (board_sizes trackers.now) 100)
+                passes.now }
         { run_sessions(rt, trackers, passes) },
         &mut ||
-            requires { IsPassOf (trackers_board_id trackers.now) pass.now × IsMadeFor (board_sizes trackers.now).sessions (board_sizes trackers.now).tables gathered.now }
-            ensures { IsPassOf (trackers_board_id trackers.entry.now) pass.exit.now × IsMadeFor (board_sizes trackers.entry.now).sessions (board_sizes trackers.entry.now).tables gathered.exit.now }
+            requires { IsPassOf (trackers_board_id trackers.now) pass.now ×
+                IsMadeFor (board_sizes trackers.now).sessions (board_sizes trackers.now).tables
+                gathered.now }
+            ensures { IsPassOf (trackers_board_id trackers.entry.now) pass.exit.now ×
+                IsMadeFor (board_sizes trackers.entry.now).sessions
+                (board_sizes trackers.entry.now).tables gathered.exit.now }
         { gather_often(trackers, pass, gathered) },
     );
 }
@@ -93,7 +104,9 @@ fn four_sessions_beside_a_collector(rt: HostRuntime) -> Result<(), Fail> {
 
 // Each session meets the pass of a collector, and then goes to it for good.
 fn finish_all(trackers: &Trackers, sessions: Vec<SessionPass>, collector: &mut CollectorPass)
-    requires sessions { All (λ p. IsReady (trackers_board_id trackers.now) (board_sizes trackers.now) 1 p × HasOnlySession (session_view p)) sessions.items }
+    requires sessions { All (λ p.
+        IsReady (trackers_board_id trackers.now) (board_sizes trackers.now) 1 p ×
+        HasOnlySession (session_view p)) sessions.items }
     requires own { IsPassOf (trackers_board_id trackers.now) collector.old }
     ensures own { IsPassOf (trackers_board_id trackers.now) collector.new }
 {
@@ -123,7 +136,8 @@ fn one_pass_takes_in_the_others(rt: HostRuntime) -> Result<(), Fail> {
 // The first session enters, and each other takes a snapshot of table 1.
 fn enter_and_begin(trackers: &Trackers, sessions: Vec<SessionPass>)
     requires tables { (board_sizes trackers.now).tables ≡ 2 }
-    requires sessions { All (IsReady (trackers_board_id trackers.now) (board_sizes trackers.now) 1) sessions.items }
+    requires sessions { All (IsReady (trackers_board_id trackers.now) (board_sizes trackers.now) 1)
+        sessions.items }
 {
     let mut is_first = true;
     for session in sessions {

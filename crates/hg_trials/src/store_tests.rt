@@ -76,8 +76,10 @@ fn begin(board: &Board, pass: &mut SessionPass) -> u64
     requires room { begans (session (session_view pass.old)).log < (sizes_of board.now).quota }
     ensures own { IsSessionOf (board_id board.now) (sizes_of board.now) pass.new }
     ensures live { (session (session_view pass.new)).phase ≡ Live result All }
-    ensures log { (session (session_view pass.new)).log ≡ Began result All ∷ (session (session_view pass.old)).log }
-    ensures stamped { (session (session_view pass.new)).stamped ≡ (session (session_view pass.old)).stamped }
+    ensures log { (session (session_view pass.new)).log ≡
+        Began result All ∷ (session (session_view pass.old)).log }
+    ensures stamped { (session (session_view pass.new)).stamped ≡
+        (session (session_view pass.old)).stamped }
 {
     board.declare(pass, Scope::All);
     let from = board.probe(pass);

@@ -12,19 +12,22 @@ use clap::error::ErrorKind;
 use std::alloc::Global;
 
 fn long_number(matches: &ArgMatches, id: &str) -> Option<u64>
-    ensures { result ≡ option_and_then (number_of 64) (one_of id.now (rows_of (found_of matches.now))) }
+    ensures { result ≡
+        option_and_then (number_of 64) (one_of id.now (rows_of (found_of matches.now))) }
 {
     matches.get_one::<u64>(id)
 }
 
 fn short_number(matches: &ArgMatches, id: &str) -> Option<u32>
-    ensures { result ≡ option_and_then (number_of 32) (one_of id.now (rows_of (found_of matches.now))) }
+    ensures { result ≡
+        option_and_then (number_of 32) (one_of id.now (rows_of (found_of matches.now))) }
 {
     matches.get_one::<u32>(id)
 }
 
 fn mode_of<'a>(matches: &ArgMatches<'a>) -> Option<&'a str>
-    ensures { option_map (λ s. s.now) result ≡ first_of (codes "mode") (rows_of (found_of matches.now)) }
+    ensures { option_map (λ s. s.now) result ≡
+        first_of (codes "mode") (rows_of (found_of matches.now)) }
 {
     matches.get_str("mode")
 }
@@ -43,7 +46,8 @@ fn command_from(mode: &str, seed: Option<u64>) -> Option<Command>
 }
 
 fn command_in(mode: Option<&str>, seed: Option<u64>) -> Option<Command>
-    ensures { result ≡ option_and_then (λ m. command_of m seed) (option_map (λ s. s.now) mode.entry) }
+    ensures { result ≡
+        option_and_then (λ m. command_of m seed) (option_map (λ s. s.now) mode.entry) }
 {
     command_from(mode?, seed)
 }
@@ -68,7 +72,8 @@ fn options_from(matches: &ArgMatches) -> Option<Options>
 
 /// Reads the words. A number's bounds, and what stands where an option is not given, are in the crate's head.
 pub fn read_words(alloc: Global, words: &[String]) -> Result<Options, WordsRefusal>
-    ensures taken { IfOk result (λ options. options_of (map string_bytes words.now) ≡ Some options) }
+    ensures taken { IfOk result
+        (λ options. options_of (map string_bytes words.now) ≡ Some options) }
     ensures bounds { IfOk result AreWithin }
     ensures usage { IsErrOf result Usage → options_of (map string_bytes words.now) ≡ None }
 {
