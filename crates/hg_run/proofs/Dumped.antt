@@ -85,7 +85,7 @@ module _ (script : Script) (buckets : ℕ) (e : Engine) (list : List Session) (c
     begins = (
         let more : begans (log_in q) ≡ suc (begans (log_in pass)) = ap begans r.log ∙ looks_begans r.entries (Began at All ∷ log_in pass) r.each in
         let none : begans (log_in pass) ≡ 0 = ap begans no_log in
-        let two = o.opened.reads in
+        let two = o.reads in
         omega (arith, more, none, two));
   }
 

@@ -1,8 +1,6 @@
 -- An engine that was opened with one session more than the script has.
 use Rattle.std.proofs.Common.{◌≡◌, ℕ, suc, ◌+◌, List, [], ◌∷◌, ◌++◌, length, refl, sym, ap, ◌∙◌, arith}
-use Rattle.std.specs.Prelude.{map, max}
-use Rattle.hg_base.specs.declared.statement.Record.{Record}
-use Rattle.hg_base.specs.Lists.{greatest}
+use Rattle.hg_backup.specs.Reader.{reader_of}
 use Rattle.hg_base.specs.Script.{Script}
 use Rattle.hg_rule.specs.New.{EachFrom}
 use Rattle.hg_session.specs.declared.engine.Engine.{Engine}
@@ -10,7 +8,7 @@ use Rattle.hg_session.specs.declared.session.Session.{Session}
 use Rattle.hg_session.specs.Engines.{engine_sizes}
 use Rattle.hg_session.specs.Opened.{IsNewOf}
 use Rattle.hg_run.specs.declared.collecting.Collectors.{Collectors}
-use Rattle.hg_run.specs.Driven.{IsOpenedWith}
+use Rattle.hg_run.specs.Driven.{IsOpenedWith, sessions_in}
 
 pub length_more : (list : List Session) (s : Session) → length (list ++ s ∷ []) ≡ suc (length list)
 length_more [] s = refl
@@ -20,15 +18,12 @@ row_first : (e : Engine) (q i : ℕ) (list : List Session) (s : Session) → Eac
 row_first e q i [] s r = tt
 row_first e q i (x ∷ list) s r = (r.0, row_first e q (suc i) list s r.1)
 
-module _ (script : Script) (buckets : ℕ) (e : Engine) (list : List Session) (last : Session) (collectors : Collectors) (o : IsOpenedWith 1 script buckets e (list ++ last ∷ []) collectors) where
+module _ (script : Script) (buckets : ℕ) (e : Engine) (list : List Session) (last : Session) (collectors : Collectors) (o : IsOpenedWith (reader_of script) script buckets e (list ++ last ∷ []) collectors) where
   pub more_is : (engine_sizes e).sessions ≡ suc (length list)
   more_is = sym o.all ∙ length_more list last
 
-  pub own_many : length list ≡ max 1 (greatest (map (λ (r : Record). r.session) script.records))
-  own_many = go (max 1 (greatest (map (λ (r : Record). r.session) script.records))) (sym more_is ∙ o.sessions)
-    where
-      go : (m : ℕ) → suc (length list) ≡ 1 + m → length list ≡ m
-      go m e = omega (arith, e)
+  pub own_many : length list ≡ sessions_in script
+  own_many = let all : (engine_sizes e).sessions ≡ suc (sessions_in script) = o.sessions_are in let more = more_is in omega (arith, more, all)
 
   pub own_new : EachFrom (IsNewOf e (engine_sizes e).quota) 1 list
   own_new = row_first e (engine_sizes e).quota 1 list last o.new

@@ -1,5 +1,5 @@
 -- What the two drivers make of an engine's sessions and collectors.
-use Rattle.std.specs.Prelude.{◌≡◌, ℕ, ◌+◌, ◌*◌, ◌<◌, ◌≤◌, ◌++◌, List, [], length, map, max, filter, filter_map, None, Result, IfOk, ⊤}
+use Rattle.std.specs.Prelude.{◌≡◌, ℕ, ◌<◌, ◌≤◌, ◌++◌, List, [], length, map, max, filter, filter_map, None, Result, IfOk, ⊤}
 use Rattle.std.specs.List.{cons_option, flat_map}
 use Rattle.hg_base.specs.declared.line.Line.{Line}
 use Rattle.hg_base.specs.declared.line.Reply.{Reply}
@@ -31,14 +31,16 @@ use Rattle.hg_run.specs.Collecting.{AreCollectors, removed_of, view_in}
 use Rattle.hg_run.specs.Rounding.{IsRoundBy, AreRounds, sweep_lines}
 use Rattle.hg_run.specs.Working.{HasWorked}
 
--- an engine for the tables of a script, and so many sessions more than the script has; its sessions and collectors have done nothing
--- yet, and each session may begin a transaction for each record, and for each two further ones
-pub record IsOpenedWith (more : ℕ) (script : Script) (buckets : ℕ) (e : Engine) (list : List Session) (collectors : Collectors) : Type 0 where
-  pub sessions : (engine_sizes e).sessions ≡ more + max 1 (greatest (map (λ (r : Record). r.session) script.records))
+-- how many sessions a script has: those up to the greatest number, and at least one
+abbrev pub sessions_in : Script → ℕ
+sessions_in script = max 1 (greatest (map (λ (r : Record). r.session) script.records))
+
+-- an engine of so many sessions for the tables of a script; its sessions and collectors have done nothing yet
+pub record IsOpenedWith (sessions : ℕ) (script : Script) (buckets : ℕ) (e : Engine) (list : List Session) (collectors : Collectors) : Type 0 where
+  pub sessions_are : (engine_sizes e).sessions ≡ sessions
   pub tables : (engine_sizes e).tables ≡ length script.tables
   pub buckets_are : (engine_sizes e).buckets ≡ buckets
   pub quota : length script.records ≤ (engine_sizes e).quota
-  pub reads : 2 * more ≤ (engine_sizes e).quota
   pub statements : (j : ℕ) → length (of_session j script.records) ≤ (engine_sizes e).quota
   pub all : length list ≡ (engine_sizes e).sessions
   pub new : EachFrom (IsNewOf e (engine_sizes e).quota) 1 list
@@ -47,7 +49,7 @@ pub record IsOpenedWith (more : ℕ) (script : Script) (buckets : ℕ) (e : Engi
 
 -- an engine for the tables and the sessions of a script
 abbrev pub IsOpenedFor : Script → ℕ → Engine → List Session → Collectors → Type 0
-IsOpenedFor script buckets e list collectors = IsOpenedWith 0 script buckets e list collectors
+IsOpenedFor script buckets e list collectors = IsOpenedWith (sessions_in script) script buckets e list collectors
 
 -- what a reply tells of a round of one kind of collector
 abbrev pub sweeps_in : Kind → Reply → List Sweep

@@ -1,6 +1,6 @@
 -- What a dump prints.
 use Rattle.std.specs.Prelude.{◌≡◌, ℕ, ◌≤◌, List, [], ◌∷◌, ◌++◌, length, codes, decimal}
-use Rattle.hg_backup.specs.Reader.{IsSoundWith}
+use Rattle.hg_backup.specs.Reader.{IsSoundWith, reader_of}
 use Rattle.hg_base.specs.declared.line.Line.{Line}
 use Rattle.hg_base.specs.declared.line.Printed.{Printed}
 use Rattle.hg_base.specs.declared.line.Totals.{Totals}
@@ -36,7 +36,7 @@ pub record IsDumpedFor (settings : Settings) (script : Script) (text : List ℕ)
   pub at : ℕ
   pub sound : IsSoundWith (rounds_beside settings.mode) script (at ∷ []) printed
   pub within : at ≤ length (printed_history settings script printed.lines)
-  pub rounds : ReportsRoundsWith 1 settings script printed.lines
+  pub rounds : ReportsRoundsWith (reader_of script) settings script printed.lines
   pub same : text ≡ text_of record_bytes script printed
       ++ (dump_part script (printed_history settings script printed.lines) at
       ++ dump_part script (printed_history settings script printed.lines) (length (printed_history settings script printed.lines)))
@@ -46,7 +46,7 @@ pub record IsDumpedFor (settings : Settings) (script : Script) (text : List ℕ)
 pub record HasReadBoth (settings : Settings) (script : Script) (lines : List Line) (totals : Totals) (dumps : Dumps) : Type 0 where
   pub sound : IsSoundWith (rounds_beside settings.mode) script (dumps.at ∷ []) (record { lines = lines; totals = totals })
   pub within : dumps.at ≤ length (printed_history settings script lines)
-  pub rounds : ReportsRoundsWith 1 settings script lines
+  pub rounds : ReportsRoundsWith (reader_of script) settings script lines
   pub first : dumps.first.items ≡ dump_text script (rows_at script.tables (printed_history settings script lines) dumps.at)
   pub end_is : dumps.end ≡ length (printed_history settings script lines)
   pub last : dumps.last.items ≡ dump_text script (rows_at script.tables (printed_history settings script lines) dumps.end)

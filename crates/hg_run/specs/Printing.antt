@@ -13,23 +13,23 @@ use Rattle.hg_session.specs.declared.session.Session.{Session}
 use Rattle.hg_session.specs.Engines.{engine_sizes}
 use Rattle.hg_run.specs.declared.collecting.Collectors.{Collectors}
 use Rattle.hg_run.specs.Collecting.{HaveMade}
-use Rattle.hg_run.specs.Driven.{IsOpenedWith, sweeps_of}
+use Rattle.hg_run.specs.Driven.{IsOpenedWith, sessions_in, sweeps_of}
 use Rattle.hg_run.specs.Words.{Settings}
 
--- The lines report rounds that were made as the settings say: an engine was opened for the script with so many buckets and so many
--- sessions more than the script has, and each of its collectors made the rounds of its kind that the lines report, in their order and
--- no others, each with that `long`.
-pub record ReportsRoundsWith (more : ℕ) (settings : Settings) (script : Script) (lines : List Line) : Type 0 where
+-- The lines report rounds that were made as the settings say: an engine of so many sessions was opened for the script with so many
+-- buckets, and each of its collectors made the rounds of its kind that the lines report, in their order and no others, each with that
+-- `long`.
+pub record ReportsRoundsWith (count : ℕ) (settings : Settings) (script : Script) (lines : List Line) : Type 0 where
   pub engine : Engine
   pub sessions : List Session
   pub new : Collectors
-  pub opened : IsOpenedWith more script settings.buckets engine sessions new
+  pub opened : IsOpenedWith count script settings.buckets engine sessions new
   pub done : Collectors
   pub rounds : HaveMade (engine_sizes engine) settings.long new (λ kind. sweeps_of kind lines) done
 
--- an engine with the script's sessions alone
+-- an engine with the script's sessions
 abbrev pub ReportsRounds : Settings → Script → List Line → Type 0
-ReportsRounds settings script lines = ReportsRoundsWith 0 settings script lines
+ReportsRounds settings script lines = ReportsRoundsWith (sessions_in script) settings script lines
 
 -- A text that a script may print under these settings: that of a printed value which is sound for it, fits it, and reports rounds
 -- that were made as the settings say. So the text determines the value.

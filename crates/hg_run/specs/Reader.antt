@@ -1,12 +1,12 @@
 -- What a dump reads, and what is left of the pass that read.
-use Rattle.std.specs.Prelude.{◌≡◌, ℕ, suc, List, [], ◌∷◌, ◌++◌, length, map, max, Result, IfOk, OnErr}
+use Rattle.std.specs.Prelude.{◌≡◌, ℕ, suc, List, [], ◌∷◌, ◌++◌, ◌≤◌, length, Result, IfOk, OnErr}
 use Rattle.std.specs.declared.alloc.Global.{Global}
 use Rattle.hg_base.specs.declared.fault.NoMemory.{NoMemory}
 use Rattle.hg_base.specs.declared.report.Kind.{Kind}
 use Rattle.hg_base.specs.declared.line.Totals.{Totals}
 use Rattle.hg_base.specs.History.{History}
-use Rattle.hg_base.specs.declared.statement.Record.{Record}
-use Rattle.hg_base.specs.Lists.{Each, greatest}
+use Rattle.hg_backup.specs.Reader.{reader_of}
+use Rattle.hg_base.specs.Lists.{Each}
 use Rattle.hg_base.specs.Script.{Script}
 use Rattle.hg_core.specs.declared.log.LogEntry.{LogEntry}
 use Rattle.hg_core.specs.Logs.{UpTo}
@@ -30,7 +30,7 @@ use Rattle.hg_run.specs.declared.collecting.Collectors.{Collectors}
 use Rattle.hg_run.specs.declared.reader.Reader.{Reader}
 use Rattle.hg_run.specs.Closed.{IsClosedBy}
 use Rattle.hg_run.specs.Collecting.{view_in}
-use Rattle.hg_run.specs.Driven.{IsOpenedWith}
+use Rattle.hg_run.specs.Driven.{IsOpenedWith, sessions_in}
 use Rattle.hg_run.specs.Rounding.{BeganIn}
 
 abbrev pub alloc_in : Reader → Global
@@ -60,8 +60,9 @@ pub record HasTried (e : Engine) (script : Script) (result : Result ℕ NoMemory
 -- the others are in the list.
 pub record IsOpenedBeside (script : Script) (buckets : ℕ) (e : Engine) (list : List Session) (collectors : Collectors) (pass : SessionPass) : Type 0 where
   pub last : Session
-  pub opened : IsOpenedWith 1 script buckets e (list ++ last ∷ []) collectors
-  pub many : length list ≡ max 1 (greatest (map (λ (r : Record). r.session) script.records))
+  pub opened : IsOpenedWith (reader_of script) script buckets e (list ++ last ∷ []) collectors
+  pub reads : 2 ≤ (engine_sizes e).quota
+  pub many : length list ≡ sessions_in script
   pub more : (engine_sizes e).sessions ≡ suc (length list)
   pub new : EachFrom (IsNewOf e (engine_sizes e).quota) 1 list
   pub pass_is : pass ≡ pass_of last

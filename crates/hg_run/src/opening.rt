@@ -1,9 +1,10 @@
 //! An engine for a script.
 
-ghost use Rattle.std.specs.Prelude.{◌≡◌, ◌≤◌, length, map, IfOk};
+ghost use Rattle.std.specs.Prelude.{◌≡◌, ◌+◌, ◌*◌, ◌≤◌, length, map, IfOk};
 ghost use Rattle.hg_script.specs.Lawful.{IsLawful};
+ghost use Rattle.hg_session.specs.Engines.{engine_sizes};
 ghost use Rattle.hg_words.specs.Options.{AreWithin};
-ghost use Rattle.hg_run.specs.Driven.{IsOpenedFor, IsOpenedWith};
+ghost use Rattle.hg_run.specs.Driven.{IsOpenedFor, IsOpenedWith, sessions_in};
 ghost use Rattle.hg_run.specs.Reader.{IsOpenedBeside};
 
 use crate::collecting::Collectors;
@@ -51,7 +52,8 @@ fn open_with(
     requires lawful { IsLawful script.now }
     requires within { AreWithin options.now }
     requires few { more ≤ 1 }
-    ensures { IfOk result (λ o. IsOpenedWith more script.now options.now.buckets o.0 o.1 o.2) }
+    ensures opened { IfOk result (λ o. IsOpenedWith (more + sessions_in script.now) script.now options.now.buckets o.0 o.1 o.2) }
+    ensures reads { IfOk result (λ o. 2 * more ≤ (engine_sizes o.0).quota) }
 {
     let tables = declared(alloc, script)?;
     let sessions = script.sessions() + more;

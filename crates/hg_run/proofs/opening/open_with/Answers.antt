@@ -25,21 +25,25 @@ open-requires-clause-room c =
     let product = mul-le (c.sessions.result + c.args.more) c.max-quota.result 65 1048578 sessions quota in
     omega (arith, product)
 
-pub returns : goal.returns
-returns c =
+pub returns-clause-opened : goal.returns-clause-opened
+returns-clause-opened c =
     let e = c.in_ok-engine.engine in
     let size : (engine_sizes e).sessions ≡ c.sessions.result + c.args.more = ap (λ (z : Sizes). z.sessions) c.in_ok-engine.ensures.sizes in
     let quota : (engine_sizes e).quota ≡ c.max-quota.result = ap (λ (z : Sizes). z.quota) c.in_ok-engine.ensures.sizes in
     let all : length c.args.script.now.records ≤ (engine_sizes e).quota = omega (arith, quota, c.max-quota.ensures, c.record_count.ensures.same) in
     record {
-      sessions = omega (arith, size, c.sessions.ensures);
+      sessions_are = omega (arith, size, c.sessions.ensures);
       tables = (search rules);
       buckets_are = (search rules);
       quota = all;
-      reads = omega (arith, quota, c.max-quota.ensures, c.record_count.ensures.same);
       statements = λ j. let fewer = few (λ (r : Record). r.session == j) c.args.script.now.records in omega (arith, fewer, all);
       all = c.in_ok-engine.ensures.count ∙ sym size;
       new = subst (λ q. EachFrom (IsNewOf e q) 1 c.in_ok-engine.list) (sym quota) c.in_ok-engine.ensures.sessions;
       collectors_are = c.in_ok-collectors.ensures.own e c.in_ok-engine.ensures.alone size (search rules);
       none = λ k. ap (removed_in k) c.in_ok-collectors.ensures.same ∙ new_removed e c.in_ok-engine.passes k c.in_ok-engine.ensures.passes;
     }
+
+pub returns-clause-reads : goal.returns-clause-reads
+returns-clause-reads c =
+    let quota : (engine_sizes c.in_ok-engine.engine).quota ≡ c.max-quota.result = ap (λ (z : Sizes). z.quota) c.in_ok-engine.ensures.sizes in
+    omega (arith, quota, c.max-quota.ensures, c.record_count.ensures.same)

@@ -29,7 +29,7 @@ returns g c =
     let printed : Printed = record { lines = shown.lines; totals = totals } in
     let numbered : Each (λ (r : Record). 1 ≤ r.session) script.records = each_keeps (IsStatement script.tables) (λ (r : Record). 1 ≤ r.session) (λ r s. s.some) script.records c.requires.lawful.statements in
     let sound : IsSound (run rounds) script printed = driven_sound e long rounds script c.in_ok-engine.list c.run_on.new.sessions c.in_ok-engine.collectors c.run_on.new.collectors shown.lines totals c.in_ok-transcript.ensures.driven t
-    (new_logs e (engine_sizes e).quota c.in_ok-engine.list o.new) o.none numbered (sym o.all) (o.all ∙ o.sessions) in
+    (new_logs e (engine_sizes e).quota c.in_ok-engine.list o.new) o.none numbered (sym o.all) (o.all ∙ o.sessions_are) in
     let same = c.in_ok-text.ensures script (sym c.in_ok-transcript.ensures.tables) in
     let reported : ReportsRounds (settings_in (run rounds) c.args.options.now) script shown.lines = record {
       engine = e;
