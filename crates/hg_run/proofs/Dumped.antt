@@ -1,6 +1,6 @@
 -- From an engine with one session more to the text of a dump.
 use Rattle.std.proofs.Common.{◌≡◌, ℕ, zero, suc, ◌+◌, ◌<◌, ◌≤◌, List, [], ◌∷◌, ◌++◌, length, map, None, refl, sym, ap, ◌∙◌, subst, arith, append_assoc}
-use Rattle.std.specs.Prelude.{is_some, Vec, Result, Ok, Err, IfOk}
+use Rattle.std.specs.Prelude.{is_some, Result, Ok, Err, IfOk}
 use Rattle.std.specs.declared.alloc.Global.{Global}
 use Rattle.hg_backup.proofs.Exported.{logged_goes, reads_more}
 use Rattle.hg_backup.proofs.Newest.{newest}
@@ -131,11 +131,11 @@ module _ (alloc : Global) (e : Engine) (script : Script) (list : List Session) (
 
 -- ---- the text
 
-pub on_text : (settings : Settings) (script : Script) (lines : List Line) (totals : Totals) (dumps : Dumps) (r : Result (Vec ℕ) NoMemory) → HasReadBoth settings script lines totals dumps
-    → IfOk r (λ text. text.items ≡ text_of record_bytes script (record { lines = lines; totals = totals }) ++ (part_text dumps.at dumps.first.items ++ part_text dumps.end dumps.last.items))
-    → IfOk r (λ text. IsDumpedFor settings script text.items)
-on_text settings script lines totals dumps (Err x) read told = tt
-on_text settings script lines totals dumps (Ok text) read told = record {
+pub on_text : (settings : Settings) (script : Script) (lines : List Line) (totals : Totals) (dumps : Dumps) {T : Type 0} (r : Result T NoMemory) (items : T → List ℕ) → HasReadBoth settings script lines totals dumps
+    → IfOk r (λ text. items text ≡ text_of record_bytes script (record { lines = lines; totals = totals }) ++ (part_text dumps.at dumps.first.items ++ part_text dumps.end dumps.last.items))
+    → IfOk r (λ text. IsDumpedFor settings script (items text))
+on_text settings script lines totals dumps (Err x) items read told = tt
+on_text settings script lines totals dumps (Ok text) items read told = record {
   printed = record { lines = lines; totals = totals };
   at = dumps.at;
   sound = read.sound;
