@@ -13,7 +13,7 @@ use Rattle.hg_base.specs.declared.statement.Record.{Record}
 use Rattle.hg_base.specs.History.{History}
 use Rattle.hg_base.specs.Lists.{greatest}
 use Rattle.hg_base.specs.Script.{Script}
-use Rattle.hg_base.specs.Text.{text_of}
+use Rattle.hg_base.specs.Text.{IsFit, text_of}
 use Rattle.hg_csv.specs.Bytes.{record_bytes}
 use Rattle.hg_core.specs.declared.log.LogEntry.{LogEntry}
 use Rattle.hg_core.specs.declared.log.LogEntry.TheVariants.{Began, Over}
@@ -132,13 +132,15 @@ module _ (alloc : Global) (e : Engine) (script : Script) (list : List Session) (
 -- ---- the text
 
 pub on_text : (settings : Settings) (script : Script) (lines : List Line) (totals : Totals) (dumps : Dumps) {T : Type 0} (r : Result T NoMemory) (items : T → List ℕ) → HasReadBoth settings script lines totals dumps
+    → IsFit script (record { lines = lines; totals = totals })
     → IfOk r (λ text. items text ≡ text_of record_bytes script (record { lines = lines; totals = totals }) ++ (part_text dumps.at dumps.first.items ++ part_text dumps.end dumps.last.items))
     → IfOk r (λ text. IsDumpedFor settings script (items text))
-on_text settings script lines totals dumps (Err x) items read told = tt
-on_text settings script lines totals dumps (Ok text) items read told = record {
+on_text settings script lines totals dumps (Err x) items read fit told = tt
+on_text settings script lines totals dumps (Ok text) items read fit told = record {
   printed = record { lines = lines; totals = totals };
   at = dumps.at;
   sound = read.sound;
+  fit = fit;
   within = read.within;
   rounds = read.rounds;
   same = told ∙ (λ i. text_of record_bytes script (record { lines = lines; totals = totals })

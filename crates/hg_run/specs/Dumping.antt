@@ -7,7 +7,7 @@ use Rattle.hg_base.specs.declared.line.Totals.{Totals}
 use Rattle.hg_base.specs.History.{History}
 use Rattle.hg_base.specs.Script.{Script}
 use Rattle.hg_base.specs.Sound.{all_said}
-use Rattle.hg_base.specs.Text.{text_of}
+use Rattle.hg_base.specs.Text.{IsFit, text_of}
 use Rattle.hg_base.specs.Transcript.{history_of}
 use Rattle.hg_csv.specs.Bytes.{record_bytes}
 use Rattle.hg_source.specs.Records.{dump_text}
@@ -29,12 +29,13 @@ abbrev pub dump_part : Script → History → ℕ → List ℕ
 dump_part script h at = part_text at (dump_text script (rows_at script.tables h at))
 
 -- A text that a dump may print under these settings: that of a printed value which is sound for the script concurrently with a reader
--- of all tables at a snapshot, and reports rounds that were made as the settings say. Then the dump of its history at that snapshot
--- follows, and the dump of its history at its end.
+-- of all tables at a snapshot, fits it, and reports rounds that were made as the settings say. Then the dump of its history at that
+-- snapshot follows, and the dump of its history at its end.
 pub record IsDumpedFor (settings : Settings) (script : Script) (text : List ℕ) : Type 0 where
   pub printed : Printed
   pub at : ℕ
   pub sound : IsSoundWith (rounds_beside settings.mode) script (at ∷ []) printed
+  pub fit : IsFit script printed
   pub within : at ≤ length (printed_history settings script printed.lines)
   pub rounds : ReportsRoundsWith (reader_of script) settings script printed.lines
   pub same : text ≡ text_of record_bytes script printed
