@@ -1,9 +1,7 @@
 //! The one word from which helpers draw the numbers of buckets.
 
-ghost use Rattle.std.specs.Prelude.{◌≡◌, ◌+◌, ◌<◌, ◌≤◌, IfOk, length};
+ghost use Rattle.std.specs.Prelude.{◌≡◌};
 ghost use Rattle.hg_sweep.specs.Word.{IsDrawn, fresh, hirer, hired, together, spent, draws, restarts};
-ghost use Rattle.hg_sweep.specs.Word.{whole_quota, helper_quota, Drew, AreAll};
-ghost use Rattle.hg_sweep.specs.Seats.{draws_id, drawn_by, IsDrawerOf};
 
 use atomic_table::{Join, Play, Seat, Split, Table, TableRule};
 use hg_base::NoMemory;
@@ -71,6 +69,10 @@ pub struct Draws {
 }
 
 impl Draws {
+    ghost use Rattle.std.specs.Prelude.{◌+◌, ◌<◌, ◌≤◌, IfOk, length};
+    ghost use Rattle.hg_sweep.specs.Word.{whole_quota, helper_quota, Drew, AreAll};
+    ghost use Rattle.hg_sweep.specs.Seats.{draws_id, drawn_by, IsDrawerOf};
+
     /// No number was drawn yet.
     pub(crate) fn new(alloc: Global) -> Result<(Draws, Drawer), NoMemory>
         ensures own { IfOk result (λ d. IsDrawerOf (draws_id d.0) d.1) }
