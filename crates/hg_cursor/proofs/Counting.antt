@@ -1,8 +1,6 @@
 -- How many of the rows that were copied are up to a key, and how many keys of the heap.
-use Rattle.std.proofs.Common.{◌≡◌, ℕ, suc, ◌+◌, ◌≤◌, List, [], ◌∷◌, ◌++◌, length, true, Option, Some, None, refl, sym, ap, subst, arith}
-use Rattle.std.specs.Prelude.{nat_le, if◌then◌else◌, IfSome, IfNone}
-use Rattle.std.specs.BinaryHeap.{IsHeap, PopsGreatest}
-use Rattle.std.specs.Ordering.{nat_cmp}
+use Rattle.std.proofs.Common.{◌≡◌, ℕ, suc, ◌+◌, ◌≤◌, List, [], ◌∷◌, ◌++◌, length, true, refl, ap, arith}
+use Rattle.std.specs.Prelude.{nat_le, if◌then◌else◌}
 use Rattle.std.specs.List.{All, sum_by}
 use Rattle.std.specs.List.Sorted.{IsPermutation}
 use Rattle.std.proofs.lemmas.Bool.Decides.{nat_tests}
@@ -28,10 +26,9 @@ dropped keys rest rows key p a = λ limit.
     let before = a limit in
     omega (arith, popped, before)
 
--- the greatest key leaves the heap, if there is one
-pub popped : (keys rest : List ℕ) (rows : Rows) (m n : ℕ) (out : Option ℕ) → IsHeap nat_cmp keys × AreAmong keys rows → IfSome out (λ x. IsPermutation keys (x ∷ rest)) → IfSome out (λ x. PopsGreatest nat_cmp keys x rest) → IfNone out ((rest ≡ keys) × (n ≡ m)) → IsHeap nat_cmp rest × AreAmong rest rows
-popped keys rest rows m n None a p g same = subst (λ ks. IsHeap nat_cmp ks × AreAmong ks rows) (sym same.0) a
-popped keys rest rows m n (Some x) a p g same = ((g a.0).0, dropped keys rest rows x p a.1)
+-- a row is added, and its key takes the place of another one
+pub replaced : (keys rest new : List ℕ) (rows : Rows) (out key : ℕ) (row : List Value) → IsPermutation keys (out ∷ rest) → IsPermutation (key ∷ rest) new → AreAmong keys rows → AreAmong new (rows ++ (key, row) ∷ [])
+replaced keys rest new rows out key row leaves comes a = added rest new rows key row comes (dropped keys rest rows out leaves a)
 
 all_upto : (limit : ℕ) (keys : List ℕ) → All (λ k. k ≤ limit) keys → keys_upto limit keys ≡ length keys
 all_upto limit [] a = refl

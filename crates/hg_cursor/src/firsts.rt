@@ -28,9 +28,13 @@ impl Model for Firsts {
 }
 
 impl Firsts {
-    ghost use Rattle.std.specs.Prelude.{◌≡◌, ◌≤◌, ◌⊎◌, [], ◌∷◌, ◌++◌, OnOk};
+    ghost use Rattle.std.specs.Prelude.{◌≡◌, ◌≤◌, ◌⊎◌, List, [], ◌∷◌, ◌++◌, OnOk};
+    ghost use Rattle.std.specs.BinaryHeap.{heap_items, IsHeap};
+    ghost use Rattle.std.specs.Ordering.{nat_cmp};
+    ghost use Rattle.hg_base.specs.declared.value.Value.{Value};
     ghost use Rattle.hg_base.specs.Transcript.{passed};
-    ghost use Rattle.hg_cursor.specs.Firsts.{count_upto, rows_upto, Keeps};
+    ghost use Rattle.hg_cursor.specs.Keys.{Rows};
+    ghost use Rattle.hg_cursor.specs.Firsts.{AreAmong, count_upto, rows_upto, Keeps};
 
     /// No row. It takes no memory.
     pub(crate) fn new(alloc: Global, most: usize) -> Firsts
@@ -43,16 +47,28 @@ impl Firsts {
         }
     }
 
+    // Puts a key in the place of the greatest one: no row over that one is needed, so none is read.
+    fn replace_greatest(keys: &mut BinaryHeap<u64>, key: u64)
+        ensures heap { IsHeap nat_cmp (heap_items keys.old) → IsHeap nat_cmp (heap_items keys.new) }
+        ensures among { (rows : Rows) (row : List Value) → AreAmong (heap_items keys.old) rows →
+            AreAmong (heap_items keys.new) (rows ++ (key, row) ∷ []) }
+    {
+        if let Some(mut greatest) = keys.peek_mut() {
+            *greatest = key;
+        }
+    }
+
     /// Adds a row.
     pub(crate) fn add(&mut self, key: u64, row: Row) -> Result<(), NoMemory>
         ensures added { OnOk result (self.new.rows ≡ self.old.rows ++ (key, row) ∷ []) }
         ensures most { self.new.most ≡ self.old.most }
     {
         self.rows.push((key, row))?;
-        self.keys.push(key)?;
-        if self.keys.len() > self.most {
-            let _ = self.keys.pop();
+        if self.keys.len() >= self.most {
+            Firsts::replace_greatest(&mut self.keys, key);
+            return Ok(());
         }
+        self.keys.push(key)?;
         Ok(())
     }
 
