@@ -140,22 +140,20 @@ between_more bytes a i h k =
 abbrev pub So : Bool → List Field → List ℕ → ℕ → ℕ → Type 0
 So quoted fields bytes a i = fields ++ parted quoted (between bytes a i) (drop i bytes) ≡ parted false [] bytes
 
-module _ (row new : List (Bor (List ℕ))) (f : Bor (List ℕ)) (bytes : List ℕ) (a i : ℕ) (quoted : Bool) (pushed : new ≡ row ++ f ∷ []) (is : f.now ≡ between bytes a i) (so : So quoted (fields_of row) bytes a i) where
-  closed : (more : List Field) → parted quoted (between bytes a i) (drop i bytes) ≡ between bytes a i ∷ more → fields_of new ++ more ≡ parted false [] bytes
-  closed more h =
-      ap (λ r. fields_of r ++ more) pushed ∙ ap (λ fs. fs ++ more) (fields_more row f) ∙ append_assoc (fields_of row) (f.now ∷ []) more
-      ∙ ap (λ w. fields_of row ++ w ∷ more) is ∙ ap (λ fs. fields_of row ++ fs) (sym h) ∙ so
+module _ (old new : List Field) (bytes : List ℕ) (a i : ℕ) (quoted : Bool) (pushed : new ≡ old ++ between bytes a i ∷ []) (so : So quoted old bytes a i) where
+  closed : (more : List Field) → parted quoted (between bytes a i) (drop i bytes) ≡ between bytes a i ∷ more → new ++ more ≡ parted false [] bytes
+  closed more h = ap (λ fs. fs ++ more) pushed ∙ append_assoc old (between bytes a i ∷ []) more ∙ ap (λ fs. old ++ fs) (sym h) ∙ so
 
-  pub closed_at_feed : i < length bytes → get_or bytes i 0 ≡ 10 → quoted ≡ false → fields_of new ≡ parted false [] bytes
-  closed_at_feed within h out = sym (append-nil (fields_of new)) ∙ closed [] (parted_at_feed quoted (between bytes a i) bytes i within h out)
+  pub closed_at_feed : i < length bytes → get_or bytes i 0 ≡ 10 → quoted ≡ false → new ≡ parted false [] bytes
+  closed_at_feed within h out = sym (append-nil (new)) ∙ closed [] (parted_at_feed quoted (between bytes a i) bytes i within h out)
 
-  pub closed_at_end : length bytes ≤ i → fields_of new ≡ parted false [] bytes
-  closed_at_end over = sym (append-nil (fields_of new)) ∙ closed [] (ap (parted quoted (between bytes a i)) (drop_all i bytes over) ∙ parted_none quoted (between bytes a i))
+  pub closed_at_end : length bytes ≤ i → new ≡ parted false [] bytes
+  closed_at_end over = sym (append-nil (new)) ∙ closed [] (ap (parted quoted (between bytes a i)) (drop_all i bytes over) ∙ parted_none quoted (between bytes a i))
 
-  pub closed_at_comma : i < length bytes → get_or bytes i 0 ≡ 44 → quoted ≡ false → So (quoted_behind quoted (get_or bytes i 0)) (fields_of new) bytes (i + 1) (i + 1)
+  pub closed_at_comma : i < length bytes → get_or bytes i 0 ≡ 44 → quoted ≡ false → So (quoted_behind quoted (get_or bytes i 0)) (new) bytes (i + 1) (i + 1)
   closed_at_comma within h out =
-      ap (λ q. fields_of new ++ parted q (between bytes (i + 1) (i + 1)) (drop (i + 1) bytes)) (ap (quoted_behind quoted) h ∙ out)
-      ∙ ap (λ w. fields_of new ++ parted false w (drop (i + 1) bytes)) (between_none bytes (i + 1)) ∙ closed (parted false [] (drop (i + 1) bytes)) (parted_at_comma quoted (between bytes a i) bytes i within h out)
+      ap (λ q. new ++ parted q (between bytes (i + 1) (i + 1)) (drop (i + 1) bytes)) (ap (quoted_behind quoted) h ∙ out)
+      ∙ ap (λ w. new ++ parted false w (drop (i + 1) bytes)) (between_none bytes (i + 1)) ∙ closed (parted false [] (drop (i + 1) bytes)) (parted_at_comma quoted (between bytes a i) bytes i within h out)
 
 apart : (quoted : Bool) (b k : ℕ) → (b ≡ k → quoted ≡ false → ⊥) → (not quoted && (b == k)) ≡ false
 apart true b k h = refl

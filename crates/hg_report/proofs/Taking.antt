@@ -1,6 +1,6 @@
 -- One record is taken where its bytes are those of the guess.
-use Rattle.std.proofs.Common.{◌≡◌, ◌<◌, ◌∙◌, ℕ, List, ◌++◌, Option, Some, None, sym, ap, subst, arith}
-use Rattle.std.specs.Prelude.{IfSome, ⊤}
+use Rattle.std.proofs.Common.{◌≡◌, ◌≢◌, ◌<◌, ◌∙◌, ℕ, List, ◌++◌, Bor, Option, Some, None, option_map, refl, sym, ap, subst, arith}
+use Rattle.std.specs.Prelude.{IfSome, MatchOption, ⊤}
 use Rattle.hg_base.specs.Script.{Script}
 use Rattle.hg_base.specs.Text.{Field}
 use Rattle.hg_report.specs.declared.piece.Piece.{Piece}
@@ -9,7 +9,7 @@ use Rattle.hg_report.specs.declared.progress.Open.{Open}
 use Rattle.hg_report.specs.declared.progress.Progress.{Progress}
 use Rattle.hg_csv.specs.Bytes.{record_bytes}
 use Rattle.hg_report.specs.Guess.{piece_fields}
-use Rattle.hg_report.specs.Progress.{guess_after, Takes}
+use Rattle.hg_report.specs.Progress.{Begins, guess_after, Takes}
 use Rattle.hg_report.proofs.Fitting.{FitsFirst, FitsNext, comes_first, comes_row, comes_held, comes_total, guess_fits}
 
 same_piece : (a b : Piece) → Some a ≡ Some b → a ≡ b
@@ -34,6 +34,12 @@ below script _ _ (comes_first state next free h) = first_below script next h
 below script _ _ (comes_row session place at table left rows key values some h) = tt
 below script _ _ (comes_held session place sweep told h) = tt
 below script _ _ (comes_total index totals number h k) = h
+
+-- what is left behind a text, or that nothing is
+pub begins : (bytes text full : List ℕ) (o : Option (Bor (List ℕ))) → text ≡ full → MatchOption o ((rest : List ℕ) → bytes ≢ text ++ rest) (λ x. bytes ≡ text ++ x.now)
+    → Begins bytes full (option_map (λ s. s.now) o)
+begins bytes text full None w h = λ rest e. h rest (e ∙ ap (λ (t : List ℕ). t ++ rest) (sym w))
+begins bytes text full (Some x) w h = h ∙ ap (λ (t : List ℕ). t ++ x.now) w
 
 -- at most six totals are told
 pub total_below : (script : Script) (state : Open) (fields : List Field) (next : Piece) → Some next ≡ guess_after script state fields → (index number : ℕ) → next ≡ piece.Total index number → index < 6

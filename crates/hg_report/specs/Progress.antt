@@ -92,6 +92,11 @@ pub record IsNext (script : Script) (progress : Progress) (fields : List Field) 
   pub guess : guess_after script progress.last (standing fields) ≡ Some next
   pub is : piece_fields script.tables next ≡ fields
 
+-- The bytes begin with the text, and the rest is left, or they do not.
+abbrev pub Begins : List ℕ → List ℕ → Option (List ℕ) → Type 0
+Begins bytes text None = (rest : List ℕ) → bytes ≡ text ++ rest → ⊥
+Begins bytes text (Some rest) = bytes ≡ text ++ rest
+
 -- The record at the start of the bytes, whose fields stand there as `stood`, is taken, and the bytes after it are left. Or none
 -- stands there that may come next.
 abbrev pub Takes : Script → Progress → List Field → List ℕ → Progress → Option (List ℕ) → Type 0

@@ -1,6 +1,6 @@
 //! The fields of a record as they stand, with their quotes, and what they say, each read whether it is written well or not.
 
-ghost use Rattle.std.specs.Prelude.{◌≡◌, ◌==◌, [], OnOk, false, if◌then◌else◌, not};
+ghost use Rattle.std.specs.Prelude.{◌≡◌, ◌≤◌, ◌-◌, ◌==◌, ◌∷◌, ◌++◌, [], OnOk, drop, false, if◌then◌else◌, length, not, take};
 ghost use Rattle.hg_report.specs.Fields.{fields_of, narrow, nth, natural_at, parted, says, session_in};
 
 use hg_base::NoMemory;
@@ -11,6 +11,21 @@ fn is_quoted_behind(quoted: bool, b: u8) -> bool
     ensures { result ≡ (if b == 34 then not quoted else quoted) }
 {
     if b == b'"' { !quoted } else { quoted }
+}
+
+// Adds the bytes from one place up to another.
+fn push_part<'a>(
+    fields: &mut Vec<&'a [u8]>,
+    bytes: &'a [u8],
+    start: usize,
+    end: usize,
+) -> Result<(), NoMemory>
+    requires { (start ≤ end) × (end ≤ length bytes.now) }
+    ensures { OnOk result (fields_of fields.new.items ≡
+        fields_of fields.old.items ++ take (end - start) (drop start bytes.now) ∷ []) }
+{
+    fields.push(&bytes[start..end])?;
+    Ok(())
 }
 
 /// Parts the record at the start of the bytes at its commas, up to its line feed, where these stand outside of quotes.
@@ -24,17 +39,17 @@ pub(crate) fn part<'a>(bytes: &'a [u8], fields: &mut Vec<&'a [u8]>) -> Result<()
         // Line feeds, commas and quotes are below the bytes of words and numbers.
         if bytes[i] <= b',' {
             if bytes[i] == b'\n' && !quoted {
-                fields.push(&bytes[start..i])?;
+                push_part(fields, bytes, start, i)?;
                 return Ok(());
             }
             if bytes[i] == b',' && !quoted {
-                fields.push(&bytes[start..i])?;
+                push_part(fields, bytes, start, i)?;
                 start = i + 1;
             }
             quoted = is_quoted_behind(quoted, bytes[i]);
         }
     }
-    fields.push(&bytes[start..])?;
+    push_part(fields, bytes, start, bytes.len())?;
     Ok(())
 }
 

@@ -9,7 +9,7 @@ use hg_base::{Line, NoMemory, Row, Sweep, TableId, Told};
 use hg_script::Table;
 
 /// What one record says.
-#[derive(Debug, Drop)]
+#[derive(Drop)]
 pub enum Piece {
     /// A reply of one record.
     Line(Line),
@@ -65,32 +65,31 @@ impl Piece {
             text.old.items ++ record_bytes (piece_fields tables.now self.now)) }
     {
         match self {
-            Piece::Line(line) => write_head(text, tables, line)?,
+            Piece::Line(line) => write_head(text, tables, line),
             Piece::Scan {
                 session,
                 place,
                 at,
                 left,
                 ..
-            } => write_scan(text, *session, *place, *at, *left)?,
+            } => write_scan(text, *session, *place, *at, *left),
             Piece::Sweep {
                 session,
                 place,
                 sweep,
-            } => write_sweep(text, *session, *place, sweep)?,
+            } => write_sweep(text, *session, *place, sweep),
             Piece::Row {
                 session,
                 place,
                 key,
                 row,
-            } => write_row(text, *session, *place, *key, row)?,
+            } => write_row(text, *session, *place, *key, row),
             Piece::Held {
                 session,
                 place,
                 told,
-            } => write_held(text, *session, *place, *told)?,
-            Piece::Total { index, number } => write_total(text, total_word(*index), *number)?,
+            } => write_held(text, *session, *place, *told),
+            Piece::Total { index, number } => write_total(text, total_word(*index), *number),
         }
-        Ok(())
     }
 }

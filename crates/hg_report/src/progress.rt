@@ -1,6 +1,6 @@
 //! How far a reader has come.
 
-ghost use Rattle.std.specs.Prelude.{◌≡◌, ℕ, ◌<◌, IfOk, OnOk};
+ghost use Rattle.std.specs.Prelude.{◌≡◌, ℕ, ◌<◌, ◌∷◌, ◌++◌, [], IfOk, OnOk};
 ghost use Rattle.hg_report.specs.Fields.{fields_of};
 ghost use Rattle.hg_report.specs.Progress.{after, at_start, guess_after, lines_of, no_totals, totals_of, with_held, with_row, with_total};
 ghost use Rattle.hg_report.specs.declared.progress.Open.TheVariants as opens;
@@ -17,7 +17,7 @@ use std::alloc::Global;
 use std::mem;
 
 /// The line, or the totals, whose records may go on.
-#[derive(Debug, Drop)]
+#[derive(Drop)]
 pub enum Open {
     Nothing,
     /// A scan, of which so many rows are to come.
@@ -43,7 +43,7 @@ pub enum Open {
 }
 
 /// The lines that are whole, and what may go on.
-#[derive(Debug, Drop)]
+#[derive(Drop)]
 pub struct Progress {
     pub(crate) lines: LineList,
     pub(crate) last: Open,
@@ -213,56 +213,63 @@ impl Progress {
         Ok(())
     }
 
+    // Ends the line that is open, and adds one more.
+    fn add_line(&mut self, line: Line) -> Result<(), NoMemory>
+        ensures { OnOk result
+            (self.new ≡ record { lines = lines_of self.old ++ line ∷ []; last = opens.Nothing }) }
+    {
+        self.close()?;
+        self.lines.push(line)
+    }
+
+    // Ends the line that is open, and begins another.
+    fn begin(&mut self, last: Open) -> Result<(), NoMemory>
+        ensures { OnOk result (self.new ≡ record { lines = lines_of self.old; last = last }) }
+    {
+        self.close()?;
+        self.last = last;
+        Ok(())
+    }
+
     /// Takes a record.
     pub(crate) fn take(&mut self, alloc: Global, piece: Piece) -> Result<(), NoMemory>
         requires { (index number : ℕ) → piece ≡ pieces.Total index number → index < 6 }
         ensures { OnOk result (self.new ≡ after self.old piece) }
     {
         match piece {
-            Piece::Line(line) => {
-                self.close()?;
-                self.lines.push(line)?;
-            }
+            Piece::Line(line) => self.add_line(line),
             Piece::Scan {
                 session,
                 place,
                 at,
                 table,
                 left,
-            } => {
-                self.close()?;
-                self.last = Open::Scan {
-                    session,
-                    place,
-                    at,
-                    table,
-                    left,
-                    rows: RowList::from(Vec::new(alloc)),
-                };
-            }
+            } => self.begin(Open::Scan {
+                session,
+                place,
+                at,
+                table,
+                left,
+                rows: RowList::from(Vec::new(alloc)),
+            }),
             Piece::Sweep {
                 session,
                 place,
                 sweep,
-            } => {
-                self.close()?;
-                self.last = Open::Sweep {
-                    session,
-                    place,
-                    sweep,
-                };
-            }
-            Piece::Row { key, row, .. } => self.last.add_row(key, row)?,
-            Piece::Held { told, .. } => self.last.add_held(told)?,
+            } => self.begin(Open::Sweep {
+                session,
+                place,
+                sweep,
+            }),
+            Piece::Row { key, row, .. } => self.last.add_row(key, row),
+            Piece::Held { told, .. } => self.last.add_held(told),
             Piece::Total { index, number } => {
                 let totals = with_total(index, number, self.last.totals());
-                self.close()?;
-                self.last = Open::Totals {
+                self.begin(Open::Totals {
                     index: index + 1,
                     totals,
-                };
+                })
             }
         }
-        Ok(())
     }
 }

@@ -1,21 +1,40 @@
 //! The loop over the records of a text.
 
-ghost use Rattle.std.specs.Prelude.{◌≡◌, List, IfErr, IfOk, option_map};
+ghost use Rattle.std.specs.Prelude.{◌≡◌, [], List, IfErr, IfOk, false, option_map};
 ghost use Rattle.hg_script.specs.Lawful.{IsLawful};
 ghost use Rattle.hg_base.specs.declared.line.Printed.{Printed};
 ghost use Rattle.hg_report.specs.declared.refusal.TextRefusal.TheVariants as refusal;
 ghost use Rattle.hg_report.specs.Readable.{IsTextOf, TellsRefusal};
-ghost use Rattle.hg_report.specs.Fields.{fields_of};
-ghost use Rattle.hg_report.specs.Progress.{Takes, finished};
+ghost use Rattle.hg_csv.specs.Bytes.{record_bytes};
+ghost use Rattle.hg_report.specs.Fields.{fields_of, parted};
+ghost use Rattle.hg_report.specs.Guess.{piece_fields};
+ghost use Rattle.hg_report.specs.Progress.{Begins, Takes, finished};
 ghost use Rattle.hg_base.specs.declared.line.Line.{Line};
 ghost use Rattle.hg_base.specs.declared.line.Totals.{Totals};
 
 use crate::fields::part;
+use crate::piece::Piece;
 use crate::progress::{Open, Progress};
 use crate::refusal::TextRefusal;
 use hg_base::{NoMemory, Printed};
 use hg_script::Script;
 use std::alloc::Global;
+
+// The bytes behind the record that says this, where they begin with it. Its text is made in `text`.
+fn behind<'a>(
+    script: &Script,
+    piece: &Piece,
+    text: &mut Vec<u8>,
+    bytes: &'a [u8],
+) -> Result<Option<&'a [u8]>, NoMemory>
+    ensures { IfOk result (λ o.
+        Begins bytes.now (record_bytes (piece_fields script.now.tables piece.now))
+        (option_map (λ s. s.now) o)) }
+{
+    text.clear();
+    piece.write(text, script.tables())?;
+    Ok(bytes.strip_prefix(text))
+}
 
 // Takes the record at the start of the bytes, which has these fields, and gives the bytes after it. Its text is made in `text`.
 fn take<'a>(
@@ -33,9 +52,7 @@ fn take<'a>(
     let Some(piece) = progress.last.guess(alloc, script, row)? else {
         return Ok(None);
     };
-    text.clear();
-    piece.write(text, script.tables())?;
-    let Some(rest) = bytes.strip_prefix(text) else {
+    let Some(rest) = behind(script, &piece, text, bytes)? else {
         return Ok(None);
     };
     progress.take(alloc, piece)?;
@@ -66,6 +83,23 @@ fn finish(progress: Progress, line: u64) -> Result<Printed, TextRefusal>
     Err(refused(line))
 }
 
+// Takes the record at the start of the bytes, and gives those after it.
+fn step<'a>(
+    alloc: Global,
+    script: &Script,
+    progress: &mut Progress,
+    fields: &mut Vec<&'a [u8]>,
+    text: &mut Vec<u8>,
+    bytes: &'a [u8],
+) -> Result<Option<&'a [u8]>, NoMemory>
+    ensures { IfOk result (λ o.
+        Takes script.now progress.old (parted false [] bytes.now) bytes.now progress.new
+        (option_map (λ s. s.now) o)) }
+{
+    part(bytes, fields)?;
+    take(alloc, script, progress, fields, text, bytes)
+}
+
 // The bytes of a shortest reply, as `1,2,gone` and its line feed.
 const SHORTEST_BYTES: usize = 9;
 
@@ -90,8 +124,7 @@ pub fn read_text(alloc: Global, script: &Script, bytes: &[u8]) -> Result<Printed
         if rest.is_empty() {
             return finish(progress, line);
         }
-        part(rest, &mut fields)?;
-        match take(alloc, script, &mut progress, &fields, &mut text, rest)? {
+        match step(alloc, script, &mut progress, &mut fields, &mut text, rest)? {
             Some(more) => rest = more,
             None => return Err(refused(line)),
         }

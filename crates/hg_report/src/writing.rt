@@ -12,7 +12,7 @@ ghost use Rattle.hg_report.specs.Guess.{behind};
 use crate::bytes::{add_number, add_value, begin_reply};
 use crate::row_start::RowStart;
 use hg_base::{
-    Answer, Kind, Line, NoMemory, Printed, Reply, Row, Sweep, TableId, Told, Totals, Value,
+    Answer, Kind, Line, NoMemory, Printed, Reply, Row, Sweep, TableId, Told, Totals, Value, Writer,
 };
 use hg_csv::{add_field, add_plain, begin_record, end_record};
 use hg_script::{Script, Table};
@@ -78,17 +78,26 @@ fn add_row(text: &mut Vec<u8>, row: &Row) -> Result<(), NoMemory>
     }
 }
 
+// A number behind its word.
+fn add_numbered(text: &mut Vec<u8>, word: &[u8], number: u64) -> Result<(), NoMemory>
+    requires { list_any (needs_byte flexible_writer) word.now ≡ false }
+    ensures { OnOk result (text.new.items ≡
+        text.old.items ++ flat_map further_bytes (word.now ∷ decimal number ∷ [])) }
+{
+    add_plain(text, word)?;
+    add_number(text, number)
+}
+
 // A number behind its word, where it is printed.
 fn add_told(text: &mut Vec<u8>, word: &[u8], number: Option<u64>) -> Result<(), NoMemory>
     requires { list_any (needs_byte flexible_writer) word.now ≡ false }
     ensures { OnOk result
         (text.new.items ≡ text.old.items ++ flat_map further_bytes (told_as word.now number)) }
 {
-    if let Some(n) = number {
-        add_plain(text, word)?;
-        add_number(text, n)?;
+    match number {
+        Some(n) => add_numbered(text, word, n),
+        None => Ok(()),
     }
-    Ok(())
 }
 
 fn add_sweep(text: &mut Vec<u8>, sweep: &Sweep) -> Result<(), NoMemory>
@@ -99,8 +108,7 @@ fn add_sweep(text: &mut Vec<u8>, sweep: &Sweep) -> Result<(), NoMemory>
     add_field(text, kind_word(sweep.kind))?;
     add_number(text, sweep.mark)?;
     add_number(text, sweep.horizon)?;
-    add_number(text, sweep.removed)?;
-    Ok(())
+    add_number(text, sweep.removed)
 }
 
 // The name of a table that is not declared.
@@ -111,8 +119,35 @@ fn add_undeclared(text: &mut Vec<u8>, name: &[u8]) -> Result<(), NoMemory>
 {
     add_field(text, b"refused")?;
     add_field(text, b"undeclared")?;
-    add_field(text, name)?;
-    Ok(())
+    add_field(text, name)
+}
+
+fn add_found(text: &mut Vec<u8>, row: &Row) -> Result<(), NoMemory>
+    ensures { OnOk result (text.new.items ≡
+        text.old.items ++ flat_map further_bytes (codes "row" ∷ map value_field row.now)) }
+{
+    add_plain(text, b"row")?;
+    add_row(text, row)
+}
+
+fn add_newer(text: &mut Vec<u8>, number: u64) -> Result<(), NoMemory>
+    ensures { OnOk result (text.new.items ≡
+        text.old.items ++
+        flat_map further_bytes (codes "refused" ∷ codes "newer" ∷ decimal number ∷ [])) }
+{
+    add_plain(text, b"refused")?;
+    add_numbered(text, b"newer", number)
+}
+
+fn add_writer(text: &mut Vec<u8>, writer: Writer) -> Result<(), NoMemory>
+    ensures { OnOk result (text.new.items ≡
+        text.old.items ++
+        flat_map further_bytes
+        (codes "refused" ∷ codes "open" ∷ decimal writer.session ∷ decimal writer.transaction ∷ [])) }
+{
+    add_plain(text, b"refused")?;
+    add_numbered(text, b"open", u64::from(writer.session))?;
+    add_number(text, writer.transaction)
 }
 
 fn add_answer(text: &mut Vec<u8>, tables: &[Table], answer: &Answer) -> Result<(), NoMemory>
@@ -120,44 +155,17 @@ fn add_answer(text: &mut Vec<u8>, tables: &[Table], answer: &Answer) -> Result<(
         text.old.items ++ flat_map further_bytes (answer_fields tables.now answer.now)) }
 {
     match answer {
-        Answer::Begun(snapshot) => {
-            add_plain(text, b"begun")?;
-            add_number(text, *snapshot)?;
-            Ok(())
-        }
+        Answer::Begun(snapshot) => add_numbered(text, b"begun", *snapshot),
         Answer::Stored => add_plain(text, b"stored"),
-        Answer::Found(row) => {
-            add_plain(text, b"row")?;
-            add_row(text, row)?;
-            Ok(())
-        }
+        Answer::Found(row) => add_found(text, row),
         Answer::Nothing => add_plain(text, b"none"),
         Answer::Gone => add_plain(text, b"gone"),
-        Answer::Rows(rows) => {
-            add_plain(text, b"rows")?;
-            add_number(text, rows.as_slice().len() as u64)?;
-            Ok(())
-        }
-        Answer::Committed(number) => {
-            add_plain(text, b"committed")?;
-            add_number(text, *number)?;
-            Ok(())
-        }
+        Answer::Rows(rows) => add_numbered(text, b"rows", rows.as_slice().len() as u64),
+        Answer::Committed(number) => add_numbered(text, b"committed", *number),
         Answer::Ended => add_plain(text, b"ended"),
         Answer::Undone => add_plain(text, b"undone"),
-        Answer::Newer(number) => {
-            add_plain(text, b"refused")?;
-            add_plain(text, b"newer")?;
-            add_number(text, *number)?;
-            Ok(())
-        }
-        Answer::OpenBy(writer) => {
-            add_plain(text, b"refused")?;
-            add_plain(text, b"open")?;
-            add_number(text, u64::from(writer.session))?;
-            add_number(text, writer.transaction)?;
-            Ok(())
-        }
+        Answer::Newer(number) => add_newer(text, *number),
+        Answer::OpenBy(writer) => add_writer(text, *writer),
         Answer::Undeclared(table) => add_undeclared(text, name_of(tables, *table)),
         Answer::Swept(sweep) => add_sweep(text, sweep),
         Answer::Beside => add_plain(text, b"beside"),
@@ -173,8 +181,7 @@ fn add_reply(text: &mut Vec<u8>, tables: &[Table], reply: &Reply) -> Result<(), 
 {
     add_told(text, b"at", reply.at)?;
     add_answer(text, tables, &reply.answer)?;
-    add_told(text, b"committed", reply.number)?;
-    Ok(())
+    add_told(text, b"committed", reply.number)
 }
 
 fn add_count(text: &mut Vec<u8>, at: Option<u64>, rows: u64) -> Result<(), NoMemory>
@@ -184,9 +191,7 @@ fn add_count(text: &mut Vec<u8>, at: Option<u64>, rows: u64) -> Result<(), NoMem
         (told_as (codes "at") at ++ codes "rows" ∷ decimal rows ∷ [])) }
 {
     add_told(text, b"at", at)?;
-    add_plain(text, b"rows")?;
-    add_number(text, rows)?;
-    Ok(())
+    add_numbered(text, b"rows", rows)
 }
 
 fn add_key(text: &mut Vec<u8>, key: u64, row: &Row) -> Result<(), NoMemory>
@@ -195,8 +200,7 @@ fn add_key(text: &mut Vec<u8>, key: u64, row: &Row) -> Result<(), NoMemory>
 {
     add_field(text, b"row")?;
     add_number(text, key)?;
-    add_row(text, row)?;
-    Ok(())
+    add_row(text, row)
 }
 
 fn moved_word(moved: bool) -> &'static [u8]
@@ -212,8 +216,7 @@ fn add_held(text: &mut Vec<u8>, told: Told) -> Result<(), NoMemory>
     add_field(text, b"held")?;
     add_number(text, u64::from(told.session))?;
     add_number(text, told.number)?;
-    add_field(text, moved_word(told.moved))?;
-    Ok(())
+    add_field(text, moved_word(told.moved))
 }
 
 /// Adds the first record of a reply.
@@ -308,8 +311,7 @@ fn add_total(text: &mut Vec<u8>, n: u64) -> Result<(), NoMemory>
     ensures { OnOk result
         (text.new.items ≡ text.old.items ++ flat_map further_bytes (decimal n ∷ [])) }
 {
-    add_number(text, n)?;
-    Ok(())
+    add_number(text, n)
 }
 
 /// Adds the record of one of the totals.
@@ -366,8 +368,7 @@ pub(crate) fn write_line(text: &mut Vec<u8>, tables: &[Table], line: &Line) -> R
         text.old.items ++ flat_map record_bytes (line_records tables.now line.now)) }
 {
     write_head(text, tables, line)?;
-    write_more(text, line)?;
-    Ok(())
+    write_more(text, line)
 }
 
 fn write_lines(text: &mut Vec<u8>, tables: &[Table], lines: &[Line]) -> Result<(), NoMemory>
@@ -390,8 +391,7 @@ pub(crate) fn write_totals(text: &mut Vec<u8>, totals: &Totals) -> Result<(), No
     write_total(text, b"group", totals.group)?;
     write_total(text, b"table", totals.table)?;
     write_total(text, b"interval", totals.interval)?;
-    write_total(text, b"left", totals.left)?;
-    Ok(())
+    write_total(text, b"left", totals.left)
 }
 
 // Most replies have one record of fewer bytes than this.
