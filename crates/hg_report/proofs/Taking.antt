@@ -1,5 +1,5 @@
 -- One record is taken where its bytes are those of the guess.
-use Rattle.std.proofs.Common.{◌≡◌, ◌≢◌, ◌<◌, ◌∙◌, ℕ, List, ◌++◌, Bor, Option, Some, None, option_map, refl, sym, ap, subst, arith}
+use Rattle.std.proofs.Common.{◌≡◌, ◌≢◌, ◌<◌, ◌∙◌, ℕ, List, ◌++◌, Bor, Option, Some, None, option_map, sym, ap, subst, arith}
 use Rattle.std.specs.Prelude.{IfSome, MatchOption, ⊤}
 use Rattle.hg_base.specs.Script.{Script}
 use Rattle.hg_base.specs.Text.{Field}

@@ -1,5 +1,6 @@
 -- A record as the list of its fields, and the word that says what it is.
 use Rattle.std.specs.Prelude.{ℕ, ◌==◌, ◌&&◌, List, [], get_or, codes, bytes_eq, Option, Some, None, Bool, if◌then◌else◌}
+use Rattle.std.specs.Borrow.{Bor}
 use Rattle.csv.specs.Reading.{default_config, records, strip_bom}
 use Rattle.hg_script.specs.declared.word.Word.{Word}
 use Rattle.hg_script.specs.declared.word.Word.TheVariants.{Version, Table, Begin, Get, Put, Del, Scan, Commit, Rollback, Gc, Open, Fetch, Close}
@@ -10,6 +11,10 @@ Field = List ℕ
 
 abbrev pub Fields : Type 0
 Fields = List Field
+
+-- what a reader over bytes has not read
+abbrev pub unread : Bor (List ℕ) → Option (List ℕ)
+unread s = Some s.now
 
 -- the records of a text, without a byte order mark at its start
 abbrev pub rows_of : List ℕ → List Fields

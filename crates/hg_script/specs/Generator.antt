@@ -17,6 +17,7 @@ use Rattle.hg_base.specs.Text.{kinds_of}
 use Rattle.hg_script.specs.declared.choice.Choice.{Choice}
 use Rattle.hg_script.specs.declared.choice.Choice.TheVariants.{Begin, BeginC, Get, Put, Del, Scan, Commit, Rollback, Gc}
 use Rattle.hg_script.specs.Draft.{table_at}
+use Rattle.hg_script.specs.Numbered.{records_before}
 use Rattle.hg_script.specs.Rules.{is_open}
 
 -- ---- numbers that are drawn
@@ -123,6 +124,13 @@ draws_of say.Rollback = 1
 draws_of (say.Gc kind) = 2
 
 -- ---- the script
+
+-- what a session adds to a script where the state is x, and the state after it
+abbrev pub with_drawn : ℕ → ℕ → Script → Script
+with_drawn session x s = record s { records = s.records ++ (record { place = records_before s + length s.records + 1; session = session; statement = statement_at x (is_open session s.records) }) ∷ [] }
+
+abbrev pub state_drawn : ℕ → ℕ → Script → ℕ
+state_drawn session x s = state_after (draws_of (statement_at x (is_open session s.records))) x
 
 -- the state when the numbers for these records are drawn
 abbrev pub state_behind : ℕ → List Record → ℕ

@@ -4,7 +4,7 @@ ghost use Rattle.std.specs.Prelude.{◌≡◌, ◌<◌};
 ghost use Rattle.hg_script.specs.Generator.{chosen, chosen_in, inside, outside};
 
 /// A statement without its table, key and values.
-#[derive(Clone, Copy, Debug, PartialEq, Eq)]
+#[derive(Clone, Copy)]
 pub(crate) enum Choice {
     Begin,
     /// Of a transaction on table c alone.

@@ -14,7 +14,7 @@ use std::alloc::Global;
 use std::marker::Model;
 
 /// What each column of a table holds. There are at most 8.
-#[derive(Debug, Drop)]
+#[derive(Drop)]
 pub(crate) struct Kinds {
     list: Vec<Column>,
 }
@@ -75,7 +75,7 @@ impl Kinds {
 }
 
 /// What the third field of a table record is.
-#[derive(Debug, Drop)]
+#[derive(Drop)]
 pub enum Columns {
     /// Not written as a number. In version 2 none is asked for.
     No,

@@ -6,7 +6,7 @@ ghost use Rattle.std.specs.Option.{option_or};
 use hg_base::{MOST_SESSIONS, TableId};
 
 /// For each session, by its number, the table of the cursor that it opened last.
-#[derive(Debug, Drop)]
+#[derive(Drop)]
 pub(crate) struct Cursors {
     tables: [Option<TableId>; MOST_SESSIONS as usize + 1],
 }

@@ -24,7 +24,7 @@ use std::alloc::Global;
 
 /// What a session's record asks. A table that is not declared is `None`, and so is a scope that names one, and a collector that
 /// is not there.
-#[derive(Debug, Drop)]
+#[derive(Drop)]
 pub enum Ask {
     Begin {
         scope: Option<Scope>,
@@ -64,7 +64,7 @@ pub enum Ask {
 }
 
 /// A record that has the fields of its word.
-#[derive(Debug, Drop)]
+#[derive(Drop)]
 pub enum Draft {
     Version(Natural),
     /// Whether the name is one that a table may take, and the columns.

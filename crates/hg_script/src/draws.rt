@@ -6,7 +6,7 @@ ghost use Rattle.hg_script.specs.Generator.{drawn, next_state};
 use std::marker::Model;
 
 /// The state that the next number is drawn from. It is at first the seed.
-#[derive(Debug, Drop)]
+#[derive(Drop)]
 pub(crate) struct Draws {
     state: u64,
 }

@@ -10,7 +10,7 @@ use hg_base::MOST_SESSIONS;
 pub(crate) const NOWHERE: u32 = u32::MAX;
 
 /// For each session, by its number, the index of its first statement, or `NOWHERE`, and that of its last.
-#[derive(Debug, Drop)]
+#[derive(Drop)]
 pub(crate) struct Ends {
     firsts: [u32; MOST_SESSIONS as usize + 1],
     lasts: [u32; MOST_SESSIONS as usize + 1],

@@ -3,11 +3,14 @@
 //! Its sessions read and write 256 keys of three tables, in and out of transactions, which begin and end by chance too. Some
 //! transactions declare table c alone, and name the others nevertheless.
 
-ghost use Rattle.std.specs.Prelude.{◌≡◌, ◌<◌, [], IfOk, OnOk, length};
+ghost use Rattle.std.specs.Prelude.{◌≡◌, ◌≤◌, ◌<◌, ◌∷◌, ◌++◌, [], IfOk, None, OnOk, length, replicate};
 ghost use Rattle.hg_base.specs.Text.{kinds_of};
-ghost use Rattle.hg_script.specs.Draft.{table_at};
-ghost use Rattle.hg_script.specs.Generator.{IsMade, draws_of, drawn, kind_at, made_tables, row_drawn, state_after, statement_at};
+ghost use Rattle.hg_base.specs.declared.value.Column.TheVariants as column;
+ghost use Rattle.hg_script.specs.Draft.{table_at, table_named};
+ghost use Rattle.hg_script.specs.Generator.{IsMade, draws_of, drawn, kind_at, made_tables, row_drawn, state_after, state_drawn, statement_at, with_drawn};
 ghost use Rattle.hg_script.specs.Lawful.{IsLawful};
+ghost use Rattle.hg_script.specs.Meaning.{nothing};
+ghost use Rattle.hg_script.specs.Sessions.{KnowsOpen};
 
 use crate::choice::Choice;
 use crate::columns::Kinds;
@@ -15,7 +18,10 @@ use crate::draws::Draws;
 use crate::script::Script;
 use crate::sessions::OpenSessions;
 use crate::table::Table;
-use hg_base::{Kind, NoMemory, Rid, Row, Scope, Statement, TableId};
+use hg_base::{
+    Kind, MOST_COLUMNS, MOST_RECORDS, MOST_SESSIONS, MOST_TABLES, NoMemory, Rid, Row, Scope,
+    Statement, TableId,
+};
 use std::alloc::Global;
 
 const SESSIONS: u32 = 8;
@@ -26,14 +32,38 @@ const B: TableId = TableId(1);
 
 const C: TableId = TableId(2);
 
+// Declares one table more, of columns of numbers.
+fn declare(alloc: Global, script: &mut Script, name: &[u8], columns: u8) -> Result<(), NoMemory>
+    requires few { columns ≤ MOST_COLUMNS }
+    requires room { length script.old.tables < MOST_TABLES }
+    requires fresh { table_named script.old.tables name.now ≡ None }
+    requires first { script.old.records ≡ [] }
+    ensures { OnOk result (script.new ≡
+        record script.old
+        { tables = script.old.tables ++ (record { name = name.now; kinds = replicate columns column.Number }) ∷ [] }) }
+{
+    let kinds = Kinds::of_numbers(alloc, columns)?;
+    let table = Table::new(alloc, name, kinds)?;
+    script.declare(table)
+}
+
+// Declares the three tables.
+fn declare_all(alloc: Global, script: &mut Script) -> Result<(), NoMemory>
+    requires { script.old ≡ nothing }
+    ensures { OnOk result
+        (script.new ≡ record { version = 1; tables = made_tables; records = [] }) }
+{
+    declare(alloc, script, b"a", 1)?;
+    declare(alloc, script, b"b", 2)?;
+    declare(alloc, script, b"c", 1)
+}
+
 // A script of the tables alone.
 fn declare_tables(alloc: Global) -> Result<Script, NoMemory>
     ensures { IfOk result (λ s. s ≡ record { version = 1; tables = made_tables; records = [] }) }
 {
     let mut script = Script::new(alloc);
-    script.declare(Table::new(alloc, b"a", Kinds::of_numbers(alloc, 1)?)?)?;
-    script.declare(Table::new(alloc, b"b", Kinds::of_numbers(alloc, 2)?)?)?;
-    script.declare(Table::new(alloc, b"c", Kinds::of_numbers(alloc, 1)?)?)?;
+    declare_all(alloc, &mut script)?;
     Ok(script)
 }
 
@@ -107,6 +137,29 @@ fn draw_statement(alloc: Global, draws: &mut Draws, within: bool) -> Result<Stat
     })
 }
 
+// Adds what the session asks next.
+fn add_drawn(
+    alloc: Global,
+    session: u32,
+    draws: &mut Draws,
+    script: &mut Script,
+    sessions: &mut OpenSessions,
+) -> Result<(), NoMemory>
+    requires session { session ≤ MOST_SESSIONS }
+    requires room { length script.old.records < MOST_RECORDS }
+    requires known { KnowsOpen sessions.old.flags script.old.records }
+    ensures script { OnOk result (script.new ≡
+        with_drawn session draws.old script.old) }
+    ensures state { OnOk result (draws.new ≡ state_drawn session draws.old script.old) }
+    ensures known { OnOk result (KnowsOpen sessions.new.flags script.new.records) }
+{
+    let within = sessions.is_open(session as u64);
+    let statement = draw_statement(alloc, draws, within)?;
+    sessions.note(session, &statement);
+    script.add(session, statement)?;
+    Ok(())
+}
+
 /// Makes the script of a seed.
 pub fn make_script(alloc: Global, seed: u64) -> Result<Script, NoMemory>
     ensures made { IfOk result (IsMade seed) }
@@ -119,10 +172,7 @@ pub fn make_script(alloc: Global, seed: u64) -> Result<Script, NoMemory>
     let mut draws = Draws::new(seed);
     for i in 0..ROUNDS * SESSIONS {
         let session = i % SESSIONS + 1;
-        let within = sessions.is_open(session as u64);
-        let statement = draw_statement(alloc, &mut draws, within)?;
-        sessions.note(session, &statement);
-        script.add(session, statement)?;
+        add_drawn(alloc, session, &mut draws, &mut script, &mut sessions)?;
     }
     Ok(script)
 }

@@ -1,28 +1,59 @@
 //! The loop over the records of a text.
 
-ghost use Rattle.std.specs.Prelude.{◌≡◌, ◌≤◌, ◌<◌, ◌+◌, length, Some, None, OnOk, IfOk, IfErr, false};
-ghost use Rattle.csv.specs.Reading.{NotLengths, error_kind};
+ghost use Rattle.std.specs.Prelude.{◌≡◌, ◌≤◌, ◌<◌, ◌+◌, [], length, Some, None, OnOk, IfOk, IfErr, false, true};
+ghost use Rattle.csv.specs.Reading.{NotLengths, ReadRecord, Ready, error_kind, is_flexible, reader_trim, took_first};
+ghost use Rattle.csv.specs.declared.reader.Trim.TheVariants as trim;
 ghost use Rattle.csv.specs.Records.{fields_of};
 ghost use Rattle.hg_script.specs.declared.refusal.ScriptRefusal.TheVariants as refusal;
-ghost use Rattle.hg_script.specs.Fields.{rows_of, word_of};
+ghost use Rattle.hg_script.specs.declared.draft.Draft.TheVariants as draft;
+ghost use Rattle.hg_script.specs.Fields.{rows_of, unread, word_of};
+ghost use Rattle.hg_script.specs.Number.{value_of};
 ghost use Rattle.hg_script.specs.Draft.{draft_of};
-ghost use Rattle.hg_script.specs.Rules.{count_breaks, name_breaks, number_breaks, order_breaks, range_breaks, value_breaks};
+ghost use Rattle.hg_script.specs.Rules.{ask_number_breaks, ask_range_breaks, ask_value_breaks, count_breaks, name_breaks, number_breaks, order_breaks, range_breaks, value_breaks};
 ghost use Rattle.hg_script.specs.Meaning.{TellsCode, TellsRefusal, first_code, refusal_of, script_of, with_draft, with_row};
 ghost use Rattle.hg_script.specs.Lawful.{IsLawful};
 ghost use Rattle.hg_script.specs.Numbered.{records_before};
 ghost use Rattle.hg_script.specs.Sessions.{KnowsOpen, KnowsReading};
 
 use crate::code::Code;
-use crate::draft::Draft;
+use crate::draft::{Ask, Draft};
+use crate::number::Natural;
 use crate::refusal::ScriptRefusal;
 use crate::rules::{breaks_count, breaks_fields};
 use crate::script::Script;
 use crate::sessions::OpenSessions;
 use crate::table::Table;
 use crate::word::{Word, field};
-use csv::{ByteRecord, Error, ErrorKind, ReaderBuilder};
-use hg_base::{MOST_RECORDS, NoMemory};
+use csv::{ByteRecord, Error, ErrorKind, Reader, ReaderBuilder};
+use hg_base::{MOST_RECORDS, MOST_SESSIONS, NoMemory};
 use std::alloc::Global;
+
+// Adds what a session asks, which breaks no rule.
+fn add_asked(
+    script: &mut Script,
+    sessions: &mut OpenSessions,
+    session: Natural,
+    ask: Ask,
+) -> Result<(), NoMemory>
+    requires known { KnowsOpen sessions.old.flags script.old.records }
+    requires cursors { KnowsReading sessions.old.cursors script.old.records }
+    requires room { length script.old.records < MOST_RECORDS }
+    requires number { ask_number_breaks ask ≡ false }
+    requires range { ask_range_breaks ask ≡ false }
+    requires value { ask_value_breaks ask ≡ false }
+    requires session { value_of session ≤ MOST_SESSIONS }
+    ensures script { OnOk result (script.new ≡
+        with_draft (records_before script.old + length script.old.records + 1) script.old []
+        (draft.Session session ask)) }
+    ensures known { OnOk result (KnowsOpen sessions.new.flags script.new.records) }
+    ensures cursors { OnOk result (KnowsReading sessions.new.cursors script.new.records) }
+{
+    let number = session.value() as u32;
+    let statement = ask.into_statement();
+    sessions.note(number, &statement);
+    script.add(number, statement)?;
+    Ok(())
+}
 
 // Adds a record that breaks no rule.
 fn add(
@@ -60,12 +91,7 @@ fn add(
             let table = Table::new(alloc, field(row, 1), columns.into_kinds())?;
             script.declare(table)?;
         }
-        Draft::Session { session, ask } => {
-            let session = session.value() as u32;
-            let statement = ask.into_statement();
-            sessions.note(session, &statement);
-            script.add(session, statement)?;
-        }
+        Draft::Session { session, ask } => add_asked(script, sessions, session, ask)?,
     }
     Ok(())
 }
@@ -115,6 +141,23 @@ fn refused(line: u64, code: Code) -> ScriptRefusal
     ScriptRefusal::At { line, code }
 }
 
+// Reads the next record into `row`, and tells whether there was one.
+fn read_row(reader: &mut Reader<&[u8]>, row: &mut ByteRecord) -> Result<bool, ScriptRefusal>
+    requires flexible { is_flexible reader.old ≡ true }
+    requires trim { reader_trim reader.old ≡ trim.None }
+    requires ready { Ready reader.old }
+    ensures flexible { OnOk result (is_flexible reader.new ≡ true) }
+    ensures ready { OnOk result (took_first reader.new ≡ true) }
+    ensures reads { IfOk result
+        (λ found. ReadRecord unread reader.old reader.new found (fields_of row.new)) }
+    ensures refused { IfErr result (λ e. e ≡ refusal.NoMemory) }
+{
+    match reader.read_byte_record(row) {
+        Ok(found) => Ok(found),
+        Err(e) => Err(cause_of(&e)),
+    }
+}
+
 /// Reads a script: the one that its records give, or the first record that breaks a rule.
 pub fn read_script(alloc: Global, bytes: &[u8]) -> Result<Script, ScriptRefusal>
     ensures valid { OnOk result (refusal_of (rows_of bytes.now) ≡ None) }
@@ -132,10 +175,10 @@ pub fn read_script(alloc: Global, bytes: &[u8]) -> Result<Script, ScriptRefusal>
     let mut script = Script::new(alloc);
     let mut sessions = OpenSessions::new();
     for place in 1..MOST_RECORDS + 2 {
-        match reader.read_byte_record(&mut row) {
+        match read_row(&mut reader, &mut row) {
             Ok(true) => take(alloc, place, &mut script, &mut sessions, &row)?,
             Ok(false) => return Ok(script),
-            Err(e) => return Err(cause_of(&e)),
+            Err(e) => return Err(e),
         }
     }
     unreachable!()

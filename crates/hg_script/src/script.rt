@@ -21,7 +21,7 @@ use std::alloc::Global;
 use std::marker::Model;
 
 /// The version, the tables in the order in which they are declared, and the statements in the order in which they stand.
-#[derive(Debug, Drop)]
+#[derive(Drop)]
 pub struct Script {
     version: u8,
     tables: Tables,

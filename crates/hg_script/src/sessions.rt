@@ -7,7 +7,7 @@ ghost use Rattle.hg_script.specs.Rules.{opened, reading};
 use hg_base::{MOST_SESSIONS, Statement};
 
 /// For each session, by its number, whether its transaction is open and whether its cursor is open.
-#[derive(Debug, Drop)]
+#[derive(Drop)]
 pub(crate) struct OpenSessions {
     flags: [bool; MOST_SESSIONS as usize + 1],
     cursors: [bool; MOST_SESSIONS as usize + 1],

@@ -4,7 +4,7 @@
 //! 40 bytes, and 8 more for each number. In them it keeps where the next statement of its session stands. A row with a text
 //! stands as it is in a list of such rows.
 
-ghost use Rattle.std.specs.Prelude.{◌≡◌, ℕ, ℤ, List, Option, None, ◌≤◌, ◌<◌, ◌+◌, ◌^◌, ◌∷◌, ◌++◌, [], IfOk, OnErr, OnOk, fold, get_or, length, map, max, take};
+ghost use Rattle.std.specs.Prelude.{◌≡◌, ℕ, ℤ, List, Option, None, ◌≤◌, ◌<◌, ◌+◌, ◌^◌, ◌∷◌, ◌++◌, [], IfOk, OnErr, OnOk, drop, fold, get_or, length, map, max, take};
 ghost use Rattle.hg_base.specs.Lists.{greatest};
 ghost use Rattle.hg_base.specs.declared.statement.Statement.{Statement};
 ghost use Rattle.hg_base.specs.declared.statement.Statement.TheVariants as say;
@@ -14,6 +14,7 @@ ghost use Rattle.hg_base.specs.Text.{opens};
 ghost use Rattle.hg_script.specs.Cursors.{HasCursor, cursor_in};
 ghost use Rattle.hg_script.specs.Links.{led, next_from};
 ghost use Rattle.hg_base.specs.declared.value.Value as value;
+ghost use Rattle.hg_base.specs.declared.value.Value.TheVariants.{Number};
 ghost use Rattle.hg_script.specs.Packed.{HasRow, added, added_rows, packed_as, statement_in};
 
 use crate::asked::Asked;
@@ -27,14 +28,14 @@ use std::marker::Model;
 use std::mem::size_of;
 
 /// Where the values of a row stand among all values.
-#[derive(Clone, Copy, Debug)]
+#[derive(Clone, Copy)]
 pub(crate) struct Span {
     first: u32,
     count: u8,
 }
 
 /// A statement. The values of a put stand elsewhere.
-#[derive(Clone, Copy, Debug)]
+#[derive(Clone, Copy)]
 pub(crate) enum Packed {
     Begin(Scope),
     Get(Rid),
@@ -75,7 +76,7 @@ impl Packed {
     }
 }
 
-#[derive(Clone, Copy, Debug)]
+#[derive(Clone, Copy)]
 pub(crate) struct Entry {
     session: u32,
     // the index of the session's next entry, or `NOWHERE`
@@ -86,7 +87,7 @@ pub(crate) struct Entry {
 const _: () = prove!(size_of::<Entry>() == 40);
 
 /// Each statement with the session that says it.
-#[derive(Debug, Drop)]
+#[derive(Drop)]
 pub(crate) struct StatementList {
     entries: Vec<Entry>,
     numbers: Vec<i64>,
@@ -179,6 +180,45 @@ fn pack(
     })
 }
 
+// The put whose row's numbers stand at a span.
+fn unpack_put(alloc: Global, numbers: &[i64], rid: Rid, span: Span) -> Result<Statement, NoMemory>
+    requires some { 1 ≤ span.count }
+    requires most { span.count ≤ MOST_COLUMNS }
+    requires within { span.first + span.count ≤ length numbers.now }
+    ensures { IfOk result
+        (λ s. s ≡ say.Put rid (map Number (take span.count (drop span.first numbers.now)))) }
+{
+    let first = span.first as usize;
+    let row = Row::from_slice(alloc, &numbers[first..first + span.count as usize])?;
+    Ok(Statement::Put(rid, row))
+}
+
+// Puts a statement together. A row of one or two numbers takes no memory.
+fn unpack(
+    alloc: Global,
+    numbers: &[i64],
+    rows: &[Row],
+    packed: Packed,
+) -> Result<Statement, NoMemory>
+    requires { HasRow (length numbers.now) (length rows.now) packed }
+    ensures { IfOk result (λ s. s ≡ statement_in numbers.now rows.now packed) }
+{
+    Ok(match packed {
+        Packed::Begin(scope) => Statement::Begin(scope),
+        Packed::Get(rid) => Statement::Get(rid),
+        Packed::Put(rid, span) => return unpack_put(alloc, numbers, rid, span),
+        Packed::PutRow(rid, i) => Statement::Put(rid, rows[i as usize].copy()?),
+        Packed::Del(rid) => Statement::Del(rid),
+        Packed::Scan { table, low, high } => Statement::Scan { table, low, high },
+        Packed::CursorOpen { table, low, high } => Statement::CursorOpen { table, low, high },
+        Packed::Fetch(most, _) => Statement::Fetch(most),
+        Packed::CursorClose => Statement::CursorClose,
+        Packed::Commit => Statement::Commit,
+        Packed::Rollback => Statement::Rollback,
+        Packed::Gc(kind) => Statement::Gc(kind),
+    })
+}
+
 // The table of the cursor that a statement opens.
 fn opens(statement: &Statement) -> Option<TableId>
     ensures { result ≡ opens statement.now }
@@ -253,24 +293,8 @@ impl StatementList {
         ensures { IfOk result (λ said. said ≡ get_or self.now i said) }
     {
         let entry = self.entries[i];
-        let statement = match entry.packed {
-            Packed::Begin(scope) => Statement::Begin(scope),
-            Packed::Get(rid) => Statement::Get(rid),
-            Packed::Put(rid, span) => {
-                let first = span.first as usize;
-                let numbers = &self.numbers[first..first + span.count as usize];
-                Statement::Put(rid, Row::from_slice(*self.numbers.allocator(), numbers)?)
-            }
-            Packed::PutRow(rid, i) => Statement::Put(rid, self.rows[i as usize].copy()?),
-            Packed::Del(rid) => Statement::Del(rid),
-            Packed::Scan { table, low, high } => Statement::Scan { table, low, high },
-            Packed::CursorOpen { table, low, high } => Statement::CursorOpen { table, low, high },
-            Packed::Fetch(most, _) => Statement::Fetch(most),
-            Packed::CursorClose => Statement::CursorClose,
-            Packed::Commit => Statement::Commit,
-            Packed::Rollback => Statement::Rollback,
-            Packed::Gc(kind) => Statement::Gc(kind),
-        };
+        let alloc = *self.numbers.allocator();
+        let statement = unpack(alloc, &self.numbers, &self.rows, entry.packed)?;
         Ok((entry.session, statement))
     }
 

@@ -11,7 +11,7 @@ use std::alloc::Global;
 use std::marker::Model;
 
 /// A table's name and what its columns hold.
-#[derive(Debug, Drop)]
+#[derive(Drop)]
 pub struct Table {
     name: Vec<u8>,
     kinds: Kinds,

@@ -10,7 +10,7 @@ use std::collections::BTreeMap;
 use std::marker::Model;
 
 /// The tables in the order in which they are declared. A name leads to its table, so that no other is looked at.
-#[derive(Debug, Drop)]
+#[derive(Drop)]
 pub(crate) struct Tables {
     list: Vec<Table>,
     places: BTreeMap<Vec<u8>, TableId>,

@@ -15,7 +15,7 @@ use hg_base::{Column, MOST_COLUMNS, NoMemory, Row, Text, Value};
 use std::alloc::Global;
 
 /// What the fields of a row are, read once.
-#[derive(Debug, Drop)]
+#[derive(Drop)]
 pub enum Values {
     /// Some field is not written as a number.
     No,

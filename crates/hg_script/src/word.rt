@@ -1,13 +1,13 @@
 //! What a record says, by its first two fields.
 
-ghost use Rattle.std.specs.Prelude.{◌≡◌};
+ghost use Rattle.std.specs.Prelude.{◌≡◌, bytes_eq};
 ghost use Rattle.csv.specs.Records.{fields_of};
 ghost use Rattle.hg_script.specs.Fields.{is_version, nth, statement_word, word_of};
 
 use csv::ByteRecord;
 
 /// The version, the declaration of a table, or a statement of a session.
-#[derive(Clone, Copy, Debug, PartialEq, Eq)]
+#[derive(Clone, Copy, PartialEq, Eq)]
 pub enum Word {
     Version,
     Table,
@@ -34,30 +34,37 @@ pub(crate) fn field(row: &ByteRecord, i: usize) -> &[u8]
     }
 }
 
+/// Whether the text is this word.
+pub(crate) fn is_word(text: &[u8], word: &[u8]) -> bool
+    ensures { result ≡ bytes_eq text.now word.now }
+{
+    text == word
+}
+
 fn read_statement_word(word: &[u8]) -> Option<Word>
     ensures { result ≡ statement_word word.now }
 {
-    if word == b"begin".as_slice() {
+    if is_word(word, b"begin") {
         Some(Word::Begin)
-    } else if word == b"get".as_slice() {
+    } else if is_word(word, b"get") {
         Some(Word::Get)
-    } else if word == b"put".as_slice() {
+    } else if is_word(word, b"put") {
         Some(Word::Put)
-    } else if word == b"del".as_slice() {
+    } else if is_word(word, b"del") {
         Some(Word::Del)
-    } else if word == b"scan".as_slice() {
+    } else if is_word(word, b"scan") {
         Some(Word::Scan)
-    } else if word == b"commit".as_slice() {
+    } else if is_word(word, b"commit") {
         Some(Word::Commit)
-    } else if word == b"rollback".as_slice() {
+    } else if is_word(word, b"rollback") {
         Some(Word::Rollback)
-    } else if word == b"gc".as_slice() {
+    } else if is_word(word, b"gc") {
         Some(Word::Gc)
-    } else if word == b"open".as_slice() {
+    } else if is_word(word, b"open") {
         Some(Word::Open)
-    } else if word == b"fetch".as_slice() {
+    } else if is_word(word, b"fetch") {
         Some(Word::Fetch)
-    } else if word == b"close".as_slice() {
+    } else if is_word(word, b"close") {
         Some(Word::Close)
     } else {
         None
@@ -68,7 +75,7 @@ fn read_statement_word(word: &[u8]) -> Option<Word>
 fn says_version(place: u64, row: &ByteRecord) -> bool
     ensures { result ≡ is_version place (fields_of row.now) }
 {
-    place == 1 && field(row, 0) == b"version".as_slice()
+    place == 1 && is_word(field(row, 0), b"version")
 }
 
 impl Word {
@@ -79,7 +86,7 @@ impl Word {
         if says_version(place, row) {
             return Some(Word::Version);
         }
-        if field(row, 0) == b"table".as_slice() {
+        if is_word(field(row, 0), b"table") {
             return Some(Word::Table);
         }
         read_statement_word(field(row, 1))

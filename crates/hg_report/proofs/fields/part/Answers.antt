@@ -1,4 +1,4 @@
-use Rattle.std.proofs.Common.{◌≡◌, ◌∙◌, [], ◌++◌, ℕ, false, length, ap, refl, subst, arith}
+use Rattle.std.proofs.Common.{◌≡◌, ◌∙◌, [], ◌++◌, ℕ, false, length, ap, subst, arith}
 use Rattle.hg_report.specs.Fields.{fields_of, parted}
 use Rattle.hg_report.proofs.Parted.{So, fields_none, not_outside, closed_at_feed, closed_at_comma, closed_at_end, goes_on, goes_over}
 use Rattle.hg_report.proofs.fields.part.Goals as goal

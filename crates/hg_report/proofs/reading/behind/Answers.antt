@@ -1,9 +1,8 @@
-use Rattle.std.proofs.Common.{◌≡◌, ◌∙◌, ◌++◌, List, ℕ, Option, Bor, None, Some, ap, option_map, subst}
+use Rattle.std.proofs.Common.{◌≡◌, ◌∙◌, ◌++◌, List, ℕ, ap}
 use Rattle.std.proofs.lemmas.Bool.Decides.{Decides-eqb}
 use Rattle.std.proofs.lemmas.Slice.Eq.{strip_prefix_is}
 use Rattle.hg_csv.specs.Bytes.{record_bytes}
 use Rattle.hg_report.specs.Guess.{piece_fields}
-use Rattle.hg_report.specs.Progress.{Begins}
 use Rattle.hg_report.proofs.Taking.{begins}
 use Rattle.hg_report.proofs.reading.behind.Goals as goal
 

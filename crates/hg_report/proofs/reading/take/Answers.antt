@@ -1,7 +1,5 @@
 use Rattle.std.proofs.Common.{◌≡◌, ◌∙◌, Some, refl, sym}
-use Rattle.hg_csv.specs.Bytes.{record_bytes}
-use Rattle.hg_report.specs.Guess.{piece_fields}
-use Rattle.hg_report.specs.Progress.{Begins, guess_after}
+use Rattle.hg_report.specs.Progress.{guess_after}
 use Rattle.hg_report.specs.Fields.{fields_of}
 use Rattle.hg_report.proofs.Taking.{takes_none, total_below}
 use Rattle.hg_report.proofs.reading.take.Goals as goal

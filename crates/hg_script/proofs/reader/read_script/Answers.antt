@@ -33,15 +33,15 @@ loop-place-preserved c =
     let inv = c.loop-place.invariant in
     let (y, rows, at_y, reached, count, none, is) = inv.left in
     let call = c.in-Ok-true.ensures in
-    let reads = rw c.in-Ok-true.field-0-test at (call.reads inv.trim inv.ready) in
-    let f = fields_of c.read_byte_record.new.row in
-    let m = rows-more (λ (s : Bor (List ℕ)). Some s.now) c.loop-place.reader c.read_byte_record.new.self f default_config st.StartRecord (strip_bom c.args.bytes.now) y rows inv.config at_y reached reads in
+    let reads = rw c.in-Ok-true.field-0-test at call.reads in
+    let f = fields_of c.read_row.new.row in
+    let m = rows-more (λ (s : Bor (List ℕ)). Some s.now) c.loop-place.reader c.read_row.new.reader f default_config st.StartRecord (strip_bom c.args.bytes.now) y rows inv.config at_y reached reads in
     let took = c.in_ok-take-in-Ok-true.ensures in
     let passes = rw (← count, is) at took.none in
     let script = rw (← count, is) at took.script in record {
-      flexible = call.flexible ∙ inv.flexible;
+      flexible = call.flexible;
       trim = reads.3 ∙ inv.trim;
-      ready = inl (call.ready inv.trim);
+      ready = inl call.ready;
       config = reads.2 ∙ inv.config;
       left = (m.0, rows ++ f ∷ [], m.1, m.2, omega (arith, count, length-append rows (f ∷ [])), accepts 1 nothing rows f none passes, script ∙ sym (script-append 1 nothing rows f));
       most = omega (arith, took.most);
@@ -54,9 +54,9 @@ pub returns-in_err-take-in-Ok-true-clause-at : goal.returns-in_err-take-in-Ok-tr
 returns-in_err-take-in-Ok-true-clause-at c =
     let inv = c.loop-place.invariant in
     let (y, rows, at_y, reached, count, none, is) = inv.left in
-    let reads = rw c.in-Ok-true.field-0-test at (c.in-Ok-true.ensures.reads inv.trim inv.ready) in
-    let f = fields_of c.read_byte_record.new.row in
-    let m = rows-more (λ (s : Bor (List ℕ)). Some s.now) c.loop-place.reader c.read_byte_record.new.self f default_config st.StartRecord (strip_bom c.args.bytes.now) y rows inv.config at_y reached reads in
+    let reads = rw c.in-Ok-true.field-0-test at c.in-Ok-true.ensures.reads in
+    let f = fields_of c.read_row.new.row in
+    let m = rows-more (λ (s : Bor (List ℕ)). Some s.now) c.loop-place.reader c.read_row.new.reader f default_config st.StartRecord (strip_bom c.args.bytes.now) y rows inv.config at_y reached reads in
     let more = first-records default_config (strip_bom c.args.bytes.now) (rows ++ f ∷ []) _ m.0 m.2 in
     let p = err_from_is_err_and c.from_residual.result c.from_residual.ensures.1 in
     rw (p.1, p.2) (tells c.loop-place.place (first_code c.loop-place.place c.loop-place.script f) _ c.in_err-take-in-Ok-true.field-0.0
@@ -69,16 +69,16 @@ pub returns-in-Ok-false-clause-valid : goal.returns-in-Ok-false-clause-valid
 returns-in-Ok-false-clause-valid c =
     let inv = c.loop-place.invariant in
     let (y, rows, at_y, reached, count, none, is) = inv.left in
-    let reads = rw c.in-Ok-false.field-0-test at (c.in-Ok-false.ensures.reads inv.trim inv.ready) in
-    let end = rows-end (λ (s : Bor (List ℕ)). Some s.now) c.loop-place.reader c.read_byte_record.new.self _ default_config y inv.config at_y reads in
+    let reads = rw c.in-Ok-false.field-0-test at c.in-Ok-false.ensures.reads in
+    let end = rows-end (λ (s : Bor (List ℕ)). Some s.now) c.loop-place.reader c.read_row.new.reader _ default_config y inv.config at_y reads in
     rw (all-records default_config (strip_bom c.args.bytes.now) rows _ y reached end) none
 
 pub returns-in-Ok-false-clause-script : goal.returns-in-Ok-false-clause-script
 returns-in-Ok-false-clause-script c =
     let inv = c.loop-place.invariant in
     let (y, rows, at_y, reached, count, none, is) = inv.left in
-    let reads = rw c.in-Ok-false.field-0-test at (c.in-Ok-false.ensures.reads inv.trim inv.ready) in
-    let end = rows-end (λ (s : Bor (List ℕ)). Some s.now) c.loop-place.reader c.read_byte_record.new.self _ default_config y inv.config at_y reads in
+    let reads = rw c.in-Ok-false.field-0-test at c.in-Ok-false.ensures.reads in
+    let end = rows-end (λ (s : Bor (List ℕ)). Some s.now) c.loop-place.reader c.read_row.new.reader _ default_config y inv.config at_y reads in
     rw (all-records default_config (strip_bom c.args.bytes.now) rows _ y reached end) is
 
 pub returns-in-Ok-false-clause-lawful : goal.returns-in-Ok-false-clause-lawful
