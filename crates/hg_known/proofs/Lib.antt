@@ -20,6 +20,7 @@ pub mod Opened
 -- What cursors have left.
 pub mod Rests
 pub mod Fresher
+pub mod Hearing
 pub mod Pointing
 pub mod Tallying
 pub mod Asking
