@@ -1,17 +1,23 @@
 -- What is stored and committed in all lines, in either order.
-use Rattle.std.proofs.Common.{◌≡◌, ℕ, zero, suc, ◌<◌, take, List, [], ◌∷◌, Bool, true, false, Option, Some, None, refl, sym, ap, ◌∙◌, cond}
+use Rattle.std.proofs.Common.{◌≡◌, ℕ, zero, suc, ◌<◌, take, List, [], ◌∷◌, Bool, true, false, Option, Some, None, refl, sym, ap, ◌∙◌, subst, cond}
 use Rattle.std.specs.Prelude.{◌==◌, ◌||◌, filter, filter_map, is_some, Decides}
 use Rattle.std.specs.List.{cons_option}
 use Rattle.hg_base.specs.declared.rid.Rid.{Rid}
 use Rattle.hg_base.specs.declared.image.Image.{Image}
 use Rattle.hg_base.specs.declared.writer.Writer.{Writer}
 use Rattle.hg_base.specs.Lists.{Each, onto}
-use Rattle.hg_base.specs.History.{Write, image_in, same_rid}
-use Rattle.hg_base.specs.Transcript.{Said, is_of, stored, stored_in, committed, numbers_in}
-use Rattle.hg_base.specs.Conflicts.{ShowsOpen, IsStillOpen}
+use Rattle.hg_base.specs.History.{History, Write, image_in, same_rid}
+use Rattle.hg_base.specs.Transcript.{Said, is_of, stored, stored_in, own_writes, committed, numbers_in}
+use Rattle.hg_base.specs.declared.line.Answer.{Answer}
+use Rattle.hg_base.specs.declared.line.Answer.TheVariants.{Newer, OpenBy}
+use Rattle.hg_base.specs.Script.{Mode, replay, run}
+use Rattle.hg_base.specs.Conflicts.{OnReplay, ShowsCause, ShowsOpen, IsStillOpen}
 use Rattle.hg_base.proofs.ListFacts.{false_true}
 use Rattle.hg_known.specs.declared.own.Spot.{Spot}
 use Rattle.hg_known.proofs.Walking.{earlier_at}
+use Rattle.hg_audit.specs.declared.reply.Command.{Command}
+use Rattle.hg_audit.specs.declared.reply.Command.TheVariants.{Replay, Run}
+use Rattle.hg_audit.specs.Judged.{IsOf}
 use Rattle.hg_audit.specs.Known.{IsPart}
 use Rattle.hg_known.specs.Owned.{own_at, AreOwn}
 use Rattle.hg_known.specs.Ended.{is_over, AreOpenOwn, ForgetsOver}
@@ -148,3 +154,34 @@ open_still own earlier r w b is over e = (
     go : (o : Bool) → is_over w.session w.transaction earlier ≡ o → is_some (own_at own w.session w.transaction r) ≡ true → IsStillOpen earlier r w
     go true f t = absurd (false_true (sym (ap is_some (over w.session w.transaction f r)) ∙ t))
     go false f t = record { does = sym (ap is_some (is w.session w.transaction f r)) ∙ t; opened = f }
+
+-- ---- the cause of a refused write, by what is decided of its parts
+
+on_run : (command : Command) (mode : Mode) → command ≡ Run → IsOf command mode → (P : Type 0) → OnReplay mode P
+on_run command (run rounds) e o P = tt
+on_run command replay e o P = absurd (subst (λ c. IsOf c replay) e o)
+
+on_replay : (mode : Mode) (P : Type 0) → P → OnReplay mode P
+on_replay replay P p = p
+on_replay (run rounds) P p = tt
+
+off_replay : (command : Command) (mode : Mode) → command ≡ Replay → IsOf command mode → (P : Type 0) → OnReplay mode P → P
+off_replay command replay e o P p = p
+off_replay command (run rounds) e o P p = absurd (subst (λ c. IsOf c (run rounds)) e o)
+
+module _ (mode : Mode) (h : History) (all earlier : List Said) (now : Said) (r : Rid) (b : Bool) (its : b ≡ is_some (image_in r (own_writes earlier now))) where
+  pub newer_own : (n : ℕ) → b ≡ true → Decides false (ShowsCause mode h all earlier now r (Newer n))
+  newer_own n f = (λ t. absurd (false_true t), λ s. absurd (false_true (sym s.0 ∙ sym its ∙ f)))
+
+  pub open_own : (w : Writer) → b ≡ true → Decides false (ShowsCause mode h all earlier now r (OpenBy w))
+  open_own w f = (λ t. absurd (false_true t), λ s. absurd (false_true (sym s.0 ∙ sym its ∙ f)))
+
+  pub open_run : (command : Command) (w : Writer) (d : Bool) → command ≡ Run → IsOf command mode → b ≡ false → Decides d (ShowsOpen (stored_in w.session w.transaction all) (numbers_in w.session w.transaction all) now.session now.at r w) → Decides d (ShowsCause mode h all earlier now r (OpenBy w))
+  open_run command w d e o f is = (λ t. (sym its ∙ f, is.0 t, on_run command mode e o (IsStillOpen earlier r w)), λ s. is.1 s.1)
+
+  pub open_replay : (command : Command) (w : Writer) (d : Bool) → command ≡ Replay → IsOf command mode → b ≡ false →
+      Decides d (ShowsOpen (stored_in w.session w.transaction all) (numbers_in w.session w.transaction all) now.session now.at r w × IsStillOpen earlier r w) → Decides d (ShowsCause mode h all earlier now r (OpenBy w))
+  open_replay command w d e o f is = (
+    λ t. let both = is.0 t in (sym its ∙ f, both.0, on_replay mode (IsStillOpen earlier r w) both.1),
+    λ s. is.1 (s.1, off_replay command mode e o (IsStillOpen earlier r w) s.2),
+  )

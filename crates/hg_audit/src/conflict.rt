@@ -125,10 +125,10 @@ fn shows_cause(facts: &Facts, own: &Own, now: &Said, rid: Rid) -> bool
             if has_written(own, now, rid) {
                 return false;
             }
-            if facts.command == Command::Run {
-                return shows_open(facts.own, facts.numbers, now, rid, *writer);
+            match facts.command {
+                Command::Run => shows_open(facts.own, facts.numbers, now, rid, *writer),
+                Command::Replay => shows_still_open(own, facts.numbers, now, rid, *writer),
             }
-            shows_still_open(own, facts.numbers, now, rid, *writer)
         }
         _ => true,
     }

@@ -8,7 +8,9 @@ ghost use Rattle.hg_base.specs.Sound.{IsWhole};
 ghost use Rattle.hg_base.specs.Transcript.{history_of};
 ghost use Rattle.std.specs.List.{list_any};
 ghost use Rattle.hg_audit.specs.declared.reply.Command.TheVariants.{Run};
-ghost use Rattle.hg_known.specs.Asked.{names_writer};
+ghost use Rattle.hg_known.specs.Asked.{names_writer, tells_held};
+ghost use Rattle.hg_known.specs.Marked.{ArePoints};
+ghost use Rattle.hg_audit.specs.Known.{Knows};
 ghost use Rattle.hg_known.specs.Owned.{AreOwn};
 ghost use Rattle.hg_known.specs.Ended.{IsOpen};
 ghost use Rattle.hg_known.specs.Lines.{OpensKnown};
@@ -23,7 +25,7 @@ use crate::shape::first_out_of_shape;
 use crate::totals::are_totals;
 use hg_base::{Line, NoMemory, Totals};
 use hg_known::{
-    Lines, Own, Sequence, Tally, Writes, read_history, read_numbers, read_own, read_points,
+    Lines, Own, Points, Sequence, Tally, Writes, read_history, read_numbers, read_own, read_points,
 };
 use std::alloc::Global;
 
@@ -49,7 +51,42 @@ fn read_stored(alloc: Global, command: Command, all: &Lines<'_>) -> Result<Own, 
     }
 }
 
-// Whether an update is lost, or the first line that is not right, or the totals, where the lines give this history.
+// Whether an update is lost, or the first line that is not right, or the totals, by what is known of all lines.
+fn judge(
+    alloc: Global,
+    facts: &Facts,
+    points: &Points,
+    all: &Lines<'_>,
+    tally: Tally,
+    totals: Totals,
+) -> Result<Found, NoMemory>
+    requires open { EachAfter IsOpen [] all.now }
+    requires whole { IsWhole all.now }
+    requires knows { Knows (history_of all.now) all.now facts.now }
+    requires points { IsTrue (list_any tells_held all.now) →
+        ArePoints points.now (onto all.now []) }
+    requires tally { IsTally tally all.now }
+    ensures { IfOk result (λ found.
+        (mode : Mode) → IsOf facts.now.command mode → IsDecided mode all.now totals found) }
+{
+    let writes = facts.writes;
+    let groups = facts.groups;
+    let Some(faults) = first_faults(alloc, facts, points, all)? else {
+        return Ok(Found::Commits);
+    };
+    if let Some(k) = faults.unanswered {
+        return Ok(Found::Reply(k));
+    }
+    if let Some(k) = faults.unordered {
+        return Ok(Found::Fresh(k));
+    }
+    if !are_totals(tally, writes, groups, all, totals) {
+        return Ok(Found::Totals);
+    }
+    Ok(Found::Right)
+}
+
+// The same, where the lines give this history.
 fn judge_lines(
     alloc: Global,
     command: Command,
@@ -77,19 +114,7 @@ fn judge_lines(
         numbers: &numbers,
     };
     let points = read_points(alloc, all)?;
-    let Some(faults) = first_faults(alloc, &facts, &points, all)? else {
-        return Ok(Found::Commits);
-    };
-    if let Some(k) = faults.unanswered {
-        return Ok(Found::Reply(k));
-    }
-    if let Some(k) = faults.unordered {
-        return Ok(Found::Fresh(k));
-    }
-    if !are_totals(tally, writes, groups, all, totals) {
-        return Ok(Found::Totals);
-    }
-    Ok(Found::Right)
+    judge(alloc, &facts, &points, all, tally, totals)
 }
 
 /// What fails first of the lines of these records, and of totals.

@@ -1,49 +1,10 @@
-use Rattle.std.proofs.Common.{◌∙◌, Some, sym, subst}
-use Rattle.hg_base.proofs.ListFacts.{false_true}
-use Rattle.hg_decide.specs.Audit.{IsKnown, IsRightReply}
-use Rattle.hg_audit.specs.Found.{AreFaults, IsFirst}
 use Rattle.hg_audit.proofs.lines.judge_lines.Goals as goal
 
-pub returns-in-Some-unanswered : goal.returns-in-Some-unanswered
-returns-in-Some-unanswered c =
-    λ mode command.
-    let xs = c.args.all.now in
-    let are : AreFaults mode xs (Some c.in-Some.faults) = subst (AreFaults mode xs) c.in-Some.is
-    (c.in_ok-faults.ensures mode command c.requires.whole (record { writes = c.requires.writes; groups = c.requires.groups; own = c.in_ok-own.ensures; numbers = c.in_ok-numbers.ensures }) c.in_ok-points.ensures) in
-    (are.0, subst (IsFirst (IsRightReply mode xs) xs) c.in-Some-unanswered.is are.1)
+pub judge-requires-clause-knows : goal.judge-requires-clause-knows
+judge-requires-clause-knows c = record { writes = c.requires.writes; groups = c.requires.groups; own = c.in_ok-own.ensures; numbers = c.in_ok-numbers.ensures }
 
-pub returns-in-Some-unordered : goal.returns-in-Some-unordered
-returns-in-Some-unordered c =
-    λ mode command.
-    let xs = c.args.all.now in
-    let are : AreFaults mode xs (Some c.in-Some.faults) = subst (AreFaults mode xs) c.in-Some.is
-    (c.in_ok-faults.ensures mode command c.requires.whole (record { writes = c.requires.writes; groups = c.requires.groups; own = c.in_ok-own.ensures; numbers = c.in_ok-numbers.ensures }) c.in_ok-points.ensures) in
-    (are.0, (subst (IsFirst (IsRightReply mode xs) xs) c.in_default-unanswered.is are.1, subst (IsFirst (IsKnown mode xs) xs) c.in-Some-unordered.is are.2))
-
-pub returns-then-not-are_totals : goal.returns-then-not-are_totals
-returns-then-not-are_totals c =
-    λ mode command.
-    let xs = c.args.all.now in
-    let are : AreFaults mode xs (Some c.in-Some.faults) = subst (AreFaults mode xs) c.in-Some.is
-    (c.in_ok-faults.ensures mode command c.requires.whole (record { writes = c.requires.writes; groups = c.requires.groups; own = c.in_ok-own.ensures; numbers = c.in_ok-numbers.ensures }) c.in_ok-points.ensures) in (
-      are.0,
-      (
-        subst (IsFirst (IsRightReply mode xs) xs) c.in_default-unanswered.is are.1,
-        subst (IsFirst (IsKnown mode xs) xs) c.in_default-unordered.is are.2,
-        λ totals. false_true (sym c.if-not-are_totals.true ∙ c.are_totals.ensures.1 totals),
-      ),
-    )
+pub judge-requires-clause-points : goal.judge-requires-clause-points
+judge-requires-clause-points c = c.in_ok-points.ensures
 
 pub returns : goal.returns
-returns c =
-    λ mode command.
-    let xs = c.args.all.now in
-    let are : AreFaults mode xs (Some c.in-Some.faults) = subst (AreFaults mode xs) c.in-Some.is
-    (c.in_ok-faults.ensures mode command c.requires.whole (record { writes = c.requires.writes; groups = c.requires.groups; own = c.in_ok-own.ensures; numbers = c.in_ok-numbers.ensures }) c.in_ok-points.ensures) in (
-      are.0,
-      (
-        subst (IsFirst (IsRightReply mode xs) xs) c.in_default-unanswered.is are.1,
-        subst (IsFirst (IsKnown mode xs) xs) c.in_default-unordered.is are.2,
-        c.are_totals.ensures.0 c.if-not-are_totals.false,
-      ),
-    )
+returns c = c.judge.ensures
