@@ -7,7 +7,8 @@ ghost use Rattle.hg_base.specs.Script.{Mode};
 ghost use Rattle.hg_base.specs.Sound.{IsWhole};
 ghost use Rattle.hg_base.specs.Transcript.{history_of};
 ghost use Rattle.hg_known.specs.Asked.{tells_held};
-ghost use Rattle.hg_known.specs.Ended.{IsOpen};
+ghost use Rattle.hg_known.specs.Before.{AreBefore};
+ghost use Rattle.hg_known.specs.Ended.{AreOpenOwn, ForgetsOver, IsOpen};
 ghost use Rattle.hg_known.specs.Marked.{ArePoints};
 ghost use Rattle.hg_audit.specs.Found.{AreFaults};
 ghost use Rattle.hg_audit.specs.Judged.{IsOf};
@@ -53,17 +54,39 @@ pub fn first_faults(
 {
     let mut own = Own::new(alloc);
     let mut before = Before::new(alloc);
+    find_faults(alloc, facts, points, all, &mut own, &mut before)
+}
+
+// The same, with what is kept of the lines before.
+fn find_faults(
+    alloc: Global,
+    facts: &Facts,
+    points: &Points,
+    all: &Lines<'_>,
+    own: &mut Own,
+    before: &mut Before,
+) -> Result<Option<Faults>, NoMemory>
+    requires opened { EachAfter IsOpen [] all.now }
+    requires own { AreOpenOwn own.old [] }
+    requires over { ForgetsOver own.old [] }
+    requires before { AreBefore before.old [] }
+    ensures { IfOk result (λ found.
+        (mode : Mode) → IsOf facts.now.command mode → IsWhole all.now →
+        Knows (history_of all.now) all.now facts.now →
+        (IsTrue (list_any tells_held all.now) → ArePoints points.now (onto all.now [])) →
+        AreFaults mode all.now found) }
+{
     let mut unanswered = None;
     let mut unordered = None;
     let mut reader = all.reader(alloc);
     for k in 0..all.len() {
         let said = reader.read()?;
-        let answered = is_answered(facts, &own, &said);
+        let answered = is_answered(facts, own, &said);
         unanswered = first(unanswered, answered, k);
-        let ordered = is_fresh(facts.command, points, facts.groups, &before, &said);
+        let ordered = is_fresh(facts.command, points, facts.groups, before, &said);
         unordered = first(unordered, ordered, k);
         own.add(&said)?;
-        if !keeps_update(facts.writes, &own, &said) {
+        if !keeps_update(facts.writes, own, &said) {
             return Ok(None);
         }
         own.close(&said);

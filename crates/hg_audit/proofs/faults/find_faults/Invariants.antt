@@ -16,7 +16,7 @@ use Rattle.hg_known.proofs.Walking.{earlier_at}
 use Rattle.hg_audit.specs.Judged.{IsOf}
 use Rattle.hg_audit.specs.Known.{Knows}
 use Rattle.hg_audit.proofs.Firsts.{SoFar}
-use Rattle.hg_audit.proofs.faults.first_faults.Given as goal
+use Rattle.hg_audit.proofs.faults.find_faults.Given as goal
 
 abbrev pub invariant-loop-k : goal.invariant-loop-k
 invariant-loop-k l = record {
