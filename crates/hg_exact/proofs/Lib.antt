@@ -1,0 +1,20 @@
+-- Rows of a scan and of a fetch.
+pub mod Rows
+-- What the lines show of each session.
+pub mod Standing
+-- What holds of the open transactions.
+pub mod Keeping
+-- The answers.
+pub mod Answering
+-- The numbers that are printed.
+pub mod Counting
+-- The causes of refusals.
+pub mod Causes
+-- Two lists of the same rows.
+pub mod Alike
+-- A history that goes on.
+pub mod Longer
+-- A line's answer is determined.
+pub mod Determined
+-- Numbers that ascend follow each other.
+pub mod Numbering

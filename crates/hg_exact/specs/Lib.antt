@@ -1,0 +1,10 @@
+-- What a replay prints. A reader meets the definitions in this order.
+pub mod State
+pub mod Answers
+pub mod Replayed
+-- Texts that are sound and aren't exact.
+pub mod Worked
+-- What is asked of a script.
+pub mod Lawful
+-- What makes a sound text the one that is replayed.
+pub mod First
