@@ -93,8 +93,7 @@ module _ (s : State) (all : List Said) (now : Said) (shows : Shows (onto all [])
       let none : numbers_in k x earlier ≡ [] = no_numbers (filter (is_of k x) earlier) goes in
       let before : Each (λ c. now.at < c) (numbers_in k x all) = (each_onto (λ c. now.at < c) (numbers_in k x all) [] (subst (Each (λ c. now.at < c)) (sym none ∙ printed_onto k x all) tt)).0 in
       let off : is_of k x now ≡ false = not_session k x now (differs now.session k (λ g. other (sym g))) in
-      let here : numbers_in k x (now ∷ []) ≡ [] = ap (λ b. filter_map committed (cond b (now ∷ []) [])) off in
-      (
+      let here : numbers_in k x (now ∷ []) ≡ [] = ap (λ b. filter_map committed (cond b (now ∷ []) [])) off in (
         record {
           other = differs k now.session other;
           does = subst (λ ws. IsSome (image_in r ws)) (sym (stored_in_append k x all (now ∷ []))) (still_written r (stored_in k x all) (stored_in k x (now ∷ [])) (image_of_onto r (stored_in k x all) (subst (λ ws. IsSome (image_in r ws)) (stored_onto k x all) wrote)));

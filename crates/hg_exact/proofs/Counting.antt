@@ -110,11 +110,11 @@ begun_more j earlier now q p at scope b = record {
 pub begun_here : (j : ℕ) (earlier : List Said) (now : Said) → now.session ≡ j → snapshot_of now ≡ Some now.at → WasBegun j (now ∷ earlier) now
 begun_here j earlier now mine at = record {
   shown = λ d k. ap (λ b. b || list_any (begins_at j d now.at) earlier) (
-    ap (λ n. ((n == j) && option_map_or (λ s. s == now.at) (snapshot_of now) false) && (if d then is_declared now.scope else true)) mine
-    ∙ ap (λ b. (b && option_map_or (λ s. s == now.at) (snapshot_of now) false) && (if d then is_declared now.scope else true)) (same j)
-    ∙ ap (λ o. option_map_or (λ s. s == now.at) o false && (if d then is_declared now.scope else true)) at
-    ∙ ap (λ b. b && (if d then is_declared now.scope else true)) (same now.at)
-    ∙ k);
+      ap (λ n. ((n == j) && option_map_or (λ s. s == now.at) (snapshot_of now) false) && (if d then is_declared now.scope else true)) mine
+      ∙ ap (λ b. (b && option_map_or (λ s. s == now.at) (snapshot_of now) false) && (if d then is_declared now.scope else true)) (same j)
+      ∙ ap (λ o. option_map_or (λ s. s == now.at) o false && (if d then is_declared now.scope else true)) at
+      ∙ ap (λ b. b && (if d then is_declared now.scope else true)) (same now.at)
+      ∙ k);
 }
   where
     same : (n : ℕ) → (n == n) ≡ true

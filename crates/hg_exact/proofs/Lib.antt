@@ -10,6 +10,10 @@ pub mod Answering
 pub mod Counting
 -- The causes of refusals.
 pub mod Causes
+-- A line more.
+pub mod Stepping
+-- All lines.
+pub mod Sound
 -- Two lists of the same rows.
 pub mod Alike
 -- A history that goes on.
@@ -18,3 +22,5 @@ pub mod Longer
 pub mod Determined
 -- Numbers that ascend follow each other.
 pub mod Numbering
+-- A sound text with its first causes is the one.
+pub mod Exact

@@ -90,9 +90,10 @@ most_all ns n h = any_below n ns h
 
 next_from : (h : History) (all earlier rest : List Said) → onto all [] ≡ onto rest earlier → IsWhole all → ((c : ℕ) → list_any (λ k. k == c) (filter_map committed rest) ≡ true → c ≤ greatest_commit all) → EachAfter (IsFirst h) earlier rest → EachAfter Ascends earlier rest → EachAfter (IsNext h) earlier rest
 next_from h all earlier [] is whole most first up = tt
-next_from h all earlier (x ∷ rest) is whole most first up =
-    (record { number = go (committed x) refl up.0; cause = first.0.cause },
-    next_from h all (x ∷ earlier) rest is whole (λ c k. most c (later c k)) first.1 up.1)
+next_from h all earlier (x ∷ rest) is whole most first up = (
+  record { number = go (committed x) refl up.0; cause = first.0.cause },
+  next_from h all (x ∷ earlier) rest is whole (λ c k. most c (later c k)) first.1 up.1,
+)
   where
     or_keeps : (a b : Bool) → b ≡ true → (a || b) ≡ true
     or_keeps true b e = refl

@@ -1,6 +1,23 @@
 //! What a replay prints, as a function of its script.
+//!
+//! The definitions of `hg_base` say what may be printed, for every command. A replay has one thread, and prints one text, but for what its
+//! reports say was removed and moved. `replayed` (`specs/Replayed.antt`) is that text: one step a record, from a state of the committed
+//! groups and of what each session has open.
+//!
+//!     record                      known before                          reply
+//!     1, put, t, 5, 20            group 1 wrote t 5, nothing is open    at, 1, stored, committed, 2
+//!     2, put, t, 5, 30            session 1 has an open write of t 5    refused, open, 1, 1
+//!     2, put, t, 5, 30            group 2 wrote t 5, snapshot 1         refused, newer, 2
+//!
+//! Nothing of the server is in it, so a person can say what is printed by reading these pages and the script.
+//!
+//! Its laws are that this text is sound, and that a sound text is this one if its commit numbers ascend and each write is refused for
+//! the first conflict (`IsFirst`). So what a driver has to show of a line besides is small. The worked examples of `hg_decide` are
+//! evaluated, and four sound texts that are not replayed.
 #![tactic(auto)]
 
+mod laws;
 mod worked;
 
+pub use laws::{sound_with_first_causes_is_replayed, what_is_replayed_is_sound};
 pub use worked::{sound_texts_that_are_not_exact, worked_examples_are_replayed};
