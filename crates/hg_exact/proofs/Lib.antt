@@ -24,3 +24,9 @@ pub mod Determined
 pub mod Numbering
 -- A sound text with its first causes is the one.
 pub mod Exact
+-- Commit numbers ascend in what a replay knows.
+pub mod Ascending
+-- The text that is replayed, itself.
+pub mod Itself
+-- A script that breaks no rule.
+pub mod Asked
