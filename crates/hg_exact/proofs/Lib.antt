@@ -30,3 +30,5 @@ pub mod Ascending
 pub mod Itself
 -- A script that breaks no rule.
 pub mod Asked
+-- The totals of texts that are alike.
+pub mod Totals

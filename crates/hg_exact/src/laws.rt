@@ -2,6 +2,8 @@
 
 ghost use Rattle.std.specs.Prelude.{◌≡◌, ℕ, ◌<◌, List, [], map, IfSome};
 ghost use Rattle.hg_base.specs.declared.line.Line.{Line};
+ghost use Rattle.hg_base.specs.declared.line.Totals.{Totals};
+ghost use Rattle.hg_base.specs.Counts.{AreTotals};
 ghost use Rattle.hg_base.specs.Lists.{EachAfter, greatest};
 ghost use Rattle.hg_base.specs.Script.{Script, replay};
 ghost use Rattle.hg_base.specs.Sound.{LinesAreSound, all_said};
@@ -46,4 +48,13 @@ pub fn commit_numbers_ascend()
 pub fn lawful_scripts_are_answered()
     ensures { (script : Script) → IsLawful script → (sessions : ℕ) →
         AreAnswered (start sessions) script.records }
+{}
+
+/// `made`, `undone` and `left` of a replay are functions of what is replayed: texts that differ only in what their reports say was
+/// removed and moved have the same.
+pub fn three_totals_are_replayed()
+    ensures { (script : Script) (a b : List Line) (t u : Totals) → map plain a ≡ map plain b →
+        AreTotals (all_said replay script a) (history_of (all_said replay script a)) t →
+        AreTotals (all_said replay script b) (history_of (all_said replay script b)) u →
+        (t.made ≡ u.made) × (t.undone ≡ u.undone) × (t.left ≡ u.left) }
 {}

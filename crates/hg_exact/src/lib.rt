@@ -21,6 +21,6 @@ mod worked;
 
 pub use laws::{
     commit_numbers_ascend, lawful_scripts_are_answered, sound_with_first_causes_is_replayed,
-    what_is_replayed_is_sound,
+    three_totals_are_replayed, what_is_replayed_is_sound,
 };
 pub use worked::{sound_texts_that_are_not_exact, worked_examples_are_replayed};
