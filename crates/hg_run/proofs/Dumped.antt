@@ -1,5 +1,5 @@
 -- From an engine with one session more to the text of a dump.
-use Rattle.std.proofs.Common.{◌≡◌, ℕ, zero, suc, ◌+◌, ◌<◌, ◌≤◌, List, [], ◌∷◌, ◌++◌, length, map, None, refl, sym, ap, ◌∙◌, subst, arith, append_assoc}
+use Rattle.std.proofs.Common.{◌≡◌, ℕ, suc, ◌+◌, ◌<◌, ◌≤◌, List, [], ◌∷◌, ◌++◌, length, refl, sym, ap, ◌∙◌, subst, arith, append_assoc}
 use Rattle.std.specs.Prelude.{is_some, Result, Ok, Err, IfOk}
 use Rattle.std.specs.declared.alloc.Global.{Global}
 use Rattle.hg_backup.proofs.Exported.{logged_goes, reads_more}
@@ -9,9 +9,6 @@ use Rattle.hg_base.specs.declared.fault.NoMemory.{NoMemory}
 use Rattle.hg_base.specs.declared.line.Line.{Line}
 use Rattle.hg_base.specs.declared.line.Totals.{Totals}
 use Rattle.hg_base.specs.declared.scope.Scope.TheVariants.{All}
-use Rattle.hg_base.specs.declared.statement.Record.{Record}
-use Rattle.hg_base.specs.History.{History}
-use Rattle.hg_base.specs.Lists.{greatest}
 use Rattle.hg_base.specs.Script.{Script}
 use Rattle.hg_base.specs.Text.{IsFit, text_of}
 use Rattle.hg_csv.specs.Bytes.{record_bytes}
@@ -23,9 +20,8 @@ use Rattle.hg_dump.specs.Exports.{HasReadAt, MayExport}
 use Rattle.hg_rule.specs.declared.passes.SessionPass.{SessionPass}
 use Rattle.hg_rule.specs.declared.view.View.{View}
 use Rattle.hg_rule.specs.Facts.{EndsWith}
-use Rattle.hg_rule.specs.New.{EachFrom}
 use Rattle.hg_rule.specs.Seats.{session_view, IsSessionOf}
-use Rattle.hg_rule.specs.Views.{number, session}
+use Rattle.hg_rule.specs.Views.{session}
 use Rattle.hg_session.specs.declared.engine.Engine.{Engine}
 use Rattle.hg_session.specs.declared.session.Session.{Session}
 use Rattle.hg_session.specs.Engines.{engine_board_id, engine_sizes}
@@ -36,13 +32,13 @@ use Rattle.hg_session.specs.Ties.{phase_at}
 use Rattle.hg_source.specs.Records.{dump_text}
 use Rattle.hg_source.specs.Rows.{rows_at}
 use Rattle.hg_store.proofs.Filling.{each_from_at}
-use Rattle.hg_run.specs.declared.collecting.Collectors.{Collectors}
+use Rattle.hg_collectors.specs.declared.collectors.Collectors.{Collectors}
 use Rattle.hg_run.specs.declared.dump.Dumps.{Dumps}
 use Rattle.hg_run.specs.Dumping.{HasReadBoth, IsDumpedFor, part_text, printed_history}
 use Rattle.hg_run.specs.Words.{Settings}
-use Rattle.hg_run.specs.Reader.{HasDumped, IsOpenedBeside, IsReadAndClosed, list_with}
-use Rattle.hg_run.proofs.Readers.{began_within, log_in, looks_begans}
-use Rattle.hg_run.proofs.WholeDump.{log_last}
+use Rattle.hg_drivers.specs.Reader.{HasDumped, IsOpenedBeside, IsReadAndClosed, list_with}
+use Rattle.hg_drivers.proofs.Readers.{began_within, log_in, looks_begans}
+use Rattle.hg_drivers.proofs.Opened.{log_last}
 
 -- ---- a new engine
 

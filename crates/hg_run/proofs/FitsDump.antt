@@ -20,8 +20,8 @@ use Rattle.hg_backup.specs.Alone.{IsReaders, IsReportedBut, IsRightBut}
 use Rattle.hg_backup.specs.Reader.{IsSoundWith, reader_of}
 use Rattle.hg_backup.proofs.Alone.{sound_but}
 use Rattle.hg_backup.proofs.Holding.{within_alone}
-use Rattle.hg_run.proofs.Fits.{IsHeldFew, IsReportFew, IsRightEnough, right_fits}
-use Rattle.hg_run.proofs.Going.{sessions_within}
+use Rattle.hg_fit.proofs.Fits.{IsHeldFew, IsReportFew, IsRightEnough, right_fits}
+use Rattle.hg_fit.proofs.Sessions.{sessions_within}
 
 -- a snapshot at which the reader read is one of the history
 one_of : (n number : ℕ) (ats : List ℕ) → list_any (λ at. at == number) ats ≡ true → Each (λ at. at ≤ n) ats → number ≤ n

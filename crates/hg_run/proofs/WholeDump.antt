@@ -1,5 +1,5 @@
 -- What is driven next to a reader, and closed then, is sound with the reader's transactions.
-use Rattle.std.proofs.Common.{◌≡◌, ℕ, zero, suc, List, [], ◌∷◌, ◌++◌, ◌≤◌, length, map, None, inl, refl, sym, ap, ◌∙◌, subst, arith}
+use Rattle.std.proofs.Common.{◌≡◌, ℕ, suc, List, [], ◌∷◌, ◌++◌, ◌≤◌, length, map, None, inl, refl, sym, ap, ◌∙◌, subst, arith}
 use Rattle.std.specs.Prelude.{if◌then◌else◌, max}
 use Rattle.std.specs.declared.alloc.Global.{Global}
 use Rattle.hg_backup.specs.Reader.{HasReadAll, IsSoundWith, reader_of}
@@ -35,29 +35,19 @@ use Rattle.hg_session.specs.declared.engine.Engine.{Engine}
 use Rattle.hg_session.specs.declared.session.Session.{Session}
 use Rattle.hg_session.specs.Engines.{engine_sizes}
 use Rattle.hg_session.specs.Finished.{logs_of}
+use Rattle.hg_drivers.proofs.Opened.{log_else, log_last}
 use Rattle.hg_session.specs.Opened.{seated}
-use Rattle.hg_session.specs.Sessions.{log_of}
-use Rattle.hg_run.specs.declared.collecting.Collectors.{Collectors}
-use Rattle.hg_run.specs.Closed.{IsClosedBy}
-use Rattle.hg_run.specs.Collecting.{removed_of, view_in}
-use Rattle.hg_run.specs.Driven.{HasDrivenAll}
-use Rattle.hg_run.specs.Reader.{list_with}
-use Rattle.hg_run.specs.Rounding.{BeganIn, sweep_lines}
-use Rattle.hg_run.proofs.Begun.{began_before}
+use Rattle.hg_collectors.specs.declared.collectors.Collectors.{Collectors}
+use Rattle.hg_drivers.specs.Closed.{IsClosedBy}
+use Rattle.hg_collectors.specs.Collecting.{removed_of, view_in}
+use Rattle.hg_drivers.specs.Driven.{HasDrivenAll}
+use Rattle.hg_drivers.specs.Reader.{list_with}
+use Rattle.hg_collectors.specs.Rounding.{BeganIn}
+use Rattle.hg_collectors.specs.Telling.{sweep_lines}
+use Rattle.hg_drivers.proofs.Begun.{began_before}
 use Rattle.hg_run.proofs.WholeRun.{lines_told, reports_of, told_all}
 
 -- ---- logs of one session more
-
-pub log_last : (list : List Session) (s : Session) → logs_of (list ++ s ∷ []) (suc (length list)) ≡ log_of s
-log_last [] s = refl
-log_last (x ∷ list) s = log_last list s
-
-pub log_else : (list : List Session) (s : Session) (j : ℕ) → (j ≡ suc (length list) → ⊥) → logs_of (list ++ s ∷ []) j ≡ logs_of list j
-log_else list s zero e = refl
-log_else [] s (suc zero) e = absurd (e refl)
-log_else [] s (suc (suc k)) e = refl
-log_else (x ∷ list) s (suc zero) e = refl
-log_else (x ∷ list) s (suc (suc k)) e = log_else list s (suc k) (λ q. e (ap (λ n. suc n) q))
 
 abbrev log_in : SessionPass → List LogEntry
 log_in p = (session (session_view p)).log

@@ -13,7 +13,8 @@ use Rattle.hg_csv.specs.Bytes.{record_bytes}
 use Rattle.hg_source.specs.Records.{dump_text}
 use Rattle.hg_source.specs.Rows.{rows_at}
 use Rattle.hg_run.specs.declared.dump.Dumps.{Dumps}
-use Rattle.hg_run.specs.Printing.{ReportsRoundsWith, rounds_beside}
+use Rattle.hg_run.specs.Printing.{ReportsRoundsWith}
+use Rattle.hg_fit.specs.Modes.{rounds_beside}
 use Rattle.hg_run.specs.Words.{Settings}
 
 -- the history that lines print

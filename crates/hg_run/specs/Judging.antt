@@ -7,7 +7,7 @@ use Rattle.hg_audit.specs.declared.verdict.Why.TheVariants as whys
 use Rattle.hg_audit.specs.declared.verdict.Verdict.{Verdict}
 use Rattle.hg_audit.specs.declared.verdict.Verdict.TheVariants.{Sound, Unsound}
 use Rattle.hg_audit.specs.Verdict.{IsAudit, IsSoundText}
-use Rattle.hg_run.specs.Parting.{AreParts}
+use Rattle.hg_streams.specs.Parting.{AreParts}
 
 abbrev pub why_text : Why → List ℕ
 why_text whys.Text = codes "Text"

@@ -1,21 +1,6 @@
--- What a replay, a run and a dump know and print, and when each status comes. A reader meets the definitions in this order.
+-- What the words ask for, what is printed, and when each status comes. A reader meets the definitions in this order.
 pub mod Words
-pub mod Status
-pub mod Heard
-pub mod Listed
-pub mod Asked
-pub mod Swept
-pub mod Workers
-pub mod Rounding
-pub mod Collecting
-pub mod Working
-pub mod Driven
-pub mod Played
-pub mod Closed
-pub mod Reader
-pub mod Rows
 pub mod Printing
 pub mod Dumping
-pub mod Parting
 pub mod Judging
 pub mod Serving

@@ -3,7 +3,8 @@ use Rattle.std.specs.Prelude.{◌≡◌, ℕ, List}
 use Rattle.std.specs.List.{flat_map}
 use Rattle.hg_base.specs.declared.line.Line.{Line}
 use Rattle.hg_base.specs.declared.line.Printed.{Printed}
-use Rattle.hg_base.specs.Script.{Mode, Script, replay, run}
+use Rattle.hg_base.specs.declared.line.Totals.{Totals}
+use Rattle.hg_base.specs.Script.{Script, replay}
 use Rattle.hg_base.specs.Sound.{IsSound}
 use Rattle.hg_base.specs.Text.{IsFit, text_of, totals_records}
 use Rattle.hg_csv.specs.Bytes.{record_bytes}
@@ -11,9 +12,10 @@ use Rattle.hg_script.specs.Generator.{IsMade}
 use Rattle.hg_session.specs.declared.engine.Engine.{Engine}
 use Rattle.hg_session.specs.declared.session.Session.{Session}
 use Rattle.hg_session.specs.Engines.{engine_sizes}
-use Rattle.hg_run.specs.declared.collecting.Collectors.{Collectors}
-use Rattle.hg_run.specs.Collecting.{HaveMade}
-use Rattle.hg_run.specs.Driven.{IsOpenedWith, sessions_in, sweeps_of}
+use Rattle.hg_collectors.specs.declared.collectors.Collectors.{Collectors}
+use Rattle.hg_collectors.specs.Collecting.{HaveMade}
+use Rattle.hg_drivers.specs.Driven.{IsOpenedWith, sessions_in}
+use Rattle.hg_collectors.specs.Telling.{sweeps_of}
 use Rattle.hg_run.specs.Words.{Settings}
 
 -- The lines report rounds that were made as the settings say: an engine of so many sessions was opened for the script with so many
@@ -40,6 +42,20 @@ pub record IsPrintedFor (settings : Settings) (script : Script) (text : List ℕ
   pub rounds : ReportsRounds settings script printed.lines
   pub same : text ≡ text_of record_bytes script printed
 
+-- The totals of lines that a script prints in a replay: both are sound for it and fit it, and the lines report rounds that were made
+-- as the settings say.
+pub record HasTotals (settings : Settings) (script : Script) (totals : Totals) : Type 0 where
+  pub lines : List Line
+  pub sound : IsSound replay script (record { lines = lines; totals = totals })
+  pub fit : IsFit script (record { lines = lines; totals = totals })
+  pub rounds : ReportsRounds settings script lines
+
+-- the same of the script of a seed
+pub record HasTotalsBy (seed : ℕ) (settings : Settings) (totals : Totals) : Type 0 where
+  pub script : Script
+  pub made : IsMade seed script
+  pub has : HasTotals settings script totals
+
 -- The text of the totals of a printed value that is sound for the script of a seed in a replay, fits it, and reports rounds that were
 -- made as the settings say: the last six records of its text.
 pub record AreTotalsOf (seed : ℕ) (settings : Settings) (text : List ℕ) : Type 0 where
@@ -50,8 +66,3 @@ pub record AreTotalsOf (seed : ℕ) (settings : Settings) (text : List ℕ) : Ty
   pub fit : IsFit script printed
   pub rounds : ReportsRounds settings script printed.lines
   pub same : text ≡ flat_map record_bytes (totals_records printed.totals)
-
--- how many rounds each collector makes beside the sessions
-abbrev pub rounds_beside : Mode → ℕ
-rounds_beside replay = 0
-rounds_beside (run rounds) = rounds

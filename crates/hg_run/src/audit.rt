@@ -5,11 +5,10 @@ ghost use Rattle.hg_run.specs.Judging.{IsJudgedBy, verdict_text, why_text};
 ghost use Rattle.hg_run.specs.Serving.{RefusesBytes};
 ghost use Rattle.hg_run.specs.Words.{audits};
 
-use crate::parting::part;
-use crate::status::Status;
 use hg_audit::{Verdict, Why, audit};
 use hg_base::NoMemory;
 use hg_script::read_script;
+use hg_streams::{Status, part};
 use std::alloc::{AllocError, Global};
 
 fn why_text(why: Why) -> &'static str

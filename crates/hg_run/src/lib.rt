@@ -25,45 +25,19 @@
 //! end.
 #![tactic(auto)]
 
-mod ask;
 mod audit;
-mod beside;
-mod collect;
-mod collecting;
 mod dump;
-mod ending;
-mod gc;
-mod interval;
 mod laws;
 mod load;
-mod opening;
-mod pace;
-mod parting;
-mod play;
-mod reader;
 mod replay;
-mod reply;
-mod round_list;
 mod run;
 mod serving;
-mod sink;
-mod source;
-mod status;
 mod steady;
-mod turn;
-mod work;
 
-pub use collecting::Collectors;
-pub use dump::dump_on;
-pub use ending::close;
-pub use interval::IntervalWorker;
-pub use laws::{
-    rows_have_their_columns, text_determines_what_was_printed, what_is_sound_fits,
-    what_is_sound_with_a_reader_fits,
-};
-pub use opening::{open_beside, open_for};
-pub use replay::replay_on;
-pub use run::run_on;
+pub use hg_collectors::{Collectors, IntervalWorker};
+pub use hg_drivers::{close, dump_on, open_beside, open_for, replay_on, run_on};
+pub use hg_fit::{rows_have_their_columns, what_is_sound_fits};
+pub use hg_streams::Status;
+pub use laws::{text_determines_what_was_printed, what_is_sound_with_a_reader_fits};
 pub use serving::serve;
-pub use status::Status;
 pub use steady::serve_steadily;

@@ -1,30 +1,63 @@
 //! The steps in their order: of a script that is run, of one that is made, and of one whose text is audited.
 
-ghost use Rattle.std.specs.Prelude.{◌≡◌, ◌+◌, ◌≤◌, ◌<◌, ℕ, List, length, map, Some, None, IfOk, IfErr, IsFalse, string_bytes};
+ghost use Rattle.std.specs.Prelude.{◌≡◌, ◌+◌, ◌≤◌, ◌<◌, ℕ, List, length, map, Some, None, IfOk, IfErr, IsFalse, OnOk, string_bytes};
 ghost use Rattle.hg_base.specs.Script.{run};
 ghost use Rattle.hg_script.specs.declared.code.Code.{Code};
 ghost use Rattle.hg_script.specs.Fields.{rows_of};
-ghost use Rattle.hg_script.specs.Meaning.{refusal_of};
+ghost use Rattle.hg_script.specs.Lawful.{IsLawful};
+ghost use Rattle.hg_script.specs.Meaning.{refusal_of, script_of};
 ghost use Rattle.hg_words.specs.Options.{AreWithin, options_of};
-ghost use Rattle.hg_run.specs.Words.{AsksFor, IsMaking, IsReading, audits, dumps, reads, settings_in, settings_of, task_of};
-ghost use Rattle.hg_run.specs.Serving.{Answers, Comes, Gives, HasFailed, HasGiven, IsDumpFor, IsScriptIn, IsTextFor, IsUnlessNoMemory, RefusesBytes, RefusesTask, WritesAll, change_of, may_write};
+ghost use Rattle.hg_run.specs.Printing.{IsPrintedFor};
+ghost use Rattle.hg_run.specs.Words.{Settings, AsksFor, IsMaking, IsReading, audits, dumps, reads, settings_in, settings_of, task_of};
+ghost use Rattle.hg_run.specs.Serving.{Answers, Comes, IsDumpFor, IsScriptIn, IsTextFor, IsUnlessNoMemory, RefusesBytes, RefusesTask, WritesAll, may_write};
+ghost use Rattle.hg_streams.specs.Streams.{Gives, HasFailed, HasGiven, change_of};
 
 use crate::audit::audit_bytes;
 use crate::dump::dump_all;
 use crate::load::load;
 use crate::replay::replay;
 use crate::run::run_all;
-use crate::sink::write_all;
-use crate::source::read_all;
-use crate::status::Status;
-use hg_base::{Failed, Gate, MOST_SCRIPT_BYTES, Sink, Source};
-use hg_script::read_script;
+use hg_base::{Failed, Gate, MOST_SCRIPT_BYTES, NoMemory, Sink, Source};
+use hg_script::{Script, read_script};
+use hg_streams::{Status, read_all, write_all};
 use hg_words::{Command, Options, read_words};
 use std::alloc::Global;
 use std::sync::Wait;
 use std::thread::Threads;
 
-// The text that the script of these bytes prints. The bytes are freed once the script is read, before it runs.
+// The script of these bytes, which are freed once it is read.
+fn script_of_bytes(alloc: Global, bytes: Vec<u8>) -> Result<Script, Status>
+    ensures valid { OnOk result (refusal_of (rows_of bytes.items) ≡ None) }
+    ensures script { IfOk result (λ script. script ≡ script_of (rows_of bytes.items)) }
+    ensures lawful { IfOk result IsLawful }
+    ensures refused { (settings : Settings) →
+        IfErr result (RefusesBytes (reads settings) bytes.items) }
+    ensures refused_dump { (settings : Settings) →
+        IfErr result (RefusesBytes (dumps settings) bytes.items) }
+{
+    read_script(alloc, &bytes).map_err(Status::from)
+}
+
+// The text that a script prints.
+fn text_of_script<R: Threads + Wait + Sync, G: Gate + Sync>(
+    rt: &R,
+    alloc: Global,
+    options: &Options,
+    script: &Script,
+    gate: &G,
+) -> Result<Vec<u8>, NoMemory>
+    requires lawful { IsLawful script.now }
+    requires within { AreWithin options.now }
+    ensures { IfOk result (λ text.
+        IsPrintedFor (settings_of options.now) script.now text.items) }
+{
+    match options.command {
+        Command::Run | Command::Dump => run_all(rt, alloc, script, options, gate),
+        Command::Replay | Command::Load(_) | Command::Audit => replay(rt, alloc, script, options),
+    }
+}
+
+// The text that the script of these bytes prints. The bytes are freed before it runs.
 fn text_of_bytes<R: Threads + Wait + Sync, G: Gate + Sync>(
     rt: &R,
     alloc: Global,
@@ -37,13 +70,8 @@ fn text_of_bytes<R: Threads + Wait + Sync, G: Gate + Sync>(
         (λ text. IsTextFor (settings_of options.now) bytes.items text.items) }
     ensures refused { IfErr result (RefusesBytes (reads (settings_of options.now)) bytes.items) }
 {
-    let script = read_script(alloc, &bytes)?;
-    drop(bytes);
-    let text = match options.command {
-        Command::Run | Command::Dump => run_all(rt, alloc, &script, options, gate)?,
-        Command::Replay | Command::Load(_) | Command::Audit => replay(rt, alloc, &script, options)?,
-    };
-    Ok(text)
+    let script = script_of_bytes(alloc, bytes)?;
+    text_of_script(rt, alloc, options, &script, gate).map_err(Status::from)
 }
 
 // The text that the script in a source prints.
@@ -81,10 +109,8 @@ fn dump_of_bytes<R: Threads + Wait + Sync, G: Gate + Sync>(
     ensures refused { IfErr result
         (RefusesBytes (dumps (settings_in (run options.now.rounds) options.now)) bytes.items) }
 {
-    let script = read_script(alloc, &bytes)?;
-    drop(bytes);
-    let text = dump_all(rt, alloc, &script, options, gate)?;
-    Ok(text)
+    let script = script_of_bytes(alloc, bytes)?;
+    dump_all(rt, alloc, &script, options, gate).map_err(Status::from)
 }
 
 // The text that the script in a source prints, with dumps of its tables.

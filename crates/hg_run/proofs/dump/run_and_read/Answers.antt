@@ -1,29 +1,22 @@
-use Rattle.std.proofs.Common.{◌≡◌, ◌≤◌, ℕ, List, [], ◌∷◌, ◌++◌, length, suc, refl, sym, ap, ◌∙◌, subst, arith, append_assoc, rules}
+use Rattle.std.proofs.Common.{◌≡◌, ◌≤◌, ℕ, List, [], ◌∷◌, ◌++◌, length, suc, sym, ap, ◌∙◌, subst}
 use Rattle.hg_backup.proofs.Holding.{within_alone}
 use Rattle.hg_base.specs.declared.line.Printed.{Printed}
 use Rattle.hg_base.specs.declared.statement.Record.{Record}
 use Rattle.hg_base.specs.Lists.{Each}
-use Rattle.hg_base.specs.Script.{run}
-use Rattle.hg_base.specs.Text.{text_of}
 use Rattle.hg_base.proofs.ListFacts.{each_keeps}
-use Rattle.hg_dump.specs.Exports.{MayExport}
-use Rattle.hg_csv.specs.Bytes.{record_bytes}
 use Rattle.hg_rule.specs.New.{EachFrom}
 use Rattle.hg_rule.specs.Seats.{session_view}
 use Rattle.hg_script.specs.Lawful.{IsStatement}
 use Rattle.hg_session.specs.declared.session.Session.{Session}
-use Rattle.hg_session.specs.Engines.{engine_board_id, engine_sizes}
+use Rattle.hg_session.specs.Engines.{engine_sizes}
 use Rattle.hg_session.specs.Finished.{IsClosed}
 use Rattle.hg_session.specs.Opened.{seated}
 use Rattle.hg_source.specs.Records.{dump_text}
 use Rattle.hg_source.specs.Rows.{rows_at}
-use Rattle.hg_run.specs.Driven.{HasDrivenAll}
-use Rattle.hg_run.specs.Dumping.{dump_part, part_text, printed_history}
-use Rattle.hg_run.specs.Printing.{ReportsRoundsWith}
-use Rattle.hg_run.specs.Words.{settings_in}
-use Rattle.hg_run.proofs.Closes.{new_logs}
+use Rattle.hg_drivers.specs.Driven.{HasDrivenAll}
+use Rattle.hg_drivers.proofs.Closes.{new_logs}
 use Rattle.hg_run.proofs.Dumped.{all_read, first_text, last_closed, last_text, may_again, no_log, read_once, read_twice}
-use Rattle.hg_run.proofs.Readers.{read_is_closed}
+use Rattle.hg_drivers.proofs.Readers.{read_is_closed}
 use Rattle.hg_run.proofs.WholeDump.{groups_printed, rows_printed, sound_with_reader}
 use Rattle.hg_run.proofs.WholeRun.{rounds_told}
 use Rattle.hg_run.proofs.dump.run_and_read.Goals as goal

@@ -7,9 +7,9 @@ use Rattle.hg_headline.proofs.Closing.{following_last}
 use Rattle.hg_session.specs.declared.session.Session.{Session}
 use Rattle.hg_session.specs.Engines.{engine_sizes}
 use Rattle.hg_session.specs.Finished.{logs_of}
-use Rattle.hg_run.specs.Closed.{IsClosedBy}
-use Rattle.hg_run.specs.Collecting.{removed_of}
-use Rattle.hg_run.proofs.Fits.{sound_fits}
+use Rattle.hg_drivers.specs.Closed.{IsClosedBy}
+use Rattle.hg_collectors.specs.Collecting.{removed_of}
+use Rattle.hg_fit.proofs.Fits.{sound_fits}
 use Rattle.hg_run.proofs.replay.replay_lines.Goals as goal
 
 pub returns-clause-sound : goal.returns-clause-sound

@@ -8,11 +8,11 @@ use Rattle.hg_base.proofs.ListFacts.{each_keeps}
 use Rattle.hg_script.specs.Lawful.{IsStatement}
 use Rattle.hg_session.specs.declared.session.Session.{Session}
 use Rattle.hg_session.specs.Engines.{engine_sizes}
-use Rattle.hg_run.specs.Closed.{IsClosedBy}
+use Rattle.hg_drivers.specs.Closed.{IsClosedBy}
 use Rattle.hg_run.specs.Printing.{ReportsRounds}
 use Rattle.hg_run.specs.Words.{settings_in}
-use Rattle.hg_run.proofs.Closes.{new_logs}
-use Rattle.hg_run.proofs.Fits.{sound_fits}
+use Rattle.hg_drivers.proofs.Closes.{new_logs}
+use Rattle.hg_fit.proofs.Fits.{sound_fits}
 use Rattle.hg_run.proofs.WholeRun.{driven_sound, rounds_told}
 use Rattle.hg_run.proofs.run.run_all.Goals as goal
 

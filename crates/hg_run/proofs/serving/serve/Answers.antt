@@ -1,6 +1,6 @@
 use Rattle.std.proofs.Common.{map}
 use Rattle.std.specs.Prelude.{string_bytes}
-use Rattle.hg_run.specs.Serving.{change_of}
+use Rattle.hg_streams.specs.Streams.{change_of}
 use Rattle.hg_run.proofs.Exactly.{bad_script, complete, loaded, sound, too_long, usage}
 use Rattle.hg_run.proofs.serving.serve.Goals as goal
 

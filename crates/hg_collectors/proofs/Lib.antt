@@ -1,0 +1,12 @@
+-- One of a list, and one of three kinds.
+pub mod Among
+-- The interval collector, one or a team.
+pub mod Teams
+-- A round of a collector, and what meetings with its pass leave.
+pub mod Rounds
+pub mod Meetings
+-- Rounds one after the other, and beside each other.
+pub mod Driving
+pub mod Concurrent
+-- What is printed of them.
+pub mod Reported

@@ -1,0 +1,48 @@
+use Rattle.std.proofs.Common.{◌≤◌, ◌+◌, [], ◌∷◌, ◌++◌, length, length-append, sym, ap, ◌∙◌, subst}
+use Rattle.hg_base.proofs.ListFacts.{false_true}
+use Rattle.hg_base.specs.declared.report.Kind.TheVariants.{Interval}
+use Rattle.hg_collectors.specs.Lent.{lent_sizes}
+use Rattle.hg_collectors.specs.Workers.{view_of}
+use Rattle.hg_collectors.specs.Rounding.{IsRoundBy, AreRounds}
+use Rattle.hg_collectors.proofs.Driving.{rounds_append, one_round}
+use Rattle.hg_collectors.proofs.Meetings.{met_none}
+use Rattle.hg_collectors.proofs.round_list.make_sweeps.Goals as goal
+
+pub loop-round-init : goal.loop-round-init
+loop-round-init g c = record {
+  own = c.requires.own;
+  made = subst (λ sweeps. AreRounds (IsRoundBy Interval (lent_sizes c.args.lent.now) c.args.plan.now.long) (view_of c.args.collector.now) sweeps (view_of c.args.collector.now)) (sym c.requires.places.none) (met_none (view_of c.args.collector.now));
+  count = ap (λ sweeps. length sweeps) c.requires.places.none;
+  room = c.requires.places.room;
+  willing = c.requires.places.willing;
+}
+
+pub loop-round-preserved : goal.loop-round-preserved
+loop-round-preserved g c =
+    let inv = c.loop-round.invariant in
+    let P = IsRoundBy Interval (lent_sizes c.args.lent.now) c.args.plan.now.long in
+    let v = view_of c.args.collector.now in
+    let u = view_of c.loop-round.collector in
+    let w = view_of c.sweep_round.new.worker in
+    let items = c.push_reserved.ensures.items in
+    record {
+      own = c.sweep_round.ensures.own;
+      made = subst (λ sweeps. AreRounds P v sweeps w) (sym items) (rounds_append P v u w c.loop-round.told.sweeps.items (c.in-Ok.swept ∷ []) inv.made (one_round P u w c.in-Ok.swept c.in-Ok.ensures.round));
+      count = ap (λ sweeps. length sweeps) items ∙ (length-append c.loop-round.told.sweeps.items (c.in-Ok.swept ∷ []) ∙ ap (λ n. n + 1) inv.count);
+      room = subst (λ n. c.args.plan.now.rounds ≤ n) (sym c.push_reserved.ensures.capacity) inv.room;
+      willing = inv.willing;
+    }
+
+pub returns-in_default-clause-made : goal.returns-in_default-clause-made
+returns-in_default-clause-made g c =
+    let inv = c.loop-round.invariant in
+    let P = IsRoundBy Interval (lent_sizes c.args.lent.now) c.args.plan.now.long in
+    let v = view_of c.args.collector.now in
+    let u = view_of c.loop-round.collector in
+    let w = view_of c.sweep_round.new.worker in
+    let made = c.sweep_round.ensures.made in
+    record {
+      sweeps = c.loop-round.told.sweeps.items ++ made.0 ∷ [];
+      made = rounds_append P v u w c.loop-round.told.sweeps.items (made.0 ∷ []) inv.made (one_round P u w made.0 made.1);
+      told_is = λ none. absurd (false_true (sym none));
+    }

@@ -1,0 +1,16 @@
+-- What a clause says of what an engine lends.
+use Rattle.hg_rule.specs.declared.board.Board.{Board}
+use Rattle.hg_rule.specs.declared.view.Sizes.{Sizes}
+use Rattle.hg_rule.specs.Seats.{BoardId, board_id, sizes_of}
+use Rattle.hg_tracker.specs.Boards.{board_of}
+use Rattle.hg_collectors.specs.declared.lent.Lent.{Lent}
+
+-- the board, its identity, and its sizes
+abbrev pub lent_board : Lent → Board
+lent_board l = board_of l.trackers.now
+
+abbrev pub lent_board_id : Lent → BoardId
+lent_board_id l = board_id (lent_board l)
+
+abbrev pub lent_sizes : Lent → Sizes
+lent_sizes l = sizes_of (lent_board l)

@@ -1,0 +1,8 @@
+-- What collectors work on, what a round is, and which rounds were made. A reader meets the definitions in this order.
+pub mod Lent
+pub mod Workers
+pub mod Swept
+pub mod Rounding
+pub mod Collecting
+pub mod Telling
+pub mod Pacing

@@ -1,0 +1,11 @@
+-- What the drivers know of sessions and collectors, and what they leave. A reader meets the definitions in this order.
+pub mod Heard
+pub mod Listed
+pub mod Asked
+pub mod Meeting
+pub mod Collecting
+pub mod Working
+pub mod Driven
+pub mod Played
+pub mod Closed
+pub mod Reader

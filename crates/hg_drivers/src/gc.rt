@@ -1,0 +1,135 @@
+//! A `gc`: one round of a collector.
+//!
+//!     session i meets the pass      the pass has heard every log then, as session i has
+//!     the round                     its record reaches to the end of each log
+//!     each session meets the pass   what was loaded of its register is what its log shows open, and it has seen the mark
+
+ghost use Rattle.std.specs.Prelude.{◌≡◌, ℕ, ◌+◌, ◌<◌, ◌≢◌, length, get_or, IfOk, OnOk};
+ghost use Rattle.hg_base.specs.declared.report.Kind.{Kind};
+ghost use Rattle.hg_base.specs.declared.statement.Statement.TheVariants as say;
+ghost use Rattle.hg_session.specs.declared.session.Session.{Session};
+ghost use Rattle.hg_session.specs.Engines.{engine_sizes};
+ghost use Rattle.hg_session.specs.Finished.{AreAmong};
+ghost use Rattle.hg_session.specs.Sessions.{IsOf, seen_by};
+ghost use Rattle.hg_drivers.specs.Listed.{ArePlaced, AreReady, none_left};
+ghost use Rattle.hg_drivers.specs.Asked.{Replies};
+ghost use Rattle.hg_collectors.specs.Rounding.{IsRoundBy};
+ghost use Rattle.hg_collectors.specs.Swept.{HasMetSessions, HasSwept, swept_by, told_of};
+ghost use Rattle.hg_drivers.specs.Meeting.{HasMetPass};
+ghost use Rattle.hg_drivers.specs.Collecting.{AreCollectors};
+ghost use Rattle.hg_collectors.specs.Collecting.{HaveMade, removed_of, view_in};
+ghost use Rattle.hg_collectors.specs.Telling.{sweeps_in};
+
+use crate::lent::lent_by;
+use crate::meeting::meet;
+use crate::reply::inside;
+use hg_base::{Answer, Kind, NoMemory, Reply, Sweep};
+use hg_collectors::Collectors;
+use hg_session::{Engine, Session};
+use std::sync::Wait;
+use std::thread::Threads;
+
+// The session at i meets the pass of that kind of collector.
+fn meet_at(
+    engine: &Engine,
+    list: &mut Vec<Session>,
+    collectors: &mut Collectors,
+    kind: Kind,
+    i: usize,
+)
+    requires within { i < length list.old.items }
+    requires own { (d : Session) → IsOf engine.now (get_or list.old.items i d) }
+    requires collectors { AreCollectors engine.now collectors.old }
+    ensures many { length list.new.items ≡ length list.old.items }
+    ensures met { (d : Session) →
+        HasMetPass (view_in kind collectors.old) (get_or list.old.items i d)
+        (get_or list.new.items i d) }
+    ensures rest { (d : Session) (k : ℕ) → k ≢ i →
+        get_or list.new.items k d ≡ get_or list.old.items k d }
+    ensures own { (d : Session) → IsOf engine.now (get_or list.new.items i d) }
+    ensures pass { (k : Kind) →
+        HasMetSessions (view_in k collectors.old) (view_in k collectors.new) }
+    ensures heard { (d : Session) →
+        AreAmong (seen_by (get_or list.old.items i d)) (view_in kind collectors.new).sights }
+    ensures removed { (k : Kind) → removed_of k collectors.new ≡ removed_of k collectors.old }
+    ensures collectors { AreCollectors engine.now collectors.new }
+{
+    meet(collectors, engine, kind, &mut list[i]);
+}
+
+// Each session does.
+fn meet_all(engine: &Engine, list: &mut Vec<Session>, collectors: &mut Collectors, kind: Kind)
+    requires own { (d : Session) (k : ℕ) → k < length list.old.items →
+        IsOf engine.now (get_or list.old.items k d) }
+    requires collectors { AreCollectors engine.now collectors.old }
+    ensures many { length list.new.items ≡ length list.old.items }
+    ensures met { (d : Session) (k : ℕ) → k < length list.old.items →
+        HasMetPass (view_in kind collectors.old) (get_or list.old.items k d)
+        (get_or list.new.items k d) }
+    ensures own { (d : Session) (k : ℕ) → k < length list.old.items →
+        IsOf engine.now (get_or list.new.items k d) }
+    ensures pass { (k : Kind) →
+        HasMetSessions (view_in k collectors.old) (view_in k collectors.new) }
+    ensures removed { (k : Kind) → removed_of k collectors.new ≡ removed_of k collectors.old }
+    ensures collectors { AreCollectors engine.now collectors.new }
+{
+    for k in 0..list.len() {
+        meet_at(engine, list, collectors, kind, k);
+    }
+}
+
+// One round of the collector of that kind, as it is told.
+fn round<R: Threads + Wait + Sync>(
+    rt: &R,
+    engine: &Engine,
+    collectors: &mut Collectors,
+    kind: Kind,
+    long: u64,
+) -> Result<Sweep, NoMemory>
+    requires own { AreCollectors engine.now collectors.old }
+    ensures round { IfOk result (λ sweep.
+        IsRoundBy kind (engine_sizes engine.now) long (view_in kind collectors.old) sweep
+        (view_in kind collectors.new)) }
+    ensures others { (k : Kind) → k ≢ kind →
+        view_in k collectors.new ≡ view_in k collectors.old }
+    ensures swept { IfOk result (λ sweep.
+        HasSwept kind (engine_sizes engine.now).sessions (view_in kind collectors.old) sweep
+        (view_in kind collectors.new)) }
+    ensures removed { IfOk result (λ sweep.
+        (k : Kind) →
+        removed_of k collectors.new ≡ removed_of k collectors.old + swept_by k sweep) }
+    ensures own { AreCollectors engine.now collectors.new }
+{
+    collectors.collect(rt, &lent_by(engine), kind, long)
+}
+
+/// A round of a collector, which the session at i asks for.
+pub(crate) fn sweep<R: Threads + Wait + Sync>(
+    rt: &R,
+    engine: &Engine,
+    list: &mut Vec<Session>,
+    collectors: &mut Collectors,
+    i: usize,
+    kind: Kind,
+    long: u64,
+) -> Result<Reply, NoMemory>
+    requires ready { AreReady engine.now i none_left list.old.items }
+    requires collectors { AreCollectors engine.now collectors.old }
+    ensures replied { IfOk result
+        (λ reply. Replies engine.now list.old.items i (say.Gc kind) reply list.new.items) }
+    ensures ready { OnOk result ((left : ℕ → ℕ) → AreReady engine.now i left list.old.items →
+        AreReady engine.now i left list.new.items) }
+    ensures removed { IfOk result (λ reply.
+        (k : Kind) →
+        removed_of k collectors.new ≡ removed_of k collectors.old + told_of k reply) }
+    ensures rounds { IfOk result (λ reply.
+        HaveMade (engine_sizes engine.now) long collectors.old (λ k. sweeps_in k reply)
+        collectors.new) }
+    ensures placed { ArePlaced engine.now list.new.items }
+    ensures collectors { AreCollectors engine.now collectors.new }
+{
+    meet_at(engine, list, collectors, kind, i);
+    let swept = round(rt, engine, collectors, kind, long)?;
+    meet_all(engine, list, collectors, kind);
+    Ok(inside(Answer::Swept(swept)))
+}

@@ -1,0 +1,195 @@
+//! The run of a script in threads.
+//!
+//!     hire       each session gets a worker, with the records that it has to run
+//!     beside     all workers run: the sessions', and one for each collector
+//!     gather     the lines of each session by number, and then of each collector's rounds
+//!     retire     the sessions go back to their list
+
+ghost use Rattle.std.specs.Prelude.{◌≡◌, ℕ, ◌+◌, ◌++◌, ◌<◌, ◌≤◌, ◌^◌, length, map, max, None, false, vec_capacity, IfOk, IfErr, OnOk};
+ghost use Rattle.hg_base.specs.Lists.{Each, greatest};
+ghost use Rattle.hg_drivers.specs.declared.work.Worker.{Worker};
+ghost use Rattle.hg_base.specs.Transcript.{of_session};
+ghost use Rattle.hg_rule.specs.New.{EachFrom};
+ghost use Rattle.hg_script.specs.Lawful.{IsLawful};
+ghost use Rattle.hg_session.specs.Engines.{engine_sizes};
+ghost use Rattle.hg_session.specs.Finished.{IsClosed};
+ghost use Rattle.hg_session.specs.Opened.{IsNewOf};
+ghost use Rattle.hg_session.specs.Sessions.{cursor_of};
+ghost use Rattle.hg_drivers.specs.Collecting.{AreCollectors};
+ghost use Rattle.hg_drivers.specs.Driven.{HasDrivenAll};
+ghost use Rattle.hg_collectors.specs.Telling.{sweep_lines};
+ghost use Rattle.hg_drivers.specs.Working.{AreWilling, hired, lines_in, sessions_in};
+
+use crate::beside::run_beside;
+use crate::reply::inside;
+use crate::work::Worker;
+use hg_base::{Answer, Gate, Line, NoMemory};
+use hg_collectors::{Collectors, Plan, RoundList, RoundLists};
+use hg_report::Transcript;
+use hg_script::Script;
+use hg_session::{Engine, Session, SessionList};
+use hg_words::Options;
+use std::alloc::Global;
+use std::mem;
+use std::sync::Wait;
+use std::thread::Threads;
+
+// A worker for each session. A refusal hands the sessions back.
+fn hire<'a>(
+    alloc: Global,
+    script: &'a Script,
+    list: Vec<Session>,
+) -> Result<Vec<Worker<'a>>, Vec<Session>>
+    requires { length list.items < 2 ^ 32 }
+    ensures hired { IfOk result (λ workers. workers.items ≡ hired script.now 1 list.items) }
+    ensures refused { IfErr result (λ sessions. sessions.items ≡ list.items) }
+{
+    let Ok(mut workers) = Vec::with_capacity(alloc, list.len()) else {
+        return Err(list);
+    };
+    let mut number = 0;
+    for session in list {
+        number += 1;
+        workers.push_reserved(Worker {
+            session,
+            records: script.records_of(number),
+            transcript: Transcript::new(alloc, script),
+            refused: false,
+        });
+    }
+    Ok(workers)
+}
+
+// The sessions of the workers, behind those that are there. There are places for all.
+fn retire(workers: Vec<Worker>, sessions: Vec<Session>) -> Vec<Session>
+    requires { length sessions.items + length workers.items ≤ vec_capacity sessions }
+    ensures { result.items ≡ sessions.items ++ sessions_in workers.entry.items }
+{
+    let mut sessions = sessions;
+    for worker in workers {
+        sessions.push_reserved(worker.session);
+    }
+    sessions
+}
+
+// Adds the lines of a collector's rounds, of which none was refused memory.
+fn add_rounds(transcript: &mut Transcript, told: RoundList) -> Result<(), NoMemory>
+    ensures lines { OnOk result
+        (transcript.new.lines ≡ transcript.old.lines ++ sweep_lines 1 told.sweeps.items) }
+    ensures tables { transcript.new.tables ≡ transcript.old.tables }
+    ensures willing { OnOk result (told.refused ≡ false) }
+{
+    if told.refused {
+        return Err(NoMemory);
+    }
+    let mut place = 0;
+    for sweep in told.sweeps {
+        place += 1;
+        transcript.push(&Line {
+            session: 0,
+            place,
+            reply: inside(Answer::Swept(sweep)),
+        })?;
+    }
+    Ok(())
+}
+
+// All lines: those of each session by number, and then those of each collector's rounds. Nobody was refused memory.
+fn gather<'a>(
+    alloc: Global,
+    script: &'a Script,
+    workers: &[Worker<'a>],
+    told: RoundLists,
+) -> Result<Transcript<'a>, NoMemory>
+    requires { Each (λ (w : Worker). w.transcript.tables ≡ script.now.tables) workers.now }
+    ensures lines { IfOk result (λ transcript.
+        transcript.lines ≡
+        lines_in workers.now ++
+        (sweep_lines 1 told.group.sweeps.items ++
+        (sweep_lines 1 told.table.sweeps.items ++
+        sweep_lines 1 told.interval.sweeps.items))) }
+    ensures tables { IfOk result (λ transcript. transcript.tables ≡ script.now.tables) }
+    ensures willing { OnOk result (AreWilling workers.now told) }
+{
+    let mut transcript = Transcript::new(alloc, script);
+    for worker in workers {
+        if worker.refused {
+            return Err(NoMemory);
+        }
+        transcript.append(&worker.transcript)?;
+    }
+    let RoundLists {
+        group,
+        table,
+        interval,
+    } = told;
+    add_rounds(&mut transcript, group)?;
+    add_rounds(&mut transcript, table)?;
+    add_rounds(&mut transcript, interval)?;
+    Ok(transcript)
+}
+
+/// The driver of `run`: each session runs its own records in a thread of its own, and concurrently each collector makes its
+/// rounds. A `gc` is answered `beside`. At the end of its records a session rolls back what is open, or closes its cursor. The gate is
+/// asked before each statement and each round. A worker that runs out of memory ends early, and leaves no transaction and no cursor
+/// open either. The engine may have more sessions than the script.
+pub fn run_on<'a, R: Threads + Wait + Sync, G: Gate + Sync>(
+    rt: &R,
+    alloc: Global,
+    script: &'a Script,
+    options: &Options,
+    gate: &G,
+    engine: &Engine,
+    sessions: &mut SessionList,
+    collectors: &mut Collectors,
+) -> Result<Transcript<'a>, NoMemory>
+    requires lawful { IsLawful script.now }
+    requires sessions { length sessions.old ≡
+        max 1 (greatest (map (λ r. r.session) script.now.records)) }
+    requires tables { (engine_sizes engine.now).tables ≡ length script.now.tables }
+    requires some { 0 < (engine_sizes engine.now).buckets }
+    requires quota { (j : ℕ) →
+        length (of_session j script.now.records) ≤ (engine_sizes engine.now).quota }
+    requires most { length sessions.old ≤ (engine_sizes engine.now).sessions }
+    requires new { EachFrom (IsNewOf engine.now (engine_sizes engine.now).quota) 1 sessions.old }
+    requires collectors { AreCollectors engine.now collectors.old }
+    ensures driven { IfOk result (λ transcript.
+        HasDrivenAll (engine_sizes engine.now) options.now.long options.now.rounds
+        script.now.records sessions.old collectors.old transcript.lines sessions.new
+        collectors.new) }
+    ensures tables { IfOk result (λ transcript. transcript.tables ≡ script.now.tables) }
+    ensures many { length sessions.new ≡ length sessions.old }
+    ensures closed { EachFrom (IsClosed engine.now) 1 sessions.new }
+    ensures cursors { Each (λ s. cursor_of s ≡ None) sessions.new }
+    ensures collectors { AreCollectors engine.now collectors.new }
+{
+    let mut told = RoundLists::with_places(alloc, options.rounds)?;
+    let list = mem::replace(sessions, SessionList::from(Vec::new(alloc))).into_vec();
+    let Ok(back) = Vec::with_capacity(alloc, list.len()) else {
+        *sessions = SessionList::from(list);
+        return Err(NoMemory);
+    };
+    let mut workers = match hire(alloc, script, list) {
+        Ok(workers) => workers,
+        Err(list) => {
+            *sessions = SessionList::from(list);
+            return Err(NoMemory);
+        }
+    };
+    let plan = Plan {
+        gate,
+        rounds: options.rounds,
+        long: options.long,
+    };
+    run_beside(
+        rt,
+        engine,
+        &plan,
+        workers.as_mut_slice(),
+        collectors,
+        &mut told,
+    );
+    let transcript = gather(alloc, script, workers.as_slice(), told);
+    *sessions = SessionList::from(retire(workers, back));
+    transcript
+}

@@ -1,0 +1,21 @@
+//! Writing a text to a sink.
+
+ghost use Rattle.std.specs.Prelude.{ℕ, ◌<◌, length, take, OnOk, OnErr};
+ghost use Rattle.std.specs.Io.KnownBytes.{Appends};
+ghost use Rattle.hg_base.specs.Faults.{HasCause};
+
+use hg_base::{Failed, Sink};
+
+/// Writes a text, each write given the whole rest of it. Where the sink fails, it has taken a front of the text.
+pub fn write_all<S: Sink>(sink: &mut S, text: &[u8]) -> Result<(), Failed>
+    ensures done { OnOk result (Appends (S.taken sink.old) (S.taken sink.new) text.now) }
+    ensures part { OnErr result ((n : ℕ) × (n < length text.now) ×
+        Appends (S.taken sink.old) (S.taken sink.new) (take n text.now)) }
+    ensures cause { HasCause (S.faults sink.old) (S.faults sink.new) result }
+{
+    let mut at = 0;
+    while at < text.len() {
+        at += sink.write(&text[at..])?;
+    }
+    Ok(())
+}
