@@ -1,6 +1,6 @@
 -- An answer is that of the table, and a refused write shows its cause.
-use Rattle.std.proofs.Common.{◌≡◌, ℕ, suc, ◌+◌, ◌<◌, ◌≤◌, ◌⊎◌, inl, inr, List, [], ◌∷◌, length, take, Bool, true, false, Option, Some, None, refl, sym, ap, ◌∙◌, subst, arith}
-use Rattle.std.specs.Prelude.{◌==◌, ◌&&◌, is_some, if◌then◌else◌, IfSome, IsFalse, IsSome, ⊤}
+use Rattle.std.proofs.Common.{◌≡◌, ℕ, suc, ◌<◌, ◌≤◌, ◌⊎◌, inl, inr, List, [], ◌∷◌, Bool, true, false, Option, Some, None, refl, sym, subst, arith}
+use Rattle.std.specs.Prelude.{is_some, if◌then◌else◌, IsSome, ⊤}
 use Rattle.std.specs.Bool.{MatchBool}
 use Rattle.hg_base.specs.declared.rid.Rid.{Rid}
 use Rattle.hg_base.specs.declared.rid.TableId.{TableId}
@@ -8,16 +8,15 @@ use Rattle.hg_base.specs.declared.image.Image.{Image}
 use Rattle.hg_base.specs.declared.writer.Writer.{Writer}
 use Rattle.hg_base.specs.declared.value.Value.{Value}
 use Rattle.hg_base.specs.declared.scope.Scope.{Scope}
-use Rattle.hg_base.specs.declared.report.Kind.{Kind}
 use Rattle.hg_base.specs.declared.statement.Statement.{Statement}
 use Rattle.hg_base.specs.declared.statement.Statement.TheVariants.{Begin, Get, Put, Del, Scan, CursorOpen, Fetch, CursorClose, Commit as CommitIt, Rollback, Gc}
 use Rattle.hg_base.specs.declared.line.Answer.{Answer}
-use Rattle.hg_base.specs.declared.line.Answer.TheVariants.{Begun, Stored, Found, Nothing, Gone, Rows, Committed, Ended, Undone, Newer, OpenBy, Undeclared, Swept, Beside}
+use Rattle.hg_base.specs.declared.line.Answer.TheVariants.{Begun, Stored, Nothing, Gone, Rows, Committed, Ended, Newer, OpenBy, Undeclared, Swept}
 use Rattle.hg_base.specs.Conflicts.{target}
-use Rattle.hg_base.specs.History.{image_in, seen}
-use Rattle.hg_base.specs.Replies.{AreRows, IsAnswer, IsDeleted, IsFetched, IsGot, IsPut, IsScanned, IsUndeclared, WithinScope, IsCommitted, is_written}
-use Rattle.hg_base.specs.Script.{Mode, replay}
-use Rattle.hg_base.specs.Transcript.{Said, Rest, has, stored_by}
+use Rattle.hg_base.specs.History.{image_in}
+use Rattle.hg_base.specs.Replies.{IsAnswer, IsDeleted, IsFetched, IsGot, IsPut, IsScanned, IsUndeclared, WithinScope, IsCommitted, is_written}
+use Rattle.hg_base.specs.Script.{replay}
+use Rattle.hg_base.specs.Transcript.{Said, Rest, has}
 use Rattle.hg_exact.specs.State.{Open, State, mark}
 use Rattle.hg_exact.specs.Answers.{answer_in, declared, fetched, found, newest, rows_seen, sees, writers, written}
 use Rattle.hg_exact.specs.Lawful.{MayAsk}

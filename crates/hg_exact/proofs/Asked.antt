@@ -1,8 +1,7 @@
 -- A script that breaks no rule has an answer to each of its statements.
-use Rattle.std.proofs.Common.{◌≡◌, ℕ, ◌≤◌, ◌⊎◌, inl, inr, List, [], ◌∷◌, ◌++◌, Bool, true, false, Option, Some, None, refl, sym, ap, ◌∙◌, subst}
-use Rattle.std.specs.Prelude.{◌==◌, ◌||◌, cond, fold, if◌then◌else◌, option_map, IsFalse, IsSome, IsTrue}
+use Rattle.std.proofs.Common.{◌≡◌, ℕ, ◌⊎◌, inl, inr, List, [], ◌∷◌, ◌++◌, Bool, true, false, Option, Some, None, refl, sym, ap, ◌∙◌, subst}
+use Rattle.std.specs.Prelude.{◌==◌, ◌||◌, cond, fold, if◌then◌else◌, IsFalse, IsSome}
 use Rattle.std.proofs.lemmas.Bool.{or_parts}
-use Rattle.std.proofs.lemmas.Bool.Decides.{Decides-eqb}
 use Rattle.hg_base.specs.declared.statement.Record.{Record}
 use Rattle.hg_base.specs.declared.statement.Statement.{Statement}
 use Rattle.hg_base.specs.declared.statement.Statement.TheVariants.{Begin, Get, Put, Del, Scan, CursorOpen, Fetch, CursorClose, Commit as CommitIt, Rollback, Gc}
@@ -14,7 +13,7 @@ use Rattle.hg_base.specs.Transcript.{Rest, is_end, only, rest_after}
 use Rattle.hg_core.proofs.Indices.{at_index, put_else, put_here}
 use Rattle.hg_script.specs.Lawful.{AreInOrder, HasWidths, IsLawful, IsStatement, MayStand}
 use Rattle.hg_script.specs.Rules.{is_open, is_reading, opened, opened_by, reading, reading_by}
-use Rattle.hg_exact.specs.State.{Open, State, but, going, next, start}
+use Rattle.hg_exact.specs.State.{Open, State, going, next, start}
 use Rattle.hg_exact.specs.Answers.{answer_in}
 use Rattle.hg_exact.specs.Lawful.{AreAnswered, MayAsk}
 use Rattle.hg_exact.specs.Replayed.{stands, step}

@@ -1,6 +1,6 @@
 -- A refused write shows its cause, by what is open and by the history so far.
-use Rattle.std.proofs.Common.{◌≡◌, ℕ, suc, ◌+◌, ◌<◌, ◌≤◌, ◌⊎◌, inl, inr, List, [], ◌∷◌, ◌++◌, length, map, max, Bool, true, false, Option, Some, None, refl, sym, ap, ◌∙◌, subst, arith}
-use Rattle.std.specs.Prelude.{◌==◌, ◌&&◌, ◌||◌, cond, filter, filter_map, is_some, nat_lt, option_map, if◌then◌else◌, IsFalse, IsSome, IsTrue}
+use Rattle.std.proofs.Common.{◌≡◌, ℕ, ◌<◌, ◌⊎◌, inl, inr, List, [], ◌∷◌, ◌++◌, map, max, Bool, true, false, Option, Some, None, refl, sym, ap, ◌∙◌, subst, arith}
+use Rattle.std.specs.Prelude.{◌==◌, ◌||◌, cond, filter, filter_map, is_some, nat_lt, option_map, if◌then◌else◌, IsFalse, IsSome}
 use Rattle.std.specs.List.{list_any, cons_option}
 use Rattle.std.proofs.lemmas.Bool.{or_parts}
 use Rattle.std.proofs.lemmas.Bool.Decides.{Decides-eqb, nat_tests}
@@ -10,9 +10,9 @@ use Rattle.hg_base.specs.declared.writer.Writer.{Writer}
 use Rattle.hg_base.specs.declared.statement.Statement.{Statement}
 use Rattle.hg_base.specs.declared.statement.Statement.TheVariants.{Commit as CommitIt}
 use Rattle.hg_base.specs.declared.line.Answer.{Answer}
-use Rattle.hg_base.specs.declared.line.Answer.TheVariants.{Stored, Gone, Nothing, Undeclared, Newer, OpenBy}
+use Rattle.hg_base.specs.declared.line.Answer.TheVariants.{Stored, Gone}
 use Rattle.hg_base.specs.Lists.{Each, greatest, onto}
-use Rattle.hg_base.specs.History.{Write, History, does_write, image_in, writes}
+use Rattle.hg_base.specs.History.{History, image_in, writes}
 use Rattle.hg_base.specs.Script.{replay}
 use Rattle.hg_base.specs.Transcript.{Said, committed, committed_by, ends, is_end, is_of, numbers_in, open_of, own_writes, stored_in}
 use Rattle.hg_base.specs.Conflicts.{IsStillOpen, ShowsCause, ShowsNewer, ShowsOpen, target}

@@ -1,8 +1,8 @@
 -- What a sound line has, with its first cause, determines its answer.
-use Rattle.std.proofs.Common.{◌≡◌, ℕ, zero, suc, ◌+◌, ◌<◌, ◌≤◌, ◌⊎◌, inl, inr, List, [], ◌∷◌, ◌++◌, length, Bool, true, false, Option, Some, None, refl, sym, ap, ◌∙◌, subst, arith}
-use Rattle.std.specs.Prelude.{◌==◌, cond, filter, filter_map, is_some, nat_lt, option_map, if◌then◌else◌, IfSome, IsFalse, IsSome, IsTrue, ⊤}
+use Rattle.std.proofs.Common.{◌≡◌, ℕ, zero, suc, ◌+◌, ◌<◌, ◌≤◌, ◌⊎◌, inl, inr, List, [], ◌∷◌, Bool, true, false, Option, Some, None, refl, sym, ap, ◌∙◌, arith}
+use Rattle.std.specs.Prelude.{◌==◌, cond, filter_map, is_some, nat_lt, if◌then◌else◌, IfSome, IsSome, IsTrue, ⊤}
 use Rattle.std.specs.Bool.{MatchBool}
-use Rattle.std.specs.List.{list_any, cons_option}
+use Rattle.std.specs.List.{cons_option}
 use Rattle.std.proofs.lemmas.Bool.Decides.{Decides-eqb, nat_tests}
 use Rattle.hg_base.specs.declared.rid.Rid.{Rid}
 use Rattle.hg_base.specs.declared.rid.TableId.{TableId}
@@ -13,7 +13,7 @@ use Rattle.hg_base.specs.declared.scope.Scope.{Scope}
 use Rattle.hg_base.specs.declared.statement.Statement.{Statement}
 use Rattle.hg_base.specs.declared.statement.Statement.TheVariants.{Begin, Get, Put, Del, Scan, CursorOpen, Fetch, CursorClose, Commit as CommitIt, Rollback, Gc}
 use Rattle.hg_base.specs.declared.line.Answer.{Answer}
-use Rattle.hg_base.specs.declared.line.Answer.TheVariants.{Begun, Stored, Found, Nothing, Gone, Rows, Committed, Ended, Undone, Newer, OpenBy, Undeclared, Swept, Beside}
+use Rattle.hg_base.specs.declared.line.Answer.TheVariants.{Stored, Found, Nothing, Gone, Rows, Committed, Ended, Undone, Newer, OpenBy, Undeclared}
 use Rattle.hg_base.specs.Lists.{numbers_from}
 use Rattle.hg_base.specs.History.{image_in}
 use Rattle.hg_base.specs.Conflicts.{target}
@@ -26,7 +26,7 @@ use Rattle.hg_exact.specs.Answers.{answer_in, fetched, found, has_written, newes
 use Rattle.hg_exact.specs.Lawful.{MayAsk}
 use Rattle.hg_exact.proofs.Alike.{same_first, same_rows}
 use Rattle.hg_exact.proofs.Answering.{IsPlain, told}
-use Rattle.hg_exact.proofs.Keeping.{none_of, not_none, wrote_by}
+use Rattle.hg_exact.proofs.Keeping.{wrote_by}
 use Rattle.hg_exact.proofs.Rows.{first_rows, rows_are}
 
 -- ---- the outcomes of a write

@@ -1,19 +1,16 @@
 -- A sound text whose lines have their first causes is the one that is replayed.
-use Rattle.std.proofs.Common.{◌≡◌, ℕ, zero, suc, ◌+◌, ◌<◌, ◌≤◌, ◌⊎◌, inl, inr, List, [], ◌∷◌, ◌++◌, length, map, max, Bool, true, false, Option, Some, None, refl, sym, ap, ◌∙◌, subst, arith, append_assoc}
-use Rattle.std.specs.Prelude.{◌==◌, ◌&&◌, ◌||◌, cond, filter, filter_map, is_some, nat_lt, option_map, unwrap_or, if◌then◌else◌, IfSome, IsFalse, IsSome, IsTrue, ⊤}
+use Rattle.std.proofs.Common.{◌≡◌, ℕ, zero, suc, ◌<◌, ◌≤◌, ◌⊎◌, inl, inr, List, [], ◌∷◌, ◌++◌, length, map, max, Bool, true, false, Option, Some, None, refl, sym, ap, ◌∙◌, subst, arith, append_assoc}
+use Rattle.std.specs.Prelude.{◌==◌, ◌&&◌, cond, filter, filter_map, is_some, nat_lt, option_map, unwrap_or, if◌then◌else◌, IfSome, IsSome, IsTrue, ⊤}
 use Rattle.std.specs.Bool.{MatchBool}
 use Rattle.std.specs.List.{list_any, cons_option}
 use Rattle.std.proofs.lemmas.Bool.{or_parts}
 use Rattle.std.proofs.lemmas.Bool.Decides.{Decides-eqb, nat_tests}
 use Rattle.hg_base.specs.declared.rid.Rid.{Rid}
 use Rattle.hg_base.specs.declared.rid.TableId.{TableId}
-use Rattle.hg_base.specs.declared.scope.Scope.{Scope}
 use Rattle.hg_base.specs.declared.image.Image.{Image}
-use Rattle.hg_base.specs.declared.writer.Writer.{Writer}
 use Rattle.hg_base.specs.declared.report.Kind.{Kind}
 use Rattle.hg_base.specs.declared.report.Kind.TheVariants as kinds
 use Rattle.hg_base.specs.declared.report.Told.{Told}
-use Rattle.hg_base.specs.declared.report.Sweep.{Sweep}
 use Rattle.hg_base.specs.declared.statement.Record.{Record}
 use Rattle.hg_base.specs.declared.statement.Statement.{Statement}
 use Rattle.hg_base.specs.declared.statement.Statement.TheVariants.{Begin, Get, Put, Del, Scan, CursorOpen, Fetch, CursorClose, Commit as CommitIt, Rollback, Gc}
@@ -21,15 +18,15 @@ use Rattle.hg_base.specs.declared.line.Answer.{Answer}
 use Rattle.hg_base.specs.declared.line.Answer.TheVariants.{Begun, Stored, Gone, Newer, OpenBy, Swept}
 use Rattle.hg_base.specs.declared.line.Reply.{Reply}
 use Rattle.hg_base.specs.declared.line.Line.{Line}
-use Rattle.hg_base.specs.Lists.{Each, EachAfter, greatest, numbers_from, onto}
-use Rattle.hg_base.specs.Script.{Script, Mode, replay}
+use Rattle.hg_base.specs.Lists.{Each, EachAfter, greatest, onto}
+use Rattle.hg_base.specs.Script.{Script, replay}
 use Rattle.hg_base.specs.Sound.{IsRight, LinesAreSound, all_said}
 use Rattle.hg_base.specs.History.{Write, History, does_write, image_in, seen}
-use Rattle.hg_base.specs.Transcript.{Said, Rest, commit_by, committed, ends, history_of, greatest_commit, has, is_end, is_of, last_of, next_after, only, open_after, open_of, own_writes, rest_after, rest_in, said, said_from, standing, stored, stored_by, stored_in, table_of}
-use Rattle.hg_base.specs.Shape.{HasShape, IsLineOf, IsReportOf, report_of, same_kind}
+use Rattle.hg_base.specs.Transcript.{Said, Rest, commit_by, committed, ends, history_of, greatest_commit, has, is_of, last_of, next_after, only, open_after, open_of, own_writes, rest_after, rest_in, said, said_from, standing, stored, stored_by, stored_in, table_of}
+use Rattle.hg_base.specs.Shape.{HasShape, IsLineOf, same_kind}
 use Rattle.hg_base.specs.Replies.{IsAnswer, IsBegun, IsCommitted, IsDeleted, IsEnded, IsFetched, IsGot, IsPut, IsReply, IsScanned, IsSwept, IsUndeclared, IsUndone, is_written}
-use Rattle.hg_base.specs.Conflicts.{IsStillOpen, ShowsCause, ShowsConflict, target}
-use Rattle.hg_base.specs.Freshness.{IsExact, IsReplayed, snapshot_of}
+use Rattle.hg_base.specs.Conflicts.{ShowsCause, ShowsConflict, target}
+use Rattle.hg_base.specs.Freshness.{IsExact, IsReplayed}
 use Rattle.hg_base.proofs.Growth.{history_next_of, history_same}
 use Rattle.hg_base.proofs.ListFacts.{append_nil, cases, each_keeps}
 use Rattle.hg_core.proofs.Indices.{at_index}
@@ -43,12 +40,11 @@ use Rattle.hg_exact.proofs.Numbering.{IsNext, all_next}
 use Rattle.hg_exact.specs.Lawful.{AreAnswered, MayAsk}
 use Rattle.hg_exact.specs.Replayed.{inside, lines_from, number_for, plain, plain_answer, plain_reply, plain_sweep, plain_told, replayed, stands, step}
 use Rattle.hg_exact.proofs.Answering.{IsPlain, answer_prints}
-use Rattle.hg_exact.proofs.Causes.{opened_at}
-use Rattle.hg_exact.proofs.Counting.{held_from, held_snapshots, map_twice, pair}
+use Rattle.hg_exact.proofs.Counting.{held_from, held_snapshots, pair}
 use Rattle.hg_exact.proofs.Determined.{Caused, determined, nobody_has, one_has}
-use Rattle.hg_exact.proofs.Keeping.{AreKept, IsKept, none_of, not_none, wrote_by}
+use Rattle.hg_exact.proofs.Keeping.{IsKept, none_of, wrote_by}
 use Rattle.hg_exact.proofs.Longer.{newest_is, newest_within, seen_longer}
-use Rattle.hg_exact.proofs.Standing.{Shows, differs, is_mine, last_by, last_other, last_some, lines_other, not_session, open_as, opened_in, opened_last}
+use Rattle.hg_exact.proofs.Standing.{differs, is_mine, last_by, last_other, last_some, lines_other, not_session, open_as, opened_last}
 use Rattle.hg_exact.proofs.Stepping.{Knows, is_swept, no_said, onto_snoc, said_same, step_line, swept_not}
 use Rattle.hg_exact.proofs.Sound.{each_most, knows_nothing, step_sessions}
 

@@ -1,9 +1,8 @@
 -- The text that is replayed says nothing of what was removed and moved, so it is sound itself.
-use Rattle.std.proofs.Common.{◌≡◌, ℕ, zero, suc, List, [], ◌∷◌, map, Bool, true, false, Option, Some, None, refl, sym, ap, ◌∙◌, subst}
+use Rattle.std.proofs.Common.{◌≡◌, ℕ, zero, suc, List, [], ◌∷◌, map, true, false, Option, Some, None, refl, sym, ap, subst}
 use Rattle.std.specs.Prelude.{filter_map, IfSome, IsTrue, ⊤}
 use Rattle.std.specs.Bool.{MatchBool}
 use Rattle.std.specs.List.{cons_option}
-use Rattle.hg_base.specs.declared.report.Kind.{Kind}
 use Rattle.hg_base.specs.declared.report.Told.{Told}
 use Rattle.hg_base.specs.declared.report.Sweep.{Sweep}
 use Rattle.hg_base.specs.declared.statement.Record.{Record}
@@ -11,7 +10,6 @@ use Rattle.hg_base.specs.declared.statement.Statement.{Statement}
 use Rattle.hg_base.specs.declared.statement.Statement.TheVariants.{Begin, CursorOpen, Gc}
 use Rattle.hg_base.specs.declared.line.Answer.{Answer}
 use Rattle.hg_base.specs.declared.line.Answer.TheVariants.{Swept}
-use Rattle.hg_base.specs.declared.line.Line.{Line}
 use Rattle.hg_base.specs.declared.line.Reply.{Reply}
 use Rattle.hg_base.specs.Lists.{Each, EachAfter, greatest, numbers_from}
 use Rattle.hg_base.specs.Freshness.{is_declared}
@@ -21,7 +19,7 @@ use Rattle.hg_base.specs.Sound.{LinesAreSound}
 use Rattle.hg_base.specs.Transcript.{Said, last_of, only, open_of, said, said_from, table_of}
 use Rattle.hg_headline.proofs.Whole.{said_says}
 use Rattle.hg_exact.specs.State.{Open, State, mark, next, start}
-use Rattle.hg_exact.specs.Answers.{answer_in, report, told_of}
+use Rattle.hg_exact.specs.Answers.{answer_in, told_of}
 use Rattle.hg_exact.specs.Lawful.{AreAnswered, MovesDeclared}
 use Rattle.hg_exact.specs.Replayed.{inside, lines_from, number_for, plain, plain_answer, plain_reply, plain_sweep, plain_told, replayed, stands, step}
 use Rattle.hg_exact.proofs.Answering.{IsPlain, answer_prints}

@@ -1,6 +1,6 @@
 -- What holds of the open transactions: each has overwritten nothing that it did not see, and no two have written one record.
-use Rattle.std.proofs.Common.{◌≡◌, ℕ, zero, suc, ◌+◌, ◌<◌, ◌≤◌, ◌⊎◌, inl, inr, List, [], ◌∷◌, ◌++◌, length, map, Bool, true, false, Option, Some, None, refl, sym, ap, ◌∙◌, subst, arith}
-use Rattle.std.specs.Prelude.{◌==◌, cond, filter_map, is_some, max, nat_lt, option_map, if◌then◌else◌, IfSome, IsSome}
+use Rattle.std.proofs.Common.{◌≡◌, ℕ, zero, suc, ◌+◌, ◌<◌, ◌≤◌, List, [], ◌∷◌, ◌++◌, length, map, Bool, true, false, Option, Some, None, refl, sym, ap, ◌∙◌, subst, arith}
+use Rattle.std.specs.Prelude.{◌==◌, cond, filter_map, is_some, nat_lt, option_map, if◌then◌else◌, IfSome, IsSome}
 use Rattle.std.specs.List.{cons_option}
 use Rattle.std.specs.Option.{option_or}
 use Rattle.std.proofs.lemmas.Bool.Decides.{Decides-eqb, nat_tests}
@@ -10,15 +10,15 @@ use Rattle.hg_base.specs.declared.writer.Writer.{Writer}
 use Rattle.hg_base.specs.declared.line.Answer.{Answer}
 use Rattle.hg_base.specs.declared.line.Answer.TheVariants.{Newer, OpenBy}
 use Rattle.hg_base.specs.Lists.{Each, greatest, numbers_from}
-use Rattle.hg_base.specs.History.{Write, Commit, Group, History, group_image, image_in, same_rid, writes, writes_from}
+use Rattle.hg_base.specs.History.{Write, Commit, History, group_image, image_in, same_rid, writes}
 use Rattle.hg_base.specs.Transcript.{last_images}
-use Rattle.hg_base.proofs.ListFacts.{cases, each_append, each_keeps}
-use Rattle.hg_base.proofs.HistoryFacts.{same_rid_equal, same_rid_itself, written_each, writes_from_snoc}
+use Rattle.hg_base.proofs.ListFacts.{cases}
+use Rattle.hg_base.proofs.HistoryFacts.{same_rid_itself, writes_from_snoc}
 use Rattle.hg_base.proofs.Extending.{snoc_longer}
 use Rattle.hg_core.proofs.Indices.{by_number}
 use Rattle.hg_core.proofs.Past.{writes_within}
 use Rattle.hg_core.proofs.Updates.{each_last}
-use Rattle.hg_exact.specs.State.{Open, State, but, mark}
+use Rattle.hg_exact.specs.State.{Open, State, but}
 use Rattle.hg_exact.specs.Answers.{has_written, newest, unless_refused, writer_of, writers, written}
 
 -- ---- a write of a list

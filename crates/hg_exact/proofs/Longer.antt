@@ -1,5 +1,5 @@
 -- A history that goes on: what it shows at its first numbers, and the newest group that writes a record.
-use Rattle.std.proofs.Common.{◌≡◌, ℕ, zero, suc, ◌+◌, ◌<◌, ◌≤◌, List, [], ◌∷◌, ◌++◌, length, map, max, Bool, true, false, Option, Some, None, refl, sym, ap, ◌∙◌, subst, arith}
+use Rattle.std.proofs.Common.{◌≡◌, ℕ, zero, suc, ◌+◌, ◌<◌, ◌≤◌, List, [], ◌∷◌, ◌++◌, length, map, Bool, true, false, Option, Some, None, refl, sym, ap, ◌∙◌, subst, arith}
 use Rattle.std.specs.Prelude.{◌==◌, ◌||◌, filter, nat_le, option_map, unwrap_or, IsTrue}
 use Rattle.std.specs.List.{list_any, cons_option}
 use Rattle.std.proofs.lemmas.Bool.Decides.{Decides-eqb, nat_tests}
@@ -7,7 +7,7 @@ use Rattle.std.proofs.lemmas.List.Elements.{filter-append}
 use Rattle.hg_base.specs.declared.rid.Rid.{Rid}
 use Rattle.hg_base.specs.declared.image.Image.{Image}
 use Rattle.hg_base.specs.Lists.{Each, greatest}
-use Rattle.hg_base.specs.History.{Write, Group, History, does_write, group_image, image_in, last_image, seen, visible, writes, writes_from}
+use Rattle.hg_base.specs.History.{Write, History, does_write, group_image, image_in, last_image, seen, visible, writes, writes_from}
 use Rattle.hg_base.proofs.ListFacts.{any_more, append_nil, cases, cons_option_append, each_keeps}
 use Rattle.hg_base.proofs.HistoryFacts.{filter_none}
 use Rattle.hg_exact.specs.Answers.{newest}

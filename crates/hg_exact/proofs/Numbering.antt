@@ -1,14 +1,14 @@
 -- Commit numbers that ascend are 1, 2, 3 and so on, where each number up to the greatest is printed.
 use Rattle.std.proofs.Common.{◌≡◌, ℕ, zero, suc, ◌+◌, ◌<◌, ◌≤◌, ◌⊎◌, inl, inr, List, [], ◌∷◌, length, map, Bool, true, false, Option, Some, None, refl, sym, ap, ◌∙◌, subst, arith}
-use Rattle.std.specs.Prelude.{◌==◌, ◌||◌, cond, filter_map, max, option_map, IfSome}
+use Rattle.std.specs.Prelude.{◌==◌, ◌||◌, cond, filter_map, max, IfSome}
 use Rattle.std.specs.List.{list_any, cons_option}
 use Rattle.std.proofs.lemmas.Bool.{or_parts}
 use Rattle.std.proofs.lemmas.Bool.Decides.{Decides-eqb, nat_tests}
-use Rattle.hg_base.specs.Lists.{Each, EachAfter, greatest, numbers_from, onto}
+use Rattle.hg_base.specs.Lists.{EachAfter, greatest, numbers_from, onto}
 use Rattle.hg_base.specs.History.{Commit, Group, History, EachGroup, IsGroup}
 use Rattle.hg_base.specs.Conflicts.{target}
 use Rattle.hg_base.specs.Sound.{IsWhole}
-use Rattle.hg_base.specs.Transcript.{Said, commit_by, committed, commits, commits_from, greatest_commit, group_of, history_of, put_by_session}
+use Rattle.hg_base.specs.Transcript.{Said, committed, commits, greatest_commit, group_of, history_of, put_by_session}
 use Rattle.hg_base.proofs.ListFacts.{cases}
 use Rattle.hg_headline.proofs.Commits.{commits_numbers, picked_onto}
 use Rattle.hg_headline.proofs.Numbers.{any_below, any_from_onto}

@@ -1,5 +1,5 @@
 -- The rows that are seen of a table are those of a scan, and the first of them those of a fetch.
-use Rattle.std.proofs.Common.{◌≡◌, ℕ, suc, ◌<◌, ◌≤◌, ◌⊎◌, inl, inr, List, [], ◌∷◌, ◌++◌, length, map, take, drop, min, Bool, true, false, Option, Some, None, refl, sym, ap, ◌∙◌, subst, arith, take_all, length-take, take-append-drop}
+use Rattle.std.proofs.Common.{◌≡◌, ℕ, suc, ◌<◌, ◌≤◌, ◌⊎◌, inl, inr, List, [], ◌∷◌, ◌++◌, length, map, take, drop, Bool, true, false, Option, Some, None, refl, sym, ap, ◌∙◌, subst, arith, take_all, length-take, take-append-drop}
 use Rattle.std.specs.Prelude.{◌==◌, ◌&&◌, ◌||◌, cond, filter, filter_map, unwrap_or, nat_lt, nat_le, option_map, IsTrue}
 use Rattle.std.specs.List.{list_any, cons_option, flat_map}
 use Rattle.std.specs.Option.{option_or}
@@ -13,9 +13,9 @@ use Rattle.hg_base.specs.Lists.{Each, Ascends}
 use Rattle.hg_base.specs.History.{Write, Group, History, group_image, group_rids, image_in, is_among, last_image, nothing, rids_of, same_rid, seen, visible, writes_from}
 use Rattle.hg_base.specs.Replies.{AreRows, AreFirst}
 use Rattle.hg_base.specs.Transcript.{last_key, passed}
-use Rattle.hg_base.proofs.ListFacts.{cases, each_append, each_keeps}
+use Rattle.hg_base.proofs.ListFacts.{cases, each_keeps}
 use Rattle.hg_exact.specs.State.{Open, State}
-use Rattle.hg_exact.specs.Answers.{keys_in, placed, row_within, rows_seen, sees}
+use Rattle.hg_exact.specs.Answers.{keys_in, placed, row_within, rows_seen}
 
 abbrev pub Rows : Type 0
 Rows = List (ℕ × List Value)

@@ -1,5 +1,5 @@
 -- Lines that are replayed, but for what their reports say was removed and moved, are sound.
-use Rattle.std.proofs.Common.{◌≡◌, ℕ, suc, ◌<◌, ◌≤◌, List, [], ◌∷◌, ◌++◌, map, max, Bool, true, false, Option, Some, None, refl, sym, ap, ◌∙◌, subst, arith, append_assoc}
+use Rattle.std.proofs.Common.{◌≡◌, ℕ, ◌≤◌, List, [], ◌∷◌, ◌++◌, map, Bool, true, false, Option, Some, None, refl, sym, ap, ◌∙◌, subst, arith, append_assoc}
 use Rattle.std.specs.Prelude.{◌==◌, ⊤}
 use Rattle.std.specs.Bool.{MatchBool}
 use Rattle.std.proofs.lemmas.Bool.Decides.{nat_tests}
@@ -16,7 +16,7 @@ use Rattle.hg_base.specs.Transcript.{Said, said, said_from}
 use Rattle.hg_base.proofs.ListFacts.{append_nil, each_keeps}
 use Rattle.hg_exact.specs.State.{Open, State, start}
 use Rattle.hg_exact.specs.Lawful.{AreAnswered, MovesDeclared}
-use Rattle.hg_exact.specs.Replayed.{lines_from, plain, plain_reply, replayed, stands, step}
+use Rattle.hg_exact.specs.Replayed.{lines_from, plain, replayed, stands, step}
 use Rattle.hg_exact.proofs.Counting.{counts_nothing}
 use Rattle.hg_exact.proofs.Keeping.{kept_nothing}
 use Rattle.hg_exact.proofs.Standing.{shows_nothing}

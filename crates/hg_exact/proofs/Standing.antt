@@ -1,19 +1,11 @@
 -- What one thread knows of each session is what the lines so far show of it.
-use Rattle.std.proofs.Common.{◌≡◌, ℕ, suc, ◌<◌, ◌≤◌, List, [], ◌∷◌, Bool, true, false, Option, Some, None, refl, sym, ap, ◌∙◌, subst, arith}
+use Rattle.std.proofs.Common.{◌≡◌, ℕ, suc, ◌<◌, List, [], ◌∷◌, Bool, true, false, Option, Some, None, refl, sym, ap, ◌∙◌, subst, arith}
 use Rattle.std.specs.Prelude.{◌==◌, ◌&&◌, ◌||◌, cond, filter, filter_map, nat_lt, option_map, if◌then◌else◌}
 use Rattle.std.specs.List.{list_any, cons_option}
 use Rattle.std.proofs.lemmas.Bool.Decides.{Decides-eqb, nat_tests}
-use Rattle.hg_base.specs.declared.scope.Scope.{Scope}
-use Rattle.hg_base.specs.declared.scope.Scope.TheVariants.{All}
-use Rattle.hg_base.specs.declared.report.Kind.{Kind}
-use Rattle.hg_base.specs.declared.statement.Record.{Record}
-use Rattle.hg_base.specs.declared.statement.Statement.{Statement}
-use Rattle.hg_base.specs.declared.statement.Statement.TheVariants.{Gc}
-use Rattle.hg_base.specs.declared.line.Answer.{Answer}
-use Rattle.hg_base.specs.declared.line.Reply.{Reply}
-use Rattle.hg_base.specs.Transcript.{Said, Rest, begun, ends, is_end, is_of, last_of, next_after, only, open_after, open_of, rest_after, rest_in, standing, stored, stored_by, stored_in, table_of}
+use Rattle.hg_base.specs.Transcript.{Said, Rest, ends, is_end, is_of, last_of, next_after, open_after, open_of, rest_after, rest_in, stored, stored_in}
 use Rattle.hg_core.proofs.Indices.{by_number}
-use Rattle.hg_exact.specs.State.{Open, State, but, going, next}
+use Rattle.hg_exact.specs.State.{Open, but, going}
 
 -- ---- lines of others
 

@@ -1,14 +1,11 @@
 -- One line more is right, and what one thread knows goes on.
-use Rattle.std.proofs.Common.{◌≡◌, ℕ, suc, ◌+◌, ◌<◌, ◌≤◌, ◌⊎◌, inl, inr, List, [], ◌∷◌, ◌++◌, length, map, Bool, true, false, Option, Some, None, refl, sym, ap, ◌∙◌, subst, arith}
-use Rattle.std.specs.Prelude.{◌==◌, ◌&&◌, ◌||◌, cond, filter, filter_map, is_some, nat_lt, if◌then◌else◌, option_map, IfSome, IsFalse, IsSome, IsTrue, ⊤}
+use Rattle.std.proofs.Common.{◌≡◌, ℕ, suc, ◌<◌, ◌≤◌, ◌⊎◌, inl, inr, List, [], ◌∷◌, ◌++◌, length, map, Bool, true, false, Option, Some, None, refl, sym, ap, ◌∙◌, subst, arith}
+use Rattle.std.specs.Prelude.{◌==◌, ◌&&◌, ◌||◌, cond, filter, filter_map, is_some, nat_lt, if◌then◌else◌, option_map, IfSome, IsSome, IsTrue, ⊤}
 use Rattle.std.specs.Bool.{MatchBool}
 use Rattle.std.specs.List.{list_any, cons_option}
-use Rattle.std.specs.Option.{option_map_or}
 use Rattle.std.proofs.lemmas.Bool.Decides.{nat_tests}
 use Rattle.hg_base.specs.declared.rid.Rid.{Rid}
 use Rattle.hg_base.specs.declared.image.Image.{Image}
-use Rattle.hg_base.specs.declared.writer.Writer.{Writer}
-use Rattle.hg_base.specs.declared.scope.Scope.{Scope}
 use Rattle.hg_base.specs.declared.report.Kind.{Kind}
 use Rattle.hg_base.specs.declared.report.Kind.TheVariants as kinds
 use Rattle.hg_base.specs.declared.report.Told.{Told}
@@ -19,33 +16,32 @@ use Rattle.hg_base.specs.declared.statement.Statement.TheVariants.{Begin, Get, P
 use Rattle.hg_base.specs.declared.line.Answer.{Answer}
 use Rattle.hg_base.specs.declared.line.Answer.TheVariants.{Begun, Stored, Gone, Committed, Ended, Newer, OpenBy, Swept}
 use Rattle.hg_base.specs.declared.line.Reply.{Reply}
-use Rattle.hg_base.specs.Lists.{Each, Ascends, greatest, onto, present}
+use Rattle.hg_base.specs.Lists.{Each, Ascends, onto, present}
 use Rattle.hg_base.specs.Script.{replay}
 use Rattle.hg_base.specs.History.{Write, Commit, Group, History, IsGroup, LosesNothing, NoneTwice, image_in, rids_of, same_rid, seen, writes}
-use Rattle.hg_base.specs.Transcript.{Said, Rest, commit_by, committed, committed_by, greatest_commit, history_of, is_end, is_of, last_images, last_of, next_after, only, open_after, open_of, own_writes, rest_after, rest_in, said, standing, stored, stored_by, stored_in, table_of}
-use Rattle.hg_base.specs.Shape.{report_of, same_kind, IsReportOf}
+use Rattle.hg_base.specs.Transcript.{Said, Rest, commit_by, committed, committed_by, greatest_commit, history_of, is_end, is_of, last_images, last_of, next_after, only, open_after, open_of, rest_after, rest_in, said, standing, stored, stored_by, stored_in, table_of}
+use Rattle.hg_base.specs.Shape.{report_of, same_kind}
 use Rattle.hg_base.specs.Replies.{IsAnswer, IsReply, is_written}
 use Rattle.hg_base.specs.Conflicts.{ShowsCause, ShowsConflict, target}
-use Rattle.hg_base.specs.Freshness.{IsExact, IsFresh, IsHeld, IsReplayed, IsReported, is_declared, known, mark_of, newer_of, numbers_of, prints, snapshot_of}
+use Rattle.hg_base.specs.Freshness.{IsFresh, IsHeld, IsReplayed, IsReported, is_declared, known, mark_of, newer_of, prints, snapshot_of}
 use Rattle.hg_base.specs.Sound.{AreRight, IsRight}
-use Rattle.hg_base.proofs.ListFacts.{any_more, each_append, each_keeps, match_keeps}
+use Rattle.hg_base.proofs.ListFacts.{any_more, match_keeps}
 use Rattle.hg_base.proofs.HistoryFacts.{same_rid_equal, written_each}
-use Rattle.hg_base.proofs.Growth.{as_many, commit_stays, history_next, history_same, plain_stays}
+use Rattle.hg_base.proofs.Growth.{commit_stays, history_next, history_same, plain_stays}
 use Rattle.hg_base.proofs.Extending.{extends_snoc, reply_stays}
 use Rattle.hg_core.proofs.Grouping.{none_last}
 use Rattle.hg_core.proofs.Indices.{by_number}
-use Rattle.hg_core.proofs.Past.{writes_within}
 use Rattle.hg_core.proofs.Updates.{each_last}
 use Rattle.hg_headline.proofs.Words.{and_true, any_of_onto, any_same}
 use Rattle.hg_exact.specs.State.{Open, State, but, going, mark, next, with_group}
-use Rattle.hg_exact.specs.Answers.{answer_in, newest, report, sees, told_of, writers}
+use Rattle.hg_exact.specs.Answers.{answer_in, newest, report, writers}
 use Rattle.hg_exact.specs.Lawful.{MayAsk, MovesDeclared}
 use Rattle.hg_exact.specs.Replayed.{alone, begins, inside, number_for, plain_answer, plain_reply, plain_sweep, plain_told, stands, step, within}
 use Rattle.hg_exact.proofs.Answering.{IsPlain, Prints, answer_prints, answered, target_by}
 use Rattle.hg_exact.proofs.Causes.{cause_shown, opened_at}
 use Rattle.hg_exact.proofs.Counting.{AreBegun, WasBegun, are_begun, Counts, IsOf, IsUpTo, begins_at, begun_here, begun_more, counts_commit, counts_plain, each_unmap, held_ascends, held_each, held_from, held_snapshots, known_upto, marks_upto, pair, told_pairs, told_sessions}
 use Rattle.hg_exact.proofs.Keeping.{AreKept, IsKept, each_newest, newest_most, kept_but, kept_commit, nobody, not_none, wrote_by}
-use Rattle.hg_exact.proofs.Standing.{Shows, is_mine, last_by, last_other, last_some, open_as, opened_in, opened_last, shows_alone, shows_begun, shows_beside, shows_within}
+use Rattle.hg_exact.proofs.Standing.{Shows, is_mine, last_by, last_some, open_as, opened_last, shows_alone, shows_begun, shows_beside, shows_within}
 
 -- ---- what is known after some lines, oldest first
 

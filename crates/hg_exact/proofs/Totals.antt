@@ -12,11 +12,11 @@ use Rattle.hg_base.specs.declared.line.Line.{Line}
 use Rattle.hg_base.specs.declared.line.Totals.{Totals}
 use Rattle.hg_base.specs.declared.line.Reply.{Reply}
 use Rattle.hg_base.specs.Lists.{greatest, numbers_from}
-use Rattle.hg_base.specs.History.{Write, Commit, History, image_in}
-use Rattle.hg_base.specs.Counts.{AreTotals, first_write, first_writes_from, is_committed, live}
+use Rattle.hg_base.specs.History.{Write, image_in}
+use Rattle.hg_base.specs.Counts.{AreTotals, first_writes_from, is_committed, live}
 use Rattle.hg_base.specs.Script.{Script, replay}
 use Rattle.hg_base.specs.Sound.{all_said}
-use Rattle.hg_base.specs.Transcript.{Said, begun, commit_by, commit_of, commits_from, committed, committed_by, ends, greatest_commit, group_of, history_of, is_of, last_images, last_of, next_after, only, open_after, own_writes, said, said_after, said_from, standing, stored, stored_by, stored_in}
+use Rattle.hg_base.specs.Transcript.{Said, begun, commit_by, commits_from, committed, committed_by, ends, group_of, history_of, is_of, last_images, last_of, next_after, only, open_after, said, said_after, said_from, standing, stored, stored_by, stored_in}
 use Rattle.hg_exact.specs.Replayed.{plain, plain_answer, plain_reply}
 
 -- a line, read beside its record, without what its report says was removed and moved

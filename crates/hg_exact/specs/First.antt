@@ -1,7 +1,6 @@
 -- What the lines of one thread have besides being sound: who is refused and by whom is decided by the first conflict, and commit
 -- numbers ascend. A sound text that has this is the one text that is replayed.
-use Rattle.std.specs.Prelude.{◌≡◌, ◌⊎◌, ℕ, ◌<◌, ◌≤◌, List, Option, Some, None, is_some, IfSome, IsFalse, IsSome, IsTrue, ⊤}
-use Rattle.std.specs.Option.{option_map_or}
+use Rattle.std.specs.Prelude.{◌≡◌, ◌⊎◌, ℕ, ◌<◌, ◌≤◌, List, None, IfSome, IsSome, IsTrue, ⊤}
 use Rattle.hg_base.specs.declared.rid.Rid.{Rid}
 use Rattle.hg_base.specs.declared.line.Answer.{Answer}
 use Rattle.hg_base.specs.declared.line.Answer.TheVariants.{Stored, Gone, Newer}

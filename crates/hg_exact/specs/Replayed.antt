@@ -3,7 +3,6 @@ use Rattle.std.specs.Prelude.{ℕ, suc, List, [], ◌∷◌, map, if◌then◌el
 use Rattle.hg_base.specs.declared.statement.Statement.{Statement}
 use Rattle.hg_base.specs.declared.statement.Statement.TheVariants.{Begin, CursorOpen, Gc}
 use Rattle.hg_base.specs.declared.statement.Record.{Record}
-use Rattle.hg_base.specs.declared.report.Kind.{Kind}
 use Rattle.hg_base.specs.declared.report.Told.{Told}
 use Rattle.hg_base.specs.declared.report.Sweep.{Sweep}
 use Rattle.hg_base.specs.declared.line.Answer.{Answer}
@@ -12,7 +11,7 @@ use Rattle.hg_base.specs.declared.line.Reply.{Reply}
 use Rattle.hg_base.specs.declared.line.Line.{Line}
 use Rattle.hg_base.specs.Lists.{greatest}
 use Rattle.hg_base.specs.Script.{Script}
-use Rattle.hg_base.specs.Transcript.{Rest, only, table_of, is_end, stored_by, committed_by}
+use Rattle.hg_base.specs.Transcript.{only, table_of, is_end, stored_by, committed_by}
 use Rattle.hg_exact.specs.State.{Open, State, start, mark, but, next, going, with_group}
 use Rattle.hg_exact.specs.Answers.{answer_in, report}
 
