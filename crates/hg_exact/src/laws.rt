@@ -27,7 +27,8 @@ pub fn what_is_replayed_is_sound()
         LinesAreSound replay script (replayed script) }
 {}
 
-/// A sound text is what is replayed, if commit numbers follow each other and each refused write names the first conflict.
+/// A sound text is what is replayed, if commit numbers ascend, each write is stored only where it may be, and each that is refused for
+/// a newer group names the newest (`IsFirst`).
 pub fn sound_with_first_causes_is_replayed()
     ensures { (script : Script) (lines : List Line) → LinesAreSound replay script lines →
         EachAfter (IsFirst (history_of (all_said replay script lines))) []
