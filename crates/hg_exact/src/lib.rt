@@ -1,8 +1,8 @@
 //! What a replay prints, as a function of its script.
 //!
-//! The definitions of `hg_base` say what may be printed, for every command. A replay has one thread, and prints one text, but for what its
-//! reports say was removed and moved. `replayed` (`specs/Replayed.antt`) is that text: one step a record, from a state of the committed
-//! groups and of what each session has open.
+//! The definitions of `hg_base` say what may be printed, for every command. A replay has one thread, so one text is enough for it, but for
+//! what its reports say was removed and moved. `replayed` (`specs/Replayed.antt`) is that text: one step a record, from a state of the
+//! committed groups and of what each session has open. No clause of `serve` says yet that a replay prints it.
 //!
 //!     record                      known before                          reply
 //!     1, put, t, 5, 20            group 1 wrote t 5, nothing is open    at, 1, stored, committed, 2
