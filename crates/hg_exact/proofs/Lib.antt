@@ -30,5 +30,8 @@ pub mod Ascending
 pub mod Itself
 -- A script that breaks no rule.
 pub mod Asked
+-- Where the logs show first causes, the lines have them; and logs that do.
+pub mod Shown
+pub mod Conflict
 -- The totals of texts that are alike.
 pub mod Totals

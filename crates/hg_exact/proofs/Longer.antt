@@ -41,7 +41,7 @@ seen_longer h k own at l = λ i r. unwrap_or (image_in r own) (visible_longer h 
 
 -- ---- the newest
 
-none_there : (n c : ℕ) (ws : List (ℕ × Image)) → c < n → Each (λ (w : ℕ × Image). n ≤ w.0) ws → list_any (λ (w : ℕ × Image). w.0 == c) ws ≡ false
+pub none_there : (n c : ℕ) (ws : List (ℕ × Image)) → c < n → Each (λ (w : ℕ × Image). n ≤ w.0) ws → list_any (λ (w : ℕ × Image). w.0 == c) ws ≡ false
 none_there n c [] l e = refl
 none_there n c (w ∷ ws) l e = ap (λ b. b || list_any (λ (v : ℕ × Image). v.0 == c) ws) (let m = e.0 in let f : (w.0 == c) ≡ false = grind (arith, nat_tests) in f) ∙ none_there n c ws l e.1
 

@@ -47,7 +47,7 @@ abbrev Ascends : List Said → Said → Type 0
 Ascends earlier now = IfSome (committed now) (λ c. greatest_commit earlier < c)
 
 -- no number of the later lines is at or below one that is at most the greatest before
-none_later : (n : ℕ) (earlier rest : List Said) → n ≤ greatest_commit earlier → EachAfter Ascends earlier rest → list_any (λ k. k == n) (filter_map committed rest) ≡ false
+pub none_later : (n : ℕ) (earlier rest : List Said) → n ≤ greatest_commit earlier → EachAfter Ascends earlier rest → list_any (λ k. k == n) (filter_map committed rest) ≡ false
 none_later n earlier [] k h = refl
 none_later n earlier (x ∷ rest) k h = go (committed x) h.0 (λ l. none_later n (x ∷ earlier) rest l h.1) refl
   where

@@ -6,5 +6,6 @@ pub mod Replayed
 pub mod Worked
 -- What is asked of a script.
 pub mod Lawful
--- What makes a sound text the one that is replayed.
+-- What makes a sound text the one that is replayed, by its lines, and by the logs of its sessions.
 pub mod First
+pub mod Shown

@@ -12,15 +12,19 @@
 //! Nothing of the server is in it, so a person can say what is printed by reading these pages and the script.
 //!
 //! Its laws are that this text is sound, and that a sound text is this one if its commit numbers ascend and each write is refused for
-//! the first conflict (`IsFirst`). So what a driver has to show of a line besides is small. The worked examples of `hg_decide` are
-//! evaluated, and four sound texts that are not replayed.
+//! the first conflict (`IsFirst`). So what a driver has to show of a line besides is small. `ShowsFirsts` (`specs/Shown.antt`) says it of
+//! logs, which a driver knows: before a write is stored, no other session has the record open, and no newer group wrote it. No driver
+//! shows it yet. The worked examples of `hg_decide` are evaluated, and four sound texts that are not replayed.
 #![tactic(auto)]
 
 mod laws;
 mod worked;
 
 pub use laws::{
-    commit_numbers_ascend, lawful_scripts_are_answered, sound_with_first_causes_is_replayed,
+    commit_numbers_ascend, lawful_scripts_are_answered, newest_group_is_of_the_history,
+    shown_first_causes_are_replayed, sound_with_first_causes_is_replayed,
     three_totals_are_replayed, what_is_replayed_is_sound,
 };
-pub use worked::{sound_texts_that_are_not_exact, worked_examples_are_replayed};
+pub use worked::{
+    first_causes_can_be_shown, sound_texts_that_are_not_exact, worked_examples_are_replayed,
+};

@@ -1,10 +1,15 @@
 //! What is replayed of the worked examples.
 
-ghost use Rattle.std.specs.Prelude.{◌≡◌, map};
+ghost use Rattle.std.specs.Prelude.{◌≡◌, ℕ, List, [], map, None};
 ghost use Rattle.hg_base.specs.Script.{replay};
 ghost use Rattle.hg_base.specs.Sound.{IsSound};
 ghost use Rattle.hg_decide.specs.Examples.{empty, own_write, absent_key, two_puts, absent_deletion, scan_ends, undeclared, open_write, middle_of_a_chain, group_pass, equal_to_a_successor, moved, not_long, kept_deletion, kept_deletion_longer, cursor};
+ghost use Rattle.hg_core.specs.declared.log.LogEntry.{LogEntry};
+ghost use Rattle.hg_core.specs.Reading.{Follows};
+ghost use Rattle.hg_headline.specs.Replayed.{HasReplayed};
+ghost use Rattle.hg_headline.specs.Worked as conflict;
 ghost use Rattle.hg_exact.specs.Replayed.{plain, replayed};
+ghost use Rattle.hg_exact.specs.Shown.{ShowsFirsts};
 ghost use Rattle.hg_exact.specs.Worked.{exchanged, one_group, older_newer, over_open};
 
 /// The lines of each worked example are those that are replayed, but for what its reports say was removed and moved.
@@ -28,6 +33,13 @@ pub fn worked_examples_are_replayed()
     ensures kept_deletion_longer { map plain kept_deletion_longer.printed.lines ≡
         replayed kept_deletion_longer.script }
     ensures cursor { map plain cursor.printed.lines ≡ replayed cursor.script }
+{}
+
+/// Logs can show the first cause of each write: those of a replay with a conflict, a rollback and a collector's pass do.
+pub fn first_causes_can_be_shown()
+    ensures { (logs : ℕ → List LogEntry) ×
+        HasReplayed 1 2 conflict.history logs 1 conflict.records conflict.lines ×
+        Follows 1 ShowsFirsts (λ j. []) (λ j. None) conflict.records conflict.lines logs }
 {}
 
 /// A sound text need not be what is replayed: commit numbers may be exchanged, two commits may be in one group, the older one of two
