@@ -1,7 +1,8 @@
 //! Scripts, and what is answered to them.
 
 use hg_base::NoMemory;
-use hg_script::{Code, Script, ScriptRefusal, make_script, read_script};
+use hg_script::{Code, Script, ScriptRefusal, read_script};
+use hg_seed::make_script;
 use std::alloc::{AllocError, Global};
 use std::test::Fail;
 

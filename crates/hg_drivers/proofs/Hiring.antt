@@ -17,7 +17,7 @@ use Rattle.hg_core.specs.declared.log.LogEntry.{LogEntry}
 use Rattle.hg_core.specs.Logs.{current}
 use Rattle.hg_rule.specs.New.{EachFrom}
 use Rattle.hg_headline.proofs.Running.{none_over, none_at_zero}
-use Rattle.hg_report.specs.LinesText.{Shown}
+use Rattle.hg_transcript.specs.LinesText.{Shown}
 use Rattle.hg_script.specs.Lawful.{AreInOrder, IsLawful, IsStatement, MayStand}
 use Rattle.hg_script.specs.Rules.{is_open, is_reading}
 use Rattle.hg_session.specs.declared.engine.Engine.{Engine}

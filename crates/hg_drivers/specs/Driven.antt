@@ -19,7 +19,7 @@ use Rattle.hg_headline.specs.Counted.{Closes}
 use Rattle.hg_session.specs.declared.engine.Engine.{Engine}
 use Rattle.hg_session.specs.declared.session.Session.{Session}
 use Rattle.hg_session.specs.Engines.{engine_sizes}
-use Rattle.hg_report.specs.LinesText.{Shown}
+use Rattle.hg_transcript.specs.LinesText.{Shown}
 use Rattle.hg_script.specs.Lawful.{IsLawful}
 use Rattle.hg_session.specs.Finished.{logs_of, IsClosed}
 use Rattle.hg_session.specs.Opened.{IsNewOf}

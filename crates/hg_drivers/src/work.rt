@@ -14,9 +14,9 @@ use crate::ending::close_one;
 use crate::play::asked;
 use crate::reply::inside;
 use hg_base::{Answer, Gate, Line, NoMemory, Record, Reply, Statement};
-use hg_report::Transcript;
 use hg_script::RecordList;
 use hg_session::{Engine, Session};
+use hg_transcript::Transcript;
 use std::sync::Wait;
 
 /// A session with the records that it has to run, and the lines that it has written.

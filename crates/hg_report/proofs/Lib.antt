@@ -1,6 +1,4 @@
--- Records, their bytes and their values.
-pub mod Walks
-pub mod RecordBytes
+-- The values of a record, and its place.
 pub mod ValuesIn
 pub mod Places
 -- A record is guessed from the script: the guess fits, and is what was printed.
@@ -12,9 +10,7 @@ pub mod Columns
 pub mod Heads
 pub mod Running
 -- Bytes are parted into fields, and tell which records stand there.
-pub mod Plain
 pub mod Unquoted
-pub mod Backwards
 pub mod Parted
 pub mod Following
 -- The reader: a record, a turn, the end, and the first that is refused.

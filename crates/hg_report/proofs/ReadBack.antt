@@ -14,13 +14,13 @@ use Rattle.hg_base.specs.Lists.{Each}
 use Rattle.hg_base.specs.Text.{Field, value_field}
 use Rattle.hg_base.specs.Values.{FitsColumns, FitsValue, kind_of}
 use Rattle.hg_base.proofs.TextNumbers.{first_digit}
-use Rattle.hg_script.specs.declared.number.Natural.TheVariants as n
-use Rattle.hg_script.specs.Number.{natural_of, value_of, integer_of}
-use Rattle.hg_script.proofs.Decimal.{back}
+use Rattle.hg_numeral.specs.declared.number.Natural.TheVariants as n
+use Rattle.hg_numeral.specs.Number.{natural_of, value_of, integer_of}
+use Rattle.hg_numeral.proofs.Decimal.{back}
 use Rattle.hg_csv.specs.Bytes.{field_bytes}
 use Rattle.hg_report.specs.Fields.{nth, natural_at, session_in, narrow, integer_value, value_in, values_in, row_in}
 use Rattle.hg_report.proofs.Columns.{AreFew}
-use Rattle.hg_report.proofs.Plain.{number_bytes, value_bytes}
+use Rattle.hg_transcript.proofs.Plain.{number_bytes, value_bytes}
 use Rattle.hg_report.proofs.Unquoted.{text_back}
 
 -- ---- numbers

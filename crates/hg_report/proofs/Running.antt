@@ -24,14 +24,15 @@ use Rattle.hg_base.proofs.TextNumbers.{number_is_no_word}
 use Rattle.hg_base.proofs.TextReplies.{answer_begins, behind_at}
 use Rattle.hg_script.specs.Lawful.{IsLawful}
 use Rattle.hg_csv.specs.Bytes.{field_bytes}
-use Rattle.hg_report.specs.declared.piece.Piece.{Piece}
-use Rattle.hg_report.specs.declared.piece.Piece.TheVariants as piece
+use Rattle.hg_transcript.specs.declared.piece.Piece.{Piece}
+use Rattle.hg_transcript.specs.declared.piece.Piece.TheVariants as piece
 use Rattle.hg_report.specs.declared.progress.Open.{Open}
 use Rattle.hg_report.specs.declared.progress.Open.TheVariants as opens
 use Rattle.hg_report.specs.declared.progress.Progress.{Progress}
 use Rattle.hg_report.specs.Fields.{nth, says, natural_at, session_in}
-use Rattle.hg_script.specs.Asked.{asked_by, table_asked}
-use Rattle.hg_report.specs.Guess.{behind, total_word, answer_place, answered_guess, at_guess, first_guess, head_guess, reply_guess, row_guess, piece_of, statement_at, sweep_guess, the_table}
+use Rattle.hg_records.specs.Asked.{asked_by, table_asked}
+use Rattle.hg_transcript.specs.Piece.{behind, total_word}
+use Rattle.hg_report.specs.Guess.{answer_place, answered_guess, at_guess, first_guess, head_guess, reply_guess, row_guess, piece_of, statement_at, sweep_guess, the_table}
 use Rattle.hg_report.specs.Progress.{guess_after, sweep_line, lines_of, no_totals, totals_of, with_total, after, at_start, standing, IsNext, Runs}
 use Rattle.hg_report.proofs.Asking.{same_table}
 use Rattle.hg_report.proofs.Fitting.{IsFree, IsShort, FitsKey, FitsTold, fetch_no_sweep}

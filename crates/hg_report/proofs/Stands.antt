@@ -25,12 +25,12 @@ use Rattle.hg_base.specs.declared.line.Printed.{Printed}
 use Rattle.hg_base.specs.Lists.{Each}
 use Rattle.hg_base.specs.Script.{Declaration, Script}
 use Rattle.hg_base.specs.Text.{Field, Fits64, Fits, FitTotals, FitsAnswer, FitsReply, IsReport, asked, cursor_before, IsFit, answer_fields, held_fields, kinds_of, row_fields, more_fields, told_as, of_line, line_records, total_fields, totals_records, text_records}
-use Rattle.hg_report.specs.declared.piece.Piece.{Piece}
-use Rattle.hg_report.specs.declared.piece.Piece.TheVariants as piece
+use Rattle.hg_transcript.specs.declared.piece.Piece.{Piece}
+use Rattle.hg_transcript.specs.declared.piece.Piece.TheVariants as piece
 use Rattle.hg_report.specs.declared.progress.Open.{Open}
 use Rattle.hg_report.specs.declared.progress.Open.TheVariants as opens
 use Rattle.hg_report.specs.declared.progress.Progress.{Progress}
-use Rattle.hg_report.specs.Guess.{behind, piece_fields, total_word}
+use Rattle.hg_transcript.specs.Piece.{behind, piece_fields, total_word}
 use Rattle.hg_report.specs.Progress.{scan_line, sweep_line, open_lines, no_totals, totals_of, with_total, after, at_start, standing, IsNext, Runs}
 use Rattle.hg_report.proofs.Fitting.{IsFree, FitsKey, FitsTold, IsShort, FitsFirst, FitsNext, comes_first, comes_row, comes_held, comes_total, fetch_no_sweep, guess_fits}
 

@@ -9,7 +9,7 @@ use Rattle.hg_base.specs.Text.{Field}
 use Rattle.hg_csv.specs.Bytes.{flexible_writer, field_bytes}
 use Rattle.hg_report.specs.Fields.{is_left_out, nth, says, text_in, unquoted}
 use Rattle.hg_report.specs.Progress.{standing}
-use Rattle.hg_report.proofs.Plain.{IsPlain, inner, no_word}
+use Rattle.hg_transcript.proofs.Plain.{IsPlain, inner, no_word}
 use Rattle.hg_csv.proofs.RecordBytes.{escaped_other}
 
 none_stands : field_bytes [] ≡ []

@@ -1,6 +1,6 @@
 -- What a record says if it may come next, by its fields as they stand. A guess need not be right: it is, where the record is the
 -- one that would be written for it.
-use Rattle.std.specs.Prelude.{ℕ, ◌+◌, List, [], ◌∷◌, ◌++◌, ◌==◌, ◌&&◌, Option, Some, None, find, is_some, option_map, option_and_then, unwrap_or, codes, decimal, if◌then◌else◌}
+use Rattle.std.specs.Prelude.{ℕ, ◌+◌, List, [], ◌==◌, ◌&&◌, Option, Some, None, find, is_some, option_map, option_and_then, unwrap_or, codes, if◌then◌else◌}
 use Rattle.std.specs.Option.{option_map_or}
 use Rattle.hg_base.specs.declared.rid.TableId.{TableId}
 use Rattle.hg_base.specs.declared.statement.Statement.{Statement}
@@ -11,34 +11,13 @@ use Rattle.hg_base.specs.declared.report.Sweep.{Sweep}
 use Rattle.hg_base.specs.declared.line.Answer.{Answer}
 use Rattle.hg_base.specs.declared.line.Answer.TheVariants.{Begun, Stored, Found, Nothing, Gone, Rows, Committed, Ended, Undone, Newer, OpenBy, Undeclared, Swept, Beside}
 use Rattle.hg_base.specs.Script.{Declaration, Script}
-use Rattle.hg_base.specs.Text.{Field, cursor_before, kinds_of, answer_fields, held_fields, row_fields, told_as, total_fields, is_write}
-use Rattle.hg_script.specs.declared.asked.Asked.{Asked}
-use Rattle.hg_script.specs.declared.asked.Asked.TheVariants.{Begin, Get, Put, Del, Scan, CursorOpen, Fetch, CursorClose, Commit as CommitIt, Rollback, Gc}
-use Rattle.hg_script.specs.Asked.{asked_by, table_asked}
-use Rattle.hg_report.specs.declared.piece.Piece.{Piece}
-use Rattle.hg_report.specs.declared.piece.Piece.TheVariants as piece
+use Rattle.hg_base.specs.Text.{Field, cursor_before, kinds_of, is_write}
+use Rattle.hg_records.specs.declared.asked.Asked.{Asked}
+use Rattle.hg_records.specs.declared.asked.Asked.TheVariants.{Begin, Get, Put, Del, Scan, CursorOpen, Fetch, CursorClose, Commit as CommitIt, Rollback, Gc}
+use Rattle.hg_records.specs.Asked.{asked_by, table_asked}
+use Rattle.hg_transcript.specs.declared.piece.Piece.{Piece}
+use Rattle.hg_transcript.specs.declared.piece.Piece.TheVariants as piece
 use Rattle.hg_report.specs.Fields.{says, natural_at, session_in, row_in}
-
--- ---- a piece of a text is one record
-
--- behind the session and the place
-abbrev pub behind : ℕ → ℕ → List Field → List Field
-behind session place fields = decimal session ∷ decimal place ∷ fields
-
--- the word of each of the totals
-abbrev pub total_word : ℕ → Field
-total_word index =
-    if index == 0 then codes "made" else if index == 1 then codes "undone" else if index == 2 then codes "group"
-    else if index == 3 then codes "table" else if index == 4 then codes "interval" else codes "left"
-
--- the fields of a piece. A line stands here for its first record.
-abbrev pub piece_fields : List Declaration → Piece → List Field
-piece_fields tables (piece.Line line) = behind line.session line.place (told_as (codes "at") line.reply.at ++ answer_fields tables line.reply.answer ++ told_as (codes "committed") line.reply.number)
-piece_fields tables (piece.Scan session place at table left) = behind session place (told_as (codes "at") at ++ codes "rows" ∷ decimal left ∷ [])
-piece_fields tables (piece.Sweep session place sweep) = behind session place (answer_fields tables (Swept sweep))
-piece_fields tables (piece.Row session place key row) = behind session place (row_fields (key, row))
-piece_fields tables (piece.Held session place told) = behind session place (held_fields told)
-piece_fields tables (piece.Total index number) = total_fields (total_word index) number
 
 -- ---- the guess of an answer, whose first field is field i
 

@@ -4,6 +4,3 @@ pub mod Readable
 pub mod Fields
 pub mod Guess
 pub mod Progress
--- Lines that are kept as their text.
-pub mod LineCode
-pub mod LinesText

@@ -8,14 +8,15 @@ use Rattle.hg_base.specs.declared.line.Line.{Line}
 use Rattle.hg_base.specs.declared.line.Totals.{Totals}
 use Rattle.hg_base.specs.Script.{Script}
 use Rattle.hg_base.specs.Text.{Field}
-use Rattle.hg_report.specs.declared.piece.Piece.{Piece}
-use Rattle.hg_report.specs.declared.piece.Piece.TheVariants as piece
+use Rattle.hg_transcript.specs.declared.piece.Piece.{Piece}
+use Rattle.hg_transcript.specs.declared.piece.Piece.TheVariants as piece
 use Rattle.hg_report.specs.declared.progress.Open.{Open}
 use Rattle.hg_report.specs.declared.progress.Open.TheVariants as opens
 use Rattle.hg_report.specs.declared.progress.Progress.{Progress}
 use Rattle.hg_csv.specs.Bytes.{field_bytes, record_bytes}
 use Rattle.hg_report.specs.Fields.{says, natural_at}
-use Rattle.hg_report.specs.Guess.{piece_fields, first_guess, row_guess, held_guess}
+use Rattle.hg_transcript.specs.Piece.{piece_fields}
+use Rattle.hg_report.specs.Guess.{first_guess, row_guess, held_guess}
 
 -- ---- the guess of the next record
 

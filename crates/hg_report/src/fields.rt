@@ -4,9 +4,9 @@ ghost use Rattle.std.specs.Prelude.{◌≡◌, ◌≤◌, ◌-◌, ◌==◌, ◌
 ghost use Rattle.hg_report.specs.Fields.{fields_of, narrow, nth, natural_at, parted, says, session_in};
 
 use hg_base::NoMemory;
-use hg_script::read_natural;
+use hg_numeral::read_natural;
 
-// Whether what stands behind the byte is within quotes.
+// Whether what follows the byte is within quotes.
 fn is_quoted_behind(quoted: bool, b: u8) -> bool
     ensures { result ≡ (if b == 34 then not quoted else quoted) }
 {

@@ -4,15 +4,15 @@ ghost use Rattle.std.specs.Prelude.{◌≡◌, ℕ, ◌<◌, ◌∷◌, ◌++◌
 ghost use Rattle.hg_report.specs.Fields.{fields_of};
 ghost use Rattle.hg_report.specs.Progress.{after, at_start, guess_after, lines_of, no_totals, totals_of, with_held, with_row, with_total};
 ghost use Rattle.hg_report.specs.declared.progress.Open.TheVariants as opens;
-ghost use Rattle.hg_report.specs.declared.piece.Piece.TheVariants as pieces;
+ghost use Rattle.hg_transcript.specs.declared.piece.Piece.TheVariants as pieces;
 
 use crate::fields::{natural_at, says};
 use crate::guess::{first_guess, held_guess, row_guess};
-use crate::piece::Piece;
 use hg_base::{
     Answer, Line, LineList, NoMemory, Reply, Row, RowList, Sweep, TableId, Told, Totals,
 };
 use hg_script::Script;
+use hg_transcript::Piece;
 use std::alloc::Global;
 use std::mem;
 
@@ -35,7 +35,7 @@ pub enum Open {
         place: u64,
         sweep: Sweep,
     },
-    /// The totals, of which so many were told.
+    /// The totals, of which so many have come.
     Totals {
         index: u8,
         totals: Totals,

@@ -7,7 +7,7 @@ ghost use Rattle.hg_report.specs.Fields.{fields_of, is_left_out, holds_text, int
 
 use crate::fields::field;
 use hg_base::{Column, MOST_COLUMNS, MOST_TEXT_BYTES, NoMemory, Row, Text, Value};
-use hg_script::{Integer, read_integer};
+use hg_numeral::{Integer, read_integer};
 use std::alloc::Global;
 
 fn integer_value(integer: Integer) -> i64
@@ -27,7 +27,7 @@ fn is_left_out(before: bool, b: u8) -> bool
     b == b'"' && !before
 }
 
-// What a field behind its first quote says.
+// What a field says after its first quote.
 fn unquoted(alloc: Global, bytes: &[u8]) -> Result<Vec<u8>, NoMemory>
     ensures { IfOk result (λ text. text.items ≡ unquoted false bytes.now) }
 {

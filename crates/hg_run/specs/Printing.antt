@@ -8,7 +8,7 @@ use Rattle.hg_base.specs.Script.{Script, replay}
 use Rattle.hg_base.specs.Sound.{IsSound}
 use Rattle.hg_base.specs.Text.{IsFit, text_of, totals_records}
 use Rattle.hg_csv.specs.Bytes.{record_bytes}
-use Rattle.hg_script.specs.Generator.{IsMade}
+use Rattle.hg_seed.specs.Generator.{IsMade}
 use Rattle.hg_session.specs.declared.engine.Engine.{Engine}
 use Rattle.hg_session.specs.declared.session.Session.{Session}
 use Rattle.hg_session.specs.Engines.{engine_sizes}

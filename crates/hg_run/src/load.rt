@@ -12,8 +12,9 @@ ghost use Rattle.hg_run.specs.Words.{settings_in};
 
 use crate::replay::replay_lines;
 use hg_base::{NoMemory, Totals};
-use hg_report::totals_text;
-use hg_script::{Script, make_script};
+use hg_script::Script;
+use hg_seed::make_script;
+use hg_transcript::totals_text;
 use hg_words::Options;
 use std::alloc::Global;
 use std::sync::Wait;

@@ -11,8 +11,8 @@ ghost use Rattle.hg_run.specs.Words.{settings_in};
 
 use hg_base::{NoMemory, Totals};
 use hg_drivers::{close, open_for, replay_on};
-use hg_report::Transcript;
 use hg_script::Script;
+use hg_transcript::Transcript;
 use hg_words::Options;
 use std::alloc::Global;
 use std::sync::Wait;

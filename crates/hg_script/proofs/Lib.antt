@@ -1,6 +1,3 @@
--- Numerals.
-pub mod Digits
-pub mod Decimal
 -- What the fields of a record say.
 pub mod Rows
 pub mod Names
@@ -13,11 +10,7 @@ pub mod Widths
 -- A script stays lawful, record by record.
 pub mod Open
 pub mod Lawful
-pub mod Made
--- Statements and values as they are stored.
-pub mod Links
-pub mod Packed
-pub mod Opening
+-- Places are counted.
 pub mod Numbered
 -- A reader reaches every record.
 pub mod Walk

@@ -1,10 +1,14 @@
 -- Statements as records, by counted places.
-use Rattle.std.proofs.Common.{◌≡◌, ◌<◌, ◌≤◌, ◌==◌, ◌+◌, ◌∙◌, ℕ, zero, suc, List, [], ◌∷◌, ◌++◌, length, map, get_or, Option, refl, ap, arith}
+use Rattle.std.proofs.Common.{◌≡◌, ◌<◌, ◌≤◌, ◌==◌, ◌&&◌, ◌+◌, ◌∙◌, ℕ, zero, suc, Bool, true, false, List, [], ◌∷◌, ◌++◌, length, map, take, get_or, Option, None, nat_lt, if◌then◌else◌, refl, ap, arith}
+use Rattle.std.specs.Option.{option_or}
 use Rattle.std.proofs.lemmas.Bool.{cond_both}
+use Rattle.std.proofs.lemmas.Bool.Decides.{nat_tests}
+use Rattle.hg_base.specs.Text.{opens, cursor_before}
 use Rattle.hg_base.specs.declared.rid.TableId.{TableId}
 use Rattle.hg_base.specs.declared.statement.Record.{Record}
 use Rattle.hg_base.specs.declared.statement.Statement.{Statement}
-use Rattle.hg_script.specs.Asked.{asked_by, said_by}
+use Rattle.hg_records.specs.Asked.{asked_by, said_by}
+use Rattle.hg_records.specs.Cursors.{cursor_in}
 use Rattle.hg_script.specs.Numbered.{many_before, numbered}
 
 -- at most one record more than the tables
@@ -49,3 +53,27 @@ pub numbered_asks : (place : ℕ) (xs : List (ℕ × Statement)) (i : ℕ) (d : 
 numbered_asks place [] i d e cursor less = absurd (omega (arith, less))
 numbered_asks place (x ∷ xs) zero d e cursor less = refl
 numbered_asks place (x ∷ xs) (suc i) d e cursor less = numbered_asks (place + 1) xs i d e cursor (omega (arith, less))
+
+-- ---- the table of a session's last cursor
+
+over : (b : Bool) (place at : ℕ) (o : Option TableId) → at ≤ place → (if b && nat_lt place at then o else None) ≡ None
+over true place at o most = let none : nat_lt place at ≡ false = grind (arith, nat_tests, most) in rw none refl
+over false place at o most = refl
+
+under : (b : Bool) (place at : ℕ) (o : Option TableId) → place < at → (if b && nat_lt place at then o else None) ≡ (if b then o else None)
+under true place at o less = let some : nat_lt place at ≡ true = grind (arith, nat_tests, less) in rw some refl
+under false place at o less = refl
+
+none_before : (place : ℕ) (xs : List (ℕ × Statement)) (session at : ℕ) → at ≤ place → cursor_before (numbered place xs) session at ≡ None
+none_before place [] session at most = refl
+none_before place (x ∷ xs) session at most =
+    ap (λ o. option_or o (if (x.0 == session) && nat_lt place at then opens x.1 else None)) (none_before (place + 1) xs session at (omega (arith, most)))
+    ∙ over (x.0 == session) place at (opens x.1) most
+
+pub numbered_cursor : (place : ℕ) (xs : List (ℕ × Statement)) (session i at : ℕ) → at ≡ place + i → cursor_before (numbered place xs) session at ≡ cursor_in session (take i xs)
+numbered_cursor place [] session zero at is = refl
+numbered_cursor place [] session (suc i) at is = refl
+numbered_cursor place (x ∷ xs) session zero at is = none_before place (x ∷ xs) session at (omega (arith, is))
+numbered_cursor place (x ∷ xs) session (suc i) at is =
+    ap (λ o. option_or o (if (x.0 == session) && nat_lt place at then opens x.1 else None)) (numbered_cursor (place + 1) xs session i at (omega (arith, is)))
+    ∙ ap (option_or (cursor_in session (take i xs))) (under (x.0 == session) place at (opens x.1) (omega (arith, is)))

@@ -5,9 +5,9 @@ use Rattle.std.proofs.lemmas.List.{drop-drop, drop-map}
 use Rattle.hg_base.proofs.ListFacts.{cases}
 use Rattle.hg_base.specs.Transcript.{of_session}
 use Rattle.hg_base.specs.declared.statement.Record.{Record}
-use Rattle.hg_script.specs.declared.ends.TheConstants.{NOWHERE}
-use Rattle.hg_script.specs.Links.{StandsAt, next_from, next_of}
-use Rattle.hg_script.proofs.Links.{alike, same}
+use Rattle.hg_records.specs.declared.ends.TheConstants.{NOWHERE}
+use Rattle.hg_records.specs.Links.{StandsAt, next_from, next_of}
+use Rattle.hg_records.proofs.Links.{alike, same}
 
 abbrev sessions : List Record → List ℕ
 sessions records = map (λ (r : Record). r.session) records

@@ -20,3 +20,7 @@ records_before s = many_before s.version (length s.tables)
 -- the places of the statements go on from the records before them
 abbrev pub AreNumbered : Script → Type 0
 AreNumbered s = (i : ℕ) (d : Record) → i < length s.records → (get_or s.records i d).place ≡ records_before s + i + 1
+
+-- the place of the next statement
+abbrev pub next_place : Script → ℕ
+next_place s = records_before s + length s.records + 1

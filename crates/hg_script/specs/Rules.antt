@@ -1,5 +1,5 @@
 -- Which records break which rule: one test for each code.
-use Rattle.std.specs.Prelude.{ℕ, List, length, fold, Bool, true, false, not, ◌&&◌, ◌||◌, ◌==◌, nat_lt, nat_le, Option, Some, is_some, if◌then◌else◌}
+use Rattle.std.specs.Prelude.{◌≡◌, ℕ, List, length, fold, Bool, true, false, not, ◌&&◌, ◌||◌, ◌==◌, nat_lt, nat_le, Option, Some, is_some, if◌then◌else◌}
 use Rattle.hg_base.specs.declared.limits.TheConstants.{MOST_RECORDS, MOST_TABLES, MOST_SESSIONS}
 use Rattle.hg_base.specs.declared.statement.Record.{Record}
 use Rattle.hg_base.specs.declared.statement.Statement.{Statement}
@@ -17,7 +17,7 @@ use Rattle.hg_script.specs.declared.draft.Draft.{Draft}
 use Rattle.hg_script.specs.declared.draft.Draft.TheVariants.{Version, Table, Session}
 use Rattle.hg_script.specs.declared.rules.TheConstants.{MOST_FETCHED}
 use Rattle.hg_script.specs.Draft.{kinds_at}
-use Rattle.hg_script.specs.Number.{is_no, is_over, is_between, value_of}
+use Rattle.hg_numeral.specs.Number.{is_no, is_over, is_between, value_of}
 
 -- ---- Count: one record too many, or one table
 
@@ -200,3 +200,11 @@ abbrev pub order_breaks : List Record → Draft → Bool
 order_breaks records (Version version) = false
 order_breaks records (Table fresh cols) = nat_lt 0 (length records)
 order_breaks records (Session session ask) = ask_order_breaks (is_open (value_of session) records) (is_reading (value_of session) records) ask
+
+-- ---- none of the rules of a record's fields
+
+-- the draft breaks no rule of its own and may come after these records
+abbrev pub KeepsRules : List Record → Draft → Type 0
+KeepsRules records draft =
+    (number_breaks draft ≡ false) × (range_breaks draft ≡ false) × (name_breaks draft ≡ false) × (value_breaks draft ≡ false)
+    × (order_breaks records draft ≡ false)

@@ -1,4 +1,4 @@
--- What the reader keeps of the sessions.
+-- What is kept of the sessions while a script grows.
 use Rattle.std.specs.Prelude.{◌≡◌, ℕ, ◌≤◌, List, get_or, Bool, false}
 use Rattle.hg_base.specs.declared.limits.TheConstants.{MOST_SESSIONS}
 use Rattle.hg_base.specs.declared.statement.Record.{Record}
@@ -11,3 +11,12 @@ KnowsOpen flags records = (j : ℕ) → j ≤ MOST_SESSIONS → get_or flags j f
 -- for each session, whether its cursor is open
 abbrev pub KnowsReading : List Bool → List Record → Type 0
 KnowsReading cursors records = (j : ℕ) → j ≤ MOST_SESSIONS → get_or cursors j false ≡ is_reading j records
+
+-- for each session, by its number, whether its transaction is open and whether its cursor is
+pub record OpenFlags : Type 0 where
+  pub flags : List Bool
+  pub cursors : List Bool
+
+-- both are those after these records
+abbrev pub KnowsSessions : OpenFlags → List Record → Type 0
+KnowsSessions known records = KnowsOpen known.flags records × KnowsReading known.cursors records

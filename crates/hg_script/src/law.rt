@@ -1,34 +1,21 @@
 //! Laws of the definitions, as contracts of functions that do nothing.
 
-ghost use Rattle.std.specs.Prelude.{◌≡◌, ◌↔◌, ℕ, List, [], ◌∷◌, Some, codes, decimal};
+ghost use Rattle.std.specs.Prelude.{◌≡◌, ℕ, List, [], ◌∷◌, Some, codes};
 ghost use Rattle.hg_base.specs.Script as base;
 ghost use Rattle.hg_base.specs.Transcript.{has};
 ghost use Rattle.hg_base.specs.declared.scope.Scope.TheVariants as scope;
 ghost use Rattle.hg_script.specs.Fields.{Field};
 ghost use Rattle.hg_script.specs.Draft.{is_named, set_named};
-ghost use Rattle.hg_script.specs.Generator.{IsMade};
 ghost use Rattle.hg_script.specs.Meaning.{refusal_of};
-ghost use Rattle.hg_script.specs.Number.{natural_of};
 ghost use Rattle.hg_script.specs.declared.code.Code.TheVariants.{Order, Range};
-ghost use Rattle.hg_script.specs.declared.number.Natural.TheVariants.{Is};
 
 use hg_base::TableId;
-
-/// A field is the number `k` exactly where it is what is printed for `k`.
-pub fn numbers_are_decimal(_text: &[u8], _k: u64)
-    ensures { (natural_of _text.now ≡ Is _k) ↔ (_text.now ≡ decimal _k) }
-{}
 
 /// A declared scope has exactly the tables that its names name.
 pub fn scopes_have_what_is_named(_table: TableId)
     ensures { (tables : List base.Declaration) (names : List Field) (set : ℕ) →
         set_named tables names ≡ Some set →
         has (scope.Declared set) _table ≡ is_named tables names _table }
-{}
-
-/// A seed has one script.
-pub fn a_seed_has_one_script(_seed: u64)
-    ensures { (s t : base.Script) → IsMade _seed s → IsMade _seed t → s ≡ t }
 {}
 
 /// A get is refused while a cursor is open, a fetch is refused without one, and so is a fetch of 0 rows.

@@ -1,4 +1,4 @@
-//! Scripts: read from bytes, or made from a seed.
+//! Scripts, read from bytes.
 //!
 //! A script is a list of CSV records. Table records come first and declare the tables, each with its number of columns. Every other
 //! record is a statement of a session: the session's number, and then a word:
@@ -26,8 +26,8 @@
 //!     1,put,t,5,7,red  the row of key 5 is 7 and `red`
 //!
 //! Records are counted from 1, the version record and the table records included, and that count is a statement's place. Places have no
-//! gaps, so a script does not store them (`AreNumbered`). Each statement is linked to the next of its session, so a script can lend the
-//! records of one session (`RecordList`) without going over the others.
+//! gaps, so a script does not store them (`AreNumbered`). `hg_records` keeps the statements, each linked to the next of its session, so a
+//! script can lend the records of one session (`RecordList`) without going over the others.
 //!
 //! A script that breaks a rule is refused as a whole, with the first record that breaks one and its first code. The codes are tested in
 //! this order:
@@ -51,23 +51,13 @@
 //! breaks a rule, and `script_of` the script. The reader goes over the bytes once. Of each record it reads the word (`Word`) and then
 //! each field (`Draft`), and then it tests the rules that need the fields. `IsLawful` defines independently what a script is that is
 //! not refused.
-//!
-//! `make_script` makes a lawful script of 16,000 statements from a seed: sessions 1 to 8 take turns, and each statement is drawn from a
-//! table of choices (`specs/Generator.antt`).
 #![tactic(auto)]
 
-mod asked;
-mod choice;
 mod code;
 mod columns;
-mod cursors;
 mod draft;
-mod draws;
-mod ends;
-mod generator;
 mod kind;
 mod law;
-mod number;
 mod reader;
 mod record_list;
 mod refusal;
@@ -75,22 +65,19 @@ mod rules;
 mod scope;
 mod script;
 mod sessions;
-mod statements;
 mod table;
 mod tables;
 mod values;
 mod word;
 
-pub use asked::Asked;
 pub use code::Code;
-pub use generator::make_script;
-pub use law::{
-    a_seed_has_one_script, cursors_are_in_order, numbers_are_decimal, scopes_have_what_is_named,
-};
-pub use number::{Integer, Natural, read_integer, read_natural};
+pub use hg_numeral::{Integer, Natural, numbers_are_decimal, read_integer, read_natural};
+pub use hg_records::Asked;
+pub use law::{cursors_are_in_order, scopes_have_what_is_named};
 pub use reader::read_script;
 pub use record_list::RecordList;
 pub use refusal::ScriptRefusal;
 pub use rules::MOST_FETCHED;
 pub use script::Script;
+pub use sessions::OpenSessions;
 pub use table::Table;

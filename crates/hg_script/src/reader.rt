@@ -7,17 +7,16 @@ ghost use Rattle.csv.specs.Records.{fields_of};
 ghost use Rattle.hg_script.specs.declared.refusal.ScriptRefusal.TheVariants as refusal;
 ghost use Rattle.hg_script.specs.declared.draft.Draft.TheVariants as draft;
 ghost use Rattle.hg_script.specs.Fields.{rows_of, unread, word_of};
-ghost use Rattle.hg_script.specs.Number.{value_of};
+ghost use Rattle.hg_numeral.specs.Number.{value_of};
 ghost use Rattle.hg_script.specs.Draft.{draft_of};
-ghost use Rattle.hg_script.specs.Rules.{ask_number_breaks, ask_range_breaks, ask_value_breaks, count_breaks, name_breaks, number_breaks, order_breaks, range_breaks, value_breaks};
+ghost use Rattle.hg_script.specs.Rules.{KeepsRules, ask_number_breaks, ask_range_breaks, ask_value_breaks, count_breaks};
 ghost use Rattle.hg_script.specs.Meaning.{TellsCode, TellsRefusal, first_code, refusal_of, script_of, with_draft, with_row};
 ghost use Rattle.hg_script.specs.Lawful.{IsLawful};
-ghost use Rattle.hg_script.specs.Numbered.{records_before};
-ghost use Rattle.hg_script.specs.Sessions.{KnowsOpen, KnowsReading};
+ghost use Rattle.hg_script.specs.Numbered.{next_place};
+ghost use Rattle.hg_script.specs.Sessions.{KnowsSessions};
 
 use crate::code::Code;
 use crate::draft::{Ask, Draft};
-use crate::number::Natural;
 use crate::refusal::ScriptRefusal;
 use crate::rules::{breaks_count, breaks_fields};
 use crate::script::Script;
@@ -26,6 +25,7 @@ use crate::table::Table;
 use crate::word::{Word, field};
 use csv::{ByteRecord, Error, ErrorKind, Reader, ReaderBuilder};
 use hg_base::{MOST_RECORDS, MOST_SESSIONS, NoMemory};
+use hg_numeral::Natural;
 use std::alloc::Global;
 
 // Adds what a session asks, which breaks no rule.
@@ -35,18 +35,15 @@ fn add_asked(
     session: Natural,
     ask: Ask,
 ) -> Result<(), NoMemory>
-    requires known { KnowsOpen sessions.old.flags script.old.records }
-    requires cursors { KnowsReading sessions.old.cursors script.old.records }
+    requires known { KnowsSessions sessions.old script.old.records }
     requires room { length script.old.records < MOST_RECORDS }
     requires number { ask_number_breaks ask ≡ false }
     requires range { ask_range_breaks ask ≡ false }
     requires value { ask_value_breaks ask ≡ false }
     requires session { value_of session ≤ MOST_SESSIONS }
     ensures script { OnOk result (script.new ≡
-        with_draft (records_before script.old + length script.old.records + 1) script.old []
-        (draft.Session session ask)) }
-    ensures known { OnOk result (KnowsOpen sessions.new.flags script.new.records) }
-    ensures cursors { OnOk result (KnowsReading sessions.new.cursors script.new.records) }
+        with_draft (next_place script.old) script.old [] (draft.Session session ask)) }
+    ensures known { OnOk result (KnowsSessions sessions.new script.new.records) }
 {
     let number = session.value() as u32;
     let statement = ask.into_statement();
@@ -58,32 +55,23 @@ fn add_asked(
 // Adds a record that breaks no rule.
 fn add(
     alloc: Global,
-    place: u64,
     script: &mut Script,
     sessions: &mut OpenSessions,
     word: Word,
     draft: Draft,
     row: &ByteRecord,
 ) -> Result<(), NoMemory>
-    requires known { KnowsOpen sessions.old.flags script.old.records }
-    requires cursors { KnowsReading sessions.old.cursors script.old.records }
+    requires known { KnowsSessions sessions.old script.old.records }
     requires room { length script.old.records < MOST_RECORDS }
-    requires count { count_breaks place script.old.tables (Some word) ≡ false }
-    requires word { word_of place (fields_of row.now) ≡ Some word }
+    requires count { count_breaks (next_place script.old) script.old.tables (Some word) ≡ false }
+    requires word { word_of (next_place script.old) (fields_of row.now) ≡ Some word }
     requires draft { draft ≡
         draft_of script.old.version script.old.tables word (fields_of row.now) }
-    requires number { number_breaks draft ≡ false }
-    requires range { range_breaks draft ≡ false }
-    requires name { name_breaks draft ≡ false }
-    requires value { value_breaks draft ≡ false }
-    requires order { order_breaks script.old.records draft ≡ false }
-    requires next { place ≡ records_before script.old + length script.old.records + 1 }
-    ensures script { OnOk result
-        (script.new ≡ with_draft place script.old (fields_of row.now) draft) }
-    ensures next { OnOk result
-        (place + 1 ≡ records_before script.new + length script.new.records + 1) }
-    ensures known { OnOk result (KnowsOpen sessions.new.flags script.new.records) }
-    ensures cursors { OnOk result (KnowsReading sessions.new.cursors script.new.records) }
+    requires kept { KeepsRules script.old.records draft }
+    ensures script { OnOk result (script.new ≡
+        with_draft (next_place script.old) script.old (fields_of row.now) draft) }
+    ensures next { OnOk result (next_place script.new ≡ next_place script.old + 1) }
+    ensures known { OnOk result (KnowsSessions sessions.new script.new.records) }
 {
     match draft {
         Draft::Version(version) => script.set_version(version.value() as u8),
@@ -105,16 +93,13 @@ fn take(
     sessions: &mut OpenSessions,
     row: &ByteRecord,
 ) -> Result<(), ScriptRefusal>
-    requires known { KnowsOpen sessions.old.flags script.old.records }
-    requires cursors { KnowsReading sessions.old.cursors script.old.records }
-    requires next { place ≡ records_before script.old + length script.old.records + 1 }
+    requires known { KnowsSessions sessions.old script.old.records }
+    requires next { place ≡ next_place script.old }
     ensures none { OnOk result (first_code place script.old (fields_of row.now) ≡ None) }
     ensures script { OnOk result (script.new ≡ with_row place script.old (fields_of row.now)) }
-    ensures known { OnOk result (KnowsOpen sessions.new.flags script.new.records) }
-    ensures cursors { OnOk result (KnowsReading sessions.new.cursors script.new.records) }
+    ensures known { OnOk result (KnowsSessions sessions.new script.new.records) }
     ensures most { OnOk result (place ≤ MOST_RECORDS) }
-    ensures next { OnOk result
-        (place + 1 ≡ records_before script.new + length script.new.records + 1) }
+    ensures next { OnOk result (place + 1 ≡ next_place script.new) }
     ensures at { IfErr result (TellsCode place (first_code place script.old (fields_of row.now))) }
 {
     let word = Word::read(place, row);
@@ -131,7 +116,7 @@ fn take(
     if let Some(code) = draft.code(script, sessions) {
         return Err(refused(place, code));
     }
-    add(alloc, place, script, sessions, word, draft, row)?;
+    add(alloc, script, sessions, word, draft, row)?;
     Ok(())
 }
 

@@ -22,7 +22,7 @@ impl<'a> Model for RecordList<'a> {
     ghost use Rattle.std.specs.Prelude.{List, drop};
     ghost use Rattle.hg_base.specs.Transcript.{of_session};
     ghost use Rattle.hg_base.specs.declared.statement.Record.{Record};
-    ghost use Rattle.hg_script.specs.Links.{StandsAt};
+    ghost use Rattle.hg_records.specs.Links.{StandsAt};
 
     ghost Value = { List Record };
 

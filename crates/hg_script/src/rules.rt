@@ -4,7 +4,7 @@ ghost use Rattle.std.specs.Prelude.{◌≡◌, IfNone, false};
 ghost use Rattle.hg_script.specs.Rules.{ask_columns_breaks, ask_name_breaks, ask_number_breaks, ask_order_breaks, ask_range_breaks, ask_value_breaks, columns_breaks, count_breaks, fields_breaks, name_breaks, number_breaks, order_breaks, range_breaks, value_breaks};
 ghost use Rattle.hg_script.specs.Draft as draft;
 ghost use Rattle.hg_script.specs.Meaning.{draft_code};
-ghost use Rattle.hg_script.specs.Sessions.{KnowsOpen, KnowsReading};
+ghost use Rattle.hg_script.specs.Sessions.{KnowsSessions};
 
 use crate::code::Code;
 use crate::draft::{Ask, Draft};
@@ -220,8 +220,7 @@ impl Draft {
     }
 
     fn breaks_order(&self, script: &Script, sessions: &OpenSessions) -> bool
-        requires known { KnowsOpen sessions.now.flags script.now.records }
-        requires cursors { KnowsReading sessions.now.cursors script.now.records }
+        requires known { KnowsSessions sessions.now script.now.records }
         requires range { range_breaks self.now ≡ false }
         ensures { result ≡ order_breaks script.now.records self.now }
     {
@@ -238,8 +237,7 @@ impl Draft {
     /// The first rule that the record breaks, of those that ask for its fields.
     #[tactic(auto, unfolding(crate::specs::Meaning::draft_code))]
     pub(crate) fn code(&self, script: &Script, sessions: &OpenSessions) -> Option<Code>
-        requires known { KnowsOpen sessions.now.flags script.now.records }
-        requires cursors { KnowsReading sessions.now.cursors script.now.records }
+        requires known { KnowsSessions sessions.now script.now.records }
         ensures code { result ≡ draft_code script.now self.now }
         ensures number { IfNone result (number_breaks self.now ≡ false) }
         ensures range { IfNone result (range_breaks self.now ≡ false) }

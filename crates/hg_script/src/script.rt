@@ -5,18 +5,17 @@ ghost use Rattle.hg_base.specs.Lists.{greatest};
 ghost use Rattle.hg_base.specs.Text.{cursor_before};
 ghost use Rattle.hg_base.specs.Transcript.{of_session};
 ghost use Rattle.hg_base.specs.declared.statement.Record.{Record};
-ghost use Rattle.hg_script.specs.Asked.{said_by};
+ghost use Rattle.hg_records.specs.Asked.{said_by};
 ghost use Rattle.hg_script.specs.Draft.{table_named};
-ghost use Rattle.hg_script.specs.Links.{next_from};
+ghost use Rattle.hg_records.specs.Links.{next_from};
 ghost use Rattle.hg_script.specs.Meaning.{nothing};
 ghost use Rattle.hg_script.specs.Numbered.{AreNumbered, records_before};
 
-use crate::asked::Asked;
 use crate::record_list::RecordList;
-use crate::statements::StatementList;
 use crate::table::Table;
 use crate::tables::Tables;
 use hg_base::{MOST_RECORDS, MOST_SESSIONS, MOST_TABLES, NoMemory, Record, Statement};
+use hg_records::{Asked, StatementList};
 use std::alloc::Global;
 use std::marker::Model;
 
@@ -42,7 +41,8 @@ impl Model for Script {
 }
 
 impl Script {
-    pub(crate) fn new(alloc: Global) -> Script
+    /// A script of no records.
+    pub fn new(alloc: Global) -> Script
         ensures { result ≡ nothing }
     {
         Script {
@@ -157,7 +157,7 @@ impl Script {
     }
 
     /// Places go on from the tables, so tables come first.
-    pub(crate) fn declare(&mut self, table: Table) -> Result<(), NoMemory>
+    pub fn declare(&mut self, table: Table) -> Result<(), NoMemory>
         requires room { length self.old.tables < MOST_TABLES }
         requires fresh { table_named self.old.tables table.name ≡ None }
         requires first { self.old.records ≡ [] }
@@ -168,7 +168,8 @@ impl Script {
         Ok(())
     }
 
-    pub(crate) fn add(&mut self, session: u32, statement: Statement) -> Result<(), NoMemory>
+    /// Adds a statement after the others.
+    pub fn add(&mut self, session: u32, statement: Statement) -> Result<(), NoMemory>
         requires session { session ≤ MOST_SESSIONS }
         requires room { length self.old.records < MOST_RECORDS }
         ensures { OnOk result (self.new ≡

@@ -1,22 +1,31 @@
 //! Which sessions have an open transaction, and which have an open cursor.
 
 ghost use Rattle.std.specs.Prelude.{◌≡◌, ◌≤◌, ◌==◌, ℕ, [], false, get_or, if◌then◌else◌};
-ghost use Rattle.hg_script.specs.Sessions.{KnowsOpen, KnowsReading};
+ghost use Rattle.hg_script.specs.Sessions.{KnowsSessions};
 ghost use Rattle.hg_script.specs.Rules.{opened, reading};
 
 use hg_base::{MOST_SESSIONS, Statement};
+use std::marker::Model;
 
 /// For each session, by its number, whether its transaction is open and whether its cursor is open.
 #[derive(Drop)]
-pub(crate) struct OpenSessions {
+pub struct OpenSessions {
     flags: [bool; MOST_SESSIONS as usize + 1],
     cursors: [bool; MOST_SESSIONS as usize + 1],
 }
 
+impl Model for OpenSessions {
+    ghost use Rattle.hg_script.specs.Sessions.{OpenFlags};
+
+    ghost Value = { OpenFlags };
+
+    ghost view = { λ s. record { flags = s.flags; cursors = s.cursors } };
+}
+
 impl OpenSessions {
-    pub(crate) fn new() -> OpenSessions
-        ensures known { KnowsOpen result.flags [] }
-        ensures cursors { KnowsReading result.cursors [] }
+    /// Before the first statement.
+    pub fn new() -> OpenSessions
+        ensures { KnowsSessions result [] }
     {
         OpenSessions {
             flags: [false; MOST_SESSIONS as usize + 1],
@@ -24,14 +33,16 @@ impl OpenSessions {
         }
     }
 
-    pub(crate) fn is_open(&self, session: u64) -> bool
+    /// Whether a transaction of the session is open.
+    pub fn is_open(&self, session: u64) -> bool
         requires { session ≤ MOST_SESSIONS }
         ensures { result ≡ get_or self.now.flags session false }
     {
         self.flags[session as usize]
     }
 
-    pub(crate) fn is_reading(&self, session: u64) -> bool
+    /// Whether a cursor of the session is open.
+    pub fn is_reading(&self, session: u64) -> bool
         requires { session ≤ MOST_SESSIONS }
         ensures { result ≡ get_or self.now.cursors session false }
     {
@@ -39,7 +50,7 @@ impl OpenSessions {
     }
 
     /// Records what a statement does to its session's transaction and cursor.
-    pub(crate) fn note(&mut self, session: u32, statement: &Statement)
+    pub fn note(&mut self, session: u32, statement: &Statement)
         requires { session ≤ MOST_SESSIONS }
         ensures flags { (j : ℕ) →
             get_or self.new.flags j false ≡

@@ -1,12 +1,13 @@
 //! A declared table.
 
-ghost use Rattle.std.specs.Prelude.{◌≡◌, ◌≤◌, IfOk, length};
+ghost use Rattle.std.specs.Prelude.{◌≡◌, ◌≤◌, IfOk, length, replicate};
 ghost use Rattle.std.specs.List.{list_all};
 ghost use Rattle.hg_base.specs.declared.limits.TheConstants.{MOST_COLUMNS};
+ghost use Rattle.hg_base.specs.declared.value.Column.TheVariants as column;
 ghost use Rattle.hg_script.specs.Draft.{is_name, is_name_byte};
 
 use crate::columns::Kinds;
-use hg_base::{Column, MOST_NAME_BYTES, NoMemory};
+use hg_base::{Column, MOST_COLUMNS, MOST_NAME_BYTES, NoMemory};
 use std::alloc::Global;
 use std::marker::Model;
 
@@ -31,6 +32,15 @@ impl Table {
     {
         let name = name.to_vec(alloc)?;
         Ok(Table { name, kinds })
+    }
+
+    /// A table of so many columns of numbers.
+    pub fn of_numbers(alloc: Global, name: &[u8], columns: u8) -> Result<Table, NoMemory>
+        requires { columns ≤ MOST_COLUMNS }
+        ensures { IfOk result (λ table.
+            table ≡ record { name = name.now; kinds = replicate columns column.Number }) }
+    {
+        Table::new(alloc, name, Kinds::of_numbers(alloc, columns)?)
     }
 
     /// The name, of ASCII letters, digits and `_`.

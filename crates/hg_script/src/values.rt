@@ -8,10 +8,10 @@ ghost use Rattle.hg_script.specs.Meaning.{row_of};
 ghost use Rattle.hg_script.specs.Rules.{count_of, is_bad_values, is_no_values, is_over_values};
 ghost use Rattle.hg_script.specs.Typed.{holds_numbers, or_bad};
 
-use crate::number::{Integer, read_integer};
 use crate::word::field;
 use csv::ByteRecord;
 use hg_base::{Column, MOST_COLUMNS, NoMemory, Row, Text, Value};
+use hg_numeral::{Integer, read_integer};
 use std::alloc::Global;
 
 /// What the fields of a row are, read once.

@@ -6,7 +6,7 @@ use Rattle.hg_base.specs.declared.statement.Record.{Record}
 use Rattle.hg_base.specs.Script.{Script}
 use Rattle.hg_session.specs.declared.engine.Engine.{Engine}
 use Rattle.hg_session.specs.declared.session.Session.{Session}
-use Rattle.hg_report.specs.LinesText.{Shown}
+use Rattle.hg_transcript.specs.LinesText.{Shown}
 use Rattle.hg_drivers.specs.Asked.{IsOnTables}
 use Rattle.hg_drivers.specs.Listed.{none_left}
 use Rattle.hg_collectors.specs.declared.collectors.Collectors.{Collectors}

@@ -4,7 +4,7 @@ use Rattle.hg_base.specs.Lists.{Each}
 use Rattle.hg_base.specs.Transcript.{of_session}
 use Rattle.hg_rule.specs.New.{EachFrom}
 use Rattle.hg_headline.specs.Counted.{Closes}
-use Rattle.hg_report.specs.LinesText.{Shown}
+use Rattle.hg_transcript.specs.LinesText.{Shown}
 use Rattle.hg_session.specs.declared.session.Session.{Session}
 use Rattle.hg_session.specs.Engines.{engine_sizes}
 use Rattle.hg_session.specs.Finished.{logs_of}

@@ -2,7 +2,7 @@ use Rattle.std.proofs.Common.{rules, ◌≡◌, ℕ, ◌<◌, ◌≤◌, List, [
 use Rattle.std.specs.Prelude.{All, IfOk, vec_capacity}
 use Rattle.hg_base.specs.declared.line.Line.{Line}
 use Rattle.hg_base.specs.Lists.{Each}
-use Rattle.hg_report.specs.LinesText.{Shown}
+use Rattle.hg_transcript.specs.LinesText.{Shown}
 use Rattle.hg_rule.specs.New.{EachFrom}
 use Rattle.hg_session.specs.declared.session.Session.{Session}
 use Rattle.hg_session.specs.Engines.{engine_sizes}

@@ -24,8 +24,7 @@ loop-place-init c =
       left = (strip_bom c.args.bytes.now, [], fr.source, (sym fr.state, refl), omega arith, refl, c.new-script.ensures);
       most = omega arith;
       next = rw c.new-script.ensures (omega arith);
-      known = rw c.new-script.ensures c.new-sessions.ensures.known;
-      cursors = rw c.new-script.ensures c.new-sessions.ensures.cursors;
+      known = rw c.new-script.ensures c.new-sessions.ensures;
     }
 
 pub loop-place-preserved : goal.loop-place-preserved
@@ -47,7 +46,6 @@ loop-place-preserved c =
       most = omega (arith, took.most);
       next = took.next;
       known = took.known;
-      cursors = took.cursors;
     }
 
 pub returns-in_err-take-in-Ok-true-clause-at : goal.returns-in_err-take-in-Ok-true-clause-at

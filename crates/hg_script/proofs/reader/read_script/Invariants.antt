@@ -3,8 +3,8 @@ use Rattle.csv.specs.Reading.{Reached, Ready, default_config, source_of, strip_b
 use Rattle.csv.specs.declared.parser.State.TheVariants as st
 use Rattle.csv.specs.declared.reader.Trim.TheVariants as trim
 use Rattle.hg_script.specs.Meaning.{refusal_of, script_of}
-use Rattle.hg_script.specs.Numbered.{records_before}
-use Rattle.hg_script.specs.Sessions.{KnowsOpen, KnowsReading}
+use Rattle.hg_script.specs.Numbered.{next_place}
+use Rattle.hg_script.specs.Sessions.{KnowsSessions}
 use Rattle.hg_script.proofs.reader.read_script.Given as goal
 
 abbrev pub invariant-loop-place : goal.invariant-loop-place
@@ -17,7 +17,6 @@ invariant-loop-place l = record {
       × Reached default_config st.StartRecord (strip_bom l.fn.bytes) rows (reader_state l.reader) y
       × (1 + length rows ≡ l.place) × (refusal_of rows ≡ None) × (l.script ≡ script_of rows);
   most : l.place ≤ 1048577;
-  next : l.place ≡ records_before l.script + length l.script.records + 1;
-  known : KnowsOpen l.sessions.flags l.script.records;
-  cursors : KnowsReading l.sessions.cursors l.script.records;
+  next : l.place ≡ next_place l.script;
+  known : KnowsSessions l.sessions l.script.records;
 }

@@ -2,11 +2,10 @@ use Rattle.std.proofs.Common.{◌≡◌, ℕ, ◌<◌, ◌∙◌, ◌+◌, sym, 
 use Rattle.hg_base.specs.declared.statement.Record.{Record}
 use Rattle.hg_base.specs.declared.statement.Statement.{Statement}
 use Rattle.hg_base.specs.Text.{cursor_before}
-use Rattle.hg_script.specs.Asked.{asked_by}
-use Rattle.hg_script.specs.Cursors.{cursor_in}
+use Rattle.hg_records.specs.Asked.{asked_by}
+use Rattle.hg_records.specs.Cursors.{cursor_in}
 use Rattle.hg_script.specs.Numbered.{many_before, numbered}
-use Rattle.hg_script.proofs.Opening.{numbered_cursor}
-use Rattle.hg_script.proofs.Numbered.{numbered_asks, numbered_many, places_are}
+use Rattle.hg_script.proofs.Numbered.{numbered_asks, numbered_cursor, numbered_many, places_are}
 use Rattle.hg_script.proofs.script.Script.asked.Goals as goal
 
 pub asked-requires : goal.asked-requires

@@ -1,0 +1,2 @@
+-- Which fields are numbers, and which number each is.
+pub mod Number

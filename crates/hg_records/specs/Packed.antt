@@ -1,0 +1,69 @@
+-- Statements whose values are in two lists: numbers, and rows with a text.
+use Rattle.std.specs.Prelude.{ℕ, ℤ, ◌+◌, ◌<◌, ◌≤◌, List, [], ◌∷◌, length, map, take, drop, get_or, Option, if◌then◌else◌, ⊤}
+use Rattle.std.specs.List.{list_any}
+use Rattle.hg_base.specs.declared.limits.TheConstants.{MOST_COLUMNS, MOST_SESSIONS}
+use Rattle.hg_base.specs.declared.rid.TableId.{TableId}
+use Rattle.hg_base.specs.declared.statement.Statement.{Statement}
+use Rattle.hg_base.specs.declared.statement.Statement.TheVariants as say
+use Rattle.hg_base.specs.declared.value.Value.{Value}
+use Rattle.hg_base.specs.declared.value.Value.TheVariants.{Number}
+use Rattle.hg_base.specs.Values.{is_text, number_of}
+use Rattle.hg_records.specs.declared.statements.Entry.{Entry}
+use Rattle.hg_records.specs.declared.packed.Packed.{Packed}
+use Rattle.hg_records.specs.declared.packed.Packed.TheVariants.{Begin, Get, Put, PutRow, Del, Scan, CursorOpen, Fetch, CursorClose, Commit, Rollback, Gc}
+
+-- the statement, where these are all numbers and all rows with a text
+abbrev pub statement_in : List ℤ → List (List Value) → Packed → Statement
+statement_in numbers rows (Begin scope) = say.Begin scope
+statement_in numbers rows (Get rid) = say.Get rid
+statement_in numbers rows (Put rid span) = say.Put rid (map Number (take span.count (drop span.first numbers)))
+statement_in numbers rows (PutRow rid i) = say.Put rid (get_or rows i [])
+statement_in numbers rows (Del rid) = say.Del rid
+statement_in numbers rows (Scan table low high) = say.Scan table low high
+statement_in numbers rows (CursorOpen table low high) = say.CursorOpen table low high
+statement_in numbers rows (Fetch n cursor) = say.Fetch n
+statement_in numbers rows CursorClose = say.CursorClose
+statement_in numbers rows Commit = say.Commit
+statement_in numbers rows Rollback = say.Rollback
+statement_in numbers rows (Gc kind) = say.Gc kind
+
+-- a session with its statement
+abbrev pub unpacked : List ℤ → List (List Value) → Entry → ℕ × Statement
+unpacked numbers rows e = (e.session, statement_in numbers rows e.packed)
+
+-- its row is among so many numbers, or so many rows
+abbrev pub HasRow : ℕ → ℕ → Packed → Type 0
+HasRow numbers rows (Put rid span) = (1 ≤ span.count) × (span.count ≤ MOST_COLUMNS) × (span.first + span.count ≤ numbers)
+HasRow numbers rows (PutRow rid i) = i < rows
+HasRow numbers rows _ = ⊤
+
+abbrev pub IsWithin : ℕ → ℕ → Entry → Type 0
+IsWithin numbers rows e = HasRow numbers rows e.packed
+
+abbrev pub HasSession : Entry → Type 0
+HasSession e = e.session ≤ MOST_SESSIONS
+
+-- The statement as it is stored after so many numbers and so many rows with a text. `cursor` is the table of the cursor that its
+-- session opened last.
+abbrev pub packed_as : Option TableId → ℕ → ℕ → Statement → Packed
+packed_as cursor numbers rows (say.Begin scope) = Begin scope
+packed_as cursor numbers rows (say.Get rid) = Get rid
+packed_as cursor numbers rows (say.Put rid row) = if list_any is_text row then PutRow rid rows else Put rid (record { first = numbers; count = length row })
+packed_as cursor numbers rows (say.Del rid) = Del rid
+packed_as cursor numbers rows (say.Scan table low high) = Scan table low high
+packed_as cursor numbers rows (say.CursorOpen table low high) = CursorOpen table low high
+packed_as cursor numbers rows (say.Fetch n) = Fetch n cursor
+packed_as cursor numbers rows say.CursorClose = CursorClose
+packed_as cursor numbers rows say.Commit = Commit
+packed_as cursor numbers rows say.Rollback = Rollback
+packed_as cursor numbers rows (say.Gc kind) = Gc kind
+
+-- the numbers of a statement whose row has no text
+abbrev pub added : Statement → List ℤ
+added (say.Put rid row) = if list_any is_text row then [] else map number_of row
+added _ = []
+
+-- the row of a statement, if it has a text
+abbrev pub added_rows : Statement → List (List Value)
+added_rows (say.Put rid row) = if list_any is_text row then row ∷ [] else []
+added_rows _ = []

@@ -1,0 +1,169 @@
+//! A statement without the values of its row, and how a statement is taken apart and put together again.
+
+ghost use Rattle.std.specs.Prelude.{◌≡◌, ℤ, List, Option, None, ◌≤◌, ◌<◌, ◌+◌, ◌^◌, ◌++◌, IfOk, OnErr, OnOk, drop, length, map, take};
+ghost use Rattle.hg_base.specs.declared.rid.TableId as table;
+ghost use Rattle.hg_base.specs.declared.statement.Statement.TheVariants as say;
+ghost use Rattle.hg_base.specs.declared.value.Value as value;
+ghost use Rattle.hg_base.specs.declared.value.Value.TheVariants.{Number};
+ghost use Rattle.hg_records.specs.Asked.{asked_by};
+ghost use Rattle.hg_records.specs.Cursors.{HasCursor};
+ghost use Rattle.hg_records.specs.Packed.{HasRow, added, added_rows, packed_as, statement_in};
+
+use crate::asked::Asked;
+use hg_base::{Kind, MOST_COLUMNS, NoMemory, Rid, Row, Scope, Statement, TableId};
+use std::alloc::Global;
+
+/// Where the numbers of a row are among all numbers.
+#[derive(Clone, Copy)]
+pub(crate) struct Span {
+    first: u32,
+    count: u8,
+}
+
+/// A statement. The values of a put are kept elsewhere.
+#[derive(Clone, Copy)]
+pub(crate) enum Packed {
+    Begin(Scope),
+    Get(Rid),
+    Put(Rid, Span),
+    /// A row with a text, by its place among such rows.
+    PutRow(Rid, u32),
+    Del(Rid),
+    Scan { table: TableId, low: u64, high: u64 },
+    CursorOpen { table: TableId, low: u64, high: u64 },
+    /// The number of rows, and the table of the session's cursor.
+    Fetch(u32, Option<TableId>),
+    CursorClose,
+    Commit,
+    Rollback,
+    Gc(Kind),
+}
+
+impl Packed {
+    pub(crate) fn asked(self) -> Asked
+        ensures { (numbers : List ℤ) (rows : List (List value.Value))
+            (cursor : Option table.TableId) → HasCursor cursor self →
+            result ≡ asked_by cursor (statement_in numbers rows self) }
+    {
+        match self {
+            Packed::Begin(_) => Asked::Begin,
+            Packed::Get(rid) => Asked::Get(rid.table),
+            Packed::Put(rid, _) => Asked::Put(rid.table),
+            Packed::PutRow(rid, _) => Asked::Put(rid.table),
+            Packed::Del(rid) => Asked::Del(rid.table),
+            Packed::Scan { table, .. } => Asked::Scan(table),
+            Packed::CursorOpen { table, .. } => Asked::CursorOpen(table),
+            Packed::Fetch(_, cursor) => Asked::Fetch(cursor),
+            Packed::CursorClose => Asked::CursorClose,
+            Packed::Commit => Asked::Commit,
+            Packed::Rollback => Asked::Rollback,
+            Packed::Gc(_) => Asked::Gc,
+        }
+    }
+}
+
+// Takes a put apart: its numbers are added after the others, or its row with a text after the other rows.
+fn pack_put(
+    numbers: &mut Vec<i64>,
+    rows: &mut Vec<Row>,
+    rid: Rid,
+    row: Row,
+) -> Result<Packed, NoMemory>
+    requires room { length numbers.old.items < 2 ^ 32 }
+    requires few { length rows.old.items < 2 ^ 32 }
+    ensures packed { IfOk result (λ packed.
+        packed ≡
+        packed_as None (length numbers.old.items) (length rows.old.items) (say.Put rid row)) }
+    ensures numbers { OnOk result
+        (numbers.new.items ≡ numbers.old.items ++ added (say.Put rid row)) }
+    ensures rows { OnOk result (rows.new.items ≡ rows.old.items ++ added_rows (say.Put rid row)) }
+    ensures within { IfOk result (HasRow (length numbers.new.items) (length rows.new.items)) }
+    ensures few { OnOk result (length (added (say.Put rid row)) ≤ MOST_COLUMNS) }
+    ensures one { OnOk result (length (added_rows (say.Put rid row)) ≤ 1) }
+    ensures err { OnErr result (numbers.new.items ≡ numbers.old.items) }
+    ensures rows_err { OnErr result (rows.new.items ≡ rows.old.items) }
+{
+    let count = row.len() as u8;
+    if let Some(own) = row.numbers() {
+        let first = numbers.len() as u32;
+        numbers.extend_from_slice(own)?;
+        return Ok(Packed::Put(rid, Span { first, count }));
+    }
+    let place = rows.len() as u32;
+    rows.push(row)?;
+    Ok(Packed::PutRow(rid, place))
+}
+
+/// Takes the statement apart. `cursor` is the table of the cursor that its session opened last.
+pub(crate) fn pack(
+    numbers: &mut Vec<i64>,
+    rows: &mut Vec<Row>,
+    cursor: Option<TableId>,
+    statement: Statement,
+) -> Result<Packed, NoMemory>
+    requires room { length numbers.old.items < 2 ^ 32 }
+    requires few { length rows.old.items < 2 ^ 32 }
+    ensures packed { IfOk result (λ packed.
+        packed ≡
+        packed_as cursor (length numbers.old.items) (length rows.old.items) statement) }
+    ensures numbers { OnOk result (numbers.new.items ≡ numbers.old.items ++ added statement) }
+    ensures rows { OnOk result (rows.new.items ≡ rows.old.items ++ added_rows statement) }
+    ensures within { IfOk result (HasRow (length numbers.new.items) (length rows.new.items)) }
+    ensures few { OnOk result (length (added statement) ≤ MOST_COLUMNS) }
+    ensures one { OnOk result (length (added_rows statement) ≤ 1) }
+    ensures err { OnErr result (numbers.new.items ≡ numbers.old.items) }
+    ensures rows_err { OnErr result (rows.new.items ≡ rows.old.items) }
+{
+    Ok(match statement {
+        Statement::Begin(scope) => Packed::Begin(scope),
+        Statement::Get(rid) => Packed::Get(rid),
+        Statement::Put(rid, row) => pack_put(numbers, rows, rid, row)?,
+        Statement::Del(rid) => Packed::Del(rid),
+        Statement::Scan { table, low, high } => Packed::Scan { table, low, high },
+        Statement::CursorOpen { table, low, high } => Packed::CursorOpen { table, low, high },
+        Statement::Fetch(most) => Packed::Fetch(most, cursor),
+        Statement::CursorClose => Packed::CursorClose,
+        Statement::Commit => Packed::Commit,
+        Statement::Rollback => Packed::Rollback,
+        Statement::Gc(kind) => Packed::Gc(kind),
+    })
+}
+
+// The put whose row has the numbers of this span.
+fn unpack_put(alloc: Global, numbers: &[i64], rid: Rid, span: Span) -> Result<Statement, NoMemory>
+    requires some { 1 ≤ span.count }
+    requires most { span.count ≤ MOST_COLUMNS }
+    requires within { span.first + span.count ≤ length numbers.now }
+    ensures { IfOk result
+        (λ s. s ≡ say.Put rid (map Number (take span.count (drop span.first numbers.now)))) }
+{
+    let first = span.first as usize;
+    let row = Row::from_slice(alloc, &numbers[first..first + span.count as usize])?;
+    Ok(Statement::Put(rid, row))
+}
+
+/// Puts a statement together. A row of one or two numbers takes no memory.
+pub(crate) fn unpack(
+    alloc: Global,
+    numbers: &[i64],
+    rows: &[Row],
+    packed: Packed,
+) -> Result<Statement, NoMemory>
+    requires { HasRow (length numbers.now) (length rows.now) packed }
+    ensures { IfOk result (λ s. s ≡ statement_in numbers.now rows.now packed) }
+{
+    Ok(match packed {
+        Packed::Begin(scope) => Statement::Begin(scope),
+        Packed::Get(rid) => Statement::Get(rid),
+        Packed::Put(rid, span) => return unpack_put(alloc, numbers, rid, span),
+        Packed::PutRow(rid, i) => Statement::Put(rid, rows[i as usize].copy()?),
+        Packed::Del(rid) => Statement::Del(rid),
+        Packed::Scan { table, low, high } => Statement::Scan { table, low, high },
+        Packed::CursorOpen { table, low, high } => Statement::CursorOpen { table, low, high },
+        Packed::Fetch(most, _) => Statement::Fetch(most),
+        Packed::CursorClose => Statement::CursorClose,
+        Packed::Commit => Statement::Commit,
+        Packed::Rollback => Statement::Rollback,
+        Packed::Gc(kind) => Statement::Gc(kind),
+    })
+}

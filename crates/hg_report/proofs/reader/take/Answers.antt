@@ -1,0 +1,19 @@
+use Rattle.std.proofs.Common.{◌≡◌, ◌∙◌, Some, refl, sym}
+use Rattle.hg_report.specs.Progress.{guess_after}
+use Rattle.hg_report.specs.Fields.{fields_of}
+use Rattle.hg_report.proofs.Taking.{takes_none, total_below}
+use Rattle.hg_report.proofs.reader.take.Goals as goal
+
+pub returns-in_default-2 : goal.returns-in_default-2
+returns-in_default-2 c =
+    let guess : Some c.in-Some.piece ≡ guess_after c.args.script.now c.args.progress.now.last (fields_of c.args.row.now) = sym c.in-Some.is ∙ c.in_ok-piece.ensures in
+    takes_none c.args.script.now c.args.progress.now c.args.progress.now (fields_of c.args.row.now) c.args.bytes.now _ c.in-Some.piece guess refl
+    (rw c.in_default-2.is at c.in_ok-rest.ensures)
+
+pub take-requires : goal.take-requires
+take-requires c = total_below c.args.script.now c.args.progress.now.last (fields_of c.args.row.now) c.in-Some.piece (sym c.in-Some.is ∙ c.in_ok-piece.ensures)
+
+pub returns : goal.returns
+returns c =
+    let guess : Some c.in-Some.piece ≡ guess_after c.args.script.now c.args.progress.now.last (fields_of c.args.row.now) = sym c.in-Some.is ∙ c.in_ok-piece.ensures in
+    (c.in-Some.piece, sym guess, (rw c.in-Some-2.is at c.in_ok-rest.ensures), c.in_ok-take.ensures)

@@ -1,6 +1,0 @@
--- Lines that only proofs see own nothing, so they may go to another thread.
-use denote.Param.Send.{IsSend, owning_send, sendable}
-use Rattle.hg_report.specs.contracts.told.ToldLines.{the_row, the_type}
-
-pub send : IsSend the_row
-send = owning_send the_type (search sendable) (λ d. tt) (λ k x w. tt)

@@ -1,5 +1,0 @@
-use Rattle.hg_script.proofs.Made.{made-once}
-use Rattle.hg_script.proofs.law.a_seed_has_one_script.Goals as goal
-
-pub returns : goal.returns
-returns c = made-once c.args._seed

@@ -1,0 +1,31 @@
+use Rattle.std.proofs.Common.{◌≡◌, ◌+◌, ◌-◌, arith, rules, to_z-of_z}
+use Rattle.std.proofs.lemmas.Fmt.{length-decimal-le, decimal_nonempty}
+use Rattle.std.proofs.lemmas.List.{drop-set}
+use Rattle.itoa.proofs.Decimal.{minus_first}
+use Rattle.hg_transcript.proofs.number_fields.put_signed.Goals as goal
+
+pub write_digits-start-requires : goal.write_digits-start-requires
+write_digits-start-requires c = (omega (arith, length-decimal-le 20 c.unsigned_abs.result (omega arith) (omega arith) (omega arith)), search rules)
+
+pub returns-then-n-ge0-clause-near : goal.returns-then-n-ge0-clause-near
+returns-then-n-ge0-clause-near c = omega (arith, length-decimal-le 20 c.unsigned_abs.result (omega arith) (omega arith) (omega arith))
+
+pub returns-then-n-ge0-clause-after : goal.returns-then-n-ge0-clause-after
+returns-then-n-ge0-clause-after c = omega (arith, decimal_nonempty c.unsigned_abs.result (omega arith))
+
+pub overflow_sub-bytes : goal.overflow_sub-bytes
+overflow_sub-bytes c = omega (arith, length-decimal-le 20 c.unsigned_abs.result (omega arith) (omega arith) (omega arith))
+
+pub overflow_sub-result : goal.overflow_sub-result
+overflow_sub-result c = omega (arith, length-decimal-le 20 c.unsigned_abs.result (omega arith) (omega arith) (omega arith))
+
+pub returns-clause-written : goal.returns-clause-written
+returns-clause-written c =
+    let w = c.write_digits-start in
+    let long = length-decimal-le 20 c.unsigned_abs.result (omega arith) (omega arith) (omega arith) in
+    let e : w.result - 1 + 1 ≡ w.result = omega arith in
+    let back = to_z-of_z c.ranges.n in
+    rw (drop-set w.new.buf (w.result - 1) 45 (omega arith), e, w.ensures.written, c.unsigned_abs.ensures.value, back, ← minus_first c.args.n (rw back at c.if-n-ge0.false))
+
+pub returns-clause-near : goal.returns-clause-near
+returns-clause-near c = omega (arith, length-decimal-le 20 c.unsigned_abs.result (omega arith) (omega arith) (omega arith))
