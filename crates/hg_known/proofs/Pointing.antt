@@ -11,7 +11,7 @@ use Rattle.hg_base.specs.Lists.{onto}
 use Rattle.hg_base.specs.Transcript.{Said}
 use Rattle.hg_base.specs.Freshness.{snapshot_of, is_declared, prints}
 use Rattle.hg_base.proofs.RidOrder.{alike_numbers, alike_parts}
-use Rattle.hg_known.specs.declared.marks.Point.{Point}
+use Rattle.hg_known.specs.declared.context.Point.{Point}
 use Rattle.hg_known.specs.Marked.{point, point_cmp, prints_point}
 
 pub at_point : (a b : Point) → is_at (point_cmp a) b ≡ ((a.session == b.session) && (a.number == b.number))

@@ -14,7 +14,7 @@ use Rattle.hg_base.specs.declared.line.Reply.{Reply}
 use Rattle.hg_base.specs.Transcript.{Said, Rest, last_key, passed, last_of, open_of, open_after, next_after, ends, is_of, standing, said, said_after, rest_after, rest_in}
 use Rattle.hg_base.proofs.ListFacts.{cases, false_true}
 use Rattle.hg_base.proofs.Resting.{left_other}
-use Rattle.hg_known.specs.declared.rest.Rest as rests
+use Rattle.hg_known.specs.declared.said.Rest as rests
 use Rattle.hg_known.specs.declared.said.Last.{Last}
 use Rattle.hg_known.specs.declared.said.Last.TheVariants.{Over, Open}
 use Rattle.hg_known.specs.Lines.{rest_of, left_by, left_rest, without_rest, AreRests, IsRest}

@@ -18,7 +18,7 @@ use Rattle.hg_base.proofs.HistoryFacts.{same_rid_itself, and_parts}
 use Rattle.hg_base.proofs.RidOrder.{alike_numbers, alike_parts}
 use Rattle.hg_known.specs.declared.own.Spot.{Spot}
 use Rattle.hg_known.specs.declared.writes.Slot.{Slot}
-use Rattle.hg_known.specs.declared.commits.Seat.{Seat}
+use Rattle.hg_known.specs.declared.history.Seat.{Seat}
 use Rattle.hg_known.specs.Written.{image_at}
 use Rattle.hg_known.specs.Owned.{own_at, HasOwn}
 use Rattle.hg_known.specs.Joined.{IsJoined}

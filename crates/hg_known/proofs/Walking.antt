@@ -14,7 +14,7 @@ use Rattle.hg_known.specs.Commits.{IsFit, AreApart, AllApart, AreCommits, has_nu
 use Rattle.std.specs.Bool.{MatchBool}
 use Rattle.std.specs.BTreeSet.{contains}
 use Rattle.std.specs.Ordering.{nat_cmp}
-use Rattle.hg_known.specs.declared.commits.Commits as kept
+use Rattle.hg_known.specs.declared.history.Commits as kept
 use Rattle.hg_known.specs.Written.{IsOfHistory}
 use Rattle.hg_known.specs.Shown.{Shows, Fits, printed}
 use Rattle.hg_known.proofs.Reading.{onto_push}

@@ -9,7 +9,7 @@ use Rattle.hg_base.specs.declared.image.Image.{Image}
 use Rattle.hg_base.specs.Transcript.{Said, is_of, ends, numbers_in}
 use Rattle.hg_known.specs.declared.own.Tx.{Tx}
 use Rattle.hg_known.specs.declared.own.Spot.{Spot}
-use Rattle.hg_known.specs.declared.ends.Numbers.{Numbers}
+use Rattle.hg_known.specs.declared.context.Numbers.{Numbers}
 use Rattle.hg_known.specs.Owned.{IsOwn, own_at}
 
 abbrev pub tx : ℕ → ℕ → Tx

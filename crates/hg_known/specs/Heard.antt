@@ -7,8 +7,8 @@ use Rattle.std.specs.Ordering.{nat_cmp}
 use Rattle.hg_base.specs.Lists.{greatest}
 use Rattle.hg_base.specs.Transcript.{Said, committed, greatest_commit}
 use Rattle.hg_base.specs.Freshness.{known}
-use Rattle.hg_known.specs.declared.heard.Heard.{Heard}
-use Rattle.hg_known.specs.declared.heard.Committed.{Committed}
+use Rattle.hg_known.specs.declared.before.Heard.{Heard}
+use Rattle.hg_known.specs.declared.before.Committed.{Committed}
 
 -- of each session, the greatest number that it printed, and 0 where it printed none
 abbrev pub AreHeard : Heard → List Said → Type 0

@@ -6,7 +6,7 @@ use Rattle.hg_base.specs.declared.limits.TheConstants.{MOST_TABLES}
 use Rattle.hg_base.specs.declared.statement.Statement.{Statement}
 use Rattle.hg_base.specs.declared.statement.Statement.TheVariants.{CursorOpen}
 use Rattle.hg_base.specs.Transcript.{Said, Rest, only, table_of, ends, last_of, open_of, next_after, rest_in}
-use Rattle.hg_known.specs.declared.rest.Rest as rests
+use Rattle.hg_known.specs.declared.said.Rest as rests
 use Rattle.hg_known.specs.declared.said.Said as kept
 use Rattle.hg_known.specs.declared.said.Last.{Last}
 use Rattle.hg_known.specs.declared.said.Last.TheVariants.{Over, Open}

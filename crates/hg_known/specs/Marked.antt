@@ -10,9 +10,9 @@ use Rattle.hg_base.specs.declared.report.Kind.TheVariants as kinds
 use Rattle.hg_base.specs.Lists.{greatest}
 use Rattle.hg_base.specs.Transcript.{Said}
 use Rattle.hg_base.specs.Freshness.{mark_of, snapshot_of, is_declared}
-use Rattle.hg_known.specs.declared.marks.Marks.{Marks}
-use Rattle.hg_known.specs.declared.marks.Point.{Point}
-use Rattle.hg_known.specs.declared.marks.Points.{Points}
+use Rattle.hg_known.specs.declared.before.Marks.{Marks}
+use Rattle.hg_known.specs.declared.context.Point.{Point}
+use Rattle.hg_known.specs.declared.context.Points.{Points}
 
 abbrev pub mark_in : Marks → Kind → ℕ
 mark_in marks kinds.Group = marks.group

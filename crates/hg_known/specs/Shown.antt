@@ -9,8 +9,8 @@ use Rattle.hg_base.specs.declared.rid.Rid.{Rid}
 use Rattle.hg_base.specs.Lists as lists
 use Rattle.hg_base.specs.History.{Commit}
 use Rattle.hg_base.specs.Transcript.{Said, commit_by}
-use Rattle.hg_known.specs.declared.commits.Seat.{Seat}
-use Rattle.hg_known.specs.declared.commits.Commits as kept
+use Rattle.hg_known.specs.declared.history.Seat.{Seat}
+use Rattle.hg_known.specs.declared.history.Commits as kept
 use Rattle.hg_known.specs.Written.{image_at}
 use Rattle.hg_known.specs.Commits.{IsFit, AreApart, image_of}
 

@@ -1,24 +1,30 @@
-//! The history that the printed commit numbers give.
+//! The history that the printed commit numbers give, where they give one, and whether it loses an update.
 
-ghost use Rattle.std.specs.Prelude.{◌≡◌, [], length, IfOk};
+ghost use Rattle.std.specs.Prelude.{◌≡◌, ◌↔◌, ℕ, ◌<◌, List, [], ◌∷◌, ◌++◌, Some, None, length, IsTrue, IsSome, IfSome, IfOk};
+ghost use Rattle.std.specs.Bool.{MatchBool};
 ghost use Rattle.std.specs.Option.{MatchOption};
+ghost use Rattle.hg_base.specs.declared.rid.Rid.{Rid};
+ghost use Rattle.hg_base.specs.Lists.{Each, EachAfter};
+ghost use Rattle.hg_base.specs.History.{Commit};
 ghost use Rattle.hg_base.specs.Transcript as script;
-ghost use Rattle.hg_base.specs.Transcript.{history_of};
+ghost use Rattle.hg_base.specs.Transcript.{commit_by, history_of};
 ghost use Rattle.hg_base.specs.Sound.{IsWhole};
 ghost use Rattle.hg_known.specs.Lines.{said_of};
-ghost use Rattle.hg_known.specs.Written.{IsOfHistory};
+ghost use Rattle.hg_known.specs.Owned.{HasOwn, own_at};
+ghost use Rattle.hg_known.specs.Written.{IsOfHistory, image_at};
 ghost use Rattle.hg_known.specs.Ended.{IsOpen};
+ghost use Rattle.hg_known.specs.Joined.{IsJoined, Clashes};
+ghost use Rattle.hg_known.specs.Shown.{Shows, Adds, printed};
 ghost use Rattle.hg_known.specs.Tallied.{IsTally};
-ghost use Rattle.hg_base.specs.Lists.{EachAfter};
 
-use crate::commits::Commits;
 use crate::lines::Lines;
-use crate::own::Own;
+use crate::own::{LEAST, Own, Tx, copy};
 use crate::said::Said;
 use crate::tally::{Tally, Versions};
 use crate::writes::Writes;
-use hg_base::{Answer, NoMemory, Statement};
+use hg_base::{Answer, NoMemory, Rid, Statement};
 use std::alloc::Global;
+use std::collections::BTreeSet;
 
 /// The commit number that a line prints for its transaction.
 pub fn committed(said: &Said) -> Option<u64>
@@ -33,17 +39,119 @@ pub fn committed(said: &Said) -> Option<u64>
     }
 }
 
-/// What each group of the history writes, how many there are, and how many versions the lines made, where the printed numbers give a
-/// history.
-pub fn read_history(
-    alloc: Global,
-    all: &Lines<'_>,
-) -> Result<Option<(Writes, u64, Tally)>, NoMemory>
+/// A session in the group of a number.
+#[derive(Clone, Copy, PartialEq, Eq, PartialOrd, Ord)]
+pub struct Seat {
+    pub number: u64,
+    pub session: u32,
+}
+
+/// What the printed commits write, of which sessions they are, and which numbers they have.
+#[derive(Drop)]
+pub struct Commits {
+    pub(crate) writes: Writes,
+    pub(crate) seats: BTreeSet<Seat>,
+    pub(crate) numbers: BTreeSet<u64>,
+    pub(crate) greatest: u64,
+}
+
+/// Adds what a transaction stored to what the group of a number writes. The answer is whether the group wrote none of it
+/// before.
+fn add_writes(writes: &mut Writes, own: &Own, tx: Tx, number: u64) -> Result<bool, NoMemory>
+    ensures { IfOk result (λ fresh.
+        MatchBool fresh (IsJoined own.now tx.session tx.number number writes.old writes.new)
+        (Clashes own.now tx.session tx.number number writes.old)) }
+{
+    let mut found = own.next(tx, LEAST);
+    while let Some(rid) = found {
+        let Some(image) = own.image(tx, rid) else {
+            unreachable!();
+        };
+        if !writes.add(rid, number, copy(image)?)? {
+            return Ok(false);
+        }
+        found = own.next_after(tx, rid);
+    }
+    Ok(true)
+}
+
+impl Commits {
+    /// No commit was printed. It takes no memory.
+    pub fn new(alloc: Global) -> Commits
+        ensures { Shows result [] }
+    {
+        Commits {
+            writes: Writes::new(alloc),
+            seats: BTreeSet::new(alloc),
+            numbers: BTreeSet::new(alloc),
+            greatest: 0,
+        }
+    }
+
+    /// The transaction of a line is committed with that number. The answer is whether it fits, and clashes with none before.
+    pub fn add(&mut self, own: &Own, said: &Said, number: u64) -> Result<bool, NoMemory>
+        ensures { IfOk result (λ fits.
+            (earlier : List script.Said) (ps : List (ℕ × Commit)) →
+            HasOwn own.now (said_of said.now ∷ earlier) (said_of said.now) →
+            Adds self.old self.new ps (printed number earlier (said_of said.now)) fits) }
+    {
+        let tx = Tx {
+            session: said.session,
+            number: said.transaction,
+        };
+        if number == 0 {
+            return Ok(false);
+        }
+        if said.at >= number {
+            return Ok(false);
+        }
+        let Some(_) = own.next(tx, LEAST) else {
+            return Ok(false);
+        };
+        let seat = Seat {
+            number,
+            session: said.session,
+        };
+        if !self.seats.insert(seat)? {
+            return Ok(false);
+        }
+        if !add_writes(&mut self.writes, own, tx, number)? {
+            return Ok(false);
+        }
+        self.numbers.insert(number)?;
+        self.greatest = self.greatest.max(number);
+        Ok(true)
+    }
+
+    /// What they write.
+    pub fn into_writes(self) -> Writes
+        ensures { result ≡ self.writes }
+    {
+        let Commits {
+            writes,
+            seats: _,
+            numbers: _,
+            greatest: _,
+        } = self;
+        writes
+    }
+}
+
+/// What each group of a history writes, how many there are, and how many versions its lines made and undid.
+#[derive(Drop)]
+pub struct Past {
+    pub writes: Writes,
+    pub groups: u64,
+    pub tally: Tally,
+}
+
+/// The history that the lines give, if the printed numbers give one.
+pub fn read_history(alloc: Global, all: &Lines<'_>) -> Result<Option<Past>, NoMemory>
     requires { EachAfter IsOpen [] all.now }
     ensures { IfOk result (λ found.
-        MatchOption found (¬ IsWhole all.now) (λ p.
-        IsWhole all.now × IsOfHistory (history_of all.now) p.0 ×
-        (length (history_of all.now) ≡ p.1) × IsTally p.2 all.now)) }
+        MatchOption found (¬ IsWhole all.now) (λ past.
+        IsWhole all.now × IsOfHistory (history_of all.now) past.writes ×
+        (length (history_of all.now) ≡ past.groups) × IsTally past.tally all.now)) }
 {
     let mut own = Own::new(alloc);
     let mut commits = Commits::new(alloc);
@@ -66,5 +174,56 @@ pub fn read_history(
         }
     }
     let groups = commits.greatest;
-    Ok(Some((commits.into_writes(), groups, versions.tally())))
+    Ok(Some(Past {
+        writes: commits.into_writes(),
+        groups,
+        tally: versions.tally(),
+    }))
+}
+
+// Whether no write of the record is numbered over a snapshot and below a number.
+fn is_kept(writes: &Writes, rid: Rid, at: u64, number: u64) -> bool
+    ensures { IsTrue result ↔ ((m : ℕ) → at < m → m < number → image_at writes.now rid m ≡ None) }
+{
+    if number == 0 {
+        return true;
+    }
+    match writes.last(rid, number - 1) {
+        Some((last, _)) => last <= at,
+        None => true,
+    }
+}
+
+// The same of each record that a transaction stored.
+fn loses_none(writes: &Writes, own: &Own, tx: Tx, at: u64, number: u64) -> bool
+    ensures { IsTrue result ↔ ((r : Rid) → IsSome (own_at own.now tx.session tx.number r) → (m : ℕ) →
+        at < m → m < number → image_at writes.now r m ≡ None) }
+{
+    let mut found = own.next(tx, LEAST);
+    while let Some(rid) = found {
+        if !is_kept(writes, rid, at, number) {
+            return false;
+        }
+        found = own.next_after(tx, rid);
+    }
+    true
+}
+
+/// Whether the commit of a line overwrites nothing that it did not see, where it prints a commit number.
+pub fn keeps_update(writes: &Writes, own: &Own, said: &Said) -> bool
+    ensures { IsTrue result ↔ (IfSome (script.committed (said_of said.now)) (λ number.
+        (r : Rid) → IsSome (own_at own.now said.now.session said.now.transaction r) →
+        (m : ℕ) → said.now.at < m → m < number → image_at writes.now r m ≡ None)) }
+{
+    let tx = Tx {
+        session: said.session,
+        number: said.transaction,
+    };
+    let Some(number) = committed(said) else {
+        return true;
+    };
+    if number <= said.at || number - said.at == 1 {
+        return true;
+    }
+    loses_none(writes, own, tx, said.at, number)
 }

@@ -25,32 +25,21 @@
 #![tactic(auto)]
 
 mod before;
-mod commits;
-mod ends;
-mod gathering;
-mod heard;
+mod context;
 mod history;
 mod lines;
-mod marks;
 mod own;
-mod rest;
 mod said;
 mod sequence;
 mod tally;
-mod updates;
 mod writes;
 
-pub use before::Before;
-pub use ends::Numbers;
-pub use gathering::{read_numbers, read_own, read_points};
-pub use heard::{newer_of, snapshot_of};
-pub use history::read_history;
+pub use before::{Before, newer_of, snapshot_of};
+pub use context::{Numbers, Points, read_numbers, read_own, read_points};
+pub use history::{Past, keeps_update, read_history};
 pub use lines::{Lines, Reader};
-pub use marks::Points;
 pub use own::{LEAST, Own, Tx};
-pub use rest::Rest;
-pub use said::Said;
+pub use said::{Rest, Said};
 pub use sequence::Sequence;
 pub use tally::Tally;
-pub use updates::keeps_update;
 pub use writes::Writes;

@@ -1,16 +1,71 @@
-//! Lines, each read with the transaction in which it stands.
+//! One line with the transaction that it belongs to, read from what its session's last line left.
 
 ghost use Rattle.std.specs.Prelude.{◌≡◌, ℕ, ◌+◌, ◌<◌, ◌≤◌, ◌^◌, ◌∷◌, List, Option, Some, None, option_map, false, IfSome, IfOk, OnErr, OnOk};
 ghost use Rattle.hg_base.specs.declared.scope.Scope.TheVariants.{All};
 ghost use Rattle.std.specs.BTreeMap.{IsUnchanged, get};
 ghost use Rattle.std.specs.Ordering.{nat_cmp};
 ghost use Rattle.hg_base.specs.Transcript as script;
-ghost use Rattle.hg_base.specs.Transcript.{last_of, rest_after, rest_in, said_after};
+ghost use Rattle.hg_base.specs.Transcript.{last_of, rest_in, said_after};
 ghost use Rattle.hg_known.specs.Lines.{said_of, rest_of, number_of, without_rest, left_by, left_rest, AreLasts, AreRests, HasRest, IsRest, OpensKnown, ReachTo};
 
-use crate::rest::{self, Rest};
-use hg_base::{Answer, NoMemory, Record, Reply, Scope, Statement};
+use hg_base::{Answer, NoMemory, Record, Reply, Row, Scope, Statement, TableId};
 use std::collections::BTreeMap;
+
+/// The keys that a cursor has left: those of a table from `next` to `high`. `next` is `None` if it has passed the greatest key of
+/// 64 bits.
+#[derive(Clone, Copy)]
+pub struct Rest {
+    pub table: TableId,
+    pub next: Option<u64>,
+    pub high: u64,
+}
+
+impl Rest {
+    /// The last key that a fetch of at most `most` rows passes when it returns these.
+    pub fn passed(self, most: u32, rows: &[(u64, Row)]) -> u64
+        ensures { result ≡ script.passed most self.high rows.now }
+    {
+        let count = rows.len();
+        if count < most as usize {
+            return self.high;
+        }
+        if count == 0 {
+            return self.high;
+        }
+        rows[count - 1].0
+    }
+
+    // What is left after such a fetch.
+    fn behind(self, most: u32, rows: &[(u64, Row)]) -> Rest
+        ensures { rest_of result ≡ script.rest_behind most rows.now (rest_of self) }
+    {
+        Rest {
+            next: self.passed(most, rows).checked_add(1),
+            ..self
+        }
+    }
+}
+
+/// What the cursor of a line's transaction has left after the line.
+fn rest_after(now: &Said) -> Option<Rest>
+    ensures { option_map rest_of result ≡
+        script.rest_after now.now.statement now.now.reply.now.answer
+        (option_map rest_of now.now.rest) }
+{
+    match &now.statement {
+        Statement::Begin(_) => None,
+        Statement::CursorOpen { table, low, high } => Some(Rest {
+            table: *table,
+            next: Some(*low),
+            high: *high,
+        }),
+        Statement::Fetch(most) => match &now.reply.answer {
+            Answer::Rows(rows) => Some(now.rest?.behind(*most, rows.as_slice())),
+            _ => now.rest,
+        },
+        _ => now.rest,
+    }
+}
 
 /// A record with its reply, the transaction that it belongs to, and what that transaction's cursor had left before it. A record that
 /// is a transaction of its own (`alone`) declares the statement's one table, and `scope` says nothing.
@@ -174,7 +229,7 @@ fn stand<'a>(last: Option<Last>, asked: Record, reply: &'a Reply) -> Said<'a>
 fn left(now: &Said) -> Last
     ensures left { without_rest result ≡ left_by (said_of now.now) }
     ensures rest { script.ends (said_of now.now) ≡ false →
-        left_rest (Some result) ≡ rest_after now.now.statement now.now.reply.now.answer (option_map rest_of now.now.rest) }
+        left_rest (Some result) ≡ script.rest_after now.now.statement now.now.reply.now.answer (option_map rest_of now.now.rest) }
 {
     if ends(now) {
         return Last::Over(now.transaction);
@@ -183,7 +238,7 @@ fn left(now: &Said) -> Last
         transaction: now.transaction,
         at: now.at,
         scope: now.scope,
-        rest: rest::rest_after(now),
+        rest: rest_after(now),
     }
 }
 
