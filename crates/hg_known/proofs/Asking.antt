@@ -21,8 +21,10 @@ module _ {X : Type 0} (test : X → Bool) (xs : List X) where
       some true = refl
       some false = refl
 
-  pub none_more : (k : ℕ) (now : X) → AtLine xs k now → list_any test (take k xs) ≡ false → test now ≡ false → list_any test (take (k + 1) xs) ≡ false
-  none_more k now at h e = ap (list_any test) at.up_to ∙ any_append test (take k xs) (now ∷ []) ∙ (λ i. h i || (e i || false))
-
-  pub none_at_all : (k : ℕ) → length xs ≤ k → list_any test (take k xs) ≡ false → list_any test xs ≡ false
-  none_at_all k over h = sym (ap (list_any test) (take_all xs k over)) ∙ h
+  pub any_next : (k : ℕ) (now : X) → AtLine xs k now → (before here : Bool) → before ≡ list_any test (take k xs) → here ≡ test now → (before || here) ≡ list_any test (take (k + 1) xs)
+  any_next k now at before here e f =
+      (λ i. e i || f i) ∙ sym (ap (list_any test) at.up_to ∙ any_append test (take k xs) (now ∷ []) ∙ ap (λ b. list_any test (take k xs) || b) (no_more (test now)))
+    where
+      no_more : (b : Bool) → (b || false) ≡ b
+      no_more true = refl
+      no_more false = refl

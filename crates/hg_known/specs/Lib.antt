@@ -20,4 +20,6 @@ pub mod Shown
 -- Which numbers and snapshots were printed before.
 pub mod Heard
 pub mod Marked
+-- What is kept of all lines, where some line asks for it.
+pub mod Context
 pub mod Before

@@ -7,6 +7,7 @@ ghost use Rattle.hg_base.specs.Transcript as script;
 ghost use Rattle.hg_base.specs.Transcript.{numbers_in};
 ghost use Rattle.hg_base.specs.Freshness as fresh;
 ghost use Rattle.hg_known.specs.Asked as asked;
+ghost use Rattle.hg_known.specs.Context.{IsContext, wants_of};
 ghost use Rattle.hg_known.specs.Lines.{said_of};
 ghost use Rattle.hg_known.specs.Owned.{AreOwn};
 ghost use Rattle.hg_known.specs.Ended.{AreNumbers};
@@ -156,52 +157,6 @@ fn names_writer(reply: &Reply) -> bool
     matches!(&reply.answer, Answer::OpenBy(_))
 }
 
-// Whether a line is refused for an open write.
-fn do_name_writers(all: &Lines<'_>) -> bool
-    ensures { result ≡ list_any asked.names_writer all.now }
-{
-    for k in 0..all.len() {
-        if names_writer(all.reply(k)) {
-            return true;
-        }
-    }
-    false
-}
-
-/// The commit number of each transaction, where a line is refused for an open write: nothing else asks for it.
-pub fn read_numbers(alloc: Global, all: &Lines<'_>) -> Result<Numbers, NoMemory>
-    ensures { IfOk result (λ numbers.
-        IsTrue (list_any asked.names_writer all.now) → AreNumbers numbers (onto all.now [])) }
-{
-    let mut numbers = Numbers::new(alloc);
-    if !do_name_writers(all) {
-        return Ok(numbers);
-    }
-    let mut reader = all.reader(alloc);
-    for _ in 0..all.len() {
-        let said = reader.read()?;
-        numbers.add(&said)?;
-    }
-    Ok(numbers)
-}
-
-/// What each transaction stores, where a line is refused for an open write: nothing else asks for it.
-pub fn read_own(alloc: Global, all: &Lines<'_>) -> Result<Own, NoMemory>
-    ensures { IfOk result
-        (λ own. IsTrue (list_any asked.names_writer all.now) → AreOwn own (onto all.now [])) }
-{
-    let mut own = Own::new(alloc);
-    if !do_name_writers(all) {
-        return Ok(own);
-    }
-    let mut reader = all.reader(alloc);
-    for _ in 0..all.len() {
-        let said = reader.read()?;
-        own.add(&said)?;
-    }
-    Ok(own)
-}
-
 fn tells_held(reply: &Reply) -> bool
     ensures { (said : script.Said) → reply.now ≡ said.reply → result ≡ asked.tells_held said }
 {
@@ -211,31 +166,111 @@ fn tells_held(reply: &Reply) -> bool
     }
 }
 
-// Whether a report tells held snapshots.
-fn do_tell_held(all: &Lines<'_>) -> bool
-    ensures { result ≡ list_any asked.tells_held all.now }
-{
-    for k in 0..all.len() {
-        if tells_held(all.reply(k)) {
-            return true;
-        }
-    }
-    false
+/// What all lines say that one of them may ask for. A part that none asks for is empty.
+#[derive(Drop)]
+pub struct Context {
+    pub stored: Own,
+    pub numbers: Numbers,
+    pub points: Points,
 }
 
-/// Every snapshot that was printed, where a report tells held ones: nothing else asks for them.
-pub fn read_points(alloc: Global, all: &Lines<'_>) -> Result<Points, NoMemory>
-    ensures { IfOk result (λ points.
-        IsTrue (list_any asked.tells_held all.now) → ArePoints points (onto all.now [])) }
+/// Which parts are asked for.
+#[derive(Clone, Copy)]
+pub(crate) struct Wants {
+    pub stored: bool,
+    pub numbers: bool,
+    pub points: bool,
+}
+
+// A refusal for an open write asks for commit numbers, and in a run for what is stored; a report of held snapshots asks for printed ones.
+fn find_wants(all: &Lines<'_>, is_run: bool) -> Wants
+    ensures { result ≡ wants_of is_run all.now }
 {
-    let mut points = Points::new(alloc);
-    if !do_tell_held(all) {
-        return Ok(points);
+    let mut numbers = false;
+    let mut points = false;
+    for k in 0..all.len() {
+        let reply = all.reply(k);
+        let names = names_writer(reply);
+        let tells = tells_held(reply);
+        numbers |= names;
+        points |= tells;
+    }
+    Wants {
+        stored: is_run & numbers,
+        numbers,
+        points,
+    }
+}
+
+fn keep_stored(stored: &mut Own, wanted: bool, said: &Said) -> Result<(), NoMemory>
+    ensures { OnOk result ((earlier : List script.Said) →
+        (IsTrue wanted → AreOwn stored.old earlier) →
+        IsTrue wanted → AreOwn stored.new (said_of said.now ∷ earlier)) }
+{
+    if !wanted {
+        return Ok(());
+    }
+    stored.add(said)?;
+    Ok(())
+}
+
+fn keep_number(numbers: &mut Numbers, wanted: bool, said: &Said) -> Result<(), NoMemory>
+    ensures { OnOk result ((earlier : List script.Said) →
+        (IsTrue wanted → AreNumbers numbers.old earlier) →
+        IsTrue wanted → AreNumbers numbers.new (said_of said.now ∷ earlier)) }
+{
+    if !wanted {
+        return Ok(());
+    }
+    numbers.add(said)
+}
+
+fn keep_point(points: &mut Points, wanted: bool, said: &Said) -> Result<(), NoMemory>
+    ensures { OnOk result ((earlier : List script.Said) →
+        (IsTrue wanted → ArePoints points.old earlier) →
+        IsTrue wanted → ArePoints points.new (said_of said.now ∷ earlier)) }
+{
+    if !wanted {
+        return Ok(());
+    }
+    points.add(said)
+}
+
+impl Context {
+    // Keeps what is asked for of a line.
+    fn add(&mut self, wants: Wants, said: &Said) -> Result<(), NoMemory>
+        ensures { OnOk result ((earlier : List script.Said) →
+            IsContext wants self.old earlier →
+            IsContext wants self.new (said_of said.now ∷ earlier)) }
+    {
+        keep_stored(&mut self.stored, wants.stored, said)?;
+        keep_number(&mut self.numbers, wants.numbers, said)?;
+        keep_point(&mut self.points, wants.points, said)?;
+        Ok(())
+    }
+}
+
+/// Goes over the lines once, and not at all if none asks for anything.
+pub fn read_context(alloc: Global, all: &Lines<'_>, is_run: bool) -> Result<Context, NoMemory>
+    ensures { IfOk result
+        (λ context. IsContext (wants_of is_run all.now) context (onto all.now [])) }
+{
+    let wants = find_wants(all, is_run);
+    let stored = Own::new(alloc);
+    let numbers = Numbers::new(alloc);
+    let points = Points::new(alloc);
+    let mut context = Context {
+        stored,
+        numbers,
+        points,
+    };
+    if !wants.numbers && !wants.points {
+        return Ok(context);
     }
     let mut reader = all.reader(alloc);
     for _ in 0..all.len() {
         let said = reader.read()?;
-        points.add(&said)?;
+        context.add(wants, &said)?;
     }
-    Ok(points)
+    Ok(context)
 }

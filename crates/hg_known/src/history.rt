@@ -183,7 +183,8 @@ pub fn read_history(alloc: Global, all: &Lines<'_>) -> Result<Option<Past>, NoMe
 
 // Whether no write of the record is numbered over a snapshot and below a number.
 fn is_kept(writes: &Writes, rid: Rid, at: u64, number: u64) -> bool
-    ensures { IsTrue result ↔ ((m : ℕ) → at < m → m < number → image_at writes.now rid m ≡ None) }
+    ensures { IsTrue result ↔
+        ((m : ℕ) → at < m → m < number → image_at writes.now rid m ≡ None) }
 {
     if number == 0 {
         return true;
@@ -196,8 +197,8 @@ fn is_kept(writes: &Writes, rid: Rid, at: u64, number: u64) -> bool
 
 // The same of each record that a transaction stored.
 fn loses_none(writes: &Writes, own: &Own, tx: Tx, at: u64, number: u64) -> bool
-    ensures { IsTrue result ↔ ((r : Rid) → IsSome (own_at own.now tx.session tx.number r) → (m : ℕ) →
-        at < m → m < number → image_at writes.now r m ≡ None) }
+    ensures { IsTrue result ↔ ((r : Rid) → IsSome (own_at own.now tx.session tx.number r) →
+        (m : ℕ) → at < m → m < number → image_at writes.now r m ≡ None) }
 {
     let mut found = own.next(tx, LEAST);
     while let Some(rid) = found {
@@ -211,9 +212,9 @@ fn loses_none(writes: &Writes, own: &Own, tx: Tx, at: u64, number: u64) -> bool
 
 /// Whether the commit of a line overwrites nothing that it did not see, where it prints a commit number.
 pub fn keeps_update(writes: &Writes, own: &Own, said: &Said) -> bool
-    ensures { IsTrue result ↔ (IfSome (script.committed (said_of said.now)) (λ number.
+    ensures { IsTrue result ↔ IfSome (script.committed (said_of said.now)) (λ number.
         (r : Rid) → IsSome (own_at own.now said.now.session said.now.transaction r) →
-        (m : ℕ) → said.now.at < m → m < number → image_at writes.now r m ≡ None)) }
+        (m : ℕ) → said.now.at < m → m < number → image_at writes.now r m ≡ None) }
 {
     let tx = Tx {
         session: said.session,

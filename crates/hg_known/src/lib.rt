@@ -11,11 +11,12 @@
 //!     Numbers    transaction -> its least commit number                 numbers_in j x lines
 //!     Before     numbers, marks and open transactions before a line     known, greatest_commit, mark_of, open_of
 //!     Points     the snapshots that were printed                        prints
+//!     Context    `Own`, `Numbers` and `Points` of all lines
 //!
 //! Each is an ordered map or set, so a look-up takes logarithmic time in the number of lines. `visible` is the last entry of `Writes`
 //! at or before (record, snapshot). No line belongs to a transaction that ended before it, so where only open transactions matter,
-//! `Own` forgets a transaction when it ends (`close`). `read_own`, `read_numbers` and `read_points` go over the lines only if some line
-//! needs their result.
+//! `Own` forgets a transaction when it ends (`close`). `read_context` gathers what some line asks of all lines, in one go, and doesn't
+//! go over them if none asks.
 //!
 //! Neither the records nor the lines with their transactions are kept: a `Reader` makes each `Said` when its line is read, from the
 //! script, the reply, and what the session's previous line left.
@@ -35,7 +36,7 @@ mod tally;
 mod writes;
 
 pub use before::{Before, newer_of, snapshot_of};
-pub use context::{Numbers, Points, read_numbers, read_own, read_points};
+pub use context::{Context, Numbers, Points, read_context};
 pub use history::{Past, keeps_update, read_history};
 pub use lines::{Lines, Reader};
 pub use own::{LEAST, Own, Tx};

@@ -32,7 +32,8 @@ impl<'a> Model for Lines<'a> {
 
     ghost view = { λ l. said_from [] l.sequence.now l.lines.now };
 
-    ghost invariant = { λ l. (length l.sequence.now ≡ length l.lines.now) × (length l.lines.now < 2 ^ 62) × Each (λ r. OpensKnown r.statement) l.sequence.now };
+    ghost invariant = { λ l. (length l.sequence.now ≡ length l.lines.now)
+        × (length l.lines.now < 2 ^ 62) × Each (λ r. OpensKnown r.statement) l.sequence.now };
 }
 
 impl<'a> Lines<'a> {
@@ -92,7 +93,8 @@ impl<'a> Model for Reader<'a> {
 
     ghost view = { λ r. (r.at, r.all.now) };
 
-    ghost invariant = { λ r. AreLasts r.lasts (onto (take r.at r.all.now) []) × AreRests r.lasts (onto (take r.at r.all.now) []) × ReachTo r.at r.lasts };
+    ghost invariant = { λ r. AreLasts r.lasts (onto (take r.at r.all.now) [])
+        × AreRests r.lasts (onto (take r.at r.all.now) []) × ReachTo r.at r.lasts };
 }
 
 impl<'a> Reader<'a> {

@@ -177,7 +177,8 @@ fn stand<'a>(last: Option<Last>, asked: Record, reply: &'a Reply) -> Said<'a>
     requires known { OpensKnown asked.statement }
     ensures said { (o : Option script.Said) → option_map left_by o ≡ option_map without_rest last →
         said_of result ≡ said_after o asked reply.entry.now asked.statement }
-    ensures rest { (earlier : List script.Said) → option_map without_rest last ≡ option_map left_by (last_of asked.session earlier) →
+    ensures rest { (earlier : List script.Said) →
+        option_map without_rest last ≡ option_map left_by (last_of asked.session earlier) →
         IsRest asked.session earlier last →
         option_map rest_of result.rest ≡ rest_in asked.session result.transaction earlier }
     ensures session { result.session ≡ asked.session }
@@ -229,7 +230,9 @@ fn stand<'a>(last: Option<Last>, asked: Record, reply: &'a Reply) -> Said<'a>
 fn left(now: &Said) -> Last
     ensures left { without_rest result ≡ left_by (said_of now.now) }
     ensures rest { script.ends (said_of now.now) ≡ false →
-        left_rest (Some result) ≡ script.rest_after now.now.statement now.now.reply.now.answer (option_map rest_of now.now.rest) }
+        left_rest (Some result) ≡
+        script.rest_after now.now.statement now.now.reply.now.answer
+        (option_map rest_of now.now.rest) }
 {
     if ends(now) {
         return Last::Over(now.transaction);
@@ -265,13 +268,15 @@ pub fn read_line<'a>(
     ensures said { IfOk result (λ now.
         (earlier : List script.Said) → AreLasts lasts.old earlier →
         said_of now ≡ script.said earlier asked reply.entry.now) }
-    ensures rest { IfOk result (λ now. (earlier : List script.Said) → AreLasts lasts.old earlier → AreRests lasts.old earlier →
-        HasRest earlier now) }
+    ensures rest { IfOk result (λ now.
+        (earlier : List script.Said) → AreLasts lasts.old earlier →
+        AreRests lasts.old earlier → HasRest earlier now) }
     ensures lasts { IfOk result (λ now.
         (earlier : List script.Said) → AreLasts lasts.old earlier →
         AreLasts lasts.new (said_of now ∷ earlier)) }
-    ensures rests { IfOk result (λ now. (earlier : List script.Said) → AreLasts lasts.old earlier → AreRests lasts.old earlier →
-        AreRests lasts.new (said_of now ∷ earlier)) }
+    ensures rests { IfOk result (λ now.
+        (earlier : List script.Said) → AreLasts lasts.old earlier →
+        AreRests lasts.old earlier → AreRests lasts.new (said_of now ∷ earlier)) }
     ensures reach { OnOk result ((n : ℕ) → ReachTo n lasts.old → ReachTo (n + 1) lasts.new) }
     ensures refused { OnErr result (IsUnchanged lasts.old lasts.new) }
 {

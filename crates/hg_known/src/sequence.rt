@@ -35,7 +35,8 @@ impl<'a> Model for Sequence<'a> {
 
     ghost view = { λ s. sequence_of s.is_plain s.script.now s.indices.items s.rounds };
 
-    ghost invariant = { λ s. Each (IsIndex s.script.now) s.indices.items × (length s.indices.items + 3 * s.rounds < 2 ^ 64) };
+    ghost invariant = { λ s. Each (IsIndex s.script.now) s.indices.items
+        × (length s.indices.items + 3 * s.rounds < 2 ^ 64) };
 }
 
 // Where a record of the script stands among all.
@@ -128,8 +129,10 @@ impl<'a> Sequence<'a> {
         script: &'a Script,
         lines: usize,
     ) -> Result<Option<Sequence<'a>>, NoMemory>
-        ensures { IfOk result (λ found. MatchOption found ((n : ℕ) → length (in_order (run n) script.entry.now.records) ≡ lines → ⊥)
-            (λ sequence. (n : ℕ) × (sequence ≡ in_order (run n) script.entry.now.records) × (length sequence ≡ lines))) }
+        ensures { IfOk result (λ found. MatchOption found
+            ((n : ℕ) → length (in_order (run n) script.entry.now.records) ≡ lines → ⊥)
+            (λ sequence. (n : ℕ) × (sequence ≡ in_order (run n) script.entry.now.records) ×
+            (length sequence ≡ lines))) }
     {
         let indices = by_session(alloc, script)?;
         let Some(rounds) = count_rounds(indices.len(), lines) else {
