@@ -15,8 +15,8 @@ use Rattle.hg_base.specs.Conflicts.{OnReplay, ShowsCause, ShowsOpen, IsStillOpen
 use Rattle.hg_base.proofs.ListFacts.{false_true}
 use Rattle.hg_known.specs.declared.own.Spot.{Spot}
 use Rattle.hg_known.proofs.Walking.{earlier_at}
-use Rattle.hg_audit.specs.declared.reply.Command.{Command}
-use Rattle.hg_audit.specs.declared.reply.Command.TheVariants.{Replay, Run}
+use Rattle.hg_audit.specs.declared.shape.Command.{Command}
+use Rattle.hg_audit.specs.declared.shape.Command.TheVariants.{Replay, Run}
 use Rattle.hg_audit.specs.Judged.{IsOf}
 use Rattle.hg_audit.specs.Known.{IsPart}
 use Rattle.hg_known.specs.Owned.{own_at, AreOwn}

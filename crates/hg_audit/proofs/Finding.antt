@@ -7,8 +7,8 @@ use Rattle.hg_base.specs.declared.line.Printed.{Printed}
 use Rattle.hg_base.specs.Script.{Mode, Script}
 use Rattle.hg_base.specs.Transcript.{in_order}
 use Rattle.hg_decide.specs.Audit.{in_shape, in_commits, in_reply, in_fresh, in_totals}
-use Rattle.hg_audit.specs.declared.lines.Found.{Found}
-use Rattle.hg_audit.specs.declared.lines.Found.TheVariants as what
+use Rattle.hg_audit.specs.declared.fault.Found.{Found}
+use Rattle.hg_audit.specs.declared.fault.Found.TheVariants as what
 use Rattle.hg_audit.specs.declared.verdict.Why.TheVariants as whys
 use Rattle.hg_audit.specs.declared.verdict.Verdict.{Verdict}
 use Rattle.hg_audit.specs.declared.verdict.Verdict.TheVariants.{Unsound}

@@ -7,7 +7,7 @@ use Rattle.hg_base.specs.Transcript.{Said, in_order, history_of}
 use Rattle.hg_base.specs.Sound.{IsRight, IsSound, all_said}
 use Rattle.hg_base.proofs.ListFacts.{each_after_keeps}
 use Rattle.hg_decide.specs.Audit.{IsRightReply, IsKnown}
-use Rattle.hg_audit.specs.declared.lines.Found.TheVariants.{Right}
+use Rattle.hg_audit.specs.declared.fault.Found.TheVariants.{Right}
 use Rattle.hg_audit.specs.Found.{IsFound}
 
 pub each_after_two : (P Q R : List Said → Said → Type 0) → ((earlier : List Said) (now : Said) → P earlier now → Q earlier now → R earlier now) → (earlier xs : List Said) → EachAfter P earlier xs → EachAfter Q earlier xs → EachAfter R earlier xs

@@ -11,9 +11,9 @@ use Rattle.hg_base.specs.Transcript.{Said, said_from, history_of}
 use Rattle.hg_base.specs.Shape.{HasShape}
 use Rattle.hg_base.specs.Counts.{AreTotals}
 use Rattle.hg_decide.specs.Audit.{FirstOutOfShape, FirstWithout, GiveHistory, IsRightReply, IsKnown}
-use Rattle.hg_audit.specs.declared.faults.Faults.{Faults}
-use Rattle.hg_audit.specs.declared.lines.Found.{Found}
-use Rattle.hg_audit.specs.declared.lines.Found.TheVariants.{Right, Shape, Commits, Reply, Fresh, Totals}
+use Rattle.hg_audit.specs.declared.fault.Faults.{Faults}
+use Rattle.hg_audit.specs.declared.fault.Found.{Found}
+use Rattle.hg_audit.specs.declared.fault.Found.TheVariants.{Right, Shape, Commits, Reply, Fresh, Totals}
 
 -- of lines that give a history, with totals: all is right, or what fails first
 abbrev pub IsJudged : Mode → List Said → printed.Totals → Found → Type 0

@@ -1,7 +1,7 @@
 -- By which command a text is judged.
 use Rattle.hg_base.specs.Script.{Mode, replay, run}
-use Rattle.hg_audit.specs.declared.reply.Command.{Command}
-use Rattle.hg_audit.specs.declared.reply.Command.TheVariants.{Replay, Run}
+use Rattle.hg_audit.specs.declared.shape.Command.{Command}
+use Rattle.hg_audit.specs.declared.shape.Command.TheVariants.{Replay, Run}
 
 -- the command without its rounds
 abbrev pub IsOf : Command → Mode → Type 0

@@ -6,20 +6,22 @@ use Rattle.hg_base.specs.declared.image.Image.{Image}
 use Rattle.hg_base.specs.Lists.{onto}
 use Rattle.hg_base.specs.History.{History, image_in}
 use Rattle.hg_base.specs.Transcript.{Said, stored_in}
-use Rattle.hg_audit.specs.declared.facts.Facts.{Facts}
-use Rattle.hg_audit.specs.declared.reply.Command.TheVariants.{Run}
-use Rattle.hg_known.specs.Asked.{names_writer}
+use Rattle.hg_audit.specs.declared.fault.Facts.{Facts}
+use Rattle.hg_audit.specs.declared.shape.Command.TheVariants.{Run}
+use Rattle.hg_known.specs.Asked.{names_writer, tells_held}
 use Rattle.hg_known.specs.Owned.{AreOwn}
 use Rattle.hg_known.specs.Ended.{AreNumbers}
+use Rattle.hg_known.specs.Marked.{ArePoints}
 use Rattle.hg_known.specs.declared.writes.Slot.{Slot}
 use Rattle.hg_known.specs.Written.{IsOfHistory}
 
 -- the facts are those of these lines and their history
 pub record Knows (h : History) (all : List Said) (facts : Facts) : Type 0 where
-  pub writes : IsOfHistory h facts.writes.now
-  pub groups : length h ≡ facts.groups
-  pub own : facts.command ≡ Run → IsTrue (list_any names_writer all) → AreOwn facts.own.now (onto all [])
-  pub numbers : IsTrue (list_any names_writer all) → AreNumbers facts.numbers.now (onto all [])
+  pub writes : IsOfHistory h facts.past.now.writes
+  pub groups : length h ≡ facts.past.now.groups
+  pub own : facts.command ≡ Run → IsTrue (list_any names_writer all) → AreOwn facts.context.now.stored (onto all [])
+  pub numbers : IsTrue (list_any names_writer all) → AreNumbers facts.context.now.numbers (onto all [])
+  pub points : IsTrue (list_any tells_held all) → ArePoints facts.context.now.points (onto all [])
 
 -- the writes of some history of so many groups
 abbrev pub HasHistory : List (Slot × Image) → ℕ → Type 0

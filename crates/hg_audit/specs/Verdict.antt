@@ -1,5 +1,5 @@
 -- What an audit answers of a script and a printed value.
-use Rattle.std.specs.Prelude.{◌≡◌, ℕ, suc, ◌⊎◌, List, length, take, Bool, not, ◌&&◌, ◌==◌, IsFalse, Option, Some, None, is_some}
+use Rattle.std.specs.Prelude.{◌≡◌, ℕ, suc, ◌⊎◌, List, ◌++◌, length, take, codes, decimal, Bool, not, ◌&&◌, ◌==◌, IsFalse, Option, Some, None, is_some}
 use Rattle.std.specs.List.{flat_map, list_any}
 use Rattle.hg_base.specs.declared.line.Line.{Line}
 use Rattle.hg_base.specs.declared.line.Printed.{Printed}
@@ -64,6 +64,21 @@ IsVerdict script printed verdict = (mode : Mode) × IsJudgedAs script printed.li
 abbrev pub IsOfRun : Script → Printed → Option Verdict → Type 0
 IsOfRun script printed None = (rounds : ℕ) → ¬ HasShape (in_order (run rounds) script.records) printed.lines
 IsOfRun script printed (Some verdict) = (rounds : ℕ) × HasShape (in_order (run rounds) script.records) printed.lines × IsFinding (run rounds) script printed verdict
+
+-- ---- the text of a verdict
+
+abbrev pub why_text : Why → List ℕ
+why_text whys.Text = codes "Text"
+why_text whys.Shape = codes "Shape"
+why_text whys.Commits = codes "Commits"
+why_text whys.Reply = codes "Reply"
+why_text whys.Fresh = codes "Fresh"
+why_text whys.Totals = codes "Totals"
+
+-- that a text is sound, or the first record that shows what fails, and what fails
+abbrev pub verdict_text : Verdict → List ℕ
+verdict_text Sound = codes "sound"
+verdict_text (Unsound line why) = codes "unsound," ++ decimal line ++ codes "," ++ why_text why
 
 -- ---- the verdict on bytes
 

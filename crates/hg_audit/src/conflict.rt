@@ -1,6 +1,6 @@
 //! Whether a write that is refused for a conflict shows its cause.
 
-ghost use Rattle.std.specs.Prelude.{◌≡◌, ℕ, ◌<◌, List, [], length, is_some, IsSome, IsTrue, IsFalse, Decides};
+ghost use Rattle.std.specs.Prelude.{◌≡◌, ◌↔◌, ℕ, ◌<◌, List, [], length, is_some, IsSome, IsTrue, IsFalse};
 ghost use Rattle.hg_base.specs.declared.writer.Writer.{Writer};
 ghost use Rattle.hg_base.specs.declared.rid.Rid.{Rid};
 ghost use Rattle.hg_base.specs.Lists.{Each, onto};
@@ -17,8 +17,8 @@ ghost use Rattle.hg_known.specs.Written.{IsOfHistory};
 ghost use Rattle.hg_audit.specs.Judged.{IsOf};
 ghost use Rattle.hg_audit.specs.Known.{Knows, IsAsked, IsPart};
 
-use crate::facts::Facts;
-use crate::reply::Command;
+use crate::fault::Facts;
+use crate::shape::Command;
 use hg_base::{Answer, Rid, Statement, Writer};
 use hg_known::{Numbers, Own, Said, Tx, Writes};
 
@@ -46,7 +46,7 @@ fn has_written(own: &Own, now: &Said, rid: Rid) -> bool
 
 fn shows_newer(writes: &Writes, groups: u64, at: u64, rid: Rid, number: u64) -> bool
     ensures { (h : History) → IsOfHistory h writes.now → length h ≡ groups →
-        Decides result (ShowsNewer h at rid number) }
+        (IsTrue result ↔ ShowsNewer h at rid number) }
 {
     if number <= at || number > groups {
         return false;
@@ -58,7 +58,7 @@ fn shows_newer(writes: &Writes, groups: u64, at: u64, rid: Rid, number: u64) -> 
 fn shows_open(own: &Own, numbers: &Numbers, now: &Said, rid: Rid, writer: Writer) -> bool
     ensures { (all : List script.Said) → AreOwn own.now (onto all []) →
         AreNumbers numbers.now (onto all []) →
-        Decides result (ShowsOpen (stored_in writer.session writer.transaction all)
+        (IsTrue result ↔ ShowsOpen (stored_in writer.session writer.transaction all)
         (numbers_in writer.session writer.transaction all) now.now.session now.now.at
         rid writer) }
 {
@@ -78,7 +78,7 @@ fn shows_open(own: &Own, numbers: &Numbers, now: &Said, rid: Rid, writer: Writer
 // Whether the transaction stored the record before, and did not end: of one that did nothing is kept.
 fn is_still_open(own: &Own, rid: Rid, writer: Writer) -> bool
     ensures { (earlier : List script.Said) → AreOpenOwn own.now earlier →
-        ForgetsOver own.now earlier → Decides result (IsStillOpen earlier rid writer) }
+        ForgetsOver own.now earlier → (IsTrue result ↔ IsStillOpen earlier rid writer) }
 {
     let tx = Tx {
         session: writer.session,
@@ -89,8 +89,12 @@ fn is_still_open(own: &Own, rid: Rid, writer: Writer) -> bool
 
 // Whether another session's transaction stored the record before, did not end, and is not committed at or below the snapshot.
 fn shows_still_open(own: &Own, numbers: &Numbers, now: &Said, rid: Rid, writer: Writer) -> bool
-    ensures { (all earlier : List script.Said) → IsPart earlier all → AreOpenOwn own.now earlier → ForgetsOver own.now earlier → AreNumbers numbers.now (onto all []) →
-        Decides result (ShowsOpen (stored_in writer.session writer.transaction all) (numbers_in writer.session writer.transaction all) now.now.session now.now.at rid writer × IsStillOpen earlier rid writer) }
+    ensures { (all earlier : List script.Said) → IsPart earlier all →
+        AreOpenOwn own.now earlier → ForgetsOver own.now earlier →
+        AreNumbers numbers.now (onto all []) →
+        (IsTrue result ↔ (ShowsOpen (stored_in writer.session writer.transaction all)
+        (numbers_in writer.session writer.transaction all) now.now.session now.now.at
+        rid writer × IsStillOpen earlier rid writer)) }
 {
     let tx = Tx {
         session: writer.session,
@@ -111,23 +115,24 @@ fn shows_cause(facts: &Facts, own: &Own, now: &Said, rid: Rid) -> bool
         IsOf facts.now.command mode → Knows h all facts.now → IsAsked all (said_of now.now) →
         IsPart earlier all → HasOwn own.now earlier (said_of now.now) → AreOpenOwn own.now earlier →
         ForgetsOver own.now earlier →
-        Decides result
-        (ShowsCause mode h all earlier (said_of now.now) rid now.now.reply.now.answer) }
+        (IsTrue result ↔
+        ShowsCause mode h all earlier (said_of now.now) rid now.now.reply.now.answer) }
 {
     match &now.reply.answer {
         Answer::Newer(number) => {
             if has_written(own, now, rid) {
                 return false;
             }
-            shows_newer(facts.writes, facts.groups, now.at, rid, *number)
+            shows_newer(&facts.past.writes, facts.past.groups, now.at, rid, *number)
         }
         Answer::OpenBy(writer) => {
             if has_written(own, now, rid) {
                 return false;
             }
+            let known = facts.context;
             match facts.command {
-                Command::Run => shows_open(facts.own, facts.numbers, now, rid, *writer),
-                Command::Replay => shows_still_open(own, facts.numbers, now, rid, *writer),
+                Command::Run => shows_open(&known.stored, &known.numbers, now, rid, *writer),
+                Command::Replay => shows_still_open(own, &known.numbers, now, rid, *writer),
             }
         }
         _ => true,
@@ -140,7 +145,7 @@ pub fn shows_conflict(facts: &Facts, own: &Own, now: &Said) -> bool
         IsOf facts.now.command mode → Knows h all facts.now → IsAsked all (said_of now.now) →
         IsPart earlier all → HasOwn own.now earlier (said_of now.now) → AreOpenOwn own.now earlier →
         ForgetsOver own.now earlier →
-        Decides result (ShowsConflict mode h all earlier (said_of now.now)) }
+        (IsTrue result ↔ ShowsConflict mode h all earlier (said_of now.now)) }
 {
     match target(&now.statement) {
         Some(rid) => shows_cause(facts, own, now, rid),

@@ -12,31 +12,20 @@
 //!     Totals     the totals are not those of the lines                        the last record
 //!
 //! `find_fault` decides the lines and totals, by what `hg_known` gathers from them. Lost updates, replies and numbers are decided in
-//! one pass over the lines (`first_faults`). For a scan it checks that no key is seen between the rows, neither one that the
-//! transaction stored nor one that anybody else wrote. A fetch is checked like a scan of what its cursor has left, up to the last key
-//! that it passed, so a scan in parts costs about what the whole scan does.
+//! one pass over the lines (`first_faults`), and `verdict_of` finds the record of the line that fails. For a scan it checks that no
+//! key is seen between the rows, neither one that the transaction stored nor one that anybody else wrote. A fetch is checked like a
+//! scan of what its cursor has left, up to the last key that it passed, so a scan in parts costs about what the whole scan does.
 #![tactic(auto)]
 
-mod answered;
 mod conflict;
-mod facts;
-mod faults;
-mod fetch;
-mod fresh;
-mod judge;
-mod judging;
-mod laws;
-mod lines;
-mod place;
+mod fault;
+mod freshness;
 mod reply;
-mod reports;
 mod scan;
 mod shape;
 mod totals;
 mod verdict;
 
-pub use judging::audit;
-pub use laws::what_is_right_is_sound;
-pub use lines::Found;
-pub use reply::Command;
-pub use verdict::{Verdict, Why};
+pub use fault::{Found, what_is_right_is_sound};
+pub use shape::Command;
+pub use verdict::{Verdict, Why, audit};

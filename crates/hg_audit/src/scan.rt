@@ -1,17 +1,17 @@
-//! Whether the rows of a scan are those that are seen.
+//! Whether the rows of a scan, or of a fetch, are those that the line's transaction sees.
 
-ghost use Rattle.std.specs.Prelude.{◌≡◌, ℕ, ◌≤◌, List, None, map, Decides, unwrap_or, is_some, option_copied, if◌then◌else◌};
+ghost use Rattle.std.specs.Prelude.{◌≡◌, ◌↔◌, ℕ, ◌≤◌, List, None, map, unwrap_or, is_some, option_map, option_copied, if◌then◌else◌, IsTrue};
 ghost use Rattle.hg_base.specs.History.{History, nothing, seen};
 ghost use Rattle.hg_base.specs.Transcript as script;
 ghost use Rattle.hg_base.specs.Transcript.{own_writes};
-ghost use Rattle.hg_base.specs.Replies.{AreRows};
+ghost use Rattle.hg_base.specs.Replies.{AreFirst, AreRows, IsFetched};
 ghost use Rattle.hg_known.specs.Lines.{rest_of, said_of};
 ghost use Rattle.hg_known.specs.Owned.{HasOwn, own_at};
 ghost use Rattle.hg_known.specs.Written.{IsOfHistory};
 ghost use Rattle.hg_audit.specs.Seen.{IsNextStored, NoneSeen, look, other_look, own_look};
 
 use crate::reply::{is_row, see};
-use hg_base::{Rid, Row, TableId};
+use hg_base::{Answer, Rid, Row, TableId};
 use hg_known::{Own, Rest, Said, Tx, Writes};
 
 // The least key of the table, at or over `from`, that the transaction stored.
@@ -37,7 +37,7 @@ fn stores_row(own: &Own, tx: Tx, rid: Rid) -> bool
 
 // Whether the transaction stored no row at a key from `from` to `to`.
 fn none_stored(own: &Own, tx: Tx, table: TableId, from: u64, to: u64) -> bool
-    ensures { Decides result (NoneSeen (own_look own.now tx.session tx.number table) from to) }
+    ensures { IsTrue result ↔ NoneSeen (own_look own.now tx.session tx.number table) from to }
 {
     let mut from = from;
     while let Some(key) = next_stored(own, tx, table, from) {
@@ -67,7 +67,7 @@ fn is_shown(own: &Own, tx: Tx, rid: Rid, row: Option<&Row>) -> bool
 // Whether of no key from `from` to `to`, but for those that the transaction stored, a row is visible.
 fn none_shown(writes: &Writes, own: &Own, now: &Said, table: TableId, from: u64, to: u64) -> bool
     ensures { (h : History) → IsOfHistory h writes.now →
-        Decides result (NoneSeen
+        (IsTrue result ↔ NoneSeen
         (other_look h own.now now.now.session now.now.transaction now.now.at table) from
         to) }
 {
@@ -95,7 +95,7 @@ fn none_shown(writes: &Writes, own: &Own, now: &Said, table: TableId, from: u64,
 fn none_seen(writes: &Writes, own: &Own, now: &Said, table: TableId, from: u64, to: u64) -> bool
     ensures { (h : History) (earlier : List script.Said) → IsOfHistory h writes.now →
         HasOwn own.now earlier (said_of now.now) →
-        Decides result (NoneSeen (look h earlier (said_of now.now) table) from to) }
+        (IsTrue result ↔ NoneSeen (look h earlier (said_of now.now) table) from to) }
 {
     let tx = Tx {
         session: now.session,
@@ -109,8 +109,10 @@ fn none_seen(writes: &Writes, own: &Own, now: &Said, table: TableId, from: u64, 
 
 /// Whether these are the rows of the range that a line's transaction sees, by ascending key.
 pub fn is_scanned(writes: &Writes, own: &Own, now: &Said, range: Rest, rows: &[(u64, Row)]) -> bool
-    ensures { (h : History) (earlier : List script.Said) → IsOfHistory h writes.now → HasOwn own.now earlier (said_of now.now) →
-        Decides result (AreRows (look h earlier (said_of now.now) range.table) (rest_of range).low range.high rows.now) }
+    ensures { (h : History) (earlier : List script.Said) → IsOfHistory h writes.now →
+        HasOwn own.now earlier (said_of now.now) →
+        (IsTrue result ↔ AreRows (look h earlier (said_of now.now) range.table)
+        (rest_of range).low range.high rows.now) }
 {
     let table = range.table;
     let high = range.high;
@@ -133,5 +135,47 @@ pub fn is_scanned(writes: &Writes, own: &Own, now: &Said, range: Rest, rows: &[(
     match from {
         Some(first) => none_seen(writes, own, now, table, first, high),
         None => true,
+    }
+}
+
+// Whether these are the first `most` rows of what a cursor has left, or all of them if it has fewer. Only the keys up to the last one
+// that the fetch passed are looked at.
+fn are_first(
+    writes: &Writes,
+    own: &Own,
+    now: &Said,
+    most: u32,
+    rest: Rest,
+    rows: &[(u64, Row)],
+) -> bool
+    ensures { (h : History) (earlier : List script.Said) → IsOfHistory h writes.now →
+        HasOwn own.now earlier (said_of now.now) →
+        (IsTrue result ↔ AreFirst (look h earlier (said_of now.now) rest.table) most
+        (rest_of rest).low rest.high rows.now) }
+{
+    if rows.len() > most as usize {
+        return false;
+    }
+    let last = rest.passed(most, rows);
+    if last > rest.high {
+        return false;
+    }
+    is_scanned(writes, own, now, Rest { high: last, ..rest }, rows)
+}
+
+/// Whether the answer to a fetch has the first `most` rows of what the cursor of the line's transaction has left.
+pub fn is_fetched(writes: &Writes, own: &Own, now: &Said, most: u32) -> bool
+    ensures { (h : History) (earlier : List script.Said) → IsOfHistory h writes.now →
+        HasOwn own.now earlier (said_of now.now) →
+        (IsTrue result ↔
+        IsFetched (seen h (own_writes earlier (said_of now.now)) now.now.at) most
+        (option_map rest_of now.now.rest) now.now.reply.now.answer) }
+{
+    let Some(rest) = now.rest else {
+        return false;
+    };
+    match &now.reply.answer {
+        Answer::Rows(rows) => are_first(writes, own, now, most, rest, rows.as_slice()),
+        _ => false,
     }
 }

@@ -1,6 +1,6 @@
 //! Whether totals are those of the lines.
 
-ghost use Rattle.std.specs.Prelude.{◌≡◌, ◌+◌, ◌≤◌, ◌<◌, length, sum_by, is_some, Decides};
+ghost use Rattle.std.specs.Prelude.{◌≡◌, ◌↔◌, ◌+◌, ◌≤◌, ◌<◌, length, sum_by, is_some, IsTrue};
 ghost use Rattle.std.specs.Option.{MatchOption};
 ghost use Rattle.hg_base.specs.History.{History, visible};
 ghost use Rattle.hg_base.specs.Transcript as script;
@@ -11,11 +11,12 @@ ghost use Rattle.hg_known.specs.Written.{IsOfHistory};
 ghost use Rattle.hg_audit.specs.Known.{HasHistory};
 
 use hg_base::{Answer, Kind, Reply, Rid, Totals};
-use hg_known::{LEAST, Lines, Tally, Writes};
+use hg_known::{LEAST, Lines, Past, Writes};
 
 // What a line says that a collector of that kind removed.
 fn removed(reply: &Reply, kind: Kind) -> u64
-    ensures { (said : script.Said) → reply.now ≡ said.reply → result ≡ removed_by kind said }
+    ensures { (said : script.Said) → reply.now ≡ said.reply →
+        result ≡ removed_by kind said }
 {
     match &reply.answer {
         Answer::Swept(sweep) => { if sweep.kind == kind { sweep.removed } else { 0 } }
@@ -36,7 +37,7 @@ fn without_removed(all: &Lines<'_>, kind: Kind, told: u64) -> Option<u64>
 }
 
 fn is_removed(all: &Lines<'_>, kind: Kind, told: u64) -> bool
-    ensures { Decides result (told ≡ sum_by (removed_by kind) all.now) }
+    ensures { IsTrue result ↔ (told ≡ sum_by (removed_by kind) all.now) }
 {
     match without_removed(all, kind, told) {
         Some(rest) => rest == 0,
@@ -45,7 +46,7 @@ fn is_removed(all: &Lines<'_>, kind: Kind, told: u64) -> bool
 }
 
 fn is_removed_within(all: &Lines<'_>, kind: Kind, told: u64) -> bool
-    ensures { Decides result (sum_by (removed_by kind) all.now ≤ told) }
+    ensures { IsTrue result ↔ (sum_by (removed_by kind) all.now ≤ told) }
 {
     match without_removed(all, kind, told) {
         Some(_) => true,
@@ -65,7 +66,7 @@ fn is_row(writes: &Writes, rid: Rid, groups: u64) -> bool
 fn are_left(writes: &Writes, groups: u64, told: u64) -> bool
     requires { HasHistory writes.now groups }
     ensures { (h : History) → IsOfHistory h writes.now → length h ≡ groups →
-        Decides result (told ≡ length (live h)) }
+        (IsTrue result ↔ (told ≡ length (live h))) }
 {
     let mut rest = told;
     let mut found = writes.next_rid(LEAST, 0);
@@ -84,7 +85,7 @@ fn are_left(writes: &Writes, groups: u64, told: u64) -> bool
 
 // Whether each version made is undone, removed or left.
 fn are_balanced(t: Totals) -> bool
-    ensures { Decides result (t.made ≡ t.undone + t.group + t.table + t.interval + t.left) }
+    ensures { IsTrue result ↔ (t.made ≡ t.undone + t.group + t.table + t.interval + t.left) }
 {
     let Some(stored) = t.made.checked_sub(t.undone) else {
         return false;
@@ -101,17 +102,17 @@ fn are_balanced(t: Totals) -> bool
     left == t.left
 }
 
-/// Whether these are the totals of the lines, of which so many versions were made and undone.
-pub fn are_totals(tally: Tally, writes: &Writes, groups: u64, all: &Lines<'_>, t: Totals) -> bool
-    requires tally { IsTally tally all.now }
-    requires writes { IsOfHistory (history_of all.now) writes.now }
-    requires groups { length (history_of all.now) ≡ groups }
-    ensures { Decides result (AreTotals all.now (history_of all.now) t) }
+/// Whether these are the totals of the lines, which give this history.
+pub fn are_totals(past: &Past, all: &Lines<'_>, t: Totals) -> bool
+    requires tally { IsTally past.now.tally all.now }
+    requires writes { IsOfHistory (history_of all.now) past.now.writes }
+    requires groups { length (history_of all.now) ≡ past.now.groups }
+    ensures { IsTrue result ↔ AreTotals all.now (history_of all.now) t }
 {
-    if tally.made != t.made {
+    if past.tally.made != t.made {
         return false;
     }
-    if tally.undone != t.undone {
+    if past.tally.undone != t.undone {
         return false;
     }
     if !is_removed(all, Kind::Group, t.group) {
@@ -123,7 +124,7 @@ pub fn are_totals(tally: Tally, writes: &Writes, groups: u64, all: &Lines<'_>, t
     if !is_removed(all, Kind::Interval, t.interval) {
         return false;
     }
-    if !are_left(writes, groups, t.left) {
+    if !are_left(&past.writes, past.groups, t.left) {
         return false;
     }
     are_balanced(t)

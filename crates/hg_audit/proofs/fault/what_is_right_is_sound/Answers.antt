@@ -1,5 +1,5 @@
 use Rattle.hg_audit.proofs.Sounding.{sound_of, of_sound}
-use Rattle.hg_audit.proofs.laws.what_is_right_is_sound.Goals as goal
+use Rattle.hg_audit.proofs.fault.what_is_right_is_sound.Goals as goal
 
 pub returns : goal.returns
 returns c = record { sound = sound_of; right = of_sound }

@@ -6,7 +6,7 @@ use Rattle.hg_base.specs.Freshness.{IsHeld}
 use Rattle.hg_base.proofs.ListFacts.{false_true, each_snoc}
 use Rattle.hg_known.proofs.Walking.{at_line}
 use Rattle.hg_audit.proofs.Holding.{sessions, IsLeast, ascends_below, ascends_push, all_below, least_push}
-use Rattle.hg_audit.proofs.fresh.are_held.Goals as goal
+use Rattle.hg_audit.proofs.freshness.are_held.Goals as goal
 
 pub returns-then-session-least : goal.returns-then-session-least
 returns-then-session-least c =

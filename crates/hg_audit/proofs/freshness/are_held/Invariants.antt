@@ -4,7 +4,7 @@ use Rattle.hg_base.specs.Transcript.{Said}
 use Rattle.hg_base.specs.Freshness.{IsHeld}
 use Rattle.hg_known.specs.Marked.{ArePoints}
 use Rattle.hg_audit.proofs.Holding.{sessions, IsLeast}
-use Rattle.hg_audit.proofs.fresh.are_held.Given as goal
+use Rattle.hg_audit.proofs.freshness.are_held.Given as goal
 
 abbrev pub invariant-loop-k : goal.invariant-loop-k
 invariant-loop-k l = record {

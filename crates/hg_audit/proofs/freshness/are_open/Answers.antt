@@ -7,7 +7,7 @@ use Rattle.hg_base.specs.declared.report.Told.{Told}
 use Rattle.hg_base.proofs.ListFacts.{false_true, cases}
 use Rattle.hg_known.proofs.Walking.{at_line}
 use Rattle.hg_audit.proofs.Opening.{SameUpTo, same_none, same_some, too_short, another, all_held, too_long}
-use Rattle.hg_audit.proofs.fresh.are_open.Goals as goal
+use Rattle.hg_audit.proofs.freshness.are_open.Goals as goal
 
 pub loop-j-preserved-in_default : goal.loop-j-preserved-in_default
 loop-j-preserved-in_default c = record {

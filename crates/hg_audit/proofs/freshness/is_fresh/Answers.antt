@@ -1,6 +1,6 @@
 use Rattle.std.proofs.Common.{◌∙◌, sym}
 use Rattle.hg_base.proofs.ListFacts.{false_true}
-use Rattle.hg_audit.proofs.fresh.is_fresh.Goals as goal
+use Rattle.hg_audit.proofs.freshness.is_fresh.Goals as goal
 
 pub returns-then-not-is_rising : goal.returns-then-not-is_rising
 returns-then-not-is_rising c =

@@ -3,7 +3,7 @@ use Rattle.hg_base.specs.Lists.{onto}
 use Rattle.hg_base.proofs.ListFacts.{false_true}
 use Rattle.hg_known.proofs.Pointing.{printed_all, declared_all}
 use Rattle.hg_audit.proofs.Holding.{unless_moved, if_moved, moved_if}
-use Rattle.hg_audit.proofs.fresh.is_held.Goals as goal
+use Rattle.hg_audit.proofs.freshness.is_held.Goals as goal
 
 pub returns-then-not-is_printed : goal.returns-then-not-is_printed
 returns-then-not-is_printed c =

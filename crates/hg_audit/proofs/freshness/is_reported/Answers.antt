@@ -5,7 +5,7 @@ use Rattle.hg_base.specs.Freshness.{mark_of, IsHeld}
 use Rattle.hg_base.proofs.ListFacts.{false_true}
 use Rattle.hg_known.proofs.Fresher.{each_within, within_each}
 use Rattle.hg_audit.proofs.Holding.{sessions}
-use Rattle.hg_audit.proofs.fresh.is_reported.Goals as goal
+use Rattle.hg_audit.proofs.freshness.is_reported.Goals as goal
 
 pub returns-then-mark-sweep : goal.returns-then-mark-sweep
 returns-then-mark-sweep c =

@@ -6,7 +6,7 @@ use Rattle.hg_base.specs.Replies.{IsAnswer, IsGot, IsDeleted, IsScanned, IsFetch
 use Rattle.hg_known.specs.Lines.{rest_of, said_of}
 use Rattle.hg_audit.specs.Seen.{look}
 use Rattle.hg_audit.proofs.Looking.{decided_within}
-use Rattle.hg_audit.proofs.judge.is_answer.Goals as goal
+use Rattle.hg_audit.proofs.reply.is_answer.Goals as goal
 
 pub returns-else-not-is_within : goal.returns-else-not-is_within
 returns-else-not-is_within c =

@@ -1,7 +1,7 @@
 use Rattle.std.proofs.Common.{◌∙◌, sym}
 use Rattle.hg_base.specs.Transcript.{history_of}
 use Rattle.hg_base.proofs.ListFacts.{false_true}
-use Rattle.hg_audit.proofs.answered.is_answered.Goals as goal
+use Rattle.hg_audit.proofs.reply.is_answered.Goals as goal
 
 pub returns-then-not-is_reply : goal.returns-then-not-is_reply
 returns-then-not-is_reply c =

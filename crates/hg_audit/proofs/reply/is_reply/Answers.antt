@@ -5,7 +5,7 @@ use Rattle.hg_base.specs.Replies.{IsAnswer, is_written}
 use Rattle.hg_base.specs.Transcript.{Rest, own_writes}
 use Rattle.hg_known.specs.Lines.{said_of}
 use Rattle.hg_audit.proofs.Answering.{same_of}
-use Rattle.hg_audit.proofs.judge.is_reply.Goals as goal
+use Rattle.hg_audit.proofs.reply.is_reply.Goals as goal
 
 pub returns : goal.returns
 returns c =

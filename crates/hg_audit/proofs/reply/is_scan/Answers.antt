@@ -3,7 +3,7 @@ use Rattle.std.specs.Prelude.{Decides}
 use Rattle.hg_base.specs.Replies.{IsScanned, AreRows}
 use Rattle.hg_known.specs.Lines.{said_of}
 use Rattle.hg_audit.specs.Seen.{look}
-use Rattle.hg_audit.proofs.judge.is_scan.Goals as goal
+use Rattle.hg_audit.proofs.reply.is_scan.Goals as goal
 
 pub returns-in-Rows : goal.returns-in-Rows
 returns-in-Rows c =

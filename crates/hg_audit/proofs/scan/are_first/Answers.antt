@@ -4,7 +4,7 @@ use Rattle.hg_base.specs.Replies.{AreRows}
 use Rattle.hg_base.specs.Transcript.{passed}
 use Rattle.hg_known.specs.Lines.{rest_of, said_of}
 use Rattle.hg_audit.specs.Seen.{look}
-use Rattle.hg_audit.proofs.fetch.are_first.Goals as goal
+use Rattle.hg_audit.proofs.scan.are_first.Goals as goal
 
 pub returns : goal.returns
 returns c =

@@ -3,10 +3,10 @@ use Rattle.std.specs.Prelude.{Decides, option_map}
 use Rattle.hg_base.specs.History.{seen}
 use Rattle.hg_base.specs.Replies.{AreFirst, IsFetched}
 use Rattle.hg_base.specs.Transcript.{own_writes}
-use Rattle.hg_known.specs.declared.rest.Rest as kept
+use Rattle.hg_known.specs.declared.said.Rest as kept
 use Rattle.hg_known.specs.Lines.{rest_of, said_of}
 use Rattle.hg_audit.specs.Seen.{look}
-use Rattle.hg_audit.proofs.fetch.is_fetched.Goals as goal
+use Rattle.hg_audit.proofs.scan.is_fetched.Goals as goal
 
 pub returns-in-Rows : goal.returns-in-Rows
 returns-in-Rows c =

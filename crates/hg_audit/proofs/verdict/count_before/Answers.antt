@@ -4,7 +4,7 @@ use Rattle.hg_base.specs.declared.line.Line.{Line}
 use Rattle.hg_base.specs.Text.{line_records}
 use Rattle.hg_known.proofs.Walking.{AtLine, at_line}
 use Rattle.hg_audit.proofs.Placing.{records_next, same_before}
-use Rattle.hg_audit.proofs.place.count_before.Goals as goal
+use Rattle.hg_audit.proofs.verdict.count_before.Goals as goal
 
 pub loop-k-preserved : goal.loop-k-preserved
 loop-k-preserved c =

@@ -2,7 +2,7 @@ use Rattle.std.proofs.Common.{◌∙◌, sym, ap, subst}
 use Rattle.std.specs.List.{list_any}
 use Rattle.hg_base.specs.Script.{run}
 use Rattle.hg_audit.specs.Verdict.{IsOfRun, is_session_report}
-use Rattle.hg_audit.proofs.judging.find_verdict.Goals as goal
+use Rattle.hg_audit.proofs.verdict.find_verdict.Goals as goal
 
 pub returns-in-Some : goal.returns-in-Some
 returns-in-Some c =

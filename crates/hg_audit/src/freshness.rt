@@ -1,13 +1,11 @@
-//! Whether the numbers of a line are in order.
+//! Whether the numbers of a line are in order with those before it.
 
-ghost use Rattle.std.specs.Prelude.{◌≡◌, ℕ, ◌<◌, ◌≤◌, ◌==◌, [], List, map, length, IfSome, IsTrue, filter_map, Decides};
+ghost use Rattle.std.specs.Prelude.{◌≡◌, ◌↔◌, ℕ, ◌<◌, ◌≤◌, ◌==◌, [], List, map, length, IfSome, IsTrue, filter_map};
 ghost use Rattle.std.specs.List.{list_any};
 ghost use Rattle.hg_base.specs.Lists.{Ascends, Each, onto};
 ghost use Rattle.hg_base.specs.History.{History};
 ghost use Rattle.hg_base.specs.Script.{Mode};
-ghost use Rattle.hg_base.specs.Shape.{IsReportOf, report_of};
-ghost use Rattle.hg_base.specs.declared.report.Sweep as base;
-ghost use Rattle.hg_base.specs.declared.line.Answer.TheVariants.{Swept};
+ghost use Rattle.hg_base.specs.Shape.{report_of};
 ghost use Rattle.hg_base.specs.Transcript as script;
 ghost use Rattle.hg_base.specs.Transcript.{greatest_commit};
 ghost use Rattle.hg_base.specs.Conflicts.{OnReplay};
@@ -19,14 +17,14 @@ ghost use Rattle.hg_known.specs.Marked.{ArePoints};
 ghost use Rattle.hg_audit.specs.Judged.{IsOf};
 ghost use Rattle.hg_known.specs.Before.{AreBefore};
 
-use crate::reply::Command;
-use hg_base::{Answer, Kind, Statement, Sweep, Told};
+use crate::shape::{Command, is_report_of};
+use hg_base::{Answer, Statement, Sweep, Told};
 use hg_known::{Before, Points, Said, newer_of, snapshot_of};
 
 // Whether a snapshot is at least every number that its session printed before.
 fn is_rising(before: &Before, now: &Said) -> bool
     ensures { (earlier : List script.Said) → AreBefore before.now earlier →
-        Decides result (IfSome (fresh.snapshot_of (said_of now.now))
+        (IsTrue result ↔ IfSome (fresh.snapshot_of (said_of now.now))
         (λ s. Each (λ n. n ≤ s) (known now.now.session earlier))) }
 {
     match snapshot_of(now) {
@@ -38,8 +36,8 @@ fn is_rising(before: &Before, now: &Said) -> bool
 // Whether a snapshot is the newest commit number that was printed before.
 fn is_newest(before: &Before, now: &Said) -> bool
     ensures { (earlier : List script.Said) → AreBefore before.now earlier →
-        Decides result
-        (IfSome (fresh.snapshot_of (said_of now.now)) (λ s. s ≡ greatest_commit earlier)) }
+        (IsTrue result ↔
+        IfSome (fresh.snapshot_of (said_of now.now)) (λ s. s ≡ greatest_commit earlier)) }
 {
     match snapshot_of(now) {
         Some(at) => at == before.newest(),
@@ -50,7 +48,7 @@ fn is_newest(before: &Before, now: &Said) -> bool
 // Whether the number of a newer commit was printed before.
 fn is_told(before: &Before, now: &Said) -> bool
     ensures { (earlier : List script.Said) → AreBefore before.now earlier →
-        Decides result (IfSome (fresh.newer_of (said_of now.now))
+        (IsTrue result ↔ IfSome (fresh.newer_of (said_of now.now))
         (λ c. IsTrue (list_any (λ n. n == c) (filter_map script.committed earlier)))) }
 {
     match newer_of(now) {
@@ -62,7 +60,7 @@ fn is_told(before: &Before, now: &Said) -> bool
 // Whether a held snapshot was printed by its session, and one that was moved, by a transaction that declared its tables.
 fn is_held(points: &Points, told: Told) -> bool
     ensures { (all : List script.Said) → ArePoints points.now (onto all []) →
-        Decides result (IsHeld all told) }
+        (IsTrue result ↔ IsHeld all told) }
 {
     if !points.is_printed(told.session, told.number) {
         return false;
@@ -77,8 +75,8 @@ fn is_held(points: &Points, told: Told) -> bool
 fn are_held(points: &Points, held: &[Told]) -> bool
     ensures { (all : List script.Said) →
         (0 < length held.now → ArePoints points.now (onto all [])) →
-        Decides result
-        (Ascends (map (λ told. told.session) held.now) × Each (IsHeld all) held.now) }
+        (IsTrue result ↔
+        (Ascends (map (λ told. told.session) held.now) × Each (IsHeld all) held.now)) }
 {
     let mut least = 0u64;
     for k in 0..held.len() {
@@ -99,7 +97,7 @@ fn are_held(points: &Points, held: &[Told]) -> bool
 fn is_reported(points: &Points, groups: u64, before: &Before, sweep: &Sweep) -> bool
     ensures { (h : History) (all earlier : List script.Said) → length h ≡ groups →
         (0 < length sweep.now.held → ArePoints points.now (onto all [])) →
-        AreBefore before.now earlier → Decides result (IsReported h all earlier sweep.now) }
+        AreBefore before.now earlier → (IsTrue result ↔ IsReported h all earlier sweep.now) }
 {
     if before.mark(sweep.kind) > sweep.mark {
         return false;
@@ -114,7 +112,7 @@ fn is_reported(points: &Points, groups: u64, before: &Before, sweep: &Sweep) -> 
 }
 
 fn is_point(told: Told, session: u32, number: u64) -> bool
-    ensures { Decides result ((told.session ≡ session) × (told.number ≡ number)) }
+    ensures { IsTrue result ↔ ((told.session ≡ session) × (told.number ≡ number)) }
 {
     told.session == session && told.number == number
 }
@@ -122,8 +120,8 @@ fn is_point(told: Told, session: u32, number: u64) -> bool
 // Whether these are the snapshots of the transactions that are open, by session.
 fn are_open(before: &Before, held: &[Told]) -> bool
     ensures { (earlier : List script.Said) → AreBefore before.now earlier →
-        Decides result
-        (map (λ told. (told.session, told.number)) held.now ≡ open_snapshots earlier) }
+        (IsTrue result ↔
+        (map (λ told. (told.session, told.number)) held.now ≡ open_snapshots earlier)) }
 {
     let mut told = 0;
     for j in 0..before.sessions() {
@@ -141,20 +139,10 @@ fn are_open(before: &Before, held: &[Told]) -> bool
     told == held.len()
 }
 
-pub fn is_report_of(statement: &Statement, kind: Kind) -> bool
-    ensures { (sweep : base.Sweep) → sweep.kind ≡ kind →
-        Decides result (IsReportOf statement.now (Swept sweep)) }
-{
-    match statement {
-        Statement::Gc(asked) => *asked == kind,
-        _ => false,
-    }
-}
-
 // Whether a report is that of its record, at the newest commit, with exactly the open snapshots.
 fn is_replayed(before: &Before, statement: &Statement, sweep: &Sweep) -> bool
     ensures { (earlier : List script.Said) → AreBefore before.now earlier →
-        Decides result (IsReplayed earlier statement.now sweep.now) }
+        (IsTrue result ↔ IsReplayed earlier statement.now sweep.now) }
 {
     if !is_report_of(statement, sweep.kind) {
         return false;
@@ -171,7 +159,7 @@ fn is_replayed(before: &Before, statement: &Statement, sweep: &Sweep) -> bool
 // What a replay asks besides.
 fn is_exact(before: &Before, now: &Said) -> bool
     ensures { (earlier : List script.Said) → AreBefore before.now earlier →
-        Decides result (IsExact earlier (said_of now.now)) }
+        (IsTrue result ↔ IsExact earlier (said_of now.now)) }
 {
     if !is_newest(before, now) {
         return false;
@@ -188,7 +176,7 @@ fn is_exact(before: &Before, now: &Said) -> bool
 fn is_exact_on_replay(command: Command, before: &Before, now: &Said) -> bool
     ensures { (mode : Mode) (earlier : List script.Said) → IsOf command mode →
         AreBefore before.now earlier →
-        Decides result (OnReplay mode (IsExact earlier (said_of now.now))) }
+        (IsTrue result ↔ OnReplay mode (IsExact earlier (said_of now.now))) }
 {
     match command {
         Command::Replay => is_exact(before, now),
@@ -201,7 +189,7 @@ fn gives_order(points: &Points, groups: u64, before: &Before, now: &Said) -> boo
     ensures { (h : History) (all earlier : List script.Said) → length h ≡ groups →
         (IsTrue (tells_held (said_of now.now)) → ArePoints points.now (onto all [])) →
         AreBefore before.now earlier →
-        Decides result (IfSome (report_of now.now.reply.now) (IsReported h all earlier)) }
+        (IsTrue result ↔ IfSome (report_of now.now.reply.now) (IsReported h all earlier)) }
 {
     match &now.reply.answer {
         Answer::Swept(sweep) => is_reported(points, groups, before, sweep),
@@ -215,7 +203,7 @@ pub fn is_fresh(command: Command, points: &Points, groups: u64, before: &Before,
         length h ≡ groups →
         (IsTrue (tells_held (said_of now.now)) → ArePoints points.now (onto all [])) →
         AreBefore before.now earlier →
-        Decides result (IsFresh mode h all earlier (said_of now.now)) }
+        (IsTrue result ↔ IsFresh mode h all earlier (said_of now.now)) }
 {
     if !is_rising(before, now) {
         return false;
