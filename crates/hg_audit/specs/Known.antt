@@ -19,9 +19,9 @@ use Rattle.hg_known.specs.Written.{IsOfHistory}
 pub record Knows (h : History) (all : List Said) (facts : Facts) : Type 0 where
   pub writes : IsOfHistory h facts.past.now.writes
   pub groups : length h ≡ facts.past.now.groups
-  pub own : facts.command ≡ Run → IsTrue (list_any names_writer all) → AreOwn facts.context.now.stored (onto all [])
-  pub numbers : IsTrue (list_any names_writer all) → AreNumbers facts.context.now.numbers (onto all [])
-  pub points : IsTrue (list_any tells_held all) → ArePoints facts.context.now.points (onto all [])
+  pub own : facts.command ≡ Run → IsTrue (list_any names_writer all) → AreOwn facts.past.now.context.stored (onto all [])
+  pub numbers : IsTrue (list_any names_writer all) → AreNumbers facts.past.now.context.numbers (onto all [])
+  pub points : IsTrue (list_any tells_held all) → ArePoints facts.past.now.context.points (onto all [])
 
 -- the writes of some history of so many groups
 abbrev pub HasHistory : List (Slot × Image) → ℕ → Type 0

@@ -129,7 +129,7 @@ fn shows_cause(facts: &Facts, own: &Own, now: &Said, rid: Rid) -> bool
             if has_written(own, now, rid) {
                 return false;
             }
-            let known = facts.context;
+            let known = &facts.past.context;
             match facts.command {
                 Command::Run => shows_open(&known.stored, &known.numbers, now, rid, *writer),
                 Command::Replay => shows_still_open(own, &known.numbers, now, rid, *writer),

@@ -26,9 +26,7 @@ use crate::reply::is_answered;
 use crate::shape::{Command, first_out_of_shape};
 use crate::totals::are_totals;
 use hg_base::{Line, NoMemory, Totals};
-use hg_known::{
-    Before, Context, Lines, Own, Past, Sequence, keeps_update, read_context, read_history,
-};
+use hg_known::{Before, Lines, Own, Past, Sequence, keeps_update, read_history};
 use std::alloc::Global;
 
 /// What fails first of the lines and totals, and at which line, counted from 0.
@@ -75,7 +73,6 @@ pub fn what_is_right_is_sound()
 pub struct Facts<'a> {
     pub command: Command,
     pub past: &'a Past,
-    pub context: &'a Context,
 }
 
 /// The first line whose reply is not right, and the first whose numbers are out of order, counted from 0.
@@ -136,7 +133,7 @@ fn find_faults(
         let said = reader.read()?;
         let answered = is_answered(facts, own, &said);
         unanswered = first(unanswered, answered, k);
-        let points = &facts.context.points;
+        let points = &facts.past.context.points;
         let ordered = is_fresh(facts.command, points, facts.past.groups, before, &said);
         unordered = first(unordered, ordered, k);
         own.add(&said)?;
@@ -205,15 +202,13 @@ pub(crate) fn find_fault(
         return Ok(Found::Shape(k));
     }
     let all = Lines::new(records, lines);
-    let Some(past) = read_history(alloc, &all)? else {
+    let run = is_run(command);
+    let Some(past) = read_history(alloc, &all, run)? else {
         return Ok(Found::Commits);
     };
-    let run = is_run(command);
-    let context = read_context(alloc, &all, run)?;
     let facts = Facts {
         command,
         past: &past,
-        context: &context,
     };
     judge(alloc, &facts, &all, totals)
 }

@@ -1,5 +1,5 @@
 -- Whether some line passes a test.
-use Rattle.std.proofs.Common.{◌≡◌, ℕ, ◌+◌, ◌≤◌, List, [], ◌∷◌, length, take, drop, Bool, true, false, None, refl, sym, ap, ◌∙◌}
+use Rattle.std.proofs.Common.{◌≡◌, ℕ, ◌+◌, List, [], ◌∷◌, take, drop, Bool, true, false, None, refl, sym, ap, ◌∙◌}
 use Rattle.std.specs.Prelude.{◌||◌}
 use Rattle.std.specs.List.{list_any}
 use Rattle.hg_base.specs.declared.line.Answer.TheVariants.{Undone}
@@ -7,7 +7,7 @@ use Rattle.hg_base.specs.declared.scope.Scope.TheVariants.{All}
 use Rattle.hg_base.specs.declared.statement.Statement.TheVariants.{Rollback}
 use Rattle.hg_base.specs.Transcript.{Said}
 use Rattle.hg_known.proofs.Pairs.{any_append}
-use Rattle.hg_known.proofs.Walking.{AtLine, take_all}
+use Rattle.hg_known.proofs.Walking.{AtLine}
 
 -- what stands for a line where there is none
 pub no_line : Said

@@ -8,6 +8,7 @@ ghost use Rattle.hg_base.specs.Transcript.{numbers_in};
 ghost use Rattle.hg_base.specs.Freshness as fresh;
 ghost use Rattle.hg_known.specs.Asked as asked;
 ghost use Rattle.hg_known.specs.Context.{IsContext, wants_of};
+ghost use Rattle.hg_known.specs.declared.context.Wants.{Wants};
 ghost use Rattle.hg_known.specs.Lines.{said_of};
 ghost use Rattle.hg_known.specs.Owned.{AreOwn};
 ghost use Rattle.hg_known.specs.Ended.{AreNumbers};
@@ -183,7 +184,7 @@ pub(crate) struct Wants {
 }
 
 // A refusal for an open write asks for commit numbers, and in a run for what is stored; a report of held snapshots asks for printed ones.
-fn find_wants(all: &Lines<'_>, is_run: bool) -> Wants
+pub(crate) fn find_wants(all: &Lines<'_>, is_run: bool) -> Wants
     ensures { result ≡ wants_of is_run all.now }
 {
     let mut numbers = false;
@@ -237,8 +238,22 @@ fn keep_point(points: &mut Points, wanted: bool, said: &Said) -> Result<(), NoMe
 }
 
 impl Context {
+    // Nothing is kept. It takes no memory.
+    pub(crate) fn new(alloc: Global) -> Context
+        ensures { (wants : Wants) → IsContext wants result [] }
+    {
+        let stored = Own::new(alloc);
+        let numbers = Numbers::new(alloc);
+        let points = Points::new(alloc);
+        Context {
+            stored,
+            numbers,
+            points,
+        }
+    }
+
     // Keeps what is asked for of a line.
-    fn add(&mut self, wants: Wants, said: &Said) -> Result<(), NoMemory>
+    pub(crate) fn keep(&mut self, wants: Wants, said: &Said) -> Result<(), NoMemory>
         ensures { OnOk result ((earlier : List script.Said) →
             IsContext wants self.old earlier →
             IsContext wants self.new (said_of said.now ∷ earlier)) }
@@ -248,29 +263,4 @@ impl Context {
         keep_point(&mut self.points, wants.points, said)?;
         Ok(())
     }
-}
-
-/// Goes over the lines once, and not at all if none asks for anything.
-pub fn read_context(alloc: Global, all: &Lines<'_>, is_run: bool) -> Result<Context, NoMemory>
-    ensures { IfOk result
-        (λ context. IsContext (wants_of is_run all.now) context (onto all.now [])) }
-{
-    let wants = find_wants(all, is_run);
-    let stored = Own::new(alloc);
-    let numbers = Numbers::new(alloc);
-    let points = Points::new(alloc);
-    let mut context = Context {
-        stored,
-        numbers,
-        points,
-    };
-    if !wants.numbers && !wants.points {
-        return Ok(context);
-    }
-    let mut reader = all.reader(alloc);
-    for _ in 0..all.len() {
-        let said = reader.read()?;
-        context.add(wants, &said)?;
-    }
-    Ok(context)
 }

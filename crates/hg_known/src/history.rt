@@ -4,7 +4,7 @@ ghost use Rattle.std.specs.Prelude.{◌≡◌, ◌↔◌, ℕ, ◌<◌, List, []
 ghost use Rattle.std.specs.Bool.{MatchBool};
 ghost use Rattle.std.specs.Option.{MatchOption};
 ghost use Rattle.hg_base.specs.declared.rid.Rid.{Rid};
-ghost use Rattle.hg_base.specs.Lists.{Each, EachAfter};
+ghost use Rattle.hg_base.specs.Lists.{EachAfter, onto};
 ghost use Rattle.hg_base.specs.History.{Commit};
 ghost use Rattle.hg_base.specs.Transcript as script;
 ghost use Rattle.hg_base.specs.Transcript.{commit_by, history_of};
@@ -12,11 +12,13 @@ ghost use Rattle.hg_base.specs.Sound.{IsWhole};
 ghost use Rattle.hg_known.specs.Lines.{said_of};
 ghost use Rattle.hg_known.specs.Owned.{HasOwn, own_at};
 ghost use Rattle.hg_known.specs.Written.{IsOfHistory, image_at};
+ghost use Rattle.hg_known.specs.Context.{IsContext, wants_of};
 ghost use Rattle.hg_known.specs.Ended.{IsOpen};
 ghost use Rattle.hg_known.specs.Joined.{IsJoined, Clashes};
 ghost use Rattle.hg_known.specs.Shown.{Shows, Adds, printed};
 ghost use Rattle.hg_known.specs.Tallied.{IsTally};
 
+use crate::context::{Context, find_wants};
 use crate::lines::Lines;
 use crate::own::{LEAST, Own, Tx, copy};
 use crate::said::Said;
@@ -137,22 +139,26 @@ impl Commits {
     }
 }
 
-/// What each group of a history writes, how many there are, and how many versions its lines made and undid.
+/// What each group of a history writes, how many there are, how many versions its lines made and undid, and what a line may ask of all.
 #[derive(Drop)]
 pub struct Past {
     pub writes: Writes,
     pub groups: u64,
     pub tally: Tally,
+    pub context: Context,
 }
 
 /// The history that the lines give, if the printed numbers give one.
-pub fn read_history(alloc: Global, all: &Lines<'_>) -> Result<Option<Past>, NoMemory>
+pub fn read_history(alloc: Global, all: &Lines<'_>, is_run: bool) -> Result<Option<Past>, NoMemory>
     requires { EachAfter IsOpen [] all.now }
     ensures { IfOk result (λ found.
         MatchOption found (¬ IsWhole all.now) (λ past.
         IsWhole all.now × IsOfHistory (history_of all.now) past.writes ×
-        (length (history_of all.now) ≡ past.groups) × IsTally past.tally all.now)) }
+        (length (history_of all.now) ≡ past.groups) × IsTally past.tally all.now ×
+        IsContext (wants_of is_run all.now) past.context (onto all.now []))) }
 {
+    let wants = find_wants(all, is_run);
+    let mut context = Context::new(alloc);
     let mut own = Own::new(alloc);
     let mut commits = Commits::new(alloc);
     let mut versions = Versions::new(alloc);
@@ -167,6 +173,7 @@ pub fn read_history(alloc: Global, all: &Lines<'_>) -> Result<Option<Past>, NoMe
             }
         }
         own.close(&said);
+        context.keep(wants, &said)?;
     }
     for number in 1..commits.greatest {
         if !commits.numbers.contains(&number) {
@@ -178,6 +185,7 @@ pub fn read_history(alloc: Global, all: &Lines<'_>) -> Result<Option<Past>, NoMe
         writes: commits.into_writes(),
         groups,
         tally: versions.tally(),
+        context,
     }))
 }
 

@@ -15,8 +15,8 @@
 //!
 //! Each is an ordered map or set, so a look-up takes logarithmic time in the number of lines. `visible` is the last entry of `Writes`
 //! at or before (record, snapshot). No line belongs to a transaction that ended before it, so where only open transactions matter,
-//! `Own` forgets a transaction when it ends (`close`). `read_context` gathers what some line asks of all lines, in one go, and doesn't
-//! go over them if none asks.
+//! `Own` forgets a transaction when it ends (`close`). `read_history` also gathers what some line asks of all lines (`Context`), and
+//! nothing that none asks for.
 //!
 //! Neither the records nor the lines with their transactions are kept: a `Reader` makes each `Said` when its line is read, from the
 //! script, the reply, and what the session's previous line left.
@@ -36,7 +36,7 @@ mod tally;
 mod writes;
 
 pub use before::{Before, newer_of, snapshot_of};
-pub use context::{Context, Numbers, Points, read_context};
+pub use context::{Context, Numbers, Points};
 pub use history::{Past, keeps_update, read_history};
 pub use lines::{Lines, Reader};
 pub use own::{LEAST, Own, Tx};

@@ -1,5 +1,6 @@
 use Rattle.std.proofs.Common.{◌≡◌, ℕ, take, ◌≤◌, ◌<◌}
 use Rattle.hg_base.specs.Transcript.{commits}
+use Rattle.hg_known.specs.Context.{IsContext}
 use Rattle.hg_known.specs.Ended.{AreOpenOwn}
 use Rattle.hg_known.specs.Tallied.{AreTallied}
 use Rattle.hg_known.specs.Shown.{Shows}
@@ -10,6 +11,7 @@ use Rattle.hg_known.proofs.history.read_history.Given as goal
 abbrev pub invariant-loop : goal.invariant-loop
 invariant-loop l = record {
   reader : l.reader ≡ (l.counter, l.all);
+  context : IsContext l.wants l.context (earlier_at l.all l.counter);
   own : AreOpenOwn l.own (earlier_at l.all l.counter);
   versions : AreTallied l.versions (earlier_at l.all l.counter);
   shows : Shows l.commits (commits (take l.counter l.all));
