@@ -1,6 +1,5 @@
 -- When each status comes.
 mod Exactly
-mod Verdicts
 -- What is printed of a run, and of one that is read.
 mod WholeRun
 mod WholeDump
