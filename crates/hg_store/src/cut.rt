@@ -1,7 +1,6 @@
 //! What a collector's pass cuts in a bucket that it holds. Each record that is visited costs one step.
 
-ghost use Rattle.std.specs.Prelude.{◌≡◌, ℕ, Some, slice_get, take};
-ghost use Rattle.hg_base.specs.declared.rid.Rid.{Rid};
+ghost use Rattle.std.specs.Prelude.{◌≡◌, ℕ, take};
 ghost use Rattle.hg_base.specs.declared.report.Kind.TheVariants.{Group, Table};
 ghost use Rattle.hg_core.specs.Passes.{IsWhole, group_bound, table_bound};
 ghost use Rattle.hg_core.specs.Contents.{bucket_of};
@@ -10,10 +9,11 @@ ghost use Rattle.hg_bucket.specs.BucketModel.{long_keys, record_at};
 ghost use Rattle.hg_rule.specs.Holding.{held};
 ghost use Rattle.hg_rule.specs.Facts.{record_of};
 ghost use Rattle.hg_rule.specs.Views.{pass as own_pass};
-ghost use Rattle.hg_rule.specs.Removes.{left_of, removed_of, Reclaims};
-ghost use Rattle.hg_rule.specs.Seats.{board_id, sizes_of, pass_view, IsPassOf};
-ghost use Rattle.hg_store.specs.Stores.{held_board_id, held_number, held_records, Holds};
-ghost use Rattle.hg_store.specs.Clearing.{Clears, Counts};
+ghost use Rattle.hg_rule.specs.Removes.{removed_of, Reclaims};
+ghost use Rattle.hg_rule.specs.Seats.{sizes_of, pass_view};
+ghost use Rattle.hg_store.specs.Stores.{held_number, held_records};
+ghost use Rattle.hg_store.specs.Passes.{IsCollectorHolding, IsSameBucket};
+ghost use Rattle.hg_store.specs.Clearing.{Clears, Counts, IsListedAt, Leaves};
 
 use crate::held::Held;
 use hg_base::{Kind, Rid, TableId};
@@ -28,18 +28,15 @@ impl<'a> Held<'a> {
         rid: Rid,
         bound: u64,
     ) -> u64
-        requires own { IsPassOf (board_id board.now) pass.old }
+        requires holds { IsCollectorHolding board.now pass.old self.old }
         requires whole { IsWhole (sizes_of board.now).sessions
             (record_of (own_pass (pass_view pass.old))) }
-        requires holds { Holds (pass_view pass.old) self.old }
         requires here { bucket_of (sizes_of board.now).buckets rid ≡ held_number self.old }
         requires bound { bound ≡ group_bound (record_of (own_pass (pass_view pass.old))) }
         ensures step { Reclaims (pass_view pass.old) rid Group (pass_view pass.new) }
         ensures gone { result ≡ removed_of (pass_view pass.old) rid Group }
-        ensures holds { Holds (pass_view pass.new) self.new }
-        ensures held { (held_board_id self.new ≡ held_board_id self.old) ×
-            (held_number self.new ≡ held_number self.old) }
-        ensures own { IsPassOf (board_id board.now) pass.new }
+        ensures holds { IsCollectorHolding board.now pass.new self.new ×
+            IsSameBucket self.old self.new }
     {
         board.reclaim(pass, rid, Kind::Group);
         self.bucket.cut_record(rid, bound)
@@ -54,23 +51,16 @@ impl<'a> Held<'a> {
         table: TableId,
         bound: u64,
     ) -> u64
-        requires own { IsPassOf (board_id board.now) pass.old }
+        requires holds { IsCollectorHolding board.now pass.old self.old }
         requires whole { IsWhole (sizes_of board.now).sessions
             (record_of (own_pass (pass_view pass.old))) }
-        requires holds { Holds (pass_view pass.old) self.old }
         requires bound { bound ≡ table_bound table (record_of (own_pass (pass_view pass.old))) }
         ensures steps { Clears (pass_view pass.old) table Table (pass_view pass.new) }
-        ensures each { (k : ℕ) →
-            held (pass_view pass.new) (record_at table k) ≡
-            left_of (pass_view pass.old) (record_at table k) Table }
+        ensures left { Leaves (pass_view pass.old) table Table (pass_view pass.new) }
         ensures cut { (k : ℕ) → IsCutAt bound (held (pass_view pass.new) (record_at table k)) }
-        ensures others { (r : Rid) → (r.table ≡ table → ⊥) →
-            held (pass_view pass.new) r ≡ held (pass_view pass.old) r }
         ensures gone { Counts (pass_view pass.old) Table result (pass_view pass.new) }
-        ensures holds { Holds (pass_view pass.new) self.new }
-        ensures held { (held_board_id self.new ≡ held_board_id self.old) ×
-            (held_number self.new ≡ held_number self.old) }
-        ensures own { IsPassOf (board_id board.now) pass.new }
+        ensures holds { IsCollectorHolding board.now pass.new self.new ×
+            IsSameBucket self.old self.new }
     {
         board.look_at(pass);
         let mut gone = 0;
@@ -92,22 +82,19 @@ impl<'a> Held<'a> {
         at: usize,
         bound: u64,
     ) -> u64
-        requires own { IsPassOf (board_id board.now) pass.old }
+        requires holds { IsCollectorHolding board.now pass.old self.old }
         requires whole { IsWhole (sizes_of board.now).sessions
             (record_of (own_pass (pass_view pass.old))) }
-        requires holds { Holds (pass_view pass.old) self.old }
         requires here { bucket_of (sizes_of board.now).buckets rid ≡ held_number self.old }
-        requires stands { slice_get (long_keys (held_records self.old) rid.table) at ≡
-            Some rid.key }
+        requires listed { IsListedAt rid at self.old }
         requires bound { bound ≡ table_bound rid.table (record_of (own_pass (pass_view pass.old))) }
         ensures step { Reclaims (pass_view pass.old) rid Table (pass_view pass.new) }
         ensures gone { result ≡ removed_of (pass_view pass.old) rid Table }
-        ensures holds { Holds (pass_view pass.new) self.new }
-        ensures held { (held_board_id self.new ≡ held_board_id self.old) ×
-            (held_number self.new ≡ held_number self.old) }
+        ensures holds { IsCollectorHolding board.now pass.new self.new ×
+            IsSameBucket self.old self.new }
+        // the list's records before this one are where they were
         ensures front { take at (long_keys (held_records self.new) rid.table) ≡
             take at (long_keys (held_records self.old) rid.table) }
-        ensures own { IsPassOf (board_id board.now) pass.new }
     {
         board.reclaim(pass, rid, Kind::Table);
         self.bucket.cut_long(rid, at, bound)

@@ -25,10 +25,10 @@ loop-left-init c =
     let d = does_table t (record_of (pass v)) c.args.bound c.requires.bound in
     let long = subst (λ (b : BucketModel). AreLong (long_keys b t) t b.records) c.deref.ensures c.long_count-left.ensures.whole in
     let many = subst (λ (b : BucketModel). c.long_count-left.result ≡ length (long_keys b t)) c.deref.ensures c.long_count-left.ensures.count in
-    let round = round_begins Table (cut_at c.args.bound) t keys v h c.requires.holds d long in (
+    let round = round_begins Table (cut_at c.args.bound) t keys v h c.requires.holds.1 d long in (
       subst (λ n. Rounds Table t keys v (pass_view c.look_at.new.pass) n 0) (sym many) (subst (λ w. Rounds Table t keys v w (length keys) 0) (sym c.look_at.ensures.stays) round),
-      subst (λ w. Holds w h) (sym c.look_at.ensures.stays) c.requires.holds,
-      (c.look_at.ensures.own.0, subst HasPass (sym c.look_at.ensures.stays) c.requires.own.1),
+      subst (λ w. Holds w h) (sym c.look_at.ensures.stays) c.requires.holds.1,
+      (c.look_at.ensures.own.0, subst HasPass (sym c.look_at.ensures.stays) c.requires.holds.0.1),
       refl,
       refl,
       subst (λ n. Leads n keys keys) (sym many) (leads_first keys),
@@ -59,7 +59,7 @@ cut_one-gone-requires-clause-here c =
     let long = subst (λ (b : BucketModel). AreLong (long_keys b t) t b.records) c.deref.ensures c.long_count-left.ensures.whole in
     let stands = subst (λ (b : BucketModel). slice_get (long_keys b t) l ≡ Some k) c.deref-in-loop-left.ensures c.long_key-key.ensures in
     let there = leads_key left l k (long_keys (held_records c.loop-left.self) t) keys c.loop-left.invariant.5 (omega arith) stands in
-    key_here z c.look_at.result t keys v h l k backed c.requires.holds long there ∙ sym c.loop-left.invariant.4
+    key_here z c.look_at.result t keys v h l k backed c.requires.holds.1 long there ∙ sym c.loop-left.invariant.4
 
 pub cut_one-gone-requires-clause-bound : goal.cut_one-gone-requires-clause-bound
 cut_one-gone-requires-clause-bound c =
@@ -71,7 +71,7 @@ overflow_add-gone c =
     let z = sizes_of c.args.board.now in
     let v = pass_view c.args.pass.now in
     let backed = subst (IsBacked z c.look_at.result) c.look_at.ensures.stays c.look_at.ensures.backed in
-    let most = gone_fits z c.look_at.result Table v (pass_view c.loop-left.pass) (pass_view c.cut_one-gone.new.pass) c.args.self.now (record_at c.args.table c.long_key-key.result) c.loop-left.gone backed c.requires.holds c.loop-left.invariant.0.counts c.cut_one-gone.ensures.step in
+    let most = gone_fits z c.look_at.result Table v (pass_view c.loop-left.pass) (pass_view c.cut_one-gone.new.pass) c.args.self.now (record_at c.args.table c.long_key-key.result) c.loop-left.gone backed c.requires.holds.1 c.loop-left.invariant.0.counts c.cut_one-gone.ensures.step in
     omega (arith, most, c.cut_one-gone.ensures.gone, c.args.board.now.room.begins)
 
 pub loop-left-preserved : goal.loop-left-preserved
@@ -88,20 +88,19 @@ loop-left-preserved c =
     let there = leads_key left l k (long_keys (held_records c.loop-left.self) t) keys c.loop-left.invariant.5 (omega arith) stands in
     let w = pass_view c.loop-left.pass in
     let x = pass_view c.cut_one-gone.new.pass in
-    let more = round_goes Table t keys v w x h left l k c.loop-left.gone (omega arith) c.requires.holds long there c.loop-left.invariant.0 c.cut_one-gone.ensures.step in (
+    let more = round_goes Table t keys v w x h left l k c.loop-left.gone (omega arith) c.requires.holds.1 long there c.loop-left.invariant.0 c.cut_one-gone.ensures.step in (
       subst (λ n. Rounds Table t keys v x l (c.loop-left.gone + n)) (sym c.cut_one-gone.ensures.gone) more,
-      c.cut_one-gone.ensures.holds,
-      c.cut_one-gone.ensures.own,
-      c.cut_one-gone.ensures.held.0 ∙ c.loop-left.invariant.3,
-      c.cut_one-gone.ensures.held.1 ∙ c.loop-left.invariant.4,
+      c.cut_one-gone.ensures.holds.0.1,
+      c.cut_one-gone.ensures.holds.0.0,
+      c.cut_one-gone.ensures.holds.1.0 ∙ c.loop-left.invariant.3,
+      c.cut_one-gone.ensures.holds.1.1 ∙ c.loop-left.invariant.4,
       leads_on left l (long_keys (held_records c.loop-left.self) t) (long_keys (held_records c.cut_one-gone.new.self) t) keys c.loop-left.invariant.5 (omega arith) c.cut_one-gone.ensures.front,
     )
 
-pub returns-clause-each : goal.returns-clause-each
-returns-clause-each c =
-    λ k.
+pub returns-clause-left : goal.returns-clause-left
+returns-clause-left c =
     let done = round_ends Table c.args.table (long_keys (held_records c.args.self.now) c.args.table) (pass_view c.args.pass.now) (pass_view c.loop-left.pass) c.loop-left.left c.loop-left.gone (omega arith) c.loop-left.invariant.0 in
-    done k
+    (done, c.loop-left.invariant.0.others)
 
 pub returns-clause-cut : goal.returns-clause-cut
 returns-clause-cut c =
@@ -110,14 +109,11 @@ returns-clause-cut c =
     let done = round_ends Table c.args.table (long_keys (held_records c.args.self.now) c.args.table) v (pass_view c.loop-left.pass) c.loop-left.left c.loop-left.gone (omega arith) c.loop-left.invariant.0 in
     subst (IsCutAt c.args.bound) (sym (done k)) (cut_left v (record_at c.args.table k) c.args.bound c.requires.bound)
 
-pub returns-clause-others : goal.returns-clause-others
-returns-clause-others c = c.loop-left.invariant.0.others
-
 pub returns-clause-steps : goal.returns-clause-steps
 returns-clause-steps c = c.loop-left.invariant.0.clears
 
 pub returns-clause-gone : goal.returns-clause-gone
 returns-clause-gone c = c.loop-left.invariant.0.counts
 
-pub cut_one-gone-requires-clause-stands : goal.cut_one-gone-requires-clause-stands
-cut_one-gone-requires-clause-stands c = subst (λ (b : BucketModel). slice_get (long_keys b c.args.table) (c.loop-left.left - 1) ≡ Some c.long_key-key.result) c.deref-in-loop-left.ensures c.long_key-key.ensures
+pub cut_one-gone-requires-clause-listed : goal.cut_one-gone-requires-clause-listed
+cut_one-gone-requires-clause-listed c = subst (λ (b : BucketModel). slice_get (long_keys b c.args.table) (c.loop-left.left - 1) ≡ Some c.long_key-key.result) c.deref-in-loop-left.ensures c.long_key-key.ensures
