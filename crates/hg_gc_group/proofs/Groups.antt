@@ -21,7 +21,7 @@ use Rattle.hg_rule.specs.Views.{number, pass, HasPass}
 use Rattle.hg_rule.specs.Rounds.{IsWork, takes_in, gone_in, seen_taken}
 use Rattle.hg_rule.proofs.Lists.{each_left, each_right}
 use Rattle.hg_rule.proofs.Rounds.{gone_on, takes_on, taken_append}
-use Rattle.hg_group.specs.declared.context.GroupContext.{GroupContext}
+use Rattle.hg_group.specs.declared.contexts.GroupContext.{GroupContext}
 use Rattle.hg_group.specs.Oldest.{AreNext, records_of, takes_by, TakesNext, TakesSome}
 use Rattle.hg_group.proofs.NextGroup.{records_more}
 use Rattle.hg_core.specs.Counters.{removed_all}

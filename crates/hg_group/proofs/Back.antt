@@ -13,8 +13,8 @@ use Rattle.hg_rule.specs.Handing.{Members, lent, next_lent, lent_alone, hands_ba
 use Rattle.hg_rule.specs.Seats.{BoardId, tx_view, IsTxOf}
 use Rattle.hg_queue.specs.declared.open_tx.OpenTx.{OpenTx}
 use Rattle.hg_queue.specs.Handing.{seat_number, seat_part}
-use Rattle.hg_group.specs.declared.laid.Outcome.TheVariants.{Refused}
-use Rattle.hg_group.specs.declared.laid.Laid.{Laid}
+use Rattle.hg_group.specs.declared.book.Outcome.TheVariants.{Refused}
+use Rattle.hg_group.specs.declared.book.Laid.{Laid}
 use Rattle.hg_group.specs.Batch.{IsTaken, AreTaken, IsOutcome, IsLaid, HasBatch, LaysAll, sessions_of, backs}
 
 -- the pass's own place is as it was, and these sessions have their parts back

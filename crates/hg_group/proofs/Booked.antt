@@ -1,7 +1,7 @@
 -- The book that lies in a batch's box.
 use Rattle.std.proofs.Common.{◌≡◌, ℕ, sym, subst}
 use Rattle.hg_rule.specs.Seats.{BoardId}
-use Rattle.hg_group.specs.declared.batch.Batches.{Batches}
+use Rattle.hg_group.specs.declared.book.Batches.{Batches}
 use Rattle.hg_group.specs.declared.book.Book.{Book}
 use Rattle.hg_group.specs.Leading.{IsKept}
 

@@ -23,7 +23,7 @@ use Rattle.hg_rule.specs.Facts.{Shown}
 use Rattle.hg_rule.specs.Rules.{IsBacked}
 use Rattle.hg_rule.specs.Handing.{Members, lent, who, group_of}
 use Rattle.hg_queue.specs.declared.open_tx.OpenTx.{OpenTx}
-use Rattle.hg_group.specs.declared.context.GroupContext.{GroupContext}
+use Rattle.hg_group.specs.declared.contexts.GroupContext.{GroupContext}
 use Rattle.hg_group.specs.Contexts.{IsContextOf}
 use Rattle.hg_group.specs.Batch.{AreTaken, all_records}
 use Rattle.hg_group.proofs.Grouped.{once}

@@ -20,8 +20,8 @@ use Rattle.hg_rule.specs.Seats.{BoardId, tx_view, IsTxOf}
 use Rattle.hg_queue.specs.declared.open_tx.OpenTx.{OpenTx}
 use Rattle.hg_queue.specs.Handing.{seat_number, seat_part}
 use Rattle.hg_group.specs.declared.receipt.Receipt.{Receipt}
-use Rattle.hg_group.specs.declared.laid.Outcome.TheVariants.{Committed}
-use Rattle.hg_group.specs.declared.laid.Laid.{Laid}
+use Rattle.hg_group.specs.declared.book.Outcome.TheVariants.{Committed}
+use Rattle.hg_group.specs.declared.book.Laid.{Laid}
 use Rattle.hg_group.specs.Order.{StandsIn}
 use Rattle.hg_group.specs.Batch.{IsOutcome, IsLaid, AreLaid, HasGroup, LaysAll, sessions_of, backs}
 use Rattle.hg_group.proofs.Grouped.{stands}

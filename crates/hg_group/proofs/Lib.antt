@@ -1,6 +1,6 @@
 -- The order of commits, and contexts.
 pub mod Ordering
-pub mod Contexts
+pub mod ContextFacts
 pub mod Bound
 -- What lies under the commit lock.
 pub mod Booked

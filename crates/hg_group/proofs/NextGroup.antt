@@ -25,10 +25,10 @@ use Rattle.hg_rule.specs.Rounds.{seen_taken}
 use Rattle.hg_rule.proofs.Growing.{among_later}
 use Rattle.hg_rule.proofs.Rounds.{taken_append}
 use Rattle.hg_queue.specs.Rids.{Rids}
-use Rattle.hg_group.specs.declared.context.GroupContext.{GroupContext}
+use Rattle.hg_group.specs.declared.contexts.GroupContext.{GroupContext}
 use Rattle.hg_group.specs.Contexts.{IsContextOf, context_of, EachContextOf, AreContexts}
 use Rattle.hg_group.specs.Oldest.{IsNext, AreNext, records_of, takes_by, TakesNext, TakesOldest, TakesSome, PopsBelow, PopsNext, PopsSome}
-use Rattle.hg_group.proofs.Contexts.{drop_length}
+use Rattle.hg_group.proofs.ContextFacts.{drop_length}
 
 -- ---- contexts
 

@@ -18,7 +18,7 @@ use Rattle.hg_rule.specs.Handing.{IsBack, resuming}
 use Rattle.hg_queue.specs.declared.open_tx.OpenTx.{OpenTx}
 use Rattle.hg_queue.specs.Handing.{IsOpenTxOf, MayCommit}
 use Rattle.hg_group.specs.declared.receipt.Receipt.{Receipt}
-use Rattle.hg_group.specs.declared.laid.Outcome.TheVariants.{Committed, Refused}
+use Rattle.hg_group.specs.declared.book.Outcome.TheVariants.{Committed, Refused}
 use Rattle.hg_group.specs.Order.{StandsIn}
 use Rattle.hg_group.specs.Batch.{IsOutcome, HasFinished, IsRefused}
 

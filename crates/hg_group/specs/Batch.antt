@@ -23,9 +23,9 @@ use Rattle.hg_core.specs.Commits.{commits_in}
 use Rattle.hg_rule.specs.Seats.{BoardId, tx_view, IsTxOf}
 use Rattle.hg_queue.specs.declared.open_tx.OpenTx.{OpenTx}
 use Rattle.hg_queue.specs.Handing.{IsOpenTxOf, MayCommit, seat_number, seat_part}
-use Rattle.hg_group.specs.declared.laid.Outcome.{Outcome}
-use Rattle.hg_group.specs.declared.laid.Outcome.TheVariants.{Committed, Refused}
-use Rattle.hg_group.specs.declared.laid.Laid.{Laid}
+use Rattle.hg_group.specs.declared.book.Outcome.{Outcome}
+use Rattle.hg_group.specs.declared.book.Outcome.TheVariants.{Committed, Refused}
+use Rattle.hg_group.specs.declared.book.Laid.{Laid}
 use Rattle.hg_rule.specs.Writes.{with_published, listing}
 use Rattle.hg_group.specs.declared.receipt.Receipt.{Receipt}
 use Rattle.hg_group.specs.Order.{Pairs, StandsIn}

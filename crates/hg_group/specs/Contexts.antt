@@ -3,7 +3,7 @@ use Rattle.std.specs.Prelude.{◌≡◌, ℕ, suc, List, [], ◌∷◌, drop, is
 use Rattle.hg_base.specs.declared.rid.Rid.{Rid}
 use Rattle.hg_base.specs.History.{Group, History, NoneTwice, is_among, group_image}
 use Rattle.hg_queue.specs.Rids.{Rids}
-use Rattle.hg_group.specs.declared.context.GroupContext.{GroupContext}
+use Rattle.hg_group.specs.declared.contexts.GroupContext.{GroupContext}
 
 -- it has the group's number, and exactly the records that the group writes, each once
 pub record IsContextOf (number : ℕ) (group : Group) (context : GroupContext) : Type 0 where

@@ -4,7 +4,7 @@ use Rattle.hg_lock.specs.Locks.{tag_of}
 use Rattle.hg_rule.specs.declared.view.CommitPart.{CommitPart}
 use Rattle.hg_rule.specs.Seats.{BoardId}
 use Rattle.hg_queue.specs.Queues.{IsPassOf, known}
-use Rattle.hg_group.specs.declared.held_list.HeldList.{HeldList}
+use Rattle.hg_group.specs.declared.contexts.HeldList.{HeldList}
 use Rattle.hg_core.specs.Commits.{commits_in}
 use Rattle.hg_group.specs.Contexts.{AreContexts}
 use Rattle.hg_group.specs.Order.{FollowsQueue}
@@ -21,8 +21,8 @@ pub record KeepsBeside (h : HeldList) (part : CommitPart) : Type 0 where
   pub taken : part.taken ≤ length part.history.list
   pub contexts_are : AreContexts part.history.list part.taken h.book.value.contexts.items
   pub count_is : h.book.value.count ≡ commits_in part.history.list
-  pub follows : FollowsQueue part.history.list (known h.line).pairs
-  pub line : ((known h.line).opens ≡ false) × (((known h.line).leads ≡ true) × ((known h.line).board.id ≡ held_board_id h))
+  pub follows : FollowsQueue part.history.list (known h.book.value.line).pairs
+  pub line : ((known h.book.value.line).opens ≡ false) × (((known h.book.value.line).leads ≡ true) × ((known h.book.value.line).board.id ≡ held_board_id h))
   pub room : (h.book.value.popped.items ≡ []) × ((tag_of h.locks.now).value.sessions ≤ vec_capacity h.book.value.popped)
   pub laid : AreLaid (held_board_id h) 1 h.book.value.laid.items × (length h.book.value.laid.items ≡ (tag_of h.locks.now).value.sessions)
-  pub pass : IsPassOf (tag_of h.locks.now).value.queue.value h.line
+  pub pass : IsPassOf (tag_of h.locks.now).value.queue.value h.book.value.line

@@ -6,7 +6,7 @@ use Rattle.hg_rule.specs.Facts.{StartsWith}
 use Rattle.hg_rule.specs.Views.{number, session, since}
 use Rattle.hg_rule.specs.Seats.{BoardId, IsCommitOf}
 use Rattle.hg_queue.specs.Queues.{known}
-use Rattle.hg_group.specs.declared.batch.Batches.{Batches}
+use Rattle.hg_group.specs.declared.book.Batches.{Batches}
 use Rattle.hg_core.specs.Commits.{commits_in}
 use Rattle.hg_group.specs.Contexts.{AreContexts}
 use Rattle.hg_group.specs.Order.{FollowsQueue}
@@ -20,8 +20,8 @@ pub record IsKept (t : BoardId) (sessions : ℕ) (x : Batches) : Type 0 where
   pub taken : (part_in x.seat).taken ≤ length (part_in x.seat).history.list
   pub contexts_are : AreContexts (part_in x.seat).history.list (part_in x.seat).taken x.book.value.contexts.items
   pub count_is : x.book.value.count ≡ commits_in (part_in x.seat).history.list
-  pub follows : FollowsQueue (part_in x.seat).history.list (known x.line).pairs
-  pub line : ((known x.line).opens ≡ false) × (((known x.line).leads ≡ true) × ((known x.line).board.id ≡ t))
+  pub follows : FollowsQueue (part_in x.seat).history.list (known x.book.value.line).pairs
+  pub line : ((known x.book.value.line).opens ≡ false) × (((known x.book.value.line).leads ≡ true) × ((known x.book.value.line).board.id ≡ t))
   pub room : (x.book.value.popped.items ≡ []) × (sessions ≤ vec_capacity x.book.value.popped)
   pub laid : AreLaid t 1 x.book.value.laid.items × (length x.book.value.laid.items ≡ sessions)
 

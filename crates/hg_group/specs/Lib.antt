@@ -10,4 +10,5 @@ pub mod Founded
 pub mod Submitting
 pub mod Pushing
 pub mod Keeping
+pub mod Frames
 pub mod Oldest

@@ -2,10 +2,10 @@
 use Rattle.std.specs.Prelude.{◌≡◌, ℕ, List, [], ◌∷◌, ◌++◌}
 use Rattle.hg_lock.specs.Locks.{tag_of, lock_of, IsLoanOf}
 use Rattle.hg_rule.specs.Seats.{BoardId}
-use Rattle.hg_group.specs.declared.group_list.GroupList.{GroupList}
+use Rattle.hg_group.specs.declared.list.GroupList.{GroupList}
 use Rattle.hg_group.specs.Founded.{founding_board_id}
 use Rattle.hg_group.specs.Pushing.{PusherFits}
-use Rattle.hg_group.specs.declared.submitted.Submitted.{Submitted}
+use Rattle.hg_group.specs.declared.follower.Submitted.{Submitted}
 use Rattle.hg_queue.specs.Queues.{known}
 
 -- the board
@@ -14,7 +14,7 @@ groups_board_id q = founding_board_id (tag_of q.batches).value
 
 -- how many sessions there are
 abbrev pub groups_sessions : GroupList → ℕ
-groups_sessions q = q.sessions
+groups_sessions q = (tag_of q.batches).value.sessions
 
 -- it holds a lock of these, and what it has may lie there again
 abbrev pub IsSubmittedTo : GroupList → Submitted → Type 0

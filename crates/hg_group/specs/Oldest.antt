@@ -13,7 +13,7 @@ use Rattle.hg_rule.specs.Views.{number, pass, seeing}
 use Rattle.hg_rule.specs.Holding.{commit, beyond}
 use Rattle.hg_rule.specs.Removes.{Takes}
 use Rattle.hg_rule.specs.Rounds.{seen_taken}
-use Rattle.hg_group.specs.declared.context.GroupContext.{GroupContext}
+use Rattle.hg_group.specs.declared.contexts.GroupContext.{GroupContext}
 use Rattle.hg_group.specs.Contexts.{IsContextOf}
 
 -- so many groups stand before this one

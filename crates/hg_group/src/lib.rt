@@ -28,32 +28,16 @@
 //! held once (`take_some`).
 #![tactic(auto)]
 
-mod batch;
 mod book;
-mod context;
-mod finishing;
-mod gathering;
-mod group_list;
-mod held_list;
-mod laid;
-mod laying;
-mod making;
-mod oldest;
-mod pusher;
+mod contexts;
+mod follower;
+mod leader;
+mod list;
 mod receipt;
-mod records;
-mod refusing;
-mod stamping;
-mod submitted;
-mod submitting;
-mod taking;
 
-pub use batch::{Batches, Founding};
-pub use context::GroupContext;
-pub use group_list::GroupList;
-pub use held_list::HeldList;
+pub use book::{Batches, Founding, Laid, Outcome};
+pub use contexts::{GroupContext, HeldList};
+pub use follower::{Pusher, Submitted};
 pub use hg_queue::{OpenTx, RidList};
-pub use laid::{Laid, Outcome};
-pub use pusher::Pusher;
+pub use list::GroupList;
 pub use receipt::Receipt;
-pub use submitted::Submitted;

@@ -3,7 +3,7 @@ use Rattle.hg_rule.specs.declared.board.Board.{Board}
 use Rattle.hg_rule.specs.declared.view.Sizes.{Sizes}
 use Rattle.hg_rule.specs.Seats.{BoardId, board_id, sizes_of}
 use Rattle.hg_tracker.specs.Boards.{board_of}
-use Rattle.hg_group.specs.declared.group_list.GroupList.{GroupList}
+use Rattle.hg_group.specs.declared.list.GroupList.{GroupList}
 use Rattle.hg_store.specs.declared.store.Store.{Store}
 use Rattle.hg_session.specs.declared.engine.Engine.{Engine}
 

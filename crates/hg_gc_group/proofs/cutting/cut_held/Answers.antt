@@ -30,9 +30,9 @@ overflow_add-gone c = let all = (more c).removes.counts.versions in omega (arith
 pub loop-rid-preserved : goal.loop-rid-preserved
 loop-rid-preserved c = record {
   cuts = more c;
-  holds = c.cut_record-gone.ensures.holds;
-  held = (c.cut_record-gone.ensures.held.0 ∙ c.loop-rid.invariant.held.0, c.cut_record-gone.ensures.held.1 ∙ c.loop-rid.invariant.held.1);
-  own = c.cut_record-gone.ensures.own;
+  holds = c.cut_record-gone.ensures.holds.0.1;
+  held = (c.cut_record-gone.ensures.holds.1.0 ∙ c.loop-rid.invariant.held.0, c.cut_record-gone.ensures.holds.1.1 ∙ c.loop-rid.invariant.held.1);
+  own = c.cut_record-gone.ensures.holds.0.0;
 }
 
 pub returns-clause-cuts : goal.returns-clause-cuts

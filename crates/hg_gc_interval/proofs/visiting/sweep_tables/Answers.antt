@@ -3,7 +3,7 @@ use Rattle.hg_base.specs.declared.rid.Rid.{Rid}
 use Rattle.hg_base.specs.declared.rid.TableId.{TableId}
 use Rattle.hg_base.specs.declared.report.Kind.TheVariants.{Interval}
 use Rattle.hg_core.specs.Clean.{IsClean}
-use Rattle.hg_core.specs.Passes.{PassRecord, IsWhole, recorded}
+use Rattle.hg_core.specs.Passes.{horizon, PassRecord, IsWhole, recorded}
 use Rattle.hg_rule.specs.Facts.{record_of}
 use Rattle.hg_rule.specs.Holding.{held}
 use Rattle.hg_rule.specs.Views.{pass}
@@ -26,15 +26,15 @@ sweep-gone-requires-clause-whole g c =
     let same = record_still Interval (IsCleanBy (record_of (pass v))) c.loop-number.number c.loop-number.gone v (pass_view c.loop-number.pass) c.loop-number.invariant.0 in
     subst (IsWhole (sizes_of c.args.board.now).sessions) (sym same) (whole_record (sizes_of c.args.board.now).sessions (pass v) c.args.gathered.now c.requires.shown)
 
-pub sweep-gone-requires-clause-rises : goal.sweep-gone-requires-clause-rises
-sweep-gone-requires-clause-rises g c = c.for_table-snapshots.ensures.rises _ _ c.requires.shown
-
-pub sweep-gone-requires-clause-snapshots : goal.sweep-gone-requires-clause-snapshots
-sweep-gone-requires-clause-snapshots g c =
+pub sweep-gone-requires-clause-gathered : goal.sweep-gone-requires-clause-gathered
+sweep-gone-requires-clause-gathered g c =
     let v = pass_view c.args.pass.now in
     let t : TableId = record { 0 = c.loop-number.number } in
-    let same = record_still Interval (IsCleanBy (record_of (pass v))) c.loop-number.number c.loop-number.gone v (pass_view c.loop-number.pass) c.loop-number.invariant.0 in
-    have_same c.for_table-snapshots.result.now (recorded t (record_of (pass (pass_view c.loop-number.pass)))) (λ n. c.for_table-snapshots.ensures.numbers _ _ c.requires.shown n ∙ ap (λ p. times n (recorded t p)) (sym same))
+    let same = record_still Interval (IsCleanBy (record_of (pass v))) c.loop-number.number c.loop-number.gone v (pass_view c.loop-number.pass) c.loop-number.invariant.0 in (
+      c.horizon-horizon.ensures _ _ c.requires.shown ∙ ap horizon (sym same),
+      c.for_table-snapshots.ensures.rises _ _ c.requires.shown,
+      have_same c.for_table-snapshots.result.now (recorded t (record_of (pass (pass_view c.loop-number.pass)))) (λ n. c.for_table-snapshots.ensures.numbers _ _ c.requires.shown n ∙ ap (λ p. times n (recorded t p)) (sym same)),
+    )
 
 pub loop-number-preserved : goal.loop-number-preserved
 loop-number-preserved g c =
@@ -51,11 +51,11 @@ loop-number-preserved g c =
     let xs = c.for_table-snapshots.result.now in
     let many = same_length xs (recorded t (record_of (pass v))) (c.for_table-snapshots.ensures.numbers _ _ c.requires.shown) in
     let cost = spends_more (record_of (pass v)) v w n (length xs) c.args.steps.now c.loop-number.steps c.sweep-gone.new.steps t (omega arith) many c.loop-number.invariant.5 c.loop-number.invariant.0.rest c.sweep-gone.ensures.spends in
-    let more : ClearsTables Interval Q (suc n) (c.loop-number.gone + c.sweep-gone.result) v x = tables_more Interval Q v w x n c.loop-number.gone c.sweep-gone.result t (omega arith) c.loop-number.invariant.0 c.sweep-gone.ensures.steps c.sweep-gone.ensures.gone left c.sweep-gone.ensures.others in (
+    let more : ClearsTables Interval Q (suc n) (c.loop-number.gone + c.sweep-gone.result) v x = tables_more Interval Q v w x n c.loop-number.gone c.sweep-gone.result t (omega arith) c.loop-number.invariant.0 c.sweep-gone.ensures.steps c.sweep-gone.ensures.gone left c.sweep-gone.ensures.left.1 in (
       subst (λ k. ClearsTables Interval Q k (c.loop-number.gone + c.sweep-gone.result) v x) next more,
-      c.sweep-gone.ensures.holds,
-      c.sweep-gone.ensures.own,
-      c.sweep-gone.ensures.held.0 ∙ c.loop-number.invariant.3,
-      c.sweep-gone.ensures.held.1 ∙ c.loop-number.invariant.4,
+      c.sweep-gone.ensures.holds.0.1,
+      c.sweep-gone.ensures.holds.0.0,
+      c.sweep-gone.ensures.holds.1.0 ∙ c.loop-number.invariant.3,
+      c.sweep-gone.ensures.holds.1.1 ∙ c.loop-number.invariant.4,
       subst (λ k. SpendsTables k (record_of (pass v)) v c.args.steps.now c.sweep-gone.new.steps) next cost,
     )

@@ -41,10 +41,10 @@ loop-number-preserved c =
     let low = c.bound-bound.ensures _ _ c.requires.shown in
     let left : (k : ℕ) → Q (at t k) (held x (at t k)) = λ k. subst (λ b. IsCutAt b (held x (at t k))) low (c.cut_table-gone.ensures.cut k) in
     let next : suc n ≡ n + 1 = omega arith in
-    let more : ClearsTables Table Q (suc n) (c.loop-number.gone + c.cut_table-gone.result) v x = tables_more Table Q v w x n c.loop-number.gone c.cut_table-gone.result t (omega arith) c.loop-number.invariant.0 c.cut_table-gone.ensures.steps c.cut_table-gone.ensures.gone left c.cut_table-gone.ensures.others in (
+    let more : ClearsTables Table Q (suc n) (c.loop-number.gone + c.cut_table-gone.result) v x = tables_more Table Q v w x n c.loop-number.gone c.cut_table-gone.result t (omega arith) c.loop-number.invariant.0 c.cut_table-gone.ensures.steps c.cut_table-gone.ensures.gone left c.cut_table-gone.ensures.left.1 in (
       subst (λ k. ClearsTables Table Q k (c.loop-number.gone + c.cut_table-gone.result) v x) next more,
-      c.cut_table-gone.ensures.holds,
-      c.cut_table-gone.ensures.own,
-      c.cut_table-gone.ensures.held.0 ∙ c.loop-number.invariant.3,
-      c.cut_table-gone.ensures.held.1 ∙ c.loop-number.invariant.4,
+      c.cut_table-gone.ensures.holds.0.1,
+      c.cut_table-gone.ensures.holds.0.0,
+      c.cut_table-gone.ensures.holds.1.0 ∙ c.loop-number.invariant.3,
+      c.cut_table-gone.ensures.holds.1.1 ∙ c.loop-number.invariant.4,
     )

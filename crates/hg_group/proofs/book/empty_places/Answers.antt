@@ -1,8 +1,8 @@
 use Rattle.std.proofs.Common.{rules, ℕ, suc, List, [], ◌∷◌, ◌++◌, Option, None, sym, subst}
 use Rattle.hg_rule.specs.Seats.{BoardId}
-use Rattle.hg_group.specs.declared.laid.Laid.{Laid}
+use Rattle.hg_group.specs.declared.book.Laid.{Laid}
 use Rattle.hg_group.specs.Batch.{AreLaid}
-use Rattle.hg_group.proofs.making.empty_places.Goals as goal
+use Rattle.hg_group.proofs.book.empty_places.Goals as goal
 
 one_more : (t : BoardId) (k : ℕ) (xs : List (Option Laid)) → AreLaid t k xs → AreLaid t k (xs ++ None ∷ [])
 one_more t k [] h = (tt, tt)

@@ -1,7 +1,7 @@
 use Rattle.std.specs.Prelude.{◌≡◌, ℕ, length}
 use Rattle.hg_rule.specs.Seats.{BoardId}
 use Rattle.hg_group.specs.Batch.{AreLaid}
-use Rattle.hg_group.proofs.making.empty_places.Given as goal
+use Rattle.hg_group.proofs.book.empty_places.Given as goal
 
 abbrev pub invariant-loop-turn : goal.invariant-loop-turn
 invariant-loop-turn l = record {

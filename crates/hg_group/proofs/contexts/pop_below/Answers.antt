@@ -4,8 +4,8 @@ use Rattle.hg_rule.specs.Seats.{pass_view}
 use Rattle.hg_group.specs.Contexts.{context_of, AreContexts}
 use Rattle.hg_group.specs.Oldest.{PopsBelow}
 use Rattle.hg_group.proofs.NextGroup.{contexts_left, pops}
-use Rattle.hg_group.proofs.oldest.pop_below.Goals as goal
-use Rattle.hg_group.proofs.oldest.pop_below.Goals.{In-Some}
+use Rattle.hg_group.proofs.contexts.pop_below.Goals as goal
+use Rattle.hg_group.proofs.contexts.pop_below.Goals.{In-Some}
 
 pub overflow_sub-taken : goal.overflow_sub-taken
 overflow_sub-taken c =

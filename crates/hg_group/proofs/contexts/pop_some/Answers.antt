@@ -2,7 +2,7 @@ use Rattle.std.proofs.Common.{◌++◌, ◌∷◌, [], sym, ap, ◌∙◌, appen
 use Rattle.hg_rule.specs.Seats.{pass_view}
 use Rattle.hg_group.specs.Oldest.{records_of}
 use Rattle.hg_group.proofs.NextGroup.{pops_none, pops_more, records_more}
-use Rattle.hg_group.proofs.oldest.pop_some.Goals as goal
+use Rattle.hg_group.proofs.contexts.pop_some.Goals as goal
 
 pub loop-context-init : goal.loop-context-init
 loop-context-init c = record { popped = ([], (sym (append-nil c.args.into.now.items), pops_none (pass_view c.args.pass.now) c.args.bound c.requires.own.1 c.requires.held)); contexts = c.requires.contexts; own = c.requires.own }

@@ -1,10 +1,10 @@
 use Rattle.std.specs.Prelude.{◌≡◌, ◌++◌, ◌-◌, List}
 use Rattle.hg_rule.specs.Holding.{commit}
 use Rattle.hg_rule.specs.Seats.{board_id, pass_view, IsPassOf}
-use Rattle.hg_group.specs.declared.context.GroupContext.{GroupContext}
+use Rattle.hg_group.specs.declared.contexts.GroupContext.{GroupContext}
 use Rattle.hg_group.specs.Contexts.{AreContexts}
 use Rattle.hg_group.specs.Oldest.{records_of, PopsNext}
-use Rattle.hg_group.proofs.oldest.pop_some.Given as goal
+use Rattle.hg_group.proofs.contexts.pop_some.Given as goal
 
 -- the contexts so far, with their records in the list
 abbrev pub invariant-loop-context : goal.invariant-loop-context

@@ -2,7 +2,7 @@ use Rattle.std.proofs.Common.{◌≡◌, ◌++◌, ◌∷◌, [], ◌∙◌, len
 use Rattle.hg_base.specs.declared.rid.Rid.{Rid}
 use Rattle.hg_group.proofs.Recording.{take_next}
 use Rattle.hg_group.proofs.Stamped.{take_all}
-use Rattle.hg_group.proofs.oldest.push_all.Goals as goal
+use Rattle.hg_group.proofs.contexts.push_all.Goals as goal
 
 abbrev first : Rid
 first = record { table = record { 0 = 0 }; key = 0 }

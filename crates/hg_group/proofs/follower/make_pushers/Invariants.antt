@@ -3,7 +3,7 @@ use Rattle.hg_lock.specs.Locks.{EachFits}
 use Rattle.hg_queue.specs.Queues.{IsPassOf, known}
 use Rattle.hg_group.specs.Founded.{founding_board_id}
 use Rattle.hg_group.specs.Pushing.{PusherFits}
-use Rattle.hg_group.proofs.making.make_pushers.Given as goal
+use Rattle.hg_group.proofs.follower.make_pushers.Given as goal
 
 abbrev pub invariant-loop-turn : goal.invariant-loop-turn
 invariant-loop-turn l = record {

@@ -3,7 +3,7 @@ use Rattle.hg_rule.specs.Views.{session}
 use Rattle.hg_rule.specs.Seats.{session_view, tx_view}
 use Rattle.hg_group.specs.Batch.{IsOutcome}
 use Rattle.hg_group.proofs.Returning.{finished, refused}
-use Rattle.hg_group.proofs.taking.take_back.Goals as goal
+use Rattle.hg_group.proofs.follower.take_back.Goals as goal
 
 pub returns-in-Committed-clause-finished : goal.returns-in-Committed-clause-finished
 returns-in-Committed-clause-finished c =

@@ -4,7 +4,7 @@ use Rattle.hg_group.specs.Batch.{IsLaid, AreLaid}
 use Rattle.hg_group.specs.declared.book.Book.{Book}
 use Rattle.hg_group.proofs.Booked.{booked_kept}
 use Rattle.hg_group.proofs.Laying_down.{laid_at, laid_none}
-use Rattle.hg_group.proofs.finishing.take_laid.Goals as goal
+use Rattle.hg_group.proofs.follower.take_laid.Goals as goal
 
 pub returns-clause-taken : goal.returns-clause-taken
 returns-clause-taken c t sessions is =

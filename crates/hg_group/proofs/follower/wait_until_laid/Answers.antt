@@ -3,7 +3,7 @@ use Rattle.std.specs.Prelude.{IfOk, IfErr, Result, Ok, Err}
 use Rattle.hg_rule.specs.Seats.{session_view}
 use Rattle.hg_group.specs.Batch.{HasFinished, IsRefused}
 use Rattle.hg_group.proofs.Returning.{leads_none, leads_on, finished_on, refused_on}
-use Rattle.hg_group.proofs.finishing.finish.Goals as goal
+use Rattle.hg_group.proofs.follower.wait_until_laid.Goals as goal
 
 pub loop-init : goal.loop-init
 loop-init g c = record { own = (c.requires.own, refl); led = leads_none (session_view c.args.pass.now) c.requires.own.3 c.requires.alone }

@@ -1,7 +1,7 @@
 use Rattle.std.specs.Prelude.{◌≡◌}
 use Rattle.hg_rule.specs.Seats.{board_id, sizes_of, session_view, IsAwayOf}
 use Rattle.hg_group.specs.Leading.{Leads}
-use Rattle.hg_group.proofs.finishing.finish.Given as goal
+use Rattle.hg_group.proofs.follower.wait_until_laid.Given as goal
 
 -- the pass has its own place alone, and waits
 abbrev pub invariant-loop : goal.invariant-loop

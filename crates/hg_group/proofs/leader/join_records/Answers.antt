@@ -1,6 +1,6 @@
 use Rattle.std.proofs.Common.{◌∙◌}
 use Rattle.hg_group.proofs.Listing.{none_joined, one_joined, tx_joined, has_place, room_beside, all_joined}
-use Rattle.hg_group.proofs.records.join_records.Goals as goal
+use Rattle.hg_group.proofs.leader.join_records.Goals as goal
 
 pub loop-tx-init : goal.loop-tx-init
 loop-tx-init c = none_joined c.remove-records.result.records

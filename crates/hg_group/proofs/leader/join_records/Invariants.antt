@@ -1,7 +1,7 @@
 use Rattle.std.specs.Prelude.{take}
 use Rattle.hg_group.specs.Batch.{all_records}
 use Rattle.hg_group.proofs.Listing.{Joined}
-use Rattle.hg_group.proofs.records.join_records.Given as goal
+use Rattle.hg_group.proofs.leader.join_records.Given as goal
 
 -- the records of this transaction so far
 abbrev pub invariant-loop-rid : goal.invariant-loop-rid

@@ -2,12 +2,12 @@ use Rattle.std.proofs.Common.{rules, ◌≡◌, ◌<◌, ◌+◌, ◌-◌, ℕ, 
 use Rattle.hg_core.specs.Phases.{IsSession}
 use Rattle.hg_rule.specs.declared.view.SessionPart.{SessionPart}
 use Rattle.hg_rule.specs.Seats.{board_id, sizes_of, session_view}
-use Rattle.hg_group.specs.declared.laid.Laid.{Laid}
-use Rattle.hg_group.specs.declared.laid.Outcome.TheVariants.{Committed}
+use Rattle.hg_group.specs.declared.book.Laid.{Laid}
+use Rattle.hg_group.specs.declared.book.Outcome.TheVariants.{Committed}
 use Rattle.hg_group.specs.Batch.{IsLaid}
 use Rattle.hg_group.proofs.Batching.{away_back}
 use Rattle.hg_group.proofs.Laying_down.{laying_none, next_is, laying_more, laid_one, laid_set, each_at, laid_end}
-use Rattle.hg_group.proofs.laying.lay.Goals as goal
+use Rattle.hg_group.proofs.leader.lay.Goals as goal
 
 pub loop-i-init : goal.loop-i-init
 loop-i-init c = record { own = (c.requires.own, refl); laid = c.requires.laid; group = (c.requires.group, laying_none (sizes_of c.args.board.now).sessions (session_view c.args.pass.now) c.args.popped.now c.args.number c.args.place c.requires.group) }

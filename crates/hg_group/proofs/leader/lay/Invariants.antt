@@ -2,7 +2,7 @@ use Rattle.std.specs.Prelude.{◌≡◌, length}
 use Rattle.hg_rule.specs.Seats.{board_id, sizes_of, session_view, IsAwayOf}
 use Rattle.hg_group.specs.Batch.{AreLaid, HasGroup}
 use Rattle.hg_group.proofs.Laying_down.{Laying}
-use Rattle.hg_group.proofs.laying.lay.Given as goal
+use Rattle.hg_group.proofs.leader.lay.Given as goal
 
 -- the first of them are laid down
 abbrev pub invariant-loop-i : goal.invariant-loop-i

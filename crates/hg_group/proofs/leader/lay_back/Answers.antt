@@ -2,13 +2,13 @@ use Rattle.std.proofs.Common.{rules, ◌≡◌, [], ◌∷◌, length, ℕ, suc,
 use Rattle.hg_rule.specs.Seats.{board_id, sizes_of, session_view}
 use Rattle.hg_rule.specs.declared.view.View.{View}
 use Rattle.hg_queue.specs.declared.open_tx.OpenTx.{OpenTx}
-use Rattle.hg_group.specs.declared.laid.Laid.{Laid}
-use Rattle.hg_group.specs.declared.laid.Outcome.TheVariants.{Refused}
+use Rattle.hg_group.specs.declared.book.Laid.{Laid}
+use Rattle.hg_group.specs.declared.book.Outcome.TheVariants.{Refused}
 use Rattle.hg_group.specs.Batch.{IsLaid, HasBatch}
 use Rattle.hg_group.proofs.Batching.{away_back}
 use Rattle.hg_group.proofs.Laying_down.{laid_set}
 use Rattle.hg_group.proofs.Back.{Same, Parted, Next, next_of, parted_none, parted_more, refused_one, back_end}
-use Rattle.hg_group.proofs.refusing.lay_back.Goals as goal
+use Rattle.hg_group.proofs.leader.lay_back.Goals as goal
 
 none : (n : ℕ) → 0 + n ≡ n
 none n = omega arith

@@ -2,7 +2,7 @@ use Rattle.std.specs.Prelude.{◌≡◌, ◌+◌, length, vec_capacity}
 use Rattle.hg_rule.specs.Seats.{board_id, sizes_of, session_view, IsAwayOf}
 use Rattle.hg_group.specs.Batch.{AreLaid, HasBatch}
 use Rattle.hg_group.proofs.Back.{Parted}
-use Rattle.hg_group.proofs.refusing.lay_back.Given as goal
+use Rattle.hg_group.proofs.leader.lay_back.Given as goal
 
 -- what is left of the batch is with the pass still
 abbrev pub invariant-loop-turn : goal.invariant-loop-turn

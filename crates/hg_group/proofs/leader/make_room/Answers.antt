@@ -1,5 +1,5 @@
 use Rattle.hg_group.proofs.Listing.{same_room, set_room}
-use Rattle.hg_group.proofs.records.make_room.Goals as goal
+use Rattle.hg_group.proofs.leader.make_room.Goals as goal
 
 pub returns-in_err-reserve-clause-whole : goal.returns-in_err-reserve-clause-whole
 returns-in_err-reserve-clause-whole c = same_room c.args.popped.now.items

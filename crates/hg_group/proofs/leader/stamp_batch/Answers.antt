@@ -3,22 +3,19 @@ use Rattle.hg_base.specs.declared.rid.Rid.{Rid}
 use Rattle.hg_rule.specs.Seats.{session_view}
 use Rattle.hg_group.specs.Batch.{Stamped, all_pairs, with_session}
 use Rattle.hg_group.proofs.Stamped.{stamped_start, stamped_next, ready, take_all, all_next, with_next}
-use Rattle.hg_group.proofs.stamping.stamp_batch.Goals as goal
+use Rattle.hg_group.proofs.leader.stamp_batch.Goals as goal
 
 abbrev first : Rid
 first = record { table = record { 0 = 0 }; key = 0 }
 
 pub loop-tx-init : goal.loop-tx-init
-loop-tx-init g c = record { own = (c.requires.own, refl); done = stamped_start (session_view c.args.pass.now) c.requires.own.3 c.requires.commit.0 c.requires.received c.requires.commit.1 }
+loop-tx-init g c = record { own = (c.requires.own.0, refl); done = stamped_start (session_view c.args.pass.now) c.requires.own.0.3 c.requires.own.1 c.requires.received c.requires.unstamped }
 
 pub loop-rid-init : goal.loop-rid-init
 loop-rid-init g c = record { own = c.loop-tx.invariant.own; done = subst (λ l. Stamped (session_view c.args.pass.now) l (session_view c.loop-tx.pass)) (sym (append-nil (all_pairs (take c.loop-tx.tx-index c.args.popped.now)))) c.loop-tx.invariant.done }
 
 pub stamp_one-requires-clause-own : goal.stamp_one-requires-clause-own
-stamp_one-requires-clause-own g c = c.loop-rid.invariant.own.0
-
-pub stamp_one-requires-clause-commit : goal.stamp_one-requires-clause-commit
-stamp_one-requires-clause-commit g c = (ready (session_view c.args.pass.now) (session_view c.loop-rid.pass) c.args.popped.now c.loop-tx.tx-index c.loop-rid.rid-index c.args.number c.tx-item.result c.as_slice-rid-items.result.now first c.tx-item.is c.loop-tx-test.true c.as_slice-rid-items.ensures c.loop-rid-test.true c.requires.taken.0 c.requires.taken.1 c.requires.next c.loop-rid.invariant.done).has
+stamp_one-requires-clause-own g c = (c.loop-rid.invariant.own.0, (ready (session_view c.args.pass.now) (session_view c.loop-rid.pass) c.args.popped.now c.loop-tx.tx-index c.loop-rid.rid-index c.args.number c.tx-item.result c.as_slice-rid-items.result.now first c.tx-item.is c.loop-tx-test.true c.as_slice-rid-items.ensures c.loop-rid-test.true c.requires.taken.0 c.requires.taken.1 c.requires.next c.loop-rid.invariant.done).has)
 
 pub stamp_one-requires-clause-received : goal.stamp_one-requires-clause-received
 stamp_one-requires-clause-received g c = (ready (session_view c.args.pass.now) (session_view c.loop-rid.pass) c.args.popped.now c.loop-tx.tx-index c.loop-rid.rid-index c.args.number c.tx-item.result c.as_slice-rid-items.result.now first c.tx-item.is c.loop-tx-test.true c.as_slice-rid-items.ensures c.loop-rid-test.true c.requires.taken.0 c.requires.taken.1 c.requires.next c.loop-rid.invariant.done).received

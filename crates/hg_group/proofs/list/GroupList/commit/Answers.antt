@@ -4,7 +4,7 @@ use Rattle.hg_queue.specs.Handing.{IsOpenTxOf}
 use Rattle.hg_group.specs.Batch.{HasFinished, IsRefused}
 use Rattle.hg_group.specs.Submitting.{IsBackAgain, HasCommitted}
 use Rattle.hg_group.proofs.Through.{published, back_again, if_ok, if_err}
-use Rattle.hg_group.proofs.group_list.GroupList.commit.Goals as goal
+use Rattle.hg_group.proofs.list.GroupList.commit.Goals as goal
 
 pub returns-clause-committed : goal.returns-clause-committed
 returns-clause-committed g c =

@@ -2,7 +2,7 @@ use Rattle.std.proofs.Common.{◌++◌, ◌∙◌, sym, append_assoc, [], ◌∷
 use Rattle.hg_rule.specs.Views.{number}
 use Rattle.hg_rule.specs.Seats.{session_view}
 use Rattle.hg_queue.specs.Queues.{known}
-use Rattle.hg_group.proofs.group_list.GroupList.submit.Goals as goal
+use Rattle.hg_group.proofs.list.GroupList.submit.Goals as goal
 
 pub returns-in-Ok-clause-pair : goal.returns-in-Ok-clause-pair
 returns-in-Ok-clause-pair g c =

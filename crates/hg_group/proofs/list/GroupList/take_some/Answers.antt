@@ -5,7 +5,7 @@ use Rattle.hg_rule.specs.Seats.{sizes_of, pass_view, commit_view}
 use Rattle.hg_group.specs.Oldest.{PopsSome}
 use Rattle.hg_group.specs.Places.{part_in}
 use Rattle.hg_group.proofs.NextGroup.{in_hand, some_taken}
-use Rattle.hg_group.proofs.group_list.GroupList.take_some.Goals as goal
+use Rattle.hg_group.proofs.list.GroupList.take_some.Goals as goal
 
 pub returns-clause-taken : goal.returns-clause-taken
 returns-clause-taken g c =
