@@ -1,6 +1,7 @@
 -- The committer's part comes to a pass that all others were joined to, and leaves again.
-use Rattle.std.proofs.Common.{◌≡◌, ℕ, ◌+◌, ◌<◌, [], ◌∷◌, ◌++◌, sym, ap, ◌∙◌, subst, arith}
+use Rattle.std.proofs.Common.{◌≡◌, ℕ, ◌+◌, ◌<◌, [], ◌∷◌, ◌++◌, length, sym, ap, ◌∙◌, subst, arith}
 use Rattle.hg_base.specs.declared.line.Totals.{Totals}
+use Rattle.hg_core.specs.Logs.{newest_of}
 use Rattle.hg_rule.specs.declared.view.CommitPart.{CommitPart}
 use Rattle.hg_rule.specs.declared.view.Part.TheVariants.{OfCommit, OfPass}
 use Rattle.hg_rule.specs.declared.view.View.{View}
@@ -16,7 +17,7 @@ use Rattle.hg_rule.proofs.Lists.{starts_on}
 use Rattle.hg_headline.specs.Logged.{Logged}
 use Rattle.hg_headline.specs.Totalled.{TotalsTell}
 use Rattle.hg_session.specs.Ended.{logs_in, visits_in, IsEnded}
-use Rattle.hg_session.specs.Visited.{empty_visits, HasVisited}
+use Rattle.hg_session.specs.Visited.{empty_visits, HasVisited, TellOf}
 
 module _ (v w u : View) (part : CommitPart) (own : HasPass v) (only : w.parts ≡ OfCommit part ∷ []) (is : u ≡ joined v w) where
   now : u.parts ≡ OfPass (number v) (pass v) ∷ OfCommit part ∷ others v
@@ -59,12 +60,18 @@ module _ (v w u : View) (part : CommitPart) (own : HasPass v) (only : w.parts �
   }
 
   -- what is told with the part is told of what was there before
-  pub totals_before : (z : Sizes) (totals : Totals) → TotalsTell z.sessions z.buckets (passes_in u.parts) (logs_in u) (visits_in u) (commit u).history.list totals → TotalsTell z.sessions z.buckets (passes_in v.parts) (logs_in v) (visits_in v) part.history.list totals
+  totals_before : (z : Sizes) (totals : Totals) → TotalsTell z.sessions z.buckets (passes_in u.parts) (logs_in u) (visits_in u) (commit u).history.list totals → TotalsTell z.sessions z.buckets (passes_in v.parts) (logs_in v) (visits_in v) part.history.list totals
   totals_before z totals t =
       subst (λ n. TotalsTell z.sessions z.buckets n (logs_in v) (visits_in v) part.history.list totals) passes_come
       (subst (λ f. TotalsTell z.sessions z.buckets (passes_in u.parts) f (visits_in v) part.history.list totals) logs_come
       (subst (λ f. TotalsTell z.sessions z.buckets (passes_in u.parts) (logs_in u) f part.history.list totals) visits_come
       (subst (λ (c : CommitPart). TotalsTell z.sessions z.buckets (passes_in u.parts) (logs_in u) (visits_in u) c.history.list totals) commit_comes t)))
 
-  pub logged_before : (buckets : ℕ) → Logged buckets (commit u).history.list (logs_in u) → Logged buckets part.history.list (logs_in v)
+  logged_before : (buckets : ℕ) → Logged buckets (commit u).history.list (logs_in u) → Logged buckets part.history.list (logs_in v)
   logged_before buckets l = subst (Logged buckets part.history.list) logs_come (subst (λ (c : CommitPart). Logged buckets c.history.list (logs_in u)) commit_comes l)
+
+  newest_before : (sessions : ℕ) → length (commit u).history.list ≡ newest_of sessions (logs_in u) → length part.history.list ≡ newest_of sessions (logs_in v)
+  newest_before sessions h = subst (λ f. length part.history.list ≡ newest_of sessions f) logs_come (subst (λ (c : CommitPart). length c.history.list ≡ newest_of sessions (logs_in u)) commit_comes h)
+
+  pub told_before : (z : Sizes) (totals : Totals) → TellOf z u (commit u).history.list totals → TellOf z v part.history.list totals
+  told_before z totals t = (totals_before z totals t.0, logged_before z.buckets t.1, newest_before z.sessions t.2)

@@ -10,7 +10,9 @@ use Rattle.hg_rule.specs.declared.view.Part.TheVariants.{OfPass}
 use Rattle.hg_rule.specs.declared.view.View.{View}
 use Rattle.hg_rule.specs.Keys.{session_key, count}
 use Rattle.hg_rule.specs.Facts.{StartsWith, IsAmong}
+use Rattle.hg_rule.specs.Reading.{passes_in}
 use Rattle.hg_rule.specs.Views.{number, pass, others}
+use Rattle.hg_session.specs.Ended.{visits_in}
 use Rattle.hg_session.specs.declared.engine.Engine.{Engine}
 use Rattle.hg_session.specs.declared.session.Session.{Session}
 use Rattle.hg_session.specs.Sessions.{IsOf, view_of, number_of, log_of, open_of, seen_by}
@@ -29,6 +31,10 @@ pub record IsClosed (e : Engine) (j : ℕ) (s : Session) : Type 0 where
 -- a view without sessions
 abbrev pub HasNoSession : View → Type 0
 HasNoSession v = (j : ℕ) → count (session_key j) v.parts ≡ 0
+
+-- A pass that sessions go to keeps what it has seen, its steps, its visits, and how many passes are joined to it.
+abbrev pub KeepsPass : View → View → Type 0
+KeepsPass v w = StartsWith w.sights v.sights × (w.events ≡ v.events) × (visits_in w ≡ visits_in v) × (passes_in w.parts ≡ passes_in v.parts)
 
 -- all of the first sights are among the others
 abbrev pub AreAmong : List Sight → List Sight → Type 0

@@ -2,6 +2,7 @@
 pub mod Engines
 pub mod Ties
 pub mod Sessions
+pub mod Frames
 -- What a new engine's are.
 pub mod Opened
 -- What a call leaves of a session, and how it replies.

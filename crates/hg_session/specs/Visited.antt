@@ -1,11 +1,12 @@
 -- What counting the buckets makes of a pass's view.
-use Rattle.std.specs.Prelude.{◌≡◌, ℕ, List, [], ◌∷◌, ◌++◌, length, Some}
+use Rattle.std.specs.Prelude.{◌≡◌, ℕ, ◌<◌, List, [], ◌∷◌, ◌++◌, length, Some}
 use Rattle.hg_base.specs.declared.line.Totals.{Totals}
 use Rattle.hg_base.specs.History.{History}
 use Rattle.hg_core.specs.declared.visit.Visit.{Visit}
 use Rattle.hg_core.specs.Contents.{Content}
 use Rattle.hg_core.specs.Counters.{none_removed}
 use Rattle.hg_core.specs.Logs.{newest_of}
+use Rattle.hg_rule.specs.declared.board.Board.{Board}
 use Rattle.hg_rule.specs.declared.view.Part.TheVariants.{OfPass}
 use Rattle.hg_rule.specs.declared.view.View.{View}
 use Rattle.hg_rule.specs.declared.view.Sizes.{Sizes}
@@ -16,7 +17,9 @@ use Rattle.hg_rule.specs.Holding.{bucket}
 use Rattle.hg_rule.specs.Places.{without_bucket}
 use Rattle.hg_store.specs.Kept.{AreCountsOf}
 use Rattle.hg_rule.specs.Reading.{passes_in}
-use Rattle.hg_store.specs.Stores.{Takes}
+use Rattle.hg_rule.specs.Seats.{board_id, sizes_of}
+use Rattle.hg_store.specs.declared.store.Store.{Store}
+use Rattle.hg_store.specs.Stores.{store_board_id, store_buckets, Takes}
 use Rattle.hg_headline.specs.Logged.{Logged}
 use Rattle.hg_headline.specs.Totalled.{TotalsTell}
 use Rattle.hg_session.specs.Ended.{logs_in, visits_in}
@@ -48,6 +51,15 @@ pub record HasVisited (v : View) (n : ℕ) (w : View) : Type 0 where
   pub parts : w.parts ≡ OfPass (number v) (record (pass v) { visits = empty_visits (pass v).mark contents ++ (pass v).visits }) ∷ others v
   pub kept : StartsWith w.sights v.sights
   pub events : w.events ≡ v.events
+
+-- these are the buckets of the board, and there are some
+abbrev pub AreBucketsOf : Board → Store → Type 0
+AreBucketsOf board store = (store_board_id store ≡ board_id board) × (store_buckets store ≡ (sizes_of board).buckets) × (0 < (sizes_of board).buckets)
+
+-- The counts of all buckets, once all sessions and passes are joined to the view, tell of this history. The logs have it, and its
+-- last number is the greatest that was published.
+abbrev pub TellOf : Sizes → View → History → Totals → Type 0
+TellOf z v history totals = TotalsTell z.sessions z.buckets (passes_in v.parts) (logs_in v) (visits_in v) history totals × Logged z.buckets history (logs_in v) × (length history ≡ newest_of z.sessions (logs_in v))
 
 -- The counts of all buckets, once all sessions and passes are joined to the view: there is a history of which they tell, which
 -- the logs have, and whose last number is the greatest that was published.

@@ -7,7 +7,8 @@ ghost use Rattle.hg_base.specs.Replies.{is_written};
 ghost use Rattle.hg_core.specs.Logs.{own_writes};
 ghost use Rattle.hg_core.specs.Reading.{close};
 ghost use Rattle.hg_session.specs.Engines.{engine_sizes};
-ghost use Rattle.hg_session.specs.Sessions.{IsIn, IsOf, view_of, log_of, seen_by, open_of, cursor_of, left_of, retries_of, opened_of};
+ghost use Rattle.hg_session.specs.Sessions.{IsIn, IsOf, view_of, log_of, seen_by, open_of, cursor_of, retries_of, opened_of};
+ghost use Rattle.hg_session.specs.Frames.{KeepsCounts, SpendsNone};
 ghost use Rattle.hg_session.specs.Replies.{Answers, inside, commit_answer};
 ghost use Rattle.hg_session.specs.Gains.{Gains, HasPlace, IsAfter, receipt_number};
 
@@ -31,17 +32,19 @@ impl Session {
         requires opened { opened_of self.old ≡ Some snapshot }
         ensures gains { IfOk result (λ receipt.
             Gains (view_of self.old) (close (receipt_number receipt)) (view_of self.new)) }
+        // there is a receipt exactly if something was written
         ensures wrote { IfOk result
             (λ receipt. is_some receipt ≡ is_written (own_writes (log_of self.old))) }
+        // the commit number is over all that was seen
         ensures after { IfOk result (λ receipt.
             IfSome (receipt_number receipt) (IsAfter (seen_by self.old) snapshot.at)) }
+        // the receipt's place is the commit's, in a history that was seen
         ensures placed { IfOk result
             (λ receipt. IfSome receipt (HasPlace (view_of self.old) (view_of self.new))) }
         ensures closed { OnOk result (opened_of self.new ≡ None) }
         ensures refused { OnErr result (Gains (view_of self.old) [] (view_of self.new) ×
             (opened_of self.new ≡ opened_of self.old)) }
-        ensures left { left_of self.new ≡ left_of self.old }
-        ensures retries { retries_of self.new ≡ retries_of self.old }
+        ensures kept { KeepsCounts self.old self.new }
         ensures own { IsIn engine.now 0 0 self.new }
     {
         if self.written.is_empty() {
@@ -81,14 +84,14 @@ impl Session {
             (inside (commit_answer (receipt_number ended.receipt))) (view_of self.new)) }
         ensures refused { OnErr result (Gains (view_of self.old) [] (view_of self.new) ×
             (open_of self.new ≡ open_of self.old)) }
+        // the receipt's place is the commit's, in a history that was seen
         ensures placed { IfOk result
             (λ ended. IfSome ended.receipt (HasPlace (view_of self.old) (view_of self.new))) }
         ensures over { OnOk result (open_of self.new ≡ None) }
-        ensures cursor { cursor_of self.new ≡ None }
-        ensures left { left_of self.new ≡ left_of self.old }
         ensures retries { OnOk result (retries_of self.new ≡ retries_of self.old) }
         ensures again { OnErr result (retries_of self.new ≡ next_count (retries_of self.old)) }
-        ensures own { IsOf engine.now self.new }
+        // no cursor is open, and no statement is counted
+        ensures stays { SpendsNone engine.now self.old self.new }
     {
         match self.opened {
             Some(snapshot) => match self.commit_open(rt, engine, snapshot) {

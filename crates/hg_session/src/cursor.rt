@@ -7,12 +7,13 @@
 //! The transaction writes nothing, and its snapshot stays in use until the cursor is closed. So what other sessions commit and
 //! what collectors remove meanwhile changes no row of a later fetch.
 
-ghost use Rattle.std.specs.Prelude.{◌≡◌, ◌+◌, ◌<◌, ◌≤◌, is_some, Option, Some, None, IsSome, IfOk, OnErr};
+ghost use Rattle.std.specs.Prelude.{◌≡◌, ◌<◌, ◌≤◌, is_some, Option, Some, None, IsSome, IfOk, OnErr};
 ghost use Rattle.hg_base.specs.declared.line.Answer.TheVariants.{Begun, Rows, Ended};
 ghost use Rattle.hg_base.specs.declared.statement.Statement.TheVariants as say;
 ghost use Rattle.hg_base.specs.Transcript.{Rest, only as only_table, rest_after};
 ghost use Rattle.hg_session.specs.Cursors.{HasLeft, HasLookedOn};
 ghost use Rattle.hg_session.specs.Engines.{engine_sizes};
+ghost use Rattle.hg_session.specs.Frames.{SpendsNone, SpendsOne};
 ghost use Rattle.hg_session.specs.Replies.{Answers, AnswersFrom, inside};
 ghost use Rattle.hg_session.specs.Sessions.{IsOf, cursor_of, view_of, open_of, left_of, retries_of};
 
@@ -38,15 +39,14 @@ impl Session {
         requires closed { open_of self.old ≡ None }
         requires left { 0 < left_of self.old }
         requires table { table.0 < (engine_sizes engine.now).tables }
-        ensures answers { Answers (engine_sizes engine.now) (view_of self.old) (say.CursorOpen table low high) (inside (Begun result))
-            (view_of self.new) }
+        ensures answers { Answers (engine_sizes engine.now) (view_of self.old)
+            (say.CursorOpen table low high) (inside (Begun result)) (view_of self.new) }
         ensures open { open_of self.new ≡
             Some (record { at = result; scope = only_table (Some table) }) }
         ensures cursor { IsSome (cursor_of self.new) }
         ensures rest { HasLeft self.new (Some (record { table = table; low = low; high = high })) }
-        ensures left { left_of self.new + 1 ≡ left_of self.old }
-        ensures retries { retries_of self.new ≡ retries_of self.old }
-        ensures own { IsOf engine.now self.new }
+        // one statement is counted
+        ensures spent { SpendsOne engine.now self.old self.new }
     {
         self.spend();
         let snapshot = self.open(engine, only(table));
@@ -68,17 +68,18 @@ impl Session {
         requires left { 0 < left_of self.old }
         requires most { 1 ≤ most }
         ensures answers { (rest : Option Rest) → HasLeft self.old rest → IfOk result (λ rows.
-            AnswersFrom rest (engine_sizes engine.now) (view_of self.old) (say.Fetch most) (inside (Rows rows)) (view_of self.new)) }
+            AnswersFrom rest (engine_sizes engine.now) (view_of self.old) (say.Fetch most)
+            (inside (Rows rows)) (view_of self.new)) }
         ensures moved { (rest : Option Rest) → HasLeft self.old rest → IfOk result (λ rows.
             HasLeft self.new (rest_after (say.Fetch most) (Rows rows) rest)) }
+        // out of memory: it looked at what the cursor has left, which stays
         ensures refused { OnErr result
-            (HasLookedOn (cursor_of self.old) (view_of self.old) (view_of self.new)) }
-        ensures kept { OnErr result (cursor_of self.new ≡ cursor_of self.old) }
+            (HasLookedOn (cursor_of self.old) (view_of self.old) (view_of self.new) ×
+            (cursor_of self.new ≡ cursor_of self.old)) }
         ensures cursor { IsSome (cursor_of self.new) }
         ensures open { open_of self.new ≡ open_of self.old }
-        ensures left { left_of self.new + 1 ≡ left_of self.old }
-        ensures retries { retries_of self.new ≡ retries_of self.old }
-        ensures own { IsOf engine.now self.new }
+        // one statement is counted
+        ensures spent { SpendsOne engine.now self.old self.new }
     {
         self.spend();
         let Some(mut cursor) = self.cursor else {
@@ -98,10 +99,9 @@ impl Session {
         ensures answers { Answers (engine_sizes engine.now) (view_of self.old) say.CursorClose
             (inside Ended) (view_of self.new) }
         ensures over { open_of self.new ≡ None }
-        ensures cursor { cursor_of self.new ≡ None }
-        ensures left { left_of self.new ≡ left_of self.old }
         ensures retries { retries_of self.new ≡ retries_of self.old }
-        ensures own { IsOf engine.now self.new }
+        // no cursor is open, and no statement is counted
+        ensures stays { SpendsNone engine.now self.old self.new }
     {
         self.cursor = None;
         self.end(engine);

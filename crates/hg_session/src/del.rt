@@ -1,6 +1,6 @@
 //! What a session deletes.
 
-ghost use Rattle.std.specs.Prelude.{◌≡◌, ◌+◌, ◌<◌, List, Option, Some, None, [], ◌∷◌, true, false, is_some, unwrap_or, Err, IsTrue, IfSome};
+ghost use Rattle.std.specs.Prelude.{◌≡◌, ◌<◌, List, Option, Some, None, [], ◌∷◌, true, false, is_some, unwrap_or, Err, IsTrue, IfSome};
 ghost use Rattle.std.specs.Option.{option_copied};
 ghost use Rattle.hg_base.specs.declared.statement.Statement.TheVariants as say;
 ghost use Rattle.hg_base.specs.declared.value.Value.{Value};
@@ -9,7 +9,8 @@ ghost use Rattle.hg_base.specs.Transcript.{has};
 ghost use Rattle.hg_core.specs.Reading.{saw};
 ghost use Rattle.hg_session.specs.declared.answers.PutRefusal.TheVariants as refusal;
 ghost use Rattle.hg_session.specs.Engines.{engine_sizes};
-ghost use Rattle.hg_session.specs.Sessions.{IsIn, IsOf, is_alone, view_of, open_of, cursor_of, left_of, retries_of, opened_of, written_of};
+ghost use Rattle.hg_session.specs.Sessions.{IsIn, IsOf, is_alone, view_of, open_of, cursor_of, left_of, opened_of};
+ghost use Rattle.hg_session.specs.Frames.{KeepsCounts, KeepsOpened, KeepsWritten, SpendsWithin};
 ghost use Rattle.hg_session.specs.Gains.{Gains, rows_at};
 ghost use Rattle.hg_session.specs.Refused.{HasLooked, LeavesNoWrite};
 ghost use Rattle.hg_session.specs.Replies.{Answers, IsRefusedIf, IsAtOwn, del_at, del_reply};
@@ -42,9 +43,7 @@ impl Session {
             (Gains (view_of self.old)
             (saw (engine_sizes engine.now).buckets rid (rows_at rid.key row) ∷ [])
             (view_of self.new) × (result ≡ is_some row)) }
-        ensures kept { (opened_of self.new ≡ opened_of self.old) ×
-            (written_of self.new ≡ written_of self.old) × (left_of self.new ≡ left_of self.old) }
-        ensures retries { retries_of self.new ≡ retries_of self.old }
+        ensures kept { KeepsWritten self.old self.new }
         ensures own { IsIn engine.now 0 1 self.new }
     {
         let board = engine.board();
@@ -66,16 +65,17 @@ impl Session {
         ensures reply { IfSome (del_reply (is_alone self.old) result) (λ reply.
             Answers (engine_sizes engine.now) (view_of self.old) (say.Del rid) reply
             (view_of self.new)) }
+        // in a transaction the snapshot is the transaction's own
         ensures at { IsAtOwn (open_of self.old) (del_at result) }
+        // exactly if a transaction is open that did not declare the table
         ensures undeclared { IsRefusedIf (open_of self.old) rid.table result
             (refusal.Undeclared rid.table) }
+        // out of memory: no version of the record is left
         ensures refused { result ≡ Err refusal.NoMemory →
             LeavesNoWrite (open_of self.old) rid nothing (view_of self.old) (view_of self.new) }
-        ensures open { open_of self.new ≡ open_of self.old }
         ensures cursor { cursor_of self.new ≡ None }
-        ensures left { left_of self.new + 1 ≡ left_of self.old }
-        ensures retries { retries_of self.new ≡ retries_of self.old }
-        ensures own { IsOf engine.now self.new }
+        // one statement is counted, and what is open stays
+        ensures spent { SpendsWithin engine.now self.old self.new }
     {
         self.spend();
         match self.opened {
@@ -97,14 +97,15 @@ impl Session {
         ensures reply { IfSome (del_reply false result) (λ reply.
             Answers (engine_sizes engine.now) (view_of self.old) (say.Del rid) reply
             (view_of self.new)) }
+        // the snapshot is the transaction's own
         ensures at { IsAtOwn (Some snapshot) (del_at result) }
+        // exactly if the transaction did not declare the table
         ensures undeclared { IsRefusedIf (Some snapshot) rid.table result
             (refusal.Undeclared rid.table) }
+        // out of memory: no version of the record is left
         ensures refused { result ≡ Err refusal.NoMemory →
             HasLooked rid.table rid.key rid.key (view_of self.old) (view_of self.new) }
-        ensures open { opened_of self.new ≡ opened_of self.old }
-        ensures left { left_of self.new ≡ left_of self.old }
-        ensures retries { retries_of self.new ≡ retries_of self.old }
+        ensures kept { KeepsOpened self.old self.new }
         ensures own { IsIn engine.now 0 0 self.new }
     {
         let at = snapshot.at;
@@ -142,11 +143,11 @@ impl Session {
             Answers (engine_sizes engine.now) (view_of self.old) (say.Del rid) reply
             (view_of self.new)) }
         ensures declared { (t : TableId) → result ≡ Err (refusal.Undeclared t) → ⊥ }
+        // out of memory: no version of the record is left
         ensures refused { result ≡ Err refusal.NoMemory →
             LeavesNoWrite None rid nothing (view_of self.old) (view_of self.new) }
         ensures open { opened_of self.new ≡ None }
-        ensures left { left_of self.new ≡ left_of self.old }
-        ensures retries { retries_of self.new ≡ retries_of self.old }
+        ensures kept { KeepsCounts self.old self.new }
         ensures own { IsIn engine.now 0 0 self.new }
     {
         let snapshot = self.open(engine, only(rid.table));

@@ -2,7 +2,6 @@
 
 ghost use Rattle.std.specs.Prelude.{◌≡◌, ℕ, length};
 ghost use Rattle.hg_base.specs.Lists.{Each};
-ghost use Rattle.hg_rule.specs.Facts.{StartsWith};
 ghost use Rattle.hg_rule.specs.New.{EachFrom};
 ghost use Rattle.hg_rule.specs.Reading.{passes_in};
 ghost use Rattle.hg_rule.specs.Seats.{pass_view, IsPassOf};
@@ -11,7 +10,7 @@ ghost use Rattle.hg_session.specs.Passing.{AreAlone, passes_with, visits_of};
 ghost use Rattle.hg_session.specs.Ties.{IsHeard};
 ghost use Rattle.hg_session.specs.Sessions.{seen_by};
 ghost use Rattle.hg_session.specs.Ended.{logs_in, visits_in, HasAllPasses, IsEnded};
-ghost use Rattle.hg_session.specs.Finished.{logs_of, IsClosed, HasNoSession, HaveGone, AreAmong, AreDone};
+ghost use Rattle.hg_session.specs.Finished.{logs_of, IsClosed, HasNoSession, HaveGone, AreAmong, AreDone, KeepsPass};
 
 use crate::engine::Engine;
 use crate::session::Session;
@@ -33,6 +32,7 @@ pub fn join_all(
     ensures seen { AreAmong (pass_view group).sights (pass_view pass.new).sights ×
         AreAmong (pass_view pass.old).sights (pass_view pass.new).sights ×
         AreAmong (pass_view interval).sights (pass_view pass.new).sights }
+    // what the two did is known to be done
     ensures did { AreDone (pass_view group).events (pass_view pass.new).sights ×
         AreDone (pass_view interval).events (pass_view pass.new).sights }
     ensures events { (pass_view pass.new).events ≡ (pass_view pass.old).events }
@@ -59,16 +59,15 @@ pub fn finish_all(engine: &Engine, sessions: Vec<Session>, pass: &mut CollectorP
     requires sessions { EachFrom (IsClosed engine.now) 1 sessions.items }
     requires all { length sessions.items ≡ (engine_sizes engine.now).sessions }
     requires own { IsPassOf (engine_board_id engine.now) pass.old }
-    requires passes { HasAllPasses (pass_view pass.old) }
-    requires none { HasNoSession (pass_view pass.old) }
+    // all other passes were joined to it, and no session yet
+    requires joined { HasAllPasses (pass_view pass.old) × HasNoSession (pass_view pass.old) }
     ensures ended { IsEnded (engine_sizes engine.now) (pass_view pass.new) }
     ensures logs { logs_in (pass_view pass.new) ≡ logs_of sessions.items }
+    // each session's whole log was heard
     ensures heard { (j : ℕ) → IsHeard j (logs_of sessions.items j) (pass_view pass.new).sights }
+    // the pass has seen what each session had seen
     ensures seen { Each (λ s. AreAmong (seen_by s) (pass_view pass.new).sights) sessions.items }
-    ensures kept { StartsWith (pass_view pass.new).sights (pass_view pass.old).sights }
-    ensures events { (pass_view pass.new).events ≡ (pass_view pass.old).events }
-    ensures visits { visits_in (pass_view pass.new) ≡ visits_in (pass_view pass.old) }
-    ensures passes { passes_in (pass_view pass.new).parts ≡ passes_in (pass_view pass.old).parts }
+    ensures kept { KeepsPass (pass_view pass.old) (pass_view pass.new) }
     ensures own { IsPassOf (engine_board_id engine.now) pass.new }
 {
     finish_some(engine, sessions, pass);

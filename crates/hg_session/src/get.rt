@@ -1,6 +1,6 @@
 //! What a session reads.
 
-ghost use Rattle.std.specs.Prelude.{◌≡◌, ◌<◌, ℕ, List, Option, Some, None, [], ◌∷◌, not, true, false, is_some, unwrap_or, Err, IsTrue, IfOk, IfSome, OnOk, OnErr, ◌+◌};
+ghost use Rattle.std.specs.Prelude.{◌≡◌, ◌<◌, ℕ, List, Option, Some, None, [], ◌∷◌, not, true, false, unwrap_or, Err, IsTrue, IfOk, IfSome, OnErr};
 ghost use Rattle.std.specs.Option.{option_copied};
 ghost use Rattle.hg_base.specs.History.{nothing};
 ghost use Rattle.hg_base.specs.declared.limits.TheConstants.{MOST_TABLES};
@@ -13,8 +13,9 @@ ghost use Rattle.hg_core.specs.Contents.{bucket_of};
 ghost use Rattle.hg_core.specs.Words.{IsBelow};
 ghost use Rattle.hg_core.specs.Reading.{saw};
 ghost use Rattle.hg_session.specs.Engines.{engine_sizes};
-ghost use Rattle.hg_session.specs.Sessions.{IsIn, IsOf, is_alone, view_of, open_of, cursor_of, left_of, retries_of, opened_of, written_of};
+ghost use Rattle.hg_session.specs.Sessions.{IsIn, IsOf, is_alone, view_of, open_of, cursor_of, left_of, opened_of};
 ghost use Rattle.hg_session.specs.Replies.{Answers, IsRefusedIf, IsAtOwn, get_at, reading, row_answer, get_reply};
+ghost use Rattle.hg_session.specs.Frames.{KeepsCounts, KeepsOpened, KeepsWritten, SpendsWithin};
 ghost use Rattle.hg_session.specs.Gains.{Gains, rows_at, outside_entries};
 ghost use Rattle.hg_session.specs.Refused.{HasLooked, HasGivenUp, LeavesLooks};
 
@@ -70,9 +71,7 @@ impl Session {
             (Gains (view_of self.old)
             (saw (engine_sizes engine.now).buckets rid (rows_at rid.key row) ∷ [])
             (view_of self.new) × IfOk result (λ r. r ≡ row)) }
-        ensures kept { (opened_of self.new ≡ opened_of self.old) ×
-            (written_of self.new ≡ written_of self.old) × (left_of self.new ≡ left_of self.old) }
-        ensures retries { retries_of self.new ≡ retries_of self.old }
+        ensures kept { KeepsWritten self.old self.new }
         ensures own { IsIn engine.now 0 1 self.new }
     {
         let board = engine.board();
@@ -92,9 +91,7 @@ impl Session {
         requires table { table.0 < (engine_sizes engine.now).tables }
         ensures is { result ≡ not (has snapshot.scope table) }
         ensures gains { Gains (view_of self.old) (outside_entries result table) (view_of self.new) }
-        ensures kept { (opened_of self.new ≡ opened_of self.old) ×
-            (written_of self.new ≡ written_of self.old) × (left_of self.new ≡ left_of self.old) }
-        ensures retries { retries_of self.new ≡ retries_of self.old }
+        ensures kept { KeepsWritten self.old self.new }
         ensures own { IsIn engine.now 0 1 self.new }
     {
         if snapshot.scope.has(table) {
@@ -113,17 +110,18 @@ impl Session {
         ensures reply { IfSome (get_reply (is_alone self.old) result) (λ reply.
             Answers (engine_sizes engine.now) (view_of self.old) (say.Get rid) reply
             (view_of self.new)) }
+        // in a transaction the snapshot is the transaction's own
         ensures at { IsAtOwn (open_of self.old) (get_at result) }
+        // exactly if a transaction is open that did not declare the table
         ensures undeclared { IsRefusedIf (open_of self.old) rid.table result
             (refusal.Undeclared rid.table) }
+        // out of memory: it looked, and did nothing else
         ensures refused { result ≡ Err refusal.NoMemory →
             LeavesLooks (open_of self.old) rid.table rid.key rid.key (view_of self.old)
             (view_of self.new) }
-        ensures open { open_of self.new ≡ open_of self.old }
         ensures cursor { cursor_of self.new ≡ None }
-        ensures left { left_of self.new + 1 ≡ left_of self.old }
-        ensures retries { retries_of self.new ≡ retries_of self.old }
-        ensures own { IsOf engine.now self.new }
+        // one statement is counted, and what is open stays
+        ensures spent { SpendsWithin engine.now self.old self.new }
     {
         self.spend();
         match self.opened {
@@ -145,14 +143,15 @@ impl Session {
         ensures reply { IfSome (get_reply false result) (λ reply.
             Answers (engine_sizes engine.now) (view_of self.old) (say.Get rid) reply
             (view_of self.new)) }
+        // the snapshot is the transaction's own
         ensures at { IsAtOwn (Some snapshot) (get_at result) }
+        // exactly if the transaction did not declare the table
         ensures undeclared { IsRefusedIf (Some snapshot) rid.table result
             (refusal.Undeclared rid.table) }
+        // out of memory: it looked, and did nothing else
         ensures refused { result ≡ Err refusal.NoMemory →
             HasLooked rid.table rid.key rid.key (view_of self.old) (view_of self.new) }
-        ensures open { opened_of self.new ≡ opened_of self.old }
-        ensures left { left_of self.new ≡ left_of self.old }
-        ensures retries { retries_of self.new ≡ retries_of self.old }
+        ensures kept { KeepsOpened self.old self.new }
         ensures own { IsIn engine.now 0 0 self.new }
     {
         if self.is_outside(engine, snapshot, rid.table) {
@@ -176,8 +175,7 @@ impl Session {
         ensures refused { OnErr result
             (HasGivenUp rid.table rid.key rid.key [] (view_of self.old) (view_of self.new)) }
         ensures open { opened_of self.new ≡ None }
-        ensures left { left_of self.new ≡ left_of self.old }
-        ensures retries { retries_of self.new ≡ retries_of self.old }
+        ensures kept { KeepsCounts self.old self.new }
         ensures own { IsIn engine.now 0 0 self.new }
     {
         let snapshot = self.open(engine, only(rid.table));

@@ -25,13 +25,20 @@ ghost use Rattle.hg_session.specs.Ties.{IsHeard};
 pub fn places_differ()
     ensures histories { (h g k : History) (p q : Receipt) (c d : Commit) → StartsWith h g →
         StartsWith h k → StandsIn g p c → StandsIn k q d → p.place ≡ q.place → c ≡ d }
-    ensures sessions { (z : Sizes) (mark : ℕ) (v a b c d : View) (p q : Receipt) → IsBacked z mark v → AreAmong b.sights v.sights → AreAmong d.sights v.sights → HasPlace a b p → HasPlace c d q → p.place ≡ q.place →
+    ensures sessions { (z : Sizes) (mark : ℕ) (v a b c d : View) (p q : Receipt) →
+        IsBacked z mark v → AreAmong b.sights v.sights → AreAmong d.sights v.sights →
+        HasPlace a b p → HasPlace c d q → p.place ≡ q.place →
         (number a ≡ number c) × (begans (session a).log ≡ begans (session c).log) }
 {}
 
 /// A session's reply is right as soon as some state backs a view that has heard the session's log: the session's own view, or
 /// that of whom it met. What the reply says holds over a history that goes on from all that the view has seen.
 pub fn replies_are_right()
-    ensures { (z : Sizes) (mark : ℕ) (v old new : View) (statement : Statement) (reply : Reply) (now : Said) → 0 < z.buckets → IsBacked z mark v → (a : Answers z old statement reply new) → IsHeard (number new) (session new).log v.sights →
-        now.statement ≡ statement → now.reply ≡ reply → StandsAt (number old) (session old).log now → IsRight z.buckets v (number old) a.u (session old).log now }
+    ensures { (z : Sizes) (mark : ℕ) (v old new : View) (statement : Statement) (reply : Reply)
+        (now : Said) → 0 < z.buckets → IsBacked z mark v →
+        (a : Answers z old statement reply new) →
+        IsHeard (number new) (session new).log v.sights →
+        now.statement ≡ statement → now.reply ≡ reply →
+        StandsAt (number old) (session old).log now →
+        IsRight z.buckets v (number old) a.u (session old).log now }
 {}

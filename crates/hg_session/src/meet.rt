@@ -8,6 +8,7 @@ ghost use Rattle.hg_rule.specs.Views.{session, HasOnlySession};
 ghost use Rattle.hg_rule.specs.Moves.{joined, merged, meeting};
 ghost use Rattle.hg_rule.specs.Seats.{pass_view, session_view, IsPassOf, IsSessionOf};
 ghost use Rattle.hg_session.specs.Engines.{engine_board_id, engine_sizes};
+ghost use Rattle.hg_session.specs.Frames.{KeepsCursor};
 ghost use Rattle.hg_session.specs.Sessions.{IsOf, pass_of, view_of, number_of, open_of, cursor_of, left_of, retries_of};
 
 use crate::engine::Engine;
@@ -21,16 +22,12 @@ impl Session {
     /// Afterwards each has seen what either had seen.
     pub fn meet(&mut self, engine: &Engine, other: &mut Session)
         requires own { IsOf engine.now self.old × IsOf engine.now other.old }
+        // some state of the board backs what both know
         ensures backed { IsMet (engine_sizes engine.now)
             (joined (view_of self.old) (view_of other.old)) }
         ensures view { view_of self.new ≡ meeting (view_of self.old) (view_of other.old) }
         ensures other { view_of other.new ≡ meeting (view_of other.old) (view_of self.new) }
-        ensures kept { (left_of self.new ≡ left_of self.old) ×
-            (left_of other.new ≡ left_of other.old) }
-        ensures cursor { (cursor_of self.new ≡ cursor_of self.old) ×
-            (cursor_of other.new ≡ cursor_of other.old) }
-        ensures retries { (retries_of self.new ≡ retries_of self.old) ×
-            (retries_of other.new ≡ retries_of other.old) }
+        ensures kept { KeepsCursor self.old self.new × KeepsCursor other.old other.new }
         ensures own { IsOf engine.now self.new × IsOf engine.now other.new }
     {
         self.pass.meet(engine.board(), &mut other.pass);
@@ -39,8 +36,10 @@ impl Session {
     /// Afterwards each has seen what either had seen. What the pass did and loaded agrees with the session's log and phase.
     pub fn meet_pass(&mut self, engine: &Engine, pass: &mut CollectorPass)
         requires own { IsOf engine.now self.old × IsPassOf (engine_board_id engine.now) pass.old }
+        // some state of the board backs what both know
         ensures backed { IsMet (engine_sizes engine.now)
             (joined (pass_view pass.old) (view_of self.old)) }
+        // what the pass loaded of the session is what the session's log shows
         ensures agrees { AgreesWith (pass_view pass.old) (number_of self.old)
             (session (view_of self.old)) }
         ensures pass { pass_view pass.new ≡ meeting (pass_view pass.old) (view_of self.old) }
@@ -57,6 +56,7 @@ impl Session {
     pub fn finish(self, engine: &Engine, pass: &mut CollectorPass)
         requires own { IsOf engine.now self × IsPassOf (engine_board_id engine.now) pass.old }
         requires closed { open_of self ≡ None }
+        // some state of the board backs what both know
         ensures backed { IsMet (engine_sizes engine.now) (pass_view pass.new) }
         ensures view { pass_view pass.new ≡ merged (pass_view pass.old) (view_of self) }
         ensures own { IsPassOf (engine_board_id engine.now) pass.new }

@@ -1,15 +1,14 @@
 //! What a session writes.
 
-ghost use Rattle.std.specs.Prelude.{◌≡◌, ◌+◌, ◌<◌, ◌∷◌, [], true, false, Some, None, Err, IsTrue, IsFalse, IfOk, IfErr, IfSome, OnErr};
+ghost use Rattle.std.specs.Prelude.{◌≡◌, ◌<◌, [], true, false, Some, None, Err, IsTrue, IfOk, IfErr, IfSome, OnErr};
 ghost use Rattle.hg_base.specs.declared.statement.Statement.TheVariants as say;
 ghost use Rattle.hg_session.specs.declared.answers.PutRefusal.TheVariants as refusal;
 ghost use Rattle.hg_base.specs.Transcript.{has};
-ghost use Rattle.hg_core.specs.Events.{with_refusal};
-ghost use Rattle.hg_core.specs.declared.log.LogEntry.TheVariants.{Wrote};
 ghost use Rattle.hg_session.specs.Engines.{engine_sizes};
-ghost use Rattle.hg_session.specs.Sessions.{IsIn, IsOf, is_alone, view_of, open_of, cursor_of, left_of, retries_of, opened_of, written_of};
+ghost use Rattle.hg_session.specs.Sessions.{IsIn, IsOf, is_alone, view_of, open_of, cursor_of, left_of, opened_of, written_of};
 ghost use Rattle.hg_session.specs.Replies.{Answers, IsRefusedIf, IsAtOwn, put_at, put_reply, refused_at};
 ghost use Rattle.hg_session.specs.Alone.{WritesAlone, IsRefusedAlone};
+ghost use Rattle.hg_session.specs.Frames.{KeepsCounts, KeepsOpened, SpendsWithin};
 ghost use Rattle.hg_session.specs.Gains.{Gains, IsRefusedBy, entries_of};
 ghost use Rattle.hg_session.specs.Refused.{HasLooked, LeavesNoWrite};
 
@@ -56,9 +55,8 @@ impl Session {
         ensures gains { Gains (view_of self.old) (entries_of rid image result) (view_of self.new) }
         ensures refused { IfErr result
             (IsRefusedBy (engine_sizes engine.now) (view_of self.old) snapshot.at) }
-        ensures kept { (opened_of self.new ≡ opened_of self.old) ×
-            (left_of self.new ≡ left_of self.old) }
-        ensures retries { retries_of self.new ≡ retries_of self.old }
+        ensures kept { KeepsOpened self.old self.new }
+        // a refused write is not listed
         ensures unwritten { OnErr result (written_of self.new ≡ written_of self.old) }
         ensures own { IsIn engine.now 0 0 self.new }
     {
@@ -95,8 +93,7 @@ impl Session {
         ensures refused { IfErr result (IsRefusedAlone (engine_sizes engine.now) (view_of self.old)
             rid image snapshot.at (view_of self.new)) }
         ensures over { opened_of self.new ≡ None }
-        ensures left { left_of self.new ≡ left_of self.old }
-        ensures retries { retries_of self.new ≡ retries_of self.old }
+        ensures kept { KeepsCounts self.old self.new }
         ensures own { IsIn engine.now 0 0 self.new }
     {
         if let Err(refusal) = self.write_row(rt, engine, snapshot, rid, image) {
@@ -128,17 +125,18 @@ impl Session {
         ensures reply { IfSome (put_reply (is_alone self.old) result) (λ reply.
             Answers (engine_sizes engine.now) (view_of self.old) (say.Put rid row) reply
             (view_of self.new)) }
+        // in a transaction the snapshot is the transaction's own
         ensures at { IsAtOwn (open_of self.old) (put_at result) }
+        // exactly if a transaction is open that did not declare the table
         ensures undeclared { IsRefusedIf (open_of self.old) rid.table result
             (refusal.Undeclared rid.table) }
+        // out of memory: no version of the record is left
         ensures refused { result ≡ Err refusal.NoMemory →
             LeavesNoWrite (open_of self.old) rid (record { row = Some row }) (view_of self.old)
             (view_of self.new) }
-        ensures open { open_of self.new ≡ open_of self.old }
         ensures cursor { cursor_of self.new ≡ None }
-        ensures left { left_of self.new + 1 ≡ left_of self.old }
-        ensures retries { retries_of self.new ≡ retries_of self.old }
-        ensures own { IsOf engine.now self.new }
+        // one statement is counted, and what is open stays
+        ensures spent { SpendsWithin engine.now self.old self.new }
     {
         self.spend();
         match self.opened {
@@ -161,14 +159,15 @@ impl Session {
         ensures reply { IfSome (put_reply false result) (λ reply.
             Answers (engine_sizes engine.now) (view_of self.old) (say.Put rid row) reply
             (view_of self.new)) }
+        // the snapshot is the transaction's own
         ensures at { IsAtOwn (Some snapshot) (put_at result) }
+        // exactly if the transaction did not declare the table
         ensures undeclared { IsRefusedIf (Some snapshot) rid.table result
             (refusal.Undeclared rid.table) }
+        // out of memory: no version of the record is left
         ensures refused { result ≡ Err refusal.NoMemory →
             HasLooked rid.table rid.key rid.key (view_of self.old) (view_of self.new) }
-        ensures open { opened_of self.new ≡ opened_of self.old }
-        ensures left { left_of self.new ≡ left_of self.old }
-        ensures retries { retries_of self.new ≡ retries_of self.old }
+        ensures kept { KeepsOpened self.old self.new }
         ensures own { IsIn engine.now 0 0 self.new }
     {
         if self.is_outside(engine, snapshot, rid.table) {
@@ -199,12 +198,12 @@ impl Session {
             Answers (engine_sizes engine.now) (view_of self.old) (say.Put rid row) reply
             (view_of self.new)) }
         ensures declared { (t : TableId) → result ≡ Err (refusal.Undeclared t) → ⊥ }
+        // out of memory: no version of the record is left
         ensures refused { result ≡ Err refusal.NoMemory →
             LeavesNoWrite None rid (record { row = Some row }) (view_of self.old)
             (view_of self.new) }
         ensures open { opened_of self.new ≡ None }
-        ensures left { left_of self.new ≡ left_of self.old }
-        ensures retries { retries_of self.new ≡ retries_of self.old }
+        ensures kept { KeepsCounts self.old self.new }
         ensures own { IsIn engine.now 0 0 self.new }
     {
         let snapshot = self.open(engine, only(rid.table));

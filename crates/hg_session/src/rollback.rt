@@ -12,7 +12,8 @@ ghost use Rattle.hg_rule.specs.Views.{session, HasOnlySession};
 ghost use Rattle.hg_rule.specs.Holding.{writer as writer_of};
 ghost use Rattle.hg_rule.specs.Seats.{session_view, IsSessionOf};
 ghost use Rattle.hg_session.specs.Engines.{engine_board_id, engine_sizes};
-ghost use Rattle.hg_session.specs.Sessions.{IsIn, IsOf, view_of, log_of, open_of, cursor_of, left_of, retries_of, opened_of};
+ghost use Rattle.hg_session.specs.Sessions.{IsIn, IsOf, view_of, log_of, open_of, cursor_of, retries_of, opened_of};
+ghost use Rattle.hg_session.specs.Frames.{KeepsCounts, SpendsNone};
 ghost use Rattle.hg_session.specs.Replies.{Answers, inside};
 ghost use Rattle.hg_session.specs.Gains.{Gains, HasUndone};
 
@@ -72,8 +73,8 @@ impl Session {
         ensures gains { (undone : List Rid) ×
             (UndoesAll (own_writes (log_of self.old)) undone ×
             Gains (view_of self.old) (Over ∷ map Undid undone) (view_of self.new)) }
-        ensures kept { (opened_of self.new ≡ None) × (left_of self.new ≡ left_of self.old) }
-        ensures retries { retries_of self.new ≡ retries_of self.old }
+        ensures over { opened_of self.new ≡ None }
+        ensures kept { KeepsCounts self.old self.new }
         ensures own { IsIn engine.now 0 0 self.new }
     {
         let by = self.pass.writer();
@@ -90,10 +91,9 @@ impl Session {
         ensures answers { Answers (engine_sizes engine.now) (view_of self.old) say.Rollback
             (inside Undone) (view_of self.new) }
         ensures over { open_of self.new ≡ None }
-        ensures cursor { cursor_of self.new ≡ None }
-        ensures left { left_of self.new ≡ left_of self.old }
         ensures retries { retries_of self.new ≡ retries_of self.old }
-        ensures own { IsOf engine.now self.new }
+        // no cursor is open, and no statement is counted
+        ensures stays { SpendsNone engine.now self.old self.new }
     {
         self.undo_open(rt, engine);
     }

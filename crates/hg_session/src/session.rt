@@ -10,6 +10,7 @@ ghost use Rattle.hg_tracker.specs.Begun.{AtMost};
 ghost use Rattle.hg_session.specs.declared.engine.Engine.{Engine};
 ghost use Rattle.hg_session.specs.Engines.{engine_sizes};
 ghost use Rattle.hg_session.specs.Sessions.{IsIn, IsOf, view_of, seen_by, open_of, cursor_of, left_of, retries_of, opened_of, written_of};
+ghost use Rattle.hg_session.specs.Frames.{KeepsCounts, SpendsOne};
 ghost use Rattle.hg_session.specs.Replies.{Answers, inside};
 ghost use Rattle.hg_session.specs.Gains.{Gains};
 
@@ -42,10 +43,10 @@ impl Session {
         requires tables { IsBelow (engine_sizes engine.now).tables scope }
         ensures gains { Gains (view_of self.old) (Began result.at scope ∷ []) (view_of self.new) }
         ensures scope { result.scope ≡ scope }
+        // the snapshot is at or over all that was seen
         ensures fresh { Each (AtMost result.at) (seen_by self.old) }
-        ensures kept { (opened_of self.new ≡ Some result) × (written_of self.new ≡ []) ×
-            (left_of self.new ≡ left_of self.old) }
-        ensures retries { retries_of self.new ≡ retries_of self.old }
+        ensures opened { (opened_of self.new ≡ Some result) × (written_of self.new ≡ []) }
+        ensures kept { KeepsCounts self.old self.new }
         ensures own { IsIn engine.now 0 1 self.new }
     {
         let snapshot = engine.trackers.begin(&mut self.pass, scope);
@@ -59,8 +60,8 @@ impl Session {
         requires opened { IsSome (opened_of self.old) }
         requires unwritten { written_of self.old ≡ [] }
         ensures gains { Gains (view_of self.old) (Over ∷ []) (view_of self.new) }
-        ensures kept { (opened_of self.new ≡ None) × (left_of self.new ≡ left_of self.old) }
-        ensures retries { retries_of self.new ≡ retries_of self.old }
+        ensures over { opened_of self.new ≡ None }
+        ensures kept { KeepsCounts self.old self.new }
         ensures own { IsIn engine.now 0 0 self.new }
     {
         engine.trackers.end(&mut self.pass);
@@ -71,6 +72,7 @@ impl Session {
     pub(crate) fn spend(&mut self)
         requires left { 0 < left_of self.old }
         ensures own { (e : Engine) → IsOf e self.old → IsOf e self.new }
+        // the statement may begin a transaction and write a record
         ensures may { (e : Engine) → IsOf e self.old → cursor_of self.old ≡ None →
             IsIn e 1 1 self.new }
         ensures kept { (view_of self.new ≡ view_of self.old) ×
@@ -115,9 +117,8 @@ impl Session {
             (inside (Begun result)) (view_of self.new) }
         ensures open { open_of self.new ≡ Some (record { at = result; scope = scope }) }
         ensures cursor { cursor_of self.new ≡ None }
-        ensures left { left_of self.new + 1 ≡ left_of self.old }
-        ensures retries { retries_of self.new ≡ retries_of self.old }
-        ensures own { IsOf engine.now self.new }
+        // one statement is counted
+        ensures spent { SpendsOne engine.now self.old self.new }
     {
         self.spend();
         self.open(engine, scope).at

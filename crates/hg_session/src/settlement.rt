@@ -38,8 +38,9 @@ pub fn settle<R: Wait>(rt: &R, engine: &Engine, collector: &mut TableCollector)
     ensures logs { logs_in (view_of collector.new) ≡ logs_in (view_of collector.old) }
     ensures passes { passes_in (view_of collector.new).parts ≡
         passes_in (view_of collector.old).parts }
-    ensures ended { IsEnded (engine_sizes engine.now) (view_of collector.new) }
-    ensures heard { HasHeardAll (engine_sizes engine.now) (view_of collector.new) }
+    // all parts and all logs are still there
+    ensures ended { IsEnded (engine_sizes engine.now) (view_of collector.new) ×
+        HasHeardAll (engine_sizes engine.now) (view_of collector.new) }
     ensures own { IsCollectorOf (engine_board_id engine.now) (engine_sizes engine.now)
         collector.new }
 {

@@ -8,21 +8,16 @@
 //! No single state has all buckets in the pass's hands. But the logs, the other visits and the history are in parts that the pass
 //! keeps all the time, so they are the same for every bucket, and what is claimed of one bucket's counts speaks of these alone.
 
-ghost use Rattle.std.specs.Prelude.{◌≡◌, ℕ, ◌+◌, ◌^◌, ◌<◌, length};
-ghost use Rattle.hg_core.specs.Logs.{newest_of};
+ghost use Rattle.std.specs.Prelude.{◌≡◌, ℕ, ◌+◌, ◌^◌, ◌<◌};
 ghost use Rattle.hg_rule.specs.Rules.{IsBacked};
 ghost use Rattle.hg_rule.specs.Holding.{commit};
 ghost use Rattle.hg_rule.specs.Places.{HoldsCommit};
-ghost use Rattle.hg_rule.specs.Reading.{passes_in};
 ghost use Rattle.hg_rule.specs.Seats.{board_id, sizes_of, pass_view, IsPassOf, IsCommitOf};
 ghost use Rattle.hg_store.specs.Stores.{store_board_id, store_buckets};
-ghost use Rattle.hg_base.specs.declared.report.Kind.{Kind};
-ghost use Rattle.hg_core.specs.Counters.{removed_all};
-ghost use Rattle.hg_headline.specs.Logged.{Logged};
-ghost use Rattle.hg_headline.specs.Totalled.{TotalsTell, plus};
-ghost use Rattle.hg_session.specs.Ended.{logs_in, visits_in, committed, IsEnded};
+ghost use Rattle.hg_headline.specs.Totalled.{plus};
+ghost use Rattle.hg_session.specs.Ended.{committed, IsEnded, KeepsLogs, KeepsRemoved};
 ghost use Rattle.hg_session.specs.Engines.{engine_board_id, engine_sizes};
-ghost use Rattle.hg_session.specs.Visited.{Counts, HasVisited, AreTotals};
+ghost use Rattle.hg_session.specs.Visited.{Counts, HasVisited, AreBucketsOf, AreTotals, TellOf};
 
 use crate::engine::Engine;
 use hg_base::Totals;
@@ -78,24 +73,17 @@ pub(crate) fn counted<R: Wait>(
     store: &Store,
     pass: &mut CollectorPass,
 ) -> Totals
-    requires board { store_board_id store.now ≡ board_id board.now }
-    requires buckets { store_buckets store.now ≡ (sizes_of board.now).buckets }
-    requires some { 0 < (sizes_of board.now).buckets }
+    requires store { AreBucketsOf board.now store.now }
     requires own { IsPassOf (board_id board.now) pass.old }
     requires commit { HoldsCommit (pass_view pass.old) }
     requires ended { IsEnded (sizes_of board.now) (pass_view pass.old) }
+    // some state of the board backs what the pass knows
     requires backed { (mark : ℕ) × IsBacked (sizes_of board.now) mark (pass_view pass.old) }
-    ensures totals { TotalsTell (sizes_of board.now).sessions (sizes_of board.now).buckets
-        (passes_in (pass_view pass.old).parts) (logs_in (pass_view pass.old))
-        (visits_in (pass_view pass.old)) (commit (pass_view pass.old)).history.list result }
-    ensures logged { Logged (sizes_of board.now).buckets (commit (pass_view pass.old)).history.list
-        (logs_in (pass_view pass.old)) }
-    ensures mark { length (commit (pass_view pass.old)).history.list ≡
-        newest_of (sizes_of board.now).sessions (logs_in (pass_view pass.old)) }
+    ensures totals { TellOf (sizes_of board.now) (pass_view pass.old)
+        (commit (pass_view pass.old)).history.list result }
     ensures visited { HasVisited (pass_view pass.old) (sizes_of board.now).buckets
         (pass_view pass.new) }
-    ensures logs { logs_in (pass_view pass.new) ≡ logs_in (pass_view pass.old) }
-    ensures passes { passes_in (pass_view pass.new).parts ≡ passes_in (pass_view pass.old).parts }
+    ensures kept { KeepsLogs (pass_view pass.old) (pass_view pass.new) }
     ensures commit { HoldsCommit (pass_view pass.new) ×
         (commit (pass_view pass.new) ≡ commit (pass_view pass.old)) }
     ensures own { IsPassOf (board_id board.now) pass.new }
@@ -124,26 +112,17 @@ pub(crate) fn totals_with<R: Wait>(
     seat: CommitSeat,
     pass: &mut CollectorPass,
 ) -> (Totals, CommitSeat)
-    requires board { store_board_id store.now ≡ board_id board.now }
-    requires buckets { store_buckets store.now ≡ (sizes_of board.now).buckets }
-    requires some { 0 < (sizes_of board.now).buckets }
+    requires store { AreBucketsOf board.now store.now }
     requires own { IsPassOf (board_id board.now) pass.old }
     requires commit { IsCommitOf (board_id board.now) seat }
     requires ended { IsEnded (sizes_of board.now) (pass_view pass.old) }
-    ensures totals { TotalsTell (sizes_of board.now).sessions (sizes_of board.now).buckets
-        (passes_in (pass_view pass.old).parts) (logs_in (pass_view pass.old))
-        (visits_in (pass_view pass.old)) (committed seat).history.list result.0 }
-    ensures logged { Logged (sizes_of board.now).buckets (committed seat).history.list
-        (logs_in (pass_view pass.old)) }
-    ensures mark { length (committed seat).history.list ≡
-        newest_of (sizes_of board.now).sessions (logs_in (pass_view pass.old)) }
+    ensures totals { TellOf (sizes_of board.now) (pass_view pass.old)
+        (committed seat).history.list result.0 }
+    // each bucket was taken once, and nothing was removed from it
     ensures visited { HasVisited (pass_view pass.old) (sizes_of board.now).buckets
-        (pass_view pass.new) }
-    ensures logs { logs_in (pass_view pass.new) ≡ logs_in (pass_view pass.old) }
-    ensures passes { passes_in (pass_view pass.new).parts ≡ passes_in (pass_view pass.old).parts }
-    ensures removed { (kind : Kind) (p : ℕ) →
-        removed_all kind (visits_in (pass_view pass.new) p) ≡
-        removed_all kind (visits_in (pass_view pass.old) p) }
+        (pass_view pass.new) × KeepsRemoved (pass_view pass.old) (pass_view pass.new) }
+    ensures kept { KeepsLogs (pass_view pass.old) (pass_view pass.new) }
+    // the seat has the same part
     ensures seat { IsCommitOf (board_id board.now) result.1 ×
         (committed result.1 ≡ committed seat) }
     ensures ended { IsEnded (sizes_of board.now) (pass_view pass.new) }
@@ -165,12 +144,8 @@ impl Engine {
         ensures totals { AreTotals (engine_sizes self.now) (pass_view pass.old) result }
         ensures visited { HasVisited (pass_view pass.old) (engine_sizes self.now).buckets
             (pass_view pass.new) }
-        ensures logs { logs_in (pass_view pass.new) ≡ logs_in (pass_view pass.old) }
-        ensures passes { passes_in (pass_view pass.new).parts ≡
-            passes_in (pass_view pass.old).parts }
-        ensures removed { (kind : Kind) (p : ℕ) →
-            removed_all kind (visits_in (pass_view pass.new) p) ≡
-            removed_all kind (visits_in (pass_view pass.old) p) }
+        ensures kept { KeepsLogs (pass_view pass.old) (pass_view pass.new) }
+        ensures removed { KeepsRemoved (pass_view pass.old) (pass_view pass.new) }
         ensures ended { IsEnded (engine_sizes self.now) (pass_view pass.new) }
         ensures own { IsPassOf (engine_board_id self.now) pass.new }
     {

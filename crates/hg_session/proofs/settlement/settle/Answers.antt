@@ -36,7 +36,7 @@ pub returns-clause-passes : goal.returns-clause-passes
 returns-clause-passes g c = passes_after (engine_sizes c.args.engine.now) (view_of c.args.collector.now) (view_of c.collect.new.self) _ (report_in c.collect.new.self) c.requires.own.0.1 (cuts_at _ _ _ _ _ _ c.trackers.ensures c.collect.ensures.cuts)
 
 pub returns-clause-ended : goal.returns-clause-ended
-returns-clause-ended g c = ended_after (engine_sizes c.args.engine.now) (view_of c.args.collector.now) (view_of c.collect.new.self) _ (report_in c.collect.new.self) c.requires.own.0.1 (cuts_at _ _ _ _ _ _ c.trackers.ensures c.collect.ensures.cuts) c.requires.ended
-
-pub returns-clause-heard : goal.returns-clause-heard
-returns-clause-heard g c = heard_after (engine_sizes c.args.engine.now) (view_of c.args.collector.now) (view_of c.collect.new.self) _ (report_in c.collect.new.self) c.requires.own.0.1 (cuts_at _ _ _ _ _ _ c.trackers.ensures c.collect.ensures.cuts) c.requires.heard
+returns-clause-ended g c = (
+  ended_after (engine_sizes c.args.engine.now) (view_of c.args.collector.now) (view_of c.collect.new.self) _ (report_in c.collect.new.self) c.requires.own.0.1 (cuts_at _ _ _ _ _ _ c.trackers.ensures c.collect.ensures.cuts) c.requires.ended,
+  heard_after (engine_sizes c.args.engine.now) (view_of c.args.collector.now) (view_of c.collect.new.self) _ (report_in c.collect.new.self) c.requires.own.0.1 (cuts_at _ _ _ _ _ _ c.trackers.ensures c.collect.ensures.cuts) c.requires.heard,
+)

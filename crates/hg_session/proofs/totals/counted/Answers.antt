@@ -9,7 +9,7 @@ fit : (g : _) (c : goal.After-count_bucket-counts g) → Fits (2 ^ 40) c.loop-bu
 fit g c =
     let v = pass_view c.args.pass.now in
     sums_fit (sizes_of c.args.board.now) v c.requires.own.1 c.requires.commit (pass_view c.loop-bucket.pass) (pass_view c.count_bucket-counts.new.pass) c.loop-bucket.bucket c.requires.backed.0 c.loop-bucket.sums c.count_bucket-counts.result c.requires.ended c.loop-bucket.invariant.0 c.loop-bucket.invariant.2 c.count_bucket-counts.ensures.counts
-    c.args.board.now.room (omega (arith, c.loop-bucket-test.true, c.loop-bucket.auto.bucket-end, c.buckets-bucket-end.ensures, c.requires.buckets)) c.requires.backed.1
+    c.args.board.now.room (omega (arith, c.loop-bucket-test.true, c.loop-bucket.auto.bucket-end, c.buckets-bucket-end.ensures, c.requires.store.1)) c.requires.backed.1
 
 pub add-sums-requires : goal.add-sums-requires
 add-sums-requires g c = let f = fit g c in record {
@@ -40,11 +40,8 @@ pub returns-clause-totals : goal.returns-clause-totals
 returns-clause-totals g c =
     let z = sizes_of c.args.board.now in
     let v = pass_view c.args.pass.now in
-    let all : c.loop-bucket.bucket ≡ z.buckets = omega (arith, c.loop-bucket-test.false, c.loop-bucket.auto.bucket-end, c.buckets-bucket-end.ensures, c.requires.buckets) in
-    sums_all z v c.requires.own.1 c.requires.commit c.requires.backed.0 c.loop-bucket.sums c.requires.some c.requires.ended c.requires.backed.1 (subst (λ k. SumsTell z v k c.loop-bucket.sums) all c.loop-bucket.invariant.2)
-
-pub returns-clause-logged : goal.returns-clause-logged
-returns-clause-logged g c = logs_told (sizes_of c.args.board.now) (pass_view c.args.pass.now) c.requires.own.1 c.requires.commit c.requires.backed.0 c.requires.some c.requires.ended c.requires.backed.1
-
-pub returns-clause-mark : goal.returns-clause-mark
-returns-clause-mark g c = newest_told (sizes_of c.args.board.now) (pass_view c.args.pass.now) c.requires.own.1 c.requires.commit c.requires.backed.0 c.requires.ended c.requires.backed.1
+    let all : c.loop-bucket.bucket ≡ z.buckets = omega (arith, c.loop-bucket-test.false, c.loop-bucket.auto.bucket-end, c.buckets-bucket-end.ensures, c.requires.store.1) in (
+      sums_all z v c.requires.own.1 c.requires.commit c.requires.backed.0 c.loop-bucket.sums c.requires.store.2 c.requires.ended c.requires.backed.1 (subst (λ k. SumsTell z v k c.loop-bucket.sums) all c.loop-bucket.invariant.2),
+      logs_told z v c.requires.own.1 c.requires.commit c.requires.backed.0 c.requires.store.2 c.requires.ended c.requires.backed.1,
+      newest_told z v c.requires.own.1 c.requires.commit c.requires.backed.0 c.requires.ended c.requires.backed.1,
+    )

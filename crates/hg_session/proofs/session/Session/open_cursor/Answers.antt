@@ -1,4 +1,4 @@
-use Rattle.std.proofs.Common.{◌≡◌, ◌∷◌, [], None, ap, subst, rules}
+use Rattle.std.proofs.Common.{◌≡◌, ◌+◌, ◌∷◌, [], None, ap, ◌∙◌, subst, rules}
 use Rattle.hg_base.specs.declared.statement.Statement.TheVariants as say
 use Rattle.hg_base.specs.declared.line.Answer.TheVariants.{Begun}
 use Rattle.hg_core.specs.declared.log.LogEntry.TheVariants.{Began}
@@ -29,7 +29,10 @@ returns-clause-answers c =
     subst (λ x. Answers z x says (inside (Begun c.open-snapshot.result.at)) w) c.spend.ensures.kept.0
     (answers_inside z v w says (Begun c.open-snapshot.result.at) nothing_more (ap (λ o. reading.is_alone o says) closed) begun tt (λ c e. tt) tt c.open-snapshot.ensures.fresh tt tt tt)
 
-pub returns-clause-own : goal.returns-clause-own
-returns-clause-own c =
-    let own = c.open-snapshot.ensures.own in
-    record { pass = own.pass; only = own.only; ties = ties_unwritten _ _ _ _ _ own.ties; heard = own.heard; cursor = search rules }
+pub returns-clause-spent : goal.returns-clause-spent
+returns-clause-spent c =
+    let own = c.open-snapshot.ensures.own in (
+      record { pass = own.pass; only = own.only; ties = ties_unwritten _ _ _ _ _ own.ties; heard = own.heard; cursor = search rules },
+      ap (λ n. n + 1) c.open-snapshot.ensures.kept.0 ∙ c.spend.ensures.left,
+      c.open-snapshot.ensures.kept.1 ∙ c.spend.ensures.retries,
+    )

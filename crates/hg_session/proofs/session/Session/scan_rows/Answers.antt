@@ -37,7 +37,7 @@ loop-bucket-preserved g c =
         opened = w.in_ok-scan_bucket.ensures.kept.0 ∙ h.opened;
         written = w.in_ok-scan_bucket.ensures.kept.1 ∙ h.written;
         left = w.in_ok-scan_bucket.ensures.kept.2 ∙ h.left;
-        retries = w.in_ok-scan_bucket.ensures.retries ∙ h.retries;
+        retries = w.in_ok-scan_bucket.ensures.kept.3 ∙ h.retries;
         own = w.in_ok-scan_bucket.ensures.own;
       })
       | else-is_reached w ↦ rw (w.self-is, w.rows-is) (record {
