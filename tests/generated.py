@@ -1,0 +1,194 @@
+"""Tests whose scripts are made by code."""
+
+import collections
+
+from program import NO_TOTALS, Wrong, audit, expect, expect_end, records_of, replies_of, run_to_full_disk, shown, sound_text
+from program import text_of, totals_of
+from rows import is_put_back, last_dump, quoted, rows_left
+from scripts import Chance, accounts, any_script, head, long_readers, made, own_tables, puts, readers_in_parts, rounds_beside_a_reader
+
+MOST_BYTES = 16_777_216
+MOST_RECORDS = 1_048_576
+
+
+def has(totals, **wanted):
+    """Checks some totals."""
+    expect("the totals", wanted, {name: totals[name] for name in wanted})
+
+
+def length_is_limited():
+    """A script of as many bytes as it may have, and of one more."""
+    expect_end("replay", b"1" * MOST_BYTES, 3, b"script record 1: Word\n")
+    expect_end("replay", b"1" * (MOST_BYTES + 1), 6, b"script longer than 16777216 bytes\n")
+
+
+def records_are_limited():
+    """As many records as a script may have, each of which is answered, and one more."""
+    script = b"1,begin\n1,commit\n" * (MOST_RECORDS // 2)
+    wanted = b"".join(b"1,%d,begun,0\n1,%d,ended\n" % (place, place + 1) for place in range(1, MOST_RECORDS, 2))
+    expect("the text", wanted + NO_TOTALS, text_of("replay", script))
+    expect_end("replay", script + b"1,begin\n", 3, b"script record 1048577: Count\n")
+
+
+def a_text_cannot_be_written():
+    """Standard output takes no byte."""
+    status, said = run_to_full_disk("replay", b"")
+    expect("the exit status and standard error", "5 write fault/", f"{status} {shown(said)}")
+
+
+def twenty_accounts_are_left():
+    """Each account keeps one row, whoever is refused: a put of session 1 is refused only for a transfer that commits."""
+    records = records_of(sound_text("run", accounts()))
+    expect("the replies", 22 + 4 * 10 * 6 + 13 + 3 * 8, len(list(replies_of(records))))
+    has(totals_of(records), left=20, undone=0)
+
+
+def long_readers_stay(words):
+    """What a reader reads stays the same, whatever the collectors take: otherwise the text is unsound. Each record keeps one row."""
+    has(totals_of(records_of(sound_text(words, long_readers()))), left=52)
+
+
+def a_round_leaves_two_versions_a_key():
+    """A round leaves the newest version of each key and the reader's. The rest of them goes at the end."""
+    records = records_of(sound_text("replay", rounds_beside_a_reader()))
+    removed = [int(record[6]) for record, _ in replies_of(records) if record[2] == b"swept" and len(record) > 6]
+    expect("the versions that the rounds remove", [0] + [100] * 99, removed)
+    has(totals_of(records), made=10_100, interval=9_900, table=100, left=100)
+
+
+def each_session_declares_its_own_table(words):
+    """Each table keeps one row. In a replay the table collector moves session 1 to its own table, and so takes what the other tables
+    have under their newest rows."""
+    has(totals_of(records_of(sound_text(words, own_tables()))), made=190, left=64)
+
+
+def eight_workers_commit_beside_the_collectors():
+    """Nobody is refused, and groups have the numbers from 1 on."""
+    records = records_of(sound_text("run --rounds 20", puts(1, lambda time, i: i)))
+    numbers = [int(record[-1]) for record, _ in replies_of(records) if record[-2] == b"committed"]
+    expect("the commits", 400, len(numbers))
+    expect("the numbers of the groups", list(range(1, len(set(numbers)) + 1)), sorted(set(numbers)))
+    has(totals_of(records), made=400, left=400)
+
+
+def rounds_remove_more_than_half():
+    """Each of 400 keys is put 40 times, so 15,600 versions are old in the end. No gate holds anybody: the rounds have to come when
+    sessions have written something that they can remove. The table collector's total also counts what is removed at the end, after the
+    last round, so its rounds are counted by their reports."""
+    records = records_of(sound_text("run --rounds 20", puts(40, lambda time, i: i)))
+    totals = totals_of(records)
+    has(totals, made=16_000, left=400)
+    by_table = [int(record[6]) for record, _ in replies_of(records) if record[2:4] == [b"swept", b"table"]]
+    removed = totals["group"] + totals["interval"] + sum(by_table)
+    if removed <= 7_800:
+        raise Wrong(f"the versions that the rounds remove\n    wanted: more than 7800\n    found:  {removed}")
+
+
+def cursors_stay_beside_the_collectors(words):
+    """What a cursor returns is what its snapshot shows, whatever is put and removed meanwhile: otherwise the text is unsound. Each of
+    80 keys keeps one row."""
+    has(totals_of(records_of(sound_text(words, readers_in_parts()))), left=80)
+
+
+def a_made_script_is_sound(seed):
+    """The replay of a seed's script is sound, and has the totals that `load` prints for the seed."""
+    text = sound_text("replay", made(seed))
+    expect("the totals of load", text_of(f"load {seed}", b""), b"".join(text.splitlines(True)[-6:]))
+
+
+def with_one_more(lines, place, index):
+    """Returns a text in which one field of one record is one more, or None where that field is no number. How many versions a round of
+    the table collector removed is not such a field: only the total bounds it."""
+    fields = lines[place].split(b",")
+    is_free = fields[2:4] == [b"swept", b"table"] and index == 6
+    if is_free or index >= len(fields) or not fields[index].isdigit():
+        return None
+    fields[index] = b"%d" % (int(fields[index]) + 1)
+    return b"".join(line + b"\n" for line in [*lines[:place], b",".join(fields), *lines[place + 1 :]])
+
+
+def edited_texts_are_unsound():
+    """One number of the text of a seed's script is changed, thirty times at places by chance."""
+    script = made(3)
+    lines = text_of("replay", script).splitlines()
+    draw = Chance(11).below
+    edits = 0
+    for _ in range(400):
+        place, index = draw(len(lines)), draw(8)
+        text = with_one_more(lines, place, index)
+        if text and edits < 30:
+            edits += 1
+            if not audit(script, text).startswith("unsound,"):
+                raise Wrong(f"field {index} of record {place + 1} is one more\n    wanted: unsound\n    found:  sound")
+    expect("the edits", 30, edits)
+
+
+def commits_up_to(script, run, at):
+    """Returns the script of the puts that are in a snapshot, by the numbers that were printed for them. The puts of one group are of
+    different keys."""
+    records = script.splitlines(True)
+    puts_of = collections.defaultdict(list)
+    for record, _ in replies_of(records_of(run)):
+        if record[-2] == b"committed":
+            puts_of[int(record[-1])].append(records[int(record[1]) - 1])
+    return records[0] + b"".join(b"".join(puts_of[number]) for number in range(at + 1))
+
+
+def eight_writers_are_dumped():
+    """What the sessions had committed at a snapshot is in its dump, and nothing else."""
+    script = puts(4, lambda time, i: f"1{time}{i}")
+    parts = text_of("dump --rounds 50", script).split(b"snapshot,")
+    expect("the parts of a dump", 3, len(parts))
+    run, *dumps = parts
+    for dump in dumps:
+        at, dump = dump.split(b"\n", 1)
+        expect(f"the dump at {int(at)}", last_dump(commits_up_to(script, run, int(at))), dump)
+        is_put_back(dump)
+
+
+def what_is_left_is_left_again(version, script):
+    """What a script by chance leaves is left again by the script that is written of it."""
+    rows = rows_left(script)
+    again = head(version)
+    for key, number, value in rows:
+        again += b"1,put,t,%s,%s,%s\n" % (key, number, quoted(value) if version == 2 else value)
+    expect(f"the rows that {script!r} leaves", rows, rows_left(again))
+
+
+def scripts_by_chance():
+    """Yields a thousand scripts of both versions."""
+    draw = Chance(5).below
+    for count in range(1000):
+        version = 1 + count % 2
+        yield f"what_is_left_is_left_again {count}", what_is_left_is_left_again, (version, any_script(version, draw))
+
+
+TESTS = (
+    (length_is_limited,),
+    (records_are_limited,),
+    (a_text_cannot_be_written,),
+    (twenty_accounts_are_left,),
+    (long_readers_stay, "run --rounds 50", "run --rounds 50 --sweepers 4"),
+    (a_round_leaves_two_versions_a_key,),
+    (each_session_declares_its_own_table, "replay --long 1", "run --long 1"),
+    (eight_workers_commit_beside_the_collectors,),
+    (cursors_stay_beside_the_collectors, "replay --long 1", "run --long 1 --rounds 50", "run --rounds 50 --sweepers 4"),
+    (a_made_script_is_sound, *range(10)),
+    (edited_texts_are_unsound,),
+    (eight_writers_are_dumped,),
+)
+
+
+def tests():
+    """Yields each test: its name, its function, and what that is given."""
+    for test, *cases in TESTS:
+        for case in cases or [None]:
+            given = () if case is None else (case,)
+            yield " ".join([test.__name__, *map(str, given)]), test, given
+    yield from scripts_by_chance()
+
+
+def tests_alone():
+    """Yields the tests that depend on how much else is at work, which are made one after the other when the others are over."""
+    for count in range(1, 4):
+        yield f"rounds_remove_more_than_half {count}", rounds_remove_more_than_half, ()
