@@ -3,6 +3,7 @@ ghost use Rattle.hg_base.specs.Lists.{Each};
 ghost use Rattle.hg_chain.specs.Sweeps.{Rises};
 ghost use Rattle.hg_chain.specs.Versions.{IsBelow};
 
+use crate::places::word_number;
 use hg_base::{Image, NoMemory, Row, Steps, Writer};
 use hg_chain::{Chain, Chains, Swept};
 use std::alloc::Global;
@@ -33,34 +34,41 @@ fn value(image: Option<&Image>) -> Option<i64> {
     image?.row.as_ref()?.numbers()?.first().copied()
 }
 
-// Versions 7, 5, 3 and 1, cut at a bound: the number handed out, how many others went, and what a late reader sees.
+// Versions 1, 3, 5 and 7.
+fn four(alloc: Global) -> Result<Chain, NoMemory> {
+    let mut chain = Chain::new(alloc);
+    add(alloc, &mut chain, 1)?;
+    add(alloc, &mut chain, 3)?;
+    add(alloc, &mut chain, 5)?;
+    add(alloc, &mut chain, 7)?;
+    Ok(chain)
+}
+
+// What a reader sees, where 0 is nothing.
+fn number_seen(chain: &Chain, at: u64) -> i64 {
+    value(chain.visible(at)).unwrap_or(0)
+}
+
+// A bound at which four versions are cut, as a word; what is handed out and how many others went; and what readers at 9 and 4 see then.
+const CUTS: &str = "\
+5 = Cut { image: Some((5, Image { row: Some(Row { storage: One([5]) }) })), gone: 2 } 7 0
+0 = Cut { image: None, gone: 0 } 7 3
+9 = Cut { image: Some((7, Image { row: Some(Row { storage: One([7]) }) })), gone: 3 } 0 0
+";
+
+fn cut_told(alloc: Global, bound: u64) -> Result<String, NoMemory> {
+    let mut chain = four(alloc)?;
+    let cut = chain.cut(bound);
+    let (late, early) = (number_seen(&chain, 9), number_seen(&chain, 4));
+    Ok(format!(in alloc; "{cut:?} {late} {early}")?)
+}
+
 #[test]
 fn cuts_at_a_bound(rt: HostRuntime) -> Result<(), Fail> {
-    let cases = [
-        (5, Some(5), Some(5), 2, Some(7), None),
-        (0, None, None, 0, Some(7), Some(3)),
-        (9, Some(7), Some(7), 3, None, None),
-    ];
-    for (bound, number, image, gone, late, early) in cases {
-        let mut chain = Chain::new(rt.alloc());
-        add(rt.alloc(), &mut chain, 1)?;
-        add(rt.alloc(), &mut chain, 3)?;
-        add(rt.alloc(), &mut chain, 5)?;
-        add(rt.alloc(), &mut chain, 7)?;
-        let cut = chain.cut(bound);
-        assert_eq!(rt;
-            cut.image.as_ref().map(|pair| pair.0),
-            number,
-            "cut at {bound}"
-        );
-        assert_eq!(rt;
-            value(cut.image.as_ref().map(|pair| &pair.1)),
-            image,
-            "image at {bound}"
-        );
-        assert_eq!(rt; cut.gone, gone, "others at {bound}");
-        assert_eq!(rt; value(chain.visible(9)), late, "late reader at {bound}");
-        assert_eq!(rt; value(chain.visible(4)), early, "early reader at {bound}");
+    for row in CUTS.lines() {
+        let (bound, told) = row.split_once(" = ").expect(&rt, "a row");
+        let found = cut_told(rt.alloc(), word_number(Some(bound)))?;
+        assert_eq!(rt; found.as_str(), told, "at {bound}");
     }
     Ok(())
 }
@@ -81,35 +89,52 @@ fn sweep<L: Ledger>(
     chain.sweep(base, horizon, snapshots, &mut steps)
 }
 
-fn number_seen(chain: &Chain, at: u64) -> i64 {
-    value(chain.visible(at)).unwrap_or(0)
+// A horizon and two snapshots with which the versions 9, 7, 5, 3 and 1 are swept; how many went, and whether an older image
+// is to go; and what readers at these numbers see, where 0 is nothing.
+const SWEEPS: &str = "\
+9:1:5 = 2 false, 9 5 5 1 1
+6:1:5 = 1 false, 9 7 5 1 1
+9:7:7 = 3 false, 9 7 0 0 0
+9:8:8 = 3 false, 9 7 0 0 0
+9:9:9 = 4 false, 9 0 0 0 0
+2:9:9 = 0 false, 9 7 5 3 1
+";
+
+fn five(alloc: Global) -> Result<Chain, NoMemory> {
+    let mut chain = Chain::new(alloc);
+    add(alloc, &mut chain, 1)?;
+    add(alloc, &mut chain, 3)?;
+    add(alloc, &mut chain, 5)?;
+    add(alloc, &mut chain, 7)?;
+    add(alloc, &mut chain, 9)?;
+    Ok(chain)
 }
 
-// Versions 9, 7, 5, 3 and 1, swept with a horizon and two snapshots: how many went, and what readers at these numbers
-// see, where 0 is nothing.
+// Sweeps a chain that has no older image.
+fn swept_by(chain: &mut Chain, call: &str) -> Swept {
+    let mut words = call.split(':');
+    let horizon = word_number(words.next());
+    let low = word_number(words.next());
+    let high = word_number(words.next());
+    let snapshots = [low.min(high), high];
+    sweep::<Brand>(Blank::new(1), chain, None, horizon, &snapshots)
+}
+
+fn sweep_told(alloc: Global, call: &str) -> Result<String, NoMemory> {
+    let mut chain = five(alloc)?;
+    let Swept { gone, base_gone } = swept_by(&mut chain, call);
+    let mut told = format!(in alloc; "{gone} {base_gone},")?;
+    for at in [9, 7, 5, 3, 1] {
+        write!(told, " {}", number_seen(&chain, at))?;
+    }
+    Ok(told)
+}
+
 #[test]
 fn sweeps_between_snapshots(rt: HostRuntime) -> Result<(), Fail> {
-    let cases = [
-        (9, 1, 5, 2, [9, 5, 5, 1, 1]),
-        (6, 1, 5, 1, [9, 7, 5, 1, 1]),
-        (9, 7, 7, 3, [9, 7, 0, 0, 0]),
-        (9, 8, 8, 3, [9, 7, 0, 0, 0]),
-        (9, 9, 9, 4, [9, 0, 0, 0, 0]),
-        (2, 9, 9, 0, [9, 7, 5, 3, 1]),
-    ];
-    for (horizon, low, high, gone, seen) in cases {
-        let mut chain = Chain::new(rt.alloc());
-        add(rt.alloc(), &mut chain, 1)?;
-        add(rt.alloc(), &mut chain, 3)?;
-        add(rt.alloc(), &mut chain, 5)?;
-        add(rt.alloc(), &mut chain, 7)?;
-        add(rt.alloc(), &mut chain, 9)?;
-        let snapshots = [low.min(high), high];
-        let swept = sweep::<Brand>(Blank::new(1), &mut chain, None, horizon, &snapshots);
-        assert_eq!(rt; swept.gone, gone, "horizon {horizon}, {low} and {high}");
-        assert!(rt; !swept.base_gone);
-        let left = [9, 7, 5, 3, 1].map(|at| number_seen(&chain, at));
-        assert_eq!(rt; left, seen, "horizon {horizon}, {low} and {high}");
+    for row in SWEEPS.lines() {
+        let (call, told) = row.split_once(" = ").expect(&rt, "a row");
+        assert_eq!(rt; sweep_told(rt.alloc(), call)?.as_str(), told, "at {call}");
     }
     Ok(())
 }

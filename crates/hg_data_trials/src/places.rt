@@ -27,7 +27,7 @@ enum Call {
     Sweep(u64, u64, u64),
 }
 
-fn word_number(word: Option<&str>) -> u64 {
+pub(crate) fn word_number(word: Option<&str>) -> u64 {
     word.and_then(|digits| digits.parse().ok()).unwrap_or(0)
 }
 
