@@ -2,7 +2,8 @@
 //! for is told by rows (tests/refused.txt).
 
 use hg_base::NoMemory;
-use hg_script::{Script, make_script, read_script};
+use hg_script::{Script, read_script};
+use hg_seed::make_script;
 use std::alloc::Global;
 use std::test::Fail;
 
