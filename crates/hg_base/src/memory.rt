@@ -1,10 +1,10 @@
-//! Streams in memory, for tests: a source and a sink of which listed calls fail, and two that never fail.
+//! Streams in memory of which listed calls fail, for tests.
 
-ghost use Rattle.std.specs.Prelude.{◌≡◌, ◌+◌, ◌-◌, ◌<◌, ◌≤◌, ◌==◌, ◌&&◌, ◌||◌, ◌++◌, ℕ, List, [], Ok, Some, None, length, take, drop, min, max, is_err, is_ok, vec_len, vec_capacity, IfOk, OnOk, OnErr, IsOk, nat_lt};
+ghost use Rattle.std.specs.Prelude.{◌≡◌, ◌+◌, ◌-◌, ◌<◌, ◌≤◌, ◌==◌, ◌&&◌, ◌||◌, ◌++◌, ℕ, List, [], Ok, Some, None, length, take, drop, min, max, is_err, is_ok, vec_len, vec_capacity, IfOk, OnOk, OnErr, nat_lt};
 ghost use Rattle.std.specs.Io.{ReadsAtMost};
 ghost use Rattle.std.specs.Io.KnownBytes.{ReadConsumes, WriteAppends};
 ghost use Rattle.std.specs.List.{list_any};
-ghost use Rattle.hg_base.specs.Faults.{HasCause, TakesSome, counted, next_count};
+ghost use Rattle.hg_base.specs.Faults.{HasCause, TakesSome, next_count};
 
 use crate::fault::{Failed, NoMemory};
 use crate::outside::{Sink, Source};
@@ -34,7 +34,7 @@ impl Model for MemorySource {
 }
 
 /// Copies the front of what is left to the front of a buffer, as much as one call may give, and says how much.
-fn copy_front(left: &[u8], most: usize, into: &mut [u8]) -> usize
+pub(crate) fn copy_front(left: &[u8], most: usize, into: &mut [u8]) -> usize
     ensures count { result ≡ min (min (length left.now) most) (length into.old) }
     ensures copied { into.new ≡ take result left.now ++ drop result into.old }
 {
@@ -191,147 +191,6 @@ impl Sink for MemorySink {
         if self.bytes.extend_from_slice(&piece[..count]).is_err() {
             unreachable!();
         }
-        Ok(count)
-    }
-}
-
-/// Gives bytes that lie in memory, at most `most` of them a call.
-#[derive(Debug, Drop)]
-pub struct SteadySource {
-    bytes: Vec<u8>,
-    at: usize,
-    most: usize,
-}
-
-impl Model for SteadySource {
-    ghost use Rattle.std.specs.Prelude.{◌<◌, ◌≤◌, length, drop};
-    ghost use Rattle.hg_base.specs.Memory.{SteadyFeed};
-
-    ghost Value = { SteadyFeed };
-
-    ghost view = { λ s. record { left = drop s.at s.bytes.items; most = s.most } };
-
-    ghost invariant = { λ s. (s.at ≤ length s.bytes.items) × (0 < s.most) };
-}
-
-impl SteadySource {
-    pub fn new(bytes: Vec<u8>, most: usize) -> SteadySource
-        requires { 0 < most }
-        ensures { result ≡ record { left = bytes.items; most = most } }
-    {
-        SteadySource { bytes, at: 0, most }
-    }
-}
-
-impl Source for SteadySource {
-    ghost left = { λ s. Some s.left };
-
-    ghost faults = { λ s. 0 };
-
-    fn read(&mut self, into: &mut [u8]) -> Result<usize, Failed>
-        ensures bound { ReadsAtMost result into.new }
-        ensures bytes { ReadConsumes (Some self.old.left) (Some self.new.left) result into.new }
-        ensures cause { HasCause 0 0 result }
-
-        // Each call gives as much as it may.
-        ensures given { result ≡
-            Ok (min (min (length self.old.left) self.old.most) (length into.old)) }
-        ensures most { self.new.most ≡ self.old.most }
-    {
-        let count = copy_front(&self.bytes[self.at..], self.most, into);
-        self.at += count;
-        Ok(count)
-    }
-}
-
-/// Takes all that it is given, at most `most` bytes a call, and keeps what its room holds. Past its room it only counts.
-///
-/// It never tells as a sink what it took: a sink that tells has to tell for good, and this one keeps no more than its room holds.
-/// `bytes` lends what was kept.
-#[derive(Debug, Drop)]
-pub struct SteadySink {
-    bytes: Vec<u8>,
-    room: usize,
-    most: usize,
-    past: u64,
-}
-
-impl Model for SteadySink {
-    ghost use Rattle.std.specs.Prelude.{◌+◌, ◌<◌, ◌≤◌, vec_len, vec_capacity};
-    ghost use Rattle.hg_base.specs.Memory.{SteadyTray};
-
-    ghost Value = { SteadyTray };
-
-    ghost view = { λ s. record { kept = s.bytes.items; room = s.room; most = s.most; past = s.past } };
-
-    ghost invariant = { λ s. (vec_len s.bytes + s.room ≤ vec_capacity s.bytes) × (0 < s.most) };
-}
-
-impl SteadySink {
-    pub fn new(alloc: Global, most: usize) -> SteadySink
-        requires { 0 < most }
-        ensures { result ≡ record { kept = []; room = 0; most = most; past = 0 } }
-    {
-        SteadySink {
-            bytes: Vec::new(alloc),
-            room: 0,
-            most,
-            past: 0,
-        }
-    }
-
-    /// Makes room for at least this many bytes more.
-    pub fn reserve(&mut self, bytes: usize) -> Result<(), NoMemory>
-        ensures room { OnOk result (self.new ≡ record self.old { room = max self.old.room bytes }) }
-        ensures refused { OnErr result (self.new ≡ self.old) }
-    {
-        self.bytes.reserve(bytes)?;
-        self.room = self.room.max(bytes);
-        Ok(())
-    }
-
-    /// The bytes that were kept.
-    pub fn bytes(&self) -> &[u8]
-        ensures { result.now ≡ self.now.kept }
-    {
-        &self.bytes
-    }
-
-    /// How many bytes were taken past the room. The count stays at its last value.
-    pub fn past(&self) -> u64
-        ensures { result ≡ self.now.past }
-    {
-        self.past
-    }
-}
-
-impl Sink for SteadySink {
-    ghost taken = { λ s. None };
-
-    ghost faults = { λ s. 0 };
-
-    fn write(&mut self, piece: &[u8]) -> Result<usize, Failed>
-        ensures bound { TakesSome result piece.now }
-        ensures bytes { WriteAppends None None result piece.now }
-        ensures cause { HasCause 0 0 result }
-
-        // Each call takes as much as it may, and keeps of it what there is room for.
-        ensures taken { result ≡ Ok (min (length piece.now) self.old.most) }
-        ensures kept { self.new.kept ≡
-            self.old.kept ++
-            take (min (min (length piece.now) self.old.most) self.old.room) piece.now }
-        ensures room { self.new.room ≡ self.old.room - min (length piece.now) self.old.most }
-        ensures past { self.new.past ≡
-            counted self.old.past (min (length piece.now) self.old.most - self.old.room) }
-        ensures most { self.new.most ≡ self.old.most }
-    {
-        let count = piece.len().min(self.most);
-        let kept = count.min(self.room);
-        self.room -= kept;
-        if self.bytes.extend_from_slice(&piece[..kept]).is_err() {
-            unreachable!();
-        }
-        self.past = self.past.saturating_add((count - kept) as u64);
         Ok(count)
     }
 }
