@@ -23,7 +23,8 @@ put_log : (sessions j : ℕ) (log : ℕ → List LogEntry) (l : List LogEntry) �
 put_log sessions j log l session a = by_number j (λ k b. IsSession sessions k ⊎ ((if b then l else log k) ≡ [])) (inl session) (λ k other. a k)
 
 -- the sessions of a group have logs
-published_log : (sessions n : ℕ) (log : ℕ → List LogEntry) (js : List ℕ) → ((j : ℕ) → is_in js j ≡ true → IsSome (current (log j))) → AloneHaveLogs sessions log → AloneHaveLogs sessions (published_logs log js n)
+published_log : (sessions n : ℕ) (log : ℕ → List LogEntry) (js : List ℕ) → ((j : ℕ) → is_in js j ≡ true → IsSome (current (log j))) → AloneHaveLogs sessions log →
+    AloneHaveLogs sessions (published_logs log js n)
 published_log sessions n log js opened_ a j = go (is_in js j) refl (a j)
   where
     go : (b : Bool) → is_in js j ≡ b → IsSession sessions j ⊎ (log j ≡ []) → IsSession sessions j ⊎ ((if b then Published n ∷ log j else log j) ≡ [])
@@ -48,7 +49,9 @@ event_alone s (Undo j r) h may a = put_log s.sessions j s.log _ writes a
     writes : IsSession s.sessions j
     writes = elim (a j) [
       | inl session ↦ session
-      | inr none ↦ (let was = opened_is s.mark (writer_of (begun_in s.log) j) (versions s.buckets s.bucket r) may.mine (h.contents_are_ordered.ordered r) in let z : open_in r [] ≡ Some was.image = subst (λ l. open_in r l ≡ Some was.image) none (h.open_writes_stand.owned r (writer_of (begun_in s.log) j) was.image was.owned).1 in absurd (let q : None ≡ Some was.image = z in cc))
+      | inr none ↦ (let was = opened_is s.mark (writer_of (begun_in s.log) j) (versions s.buckets s.bucket r) may.mine (h.contents_are_ordered.ordered r) in
+          let z : open_in r [] ≡ Some was.image = subst (λ l. open_in r l ≡ Some was.image) none (h.open_writes_stand.owned r (writer_of (begun_in s.log) j) was.image was.owned).1
+          in absurd (let q : None ≡ Some was.image = z in cc))
     ]
 event_alone s (Stamp j r) h may a = a
 event_alone s (Publish js) h may a = published_log s.sessions _ s.log js (λ j e. each_in (λ k. IsSome (current (s.log k))) js j may.opened e) a

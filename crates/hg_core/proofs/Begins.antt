@@ -82,7 +82,8 @@ turn s j p register mask log added h session up shows same masked alike bounds g
     masks = by_number j (λ k b. IfSome (scope_in (if b then p else s.phase k)) (λ scope. IsMaskOf s.tables scope (mask k))) masked (λ k other. rw (alike k other) (h.registers_agree.masks k));
     others = by_number j (λ k b. IsSession s.sessions k ⊎ ((if b then p else s.phase k) ≡ Idle)) (inl session) (λ k other. h.registers_agree.others k);
   };
-  records_bound_sessions = λ q. by_number j (λ k b. IfSome (found k (s.pass q).loaded) (λ loaded. Bounds (s.pass q).mark loaded (if b then p else s.phase k))) (bounds q) (λ k other. h.records_bound_sessions q k);
+  records_bound_sessions = λ q. by_number j (λ k b. IfSome (found k (s.pass q).loaded) (λ loaded. Bounds (s.pass q).mark loaded (if b then p else s.phase k))) (bounds q)
+      (λ k other. h.records_bound_sessions q k);
   records_reach_logs = reach_step s.phase (put s.phase j p) s.log log s.pass j p added h.records_reach_logs (only_put s.phase j p) grown enters;
   covered = λ r. covers_less s.mark s.phase (put s.phase j p) s.history r (versions s.buckets s.bucket r) (λ n g. elim g [ inl e ↦ inl e | inr e ↦ still r.table n e.0 e.1 ]) (h.covered r);
   open_writes_may_commit = may_commit;
@@ -105,8 +106,10 @@ turn s j p register mask log added h session up shows same masked alike bounds g
         (λ k other r image e. h.open_writes_may_commit k r image (sym (ap (open_in r) (grown.there k other)) ∙ e))
 
 -- its log stays
-quiet : (s : CoreState) (j : ℕ) (p : Phase) → IsSteady s → snapshot_in (s.phase j) ≡ snapshot_in p → FixedOver p (s.log j) → MayHaveBegun s.quota p (begans (s.log j)) → LogsAnswer s.sessions s.quota s.history (put s.phase j p) s.log
-quiet s j p h same over room = log_step s.sessions s.quota s.history s.phase (put s.phase j p) s.log s.log j p (s.log j) h.logs_answer (only_put s.phase j p) (only_same s.log j) (h.logs_answer.reads j ∙ same) room over (h.logs_answer.within j) (h.logs_answer.judged j) (h.logs_answer.undone j) (h.logs_answer.written j) (λ n. refl) (λ n e. e)
+quiet : (s : CoreState) (j : ℕ) (p : Phase) → IsSteady s → snapshot_in (s.phase j) ≡ snapshot_in p → FixedOver p (s.log j) → MayHaveBegun s.quota p (begans (s.log j)) →
+    LogsAnswer s.sessions s.quota s.history (put s.phase j p) s.log
+quiet s j p h same over room = log_step s.sessions s.quota s.history s.phase (put s.phase j p) s.log s.log j p (s.log j) h.logs_answer (only_put s.phase j p) (only_same s.log j)
+    (h.logs_answer.reads j ∙ same) room over (h.logs_answer.within j) (h.logs_answer.judged j) (h.logs_answer.undone j) (h.logs_answer.written j) (λ n. refl) (λ n e. e)
 
 -- only the board's sessions are not at rest
 pub session_at : (s : CoreState) (j : ℕ) → IsSteady s → (s.phase j ≡ Idle → ⊥) → IsSession s.sessions j
@@ -188,7 +191,8 @@ fix_kept s j f h (scope, may) =
     h.replies_answer
     (λ table n reads. inl reads) (λ r. none_open s.history r (s.log j) (h.logs_answer.judged j) (h.logs_answer.reads j ∙ ap snapshot_in may))
     h.open_writes_stand h.stamped_is_next
-    (quiet s j (Fixed (declared_in (s.phase j)) f s.mark) h (ap snapshot_in may) (subst (λ n. UpTo n (s.log j)) (sym h.mark_is_length.is_length) (h.logs_answer.within j)) (subst (λ p. MayHaveBegun s.quota p (begans (s.log j))) may (h.logs_answer.room j)))
+    (quiet s j (Fixed (declared_in (s.phase j)) f s.mark) h (ap snapshot_in may) (subst (λ n. UpTo n (s.log j)) (sym h.mark_is_length.is_length) (h.logs_answer.within j))
+    (subst (λ p. MayHaveBegun s.quota p (begans (s.log j))) may (h.logs_answer.room j)))
     h.counters_balance
 
 -- a fixed session's bound is a live one's
@@ -215,7 +219,8 @@ go_live_kept s j m scope h (f, at) =
     (λ r. ap (open_in r) (put_here s.log j (Began m scope ∷ s.log j)))
     (stand_alike s.mark (begun_in s.log) (begun_in (put s.log j (Began m scope ∷ s.log j))) (open_writes s.log) _ (versions s.buckets s.bucket) opened (λ k r i. number k r i) h.open_writes_stand)
     (next_alike s.mark (open_writes s.log) _ (versions s.buckets s.bucket) s.stamped_list opened h.stamped_is_next)
-    (log_step s.sessions s.quota s.history s.phase (put s.phase j (Live m scope)) s.log (put s.log j (Began m scope ∷ s.log j)) j (Live m scope) (Began m scope ∷ s.log j) h.logs_answer (only_put s.phase j (Live m scope)) (only_put s.log j (Began m scope ∷ s.log j))
+    (log_step s.sessions s.quota s.history s.phase (put s.phase j (Live m scope)) s.log (put s.log j (Began m scope ∷ s.log j)) j (Live m scope)
+    (Began m scope ∷ s.log j) h.logs_answer (only_put s.phase j (Live m scope)) (only_put s.log j (Began m scope ∷ s.log j))
     refl
     (let room : begans (s.log j) < s.quota = subst (λ p. MayHaveBegun s.quota p (begans (s.log j))) at (h.logs_answer.room j) in omega arith)
     tt
@@ -232,7 +237,8 @@ go_live_kept s j m scope h (f, at) =
     opened = by_number j (λ k b. (r : Rid) → open_in r (if b then Began m scope ∷ s.log j else s.log k) ≡ open_in r (s.log k)) (λ r. sym (none r)) (λ k other r. refl)
 
     number : (k : ℕ) (r : Rid) (i : Image) → open_writes s.log k r ≡ Some i → begun_in (put s.log j (Began m scope ∷ s.log j)) k ≡ begun_in s.log k
-    number = by_number j (λ k b. (r : Rid) (i : Image) → open_in r (s.log k) ≡ Some i → begans (if b then Began m scope ∷ s.log j else s.log k) ≡ begans (s.log k)) (λ r i e. absurd (let z = none r in cc)) (λ k other r i e. refl)
+    number = by_number j (λ k b. (r : Rid) (i : Image) → open_in r (s.log k) ≡ Some i → begans (if b then Began m scope ∷ s.log j else s.log k) ≡ begans (s.log k))
+        (λ r i e. absurd (let z = none r in cc)) (λ k other r i e. refl)
 
 -- a session that reads at a snapshot is live
 pub no_snapshot : (p : Phase) → IsSome (snapshot_in p) → p ≡ Idle → ⊥
@@ -268,7 +274,8 @@ end_kept s j h may = turn s j Idle (put s.register j registers.Idle) s.mask (put
     (λ table n reads. absurd reads) (λ r. ap (open_in r) (put_here s.log j (Over ∷ s.log j)))
     (stand_alike s.mark (begun_in s.log) (begun_in (put s.log j (Over ∷ s.log j))) (open_writes s.log) _ (versions s.buckets s.bucket) opened (λ k r i e. number k) h.open_writes_stand)
     (next_alike s.mark (open_writes s.log) _ (versions s.buckets s.bucket) s.stamped_list opened h.stamped_is_next)
-    (log_step s.sessions s.quota s.history s.phase (put s.phase j Idle) s.log (put s.log j (Over ∷ s.log j)) j Idle (Over ∷ s.log j) h.logs_answer (only_put s.phase j Idle) (only_put s.log j (Over ∷ s.log j))
+    (log_step s.sessions s.quota s.history s.phase (put s.phase j Idle) s.log (put s.log j (Over ∷ s.log j)) j Idle (Over ∷ s.log j) h.logs_answer (only_put s.phase j Idle)
+    (only_put s.log j (Over ∷ s.log j))
     refl
     (live_room _ _ _ may.live (h.logs_answer.room j))
     tt

@@ -33,7 +33,8 @@ firsts_most buckets n (Over ∷ log) = firsts_most buckets n log
 -- what was made in all buckets
 pub made_most : (s : CoreState) → IsSteady s → sum_below s.buckets (λ b. (s.counters b).made) ≤ s.sessions * s.quota
 made_most s h =
-    let all : sum_below s.buckets (λ b. sum_to s.sessions (λ j. first_writes (is_of s.buckets b) (s.log j))) ≡ sum_below s.buckets (λ b. (s.counters b).made) = below_same s.buckets (λ b. (s.counters b).made) (λ b. sum_to s.sessions (λ j. first_writes (is_of s.buckets b) (s.log j))) (λ b less. sym (h.counters_balance.made b)) in
+    let all : sum_below s.buckets (λ b. sum_to s.sessions (λ j. first_writes (is_of s.buckets b) (s.log j))) ≡ sum_below s.buckets (λ b. (s.counters b).made) = below_same s.buckets
+    (λ b. (s.counters b).made) (λ b. sum_to s.sessions (λ j. first_writes (is_of s.buckets b) (s.log j))) (λ b less. sym (h.counters_balance.made b)) in
     let swapped = sums_swap s.buckets s.sessions (λ b j. first_writes (is_of s.buckets b) (s.log j)) in
     let most : (j : ℕ) → sum_below s.buckets (λ b. first_writes (is_of s.buckets b) (s.log j)) ≤ s.quota = λ j. omega (arith, firsts_most s.buckets s.buckets (s.log j), h.logs_answer.written j) in
     omega (arith, all, swapped, sum_most s.sessions s.quota (λ j. sum_below s.buckets (λ b. first_writes (is_of s.buckets b) (s.log j))) most)
@@ -80,4 +81,11 @@ mark_told s h = cases (0 == length s.history)
     (λ e.
     let some : 0 < length s.history = grind (arith, nat_tests) in
     let one = h.logs_answer.named (length s.history) some (omega arith) in
-    omega (arith, h.mark_is_length.is_length, of_most s.sessions (length s.history) s.log h.logs_answer.within, newest_least (length s.history) (s.log one.0) one.2, of_least s.sessions one.0 s.log one.1.first one.1.last))
+    omega (
+      arith,
+      h.mark_is_length.is_length,
+      of_most s.sessions (length s.history) s.log h.logs_answer.within,
+      newest_least (length s.history)
+          (s.log one.0) one.2,
+      of_least s.sessions one.0 s.log one.1.first one.1.last,
+    ))

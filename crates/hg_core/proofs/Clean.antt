@@ -25,11 +25,13 @@ none_swept : (bound horizon : ℕ) (snapshots : List ℕ) (successor : Option �
 none_swept bound horizon snapshots successor [] n = refl
 none_swept bound horizon snapshots successor (v ∷ vs) n = go (is_up_to bound (stamp_number v.stamp)) refl n (λ k. none_swept bound horizon snapshots (stamp_number v.stamp) vs k)
   where
-    go : (b : Bool) → is_up_to bound (stamp_number v.stamp) ≡ b → cond b (v ∷ up_to bound vs) (up_to bound vs) ≡ [] → (up_to bound vs ≡ [] → up_to bound (swept horizon snapshots (stamp_number v.stamp) vs) ≡ []) → up_to bound (swept horizon snapshots successor (v ∷ vs)) ≡ []
+    go : (b : Bool) → is_up_to bound (stamp_number v.stamp) ≡ b → cond b (v ∷ up_to bound vs) (up_to bound vs) ≡ [] →
+        (up_to bound vs ≡ [] → up_to bound (swept horizon snapshots (stamp_number v.stamp) vs) ≡ []) → up_to bound (swept horizon snapshots successor (v ∷ vs)) ≡ []
     go true e n later = cc
     go false e n later = either (goes horizon snapshots successor (stamp_number v.stamp)) (later n)
       where
-        either : (t : Bool) → up_to bound (swept horizon snapshots (stamp_number v.stamp) vs) ≡ [] → up_to bound (if t then swept horizon snapshots (stamp_number v.stamp) vs else v ∷ swept horizon snapshots (stamp_number v.stamp) vs) ≡ []
+        either : (t : Bool) → up_to bound (swept horizon snapshots (stamp_number v.stamp) vs) ≡ [] →
+            up_to bound (if t then swept horizon snapshots (stamp_number v.stamp) vs else v ∷ swept horizon snapshots (stamp_number v.stamp) vs) ≡ []
         either true k = k
         either false k = rw e k
 
@@ -51,7 +53,8 @@ cut_swept bound horizon snapshots successor (v ∷ vs) k = go (is_up_to bound (s
     rest : List Version
     rest = swept horizon snapshots (stamp_number v.stamp) vs
 
-    go : (b : Bool) → is_up_to bound (stamp_number v.stamp) ≡ b → IsOneRow (cond b (v ∷ up_to bound vs) (up_to bound vs)) → (IsCutAt bound vs → IsCutAt bound (swept horizon snapshots (stamp_number v.stamp) vs)) → IsCutAt bound (swept horizon snapshots successor (v ∷ vs))
+    go : (b : Bool) → is_up_to bound (stamp_number v.stamp) ≡ b → IsOneRow (cond b (v ∷ up_to bound vs) (up_to bound vs)) →
+        (IsCutAt bound vs → IsCutAt bound (swept horizon snapshots (stamp_number v.stamp) vs)) → IsCutAt bound (swept horizon snapshots successor (v ∷ vs))
     go true e k later = either (goes horizon snapshots successor (stamp_number v.stamp))
       where
         none : up_to bound (swept horizon snapshots (stamp_number v.stamp) vs) ≡ []
@@ -62,7 +65,8 @@ cut_swept bound horizon snapshots successor (v ∷ vs) k = go (is_up_to bound (s
         either false = rw e (front_row v _ none (one_row v (up_to bound vs) k).1)
     go false e k later = either (goes horizon snapshots successor (stamp_number v.stamp)) (later k)
       where
-        either : (t : Bool) → IsCutAt bound (swept horizon snapshots (stamp_number v.stamp) vs) → IsCutAt bound (if t then swept horizon snapshots (stamp_number v.stamp) vs else v ∷ swept horizon snapshots (stamp_number v.stamp) vs)
+        either : (t : Bool) → IsCutAt bound (swept horizon snapshots (stamp_number v.stamp) vs) →
+            IsCutAt bound (if t then swept horizon snapshots (stamp_number v.stamp) vs else v ∷ swept horizon snapshots (stamp_number v.stamp) vs)
         either true c = c
         either false c = rw e c
 
@@ -87,7 +91,8 @@ none_cut : (bound c : ℕ) (vs : List Version) → up_to bound vs ≡ [] → up_
 none_cut bound c [] n = refl
 none_cut bound c (v ∷ vs) n = go (is_up_to bound (stamp_number v.stamp)) refl n (λ k. none_cut bound c vs k)
   where
-    go : (b : Bool) → is_up_to bound (stamp_number v.stamp) ≡ b → cond b (v ∷ up_to bound vs) (up_to bound vs) ≡ [] → (up_to bound vs ≡ [] → up_to bound (cut c vs) ≡ []) → up_to bound (cut c (v ∷ vs)) ≡ []
+    go : (b : Bool) → is_up_to bound (stamp_number v.stamp) ≡ b → cond b (v ∷ up_to bound vs) (up_to bound vs) ≡ [] → (up_to bound vs ≡ [] → up_to bound (cut c vs) ≡ []) →
+        up_to bound (cut c (v ∷ vs)) ≡ []
     go true e n later = cc
     go false e n later = either (is_up_to c (stamp_number v.stamp)) (later n)
       where
@@ -99,7 +104,8 @@ pub cut_cut : (bound c : ℕ) (vs : List Version) → IsCutAt bound vs → IsCut
 cut_cut bound c [] k = tt
 cut_cut bound c (v ∷ vs) k = go (is_up_to bound (stamp_number v.stamp)) refl k (λ k. cut_cut bound c vs k)
   where
-    go : (b : Bool) → is_up_to bound (stamp_number v.stamp) ≡ b → IsOneRow (cond b (v ∷ up_to bound vs) (up_to bound vs)) → (IsCutAt bound vs → IsCutAt bound (cut c vs)) → IsCutAt bound (cut c (v ∷ vs))
+    go : (b : Bool) → is_up_to bound (stamp_number v.stamp) ≡ b → IsOneRow (cond b (v ∷ up_to bound vs) (up_to bound vs)) → (IsCutAt bound vs → IsCutAt bound (cut c vs)) →
+        IsCutAt bound (cut c (v ∷ vs))
     go true e k later = either (is_up_to c (stamp_number v.stamp))
       where
         either : (t : Bool) → IsCutAt bound (if t then oldest (stamp_number v.stamp) v.image.row else v ∷ cut c vs)
@@ -161,7 +167,8 @@ goes_not horizon snapshots (Some u) (Some n) e = λ le. go (is_in_use snapshots 
     go false q le = absurd (let k : nat_le u horizon ≡ true = grind (arith, nat_tests) in let z = rw (k, q) at e in cc)
 
 -- behind a version that goes stands what it stood before
-behind_next : (horizon : ℕ) (snapshots : List ℕ) (now before number : Option ℕ) (n b : ℕ) → goes horizon snapshots before number ≡ true → number ≡ Some n → n < b → ((x : ℕ) → before ≡ Some x → b ≤ x) → IsBehind now before → IsBehind now number
+behind_next : (horizon : ℕ) (snapshots : List ℕ) (now before number : Option ℕ) (n b : ℕ) → goes horizon snapshots before number ≡ true → number ≡ Some n → n < b →
+    ((x : ℕ) → before ≡ Some x → b ≤ x) → IsBehind now before → IsBehind now number
 behind_next horizon snapshots now None number n b g e less low behind = cc
 behind_next horizon snapshots now (Some x) number n b g e less low (inl p) = inr (x, n, p, e, (let k = low x refl in omega arith))
 behind_next horizon snapshots now (Some x) number n b g e less low (inr q) = inr (q.0, n, q.2, e, (let k = low x refl in let same : x ≡ q.1 = (let z = q.3 in cc) in omega (arith, q.4)))
@@ -169,20 +176,28 @@ behind_next horizon snapshots now (Some x) number n b g e less low (inr q) = inr
 low_next : (number : Option ℕ) (n x : ℕ) → number ≡ Some n → number ≡ Some x → n ≤ x
 low_next number n x e p = let same : n ≡ x = cc in omega arith
 
-clean_swept : (horizon : ℕ) (snapshots : List ℕ) (now before : Option ℕ) (b : ℕ) (vs : List Version) → Falls b vs → ((x : ℕ) → before ≡ Some x → b ≤ x) → IsBehind now before → MayAllStay horizon snapshots now (swept horizon snapshots before vs)
+clean_swept : (horizon : ℕ) (snapshots : List ℕ) (now before : Option ℕ) (b : ℕ) (vs : List Version) → Falls b vs → ((x : ℕ) → before ≡ Some x → b ≤ x) → IsBehind now before →
+    MayAllStay horizon snapshots now (swept horizon snapshots before vs)
 clean_swept horizon snapshots now before b [] f low behind = tt
-clean_swept horizon snapshots now before b (v ∷ vs) f low behind = go (goes horizon snapshots before (stamp_number v.stamp)) refl (λ now behind. clean_swept horizon snapshots now (stamp_number v.stamp) f.0 vs f.3 (λ x e. low_next (stamp_number v.stamp) f.0 x f.1 e) behind)
+clean_swept horizon snapshots now before b (v ∷ vs) f low behind = go (goes horizon snapshots before (stamp_number v.stamp)) refl
+    (λ now behind. clean_swept horizon snapshots now (stamp_number v.stamp) f.0 vs f.3 (λ x e. low_next (stamp_number v.stamp) f.0 x f.1 e) behind)
   where
-    go : (t : Bool) → goes horizon snapshots before (stamp_number v.stamp) ≡ t → ((now : Option ℕ) → IsBehind now (stamp_number v.stamp) → MayAllStay horizon snapshots now (swept horizon snapshots (stamp_number v.stamp) vs)) → MayAllStay horizon snapshots now (if t then swept horizon snapshots (stamp_number v.stamp) vs else v ∷ swept horizon snapshots (stamp_number v.stamp) vs)
+    go : (t : Bool) → goes horizon snapshots before (stamp_number v.stamp) ≡ t →
+        ((now : Option ℕ) → IsBehind now (stamp_number v.stamp) → MayAllStay horizon snapshots now (swept horizon snapshots (stamp_number v.stamp) vs)) →
+        MayAllStay horizon snapshots now (if t then swept horizon snapshots (stamp_number v.stamp) vs else v ∷ swept horizon snapshots (stamp_number v.stamp) vs)
     go true e later = later now (behind_next horizon snapshots now before (stamp_number v.stamp) f.0 b e f.1 f.2 low behind)
     go false e later = (stays_behind horizon snapshots now before (stamp_number v.stamp) behind (goes_not horizon snapshots before (stamp_number v.stamp) e), later (stamp_number v.stamp) (inl refl))
 
 -- what was clean for one horizon stays so, whatever another sweep takes
-clean_still : (horizon other : ℕ) (snapshots others : List ℕ) (now before : Option ℕ) (b : ℕ) (vs : List Version) → Falls b vs → ((x : ℕ) → before ≡ Some x → b ≤ x) → IsBehind now before → MayAllStay horizon snapshots before vs → MayAllStay horizon snapshots now (swept other others before vs)
+clean_still : (horizon other : ℕ) (snapshots others : List ℕ) (now before : Option ℕ) (b : ℕ) (vs : List Version) → Falls b vs → ((x : ℕ) → before ≡ Some x → b ≤ x) →
+    IsBehind now before → MayAllStay horizon snapshots before vs → MayAllStay horizon snapshots now (swept other others before vs)
 clean_still horizon other snapshots others now before b [] f low behind c = tt
-clean_still horizon other snapshots others now before b (v ∷ vs) f low behind c = go (goes other others before (stamp_number v.stamp)) refl (λ now behind. clean_still horizon other snapshots others now (stamp_number v.stamp) f.0 vs f.3 (λ x e. low_next (stamp_number v.stamp) f.0 x f.1 e) behind c.1)
+clean_still horizon other snapshots others now before b (v ∷ vs) f low behind c = go (goes other others before (stamp_number v.stamp)) refl
+    (λ now behind. clean_still horizon other snapshots others now (stamp_number v.stamp) f.0 vs f.3 (λ x e. low_next (stamp_number v.stamp) f.0 x f.1 e) behind c.1)
   where
-    go : (t : Bool) → goes other others before (stamp_number v.stamp) ≡ t → ((now : Option ℕ) → IsBehind now (stamp_number v.stamp) → MayAllStay horizon snapshots now (swept other others (stamp_number v.stamp) vs)) → MayAllStay horizon snapshots now (if t then swept other others (stamp_number v.stamp) vs else v ∷ swept other others (stamp_number v.stamp) vs)
+    go : (t : Bool) → goes other others before (stamp_number v.stamp) ≡ t →
+        ((now : Option ℕ) → IsBehind now (stamp_number v.stamp) → MayAllStay horizon snapshots now (swept other others (stamp_number v.stamp) vs)) →
+        MayAllStay horizon snapshots now (if t then swept other others (stamp_number v.stamp) vs else v ∷ swept other others (stamp_number v.stamp) vs)
     go true e later = later now (behind_next other others now before (stamp_number v.stamp) f.0 b e f.1 f.2 low behind)
     go false e later = (stays_behind horizon snapshots now before (stamp_number v.stamp) behind c.0, later (stamp_number v.stamp) (inl refl))
 
@@ -214,12 +229,14 @@ clean_sweep : (mark horizon other : ℕ) (snapshots others : List ℕ) (vs : Lis
 clean_sweep mark horizon other snapshots others [] o c = tt
 clean_sweep mark horizon other snapshots others (v ∷ vs) o c = go v.stamp o c
   where
-    go : (x : Stamp) → IsOrdered mark (record { stamp = x; image = v.image } ∷ vs) → IsClean horizon snapshots (record { stamp = x; image = v.image } ∷ vs) → IsClean horizon snapshots (record { stamp = x; image = v.image } ∷ swept other others (stamp_number x) vs)
+    go : (x : Stamp) → IsOrdered mark (record { stamp = x; image = v.image } ∷ vs) → IsClean horizon snapshots (record { stamp = x; image = v.image } ∷ vs) →
+        IsClean horizon snapshots (record { stamp = x; image = v.image } ∷ swept other others (stamp_number x) vs)
     go (Written by) f c = (tt, clean_still horizon other snapshots others None None (suc mark) vs f (λ u e. absurd (cc)) (inl refl) c.1)
     go (Numbered n by) f c = (tt, clean_still horizon other snapshots others (Some n) (Some n) n vs f.1 (λ x e. low_next (Some n) n x refl e) (inl refl) c.1)
     go (Oldest n) f c = (tt, clean_still horizon other snapshots others (Some n) (Some n) n vs f.1 (λ x e. low_next (Some n) n x refl e) (inl refl) c.1)
 
-clean_reclaimed : (mark horizon : ℕ) (snapshots : List ℕ) (kind : Kind) (table : TableId) (pass : PassRecord) (vs : List Version) → IsOrdered mark vs → IsClean horizon snapshots vs → IsClean horizon snapshots (reclaimed kind table pass vs)
+clean_reclaimed : (mark horizon : ℕ) (snapshots : List ℕ) (kind : Kind) (table : TableId) (pass : PassRecord) (vs : List Version) → IsOrdered mark vs →
+    IsClean horizon snapshots vs → IsClean horizon snapshots (reclaimed kind table pass vs)
 clean_reclaimed mark h snapshots Group table pass vs o c = clean_cut h (group_bound pass) snapshots None vs c
 clean_reclaimed mark h snapshots Table table pass vs o c = clean_cut h (table_bound table pass) snapshots None vs c
 clean_reclaimed mark h snapshots Interval table pass vs o c = clean_sweep mark h (horizon pass) snapshots (recorded table pass) vs o c
@@ -280,7 +297,8 @@ stays_reclaimed mark top kind table pass vs o = record {
 
 -- ---- which versions go
 
-swept_left : (horizon : ℕ) (snapshots : List ℕ) (successor : Option ℕ) (vs : List Version) → swept horizon snapshots successor vs ≡ map (λ (e : Option ℕ × Version). e.1) (filter (λ e. not (goes horizon snapshots e.0 (stamp_number e.1.stamp))) (with_successors successor vs))
+swept_left : (horizon : ℕ) (snapshots : List ℕ) (successor : Option ℕ) (vs : List Version) →
+    swept horizon snapshots successor vs ≡ map (λ (e : Option ℕ × Version). e.1) (filter (λ e. not (goes horizon snapshots e.0 (stamp_number e.1.stamp))) (with_successors successor vs))
 swept_left horizon snapshots successor [] = refl
 swept_left horizon snapshots successor (v ∷ vs) = go (goes horizon snapshots successor (stamp_number v.stamp)) (swept_left horizon snapshots (stamp_number v.stamp) vs)
   where
@@ -288,7 +306,8 @@ swept_left horizon snapshots successor (v ∷ vs) = go (goes horizon snapshots s
     rest = filter (λ e. not (goes horizon snapshots e.0 (stamp_number e.1.stamp))) (with_successors (stamp_number v.stamp) vs)
 
     go : (t : Bool) → swept horizon snapshots (stamp_number v.stamp) vs ≡ map (λ (e : Option ℕ × Version). e.1) rest
-        → (if t then swept horizon snapshots (stamp_number v.stamp) vs else v ∷ swept horizon snapshots (stamp_number v.stamp) vs) ≡ map (λ (e : Option ℕ × Version). e.1) (cond (not t) ((successor, v) ∷ rest) rest)
+        → (if t then swept horizon snapshots (stamp_number v.stamp) vs else v ∷ swept horizon snapshots (stamp_number v.stamp) vs) ≡ map (λ (e : Option ℕ × Version). e.1)
+        (cond (not t) ((successor, v) ∷ rest) rest)
     go true later = later
     go false later = ap (λ vs. v ∷ vs) later
 
@@ -320,7 +339,8 @@ pub cut_exactly : (mark bound : ℕ) (vs : List Version) → IsOrdered mark vs �
 cut_exactly mark bound [] o = refl
 cut_exactly mark bound (v ∷ vs) o = go v.stamp o
   where
-    go : (x : Stamp) → IsOrdered mark (record { stamp = x; image = v.image } ∷ vs) → cut bound (record { stamp = x; image = v.image } ∷ vs) ≡ past bound (record { stamp = x; image = v.image } ∷ vs) ++ as_oldest (first_at bound (record { stamp = x; image = v.image } ∷ vs))
+    go : (x : Stamp) → IsOrdered mark (record { stamp = x; image = v.image } ∷ vs) →
+        cut bound (record { stamp = x; image = v.image } ∷ vs) ≡ past bound (record { stamp = x; image = v.image } ∷ vs) ++ as_oldest (first_at bound (record { stamp = x; image = v.image } ∷ vs))
     go (Written by) f = ap (λ ws. record { stamp = Written by; image = v.image } ∷ ws) (cut_falling bound (suc mark) vs f)
     go (Numbered n by) f = cut_falling bound (suc n) (record { stamp = Numbered n by; image = v.image } ∷ vs) (n, refl, omega arith, f.1)
     go (Oldest n) f = cut_falling bound (suc n) (record { stamp = Oldest n; image = v.image } ∷ vs) (n, refl, omega arith, f.1)

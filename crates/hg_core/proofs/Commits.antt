@@ -53,7 +53,8 @@ numbers_most m j [] = omega (arith, below_none m)
 numbers_most m j (Published k ∷ log) =
     let f : ℕ → ℕ = λ n. length (published n j log) in
     let g : ℕ → ℕ = λ n. if (k == n) && true then 1 else 0 in
-    let each : (n : ℕ) → length (published n j (Published k ∷ log)) ≡ f n + g n = λ n. length-append (published n j log) (if k == n then commit_in j log ∷ [] else []) ∙ ap (λ x. f n + x) (one_long (k == n)) in
+    let each : (n : ℕ) → length (published n j (Published k ∷ log)) ≡ f n + g n = λ n. length-append (published n j log) (if k == n then commit_in j log ∷ [] else []) ∙
+    ap (λ x. f n + x) (one_long (k == n)) in
     let a = below_same m (λ n. f n + g n) (λ n. length (published n j (Published k ∷ log))) (λ n l. each n) in
     let b = below_plus m f g in
     let c = below_one m k true in
@@ -87,7 +88,8 @@ by_session n (c ∷ g) h =
     let f : ℕ → ℕ = λ j. length (of_session j g) in
     let f' : ℕ → ℕ = λ j. length (of_session j (c ∷ g)) in
     let rest : length g ≡ sum_to n f = by_session n g h.1 in
-    let here : f' c.session ≡ f c.session + 1 = ap (λ b. length (if b then c ∷ of_session c.session g else of_session c.session g)) (alike c.session) ∙ (let x : ℕ = f c.session in let e : suc x ≡ x + 1 = omega arith in e) in
+    let here : f' c.session ≡ f c.session + 1 = ap (λ b. length (if b then c ∷ of_session c.session g else of_session c.session g)) (alike c.session) ∙
+    (let x : ℕ = f c.session in let e : suc x ≡ x + 1 = omega arith in e) in
     let there : (k : ℕ) → (k ≡ c.session → ⊥) → f' k ≡ f k = λ k other. ap (λ b. length (if b then c ∷ of_session k g else of_session k g)) (unlike c.session k other) in
     let all : sum_to n f' ≡ sum_to n f + 1 = sum_grown n c.session 1 f f' h.0.first h.0.last there here in omega (arith, rest, all)
   where
@@ -106,7 +108,8 @@ all_inside z (c ∷ g) f = (elim (f c.session) [ inl a ↦ a | inr e ↦ absurd 
     alike j = grind (arith, nat_tests)
 
     some : (if c.session == c.session then c ∷ of_session c.session g else of_session c.session g) ≡ [] → ⊥
-    some e = let x : suc (length (of_session c.session g)) ≡ 0 = ap (λ b. length (if b then c ∷ of_session c.session g else of_session c.session g)) (sym (alike c.session)) ∙ ap length e in absurd (omega (arith, x))
+    some e = let x : suc (length (of_session c.session g)) ≡ 0 = ap (λ b. length (if b then c ∷ of_session c.session g else of_session c.session g)) (sym (alike c.session)) ∙
+        ap length e in absurd (omega (arith, x))
 
     tail : (j : ℕ) (b : Bool) → (if b then c ∷ of_session j g else of_session j g) ≡ [] → of_session j g ≡ []
     tail j true e = absurd (let x : suc (length (of_session j g)) ≡ 0 = ap length e in omega (arith, x))
@@ -126,9 +129,11 @@ summed first (g ∷ h) =
     let top : suc first + length h ≡ first + suc (length h) = omega arith in
     let rest : commits_in h ≡ sum_below (first + suc (length h)) f = summed (suc first) h ∙ ap (λ m. sum_below m f) top in
     let none : f first ≡ 0 = ap length (no_group (suc first) h first (omega arith)) in
-    let here : f' first ≡ f first + length g = ap (λ b. length (if b then g else group_from (suc first) h first)) (alike first) ∙ (let x : ℕ = f first in let y : ℕ = length g in let e : y ≡ x + y = omega (arith, none) in e) in
+    let here : f' first ≡ f first + length g = ap (λ b. length (if b then g else group_from (suc first) h first)) (alike first) ∙ (let x : ℕ = f first in let y : ℕ = length g in
+    let e : y ≡ x + y = omega (arith, none) in e) in
     let there : (k : ℕ) → (k ≡ first → ⊥) → f' k ≡ f k = λ k other. ap (λ b. length (if b then g else group_from (suc first) h k)) (unlike first k other) in
-    let all : sum_below (first + suc (length h)) f' ≡ sum_below (first + suc (length h)) f + length g = below_grown (first + suc (length h)) first (length g) f f' (omega arith) there here in omega (arith, rest, all)
+    let all : sum_below (first + suc (length h)) f' ≡ sum_below (first + suc (length h)) f + length g = below_grown (first + suc (length h)) first (length g) f f'
+    (omega arith) there here in omega (arith, rest, all)
   where
     alike : (j : ℕ) → (j == j) ≡ true
     alike j = grind (arith, nat_tests)
@@ -141,11 +146,15 @@ pub commits_most : (s : CoreState) → IsSteady s → AloneHaveLogs s.sessions s
 commits_most s h alone =
     let a = h.logs_answer in
     let m : ℕ = 1 + length s.history in
-    let outside : (i j : ℕ) → IsSession s.sessions j ⊎ (of_session j (group_at s.history i) ≡ []) = λ i j. elim (alone j) [ inl session ↦ inl session | inr none ↦ inr (a.commits i j ∙ ap (published i j) none) ] in
-    let group : (i : ℕ) → length (group_at s.history i) ≡ sum_to s.sessions (λ j. length (published i j (s.log j))) = λ i. by_session s.sessions (group_at s.history i) (all_inside s.sessions (group_at s.history i) (outside i)) ∙ (λ q. sum_to s.sessions (λ j. length (a.commits i j q))) in
+    let outside : (i j : ℕ) → IsSession s.sessions j ⊎ (of_session j (group_at s.history i) ≡ []) = λ i j. elim
+    (alone j) [ inl session ↦ inl session | inr none ↦ inr (a.commits i j ∙ ap (published i j) none) ] in
+    let group : (i : ℕ) → length (group_at s.history i) ≡ sum_to s.sessions (λ j. length (published i j (s.log j))) = λ i. by_session s.sessions (group_at s.history i)
+    (all_inside s.sessions (group_at s.history i) (outside i)) ∙ (λ q. sum_to s.sessions (λ j. length (a.commits i j q))) in
     let total : commits_in s.history ≡ sum_below m (λ i. length (group_at s.history i)) = summed 1 s.history in
-    let turned : sum_below m (λ i. length (group_at s.history i)) ≡ sum_below m (λ i. sum_to s.sessions (λ j. length (published i j (s.log j)))) = below_same m (λ i. sum_to s.sessions (λ j. length (published i j (s.log j)))) (λ i. length (group_at s.history i)) (λ i l. group i) in
+    let turned : sum_below m (λ i. length (group_at s.history i)) ≡ sum_below m (λ i. sum_to s.sessions (λ j. length (published i j (s.log j)))) = below_same m
+    (λ i. sum_to s.sessions (λ j. length (published i j (s.log j)))) (λ i. length (group_at s.history i)) (λ i l. group i) in
     let swapped = sums_swap m s.sessions (λ i j. length (published i j (s.log j))) in
-    let few : (j : ℕ) → sum_below m (λ i. length (published i j (s.log j))) ≤ s.quota = λ j. omega (arith, numbers_most m j (s.log j), (fewer s.history (s.log j) (a.judged j)).most, begun_most s.quota (begans (s.log j)) (s.phase j) (a.room j)) in
+    let few : (j : ℕ) → sum_below m (λ i. length (published i j (s.log j))) ≤ s.quota = λ j. omega
+    (arith, numbers_most m j (s.log j), (fewer s.history (s.log j) (a.judged j)).most, begun_most s.quota (begans (s.log j)) (s.phase j) (a.room j)) in
     let most = sum_most s.sessions s.quota (λ j. sum_below m (λ i. length (published i j (s.log j)))) few in
     omega (arith, total, turned, swapped, most)

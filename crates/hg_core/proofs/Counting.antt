@@ -29,7 +29,8 @@ unfolding numbers_to
 numbers_grow n [] = omega arith
 numbers_grow n (Published m ∷ log) = step (nat_le m n) (nat_le m (suc n)) (λ e. grind (arith, nat_tests)) (numbers_grow n log)
   where
-    step : (a b : Bool) → (a ≡ true → b ≡ true) → numbers_to n log ≤ numbers_to (suc n) log → (if a then suc (numbers_to n log) else numbers_to n log) ≤ (if b then suc (numbers_to (suc n) log) else numbers_to (suc n) log)
+    step : (a b : Bool) → (a ≡ true → b ≡ true) → numbers_to n log ≤ numbers_to (suc n) log →
+        (if a then suc (numbers_to n log) else numbers_to n log) ≤ (if b then suc (numbers_to (suc n) log) else numbers_to (suc n) log)
     step true true f le = omega arith
     step true false f le = absurd (let e : false ≡ true = f refl in cc)
     step false true f le = omega arith
@@ -55,7 +56,8 @@ numbers_named n (Published m ∷ log) e = cases (m == suc n)
     let same : nat_le m n ≡ nat_le m (suc n) = grind (arith, nat_tests) in
     step (nat_le m n) (nat_le m (suc n)) same (numbers_named n log rest))
   where
-    step : (a b : Bool) → a ≡ b → suc (numbers_to n log) ≤ numbers_to (suc n) log → suc (if a then suc (numbers_to n log) else numbers_to n log) ≤ (if b then suc (numbers_to (suc n) log) else numbers_to (suc n) log)
+    step : (a b : Bool) → a ≡ b → suc (numbers_to n log) ≤ numbers_to (suc n) log →
+        suc (if a then suc (numbers_to n log) else numbers_to n log) ≤ (if b then suc (numbers_to (suc n) log) else numbers_to (suc n) log)
     step true true f le = omega arith
     step true false f le = cc
     step false true f le = cc
@@ -96,7 +98,12 @@ groups_counted sessions log zero named = omega arith
 groups_counted sessions log (suc n) named =
     let one = named (suc n) (omega arith) (omega arith) in
     let less : (m : ℕ) → 0 < m → m ≤ n → IsNamed sessions log m = λ m some last. named m some (omega arith) in
-    omega (arith, groups_counted sessions log n less, sum_more sessions (λ j. numbers_to n (log j)) (λ j. numbers_to (suc n) (log j)) one.0 one.1.first one.1.last (λ k. numbers_grow n (log k)) (numbers_named n (log one.0) one.2))
+    omega (
+      arith,
+      groups_counted sessions log n less,
+      sum_more sessions (λ j. numbers_to n (log j)) (λ j. numbers_to (suc n) (log j)) one.0 one.1.first one.1.last
+          (λ k. numbers_grow n (log k)) (numbers_named n (log one.0) one.2),
+    )
 
 begun_most : (quota n : ℕ) (p : Phase) → MayHaveBegun quota p n → n ≤ quota
 begun_most quota n Idle e = e
@@ -109,5 +116,10 @@ begun_most quota n (Live at scope) e = e
 pub mark_most : (s : CoreState) → IsSteady s → s.mark ≤ s.sessions * s.quota
 mark_most s h =
     let n = length s.history in
-    let each_most : (k : ℕ) → numbers_to n (s.log k) ≤ s.quota = λ k. omega (arith, (counted s.history n (s.log k) (h.logs_answer.judged k)).most, begun_most s.quota (begans (s.log k)) (s.phase k) (h.logs_answer.room k)) in
+    let each_most : (k : ℕ) → numbers_to n (s.log k) ≤ s.quota = λ k. omega (
+      arith,
+      (counted s.history n (s.log k) (h.logs_answer.judged k)).most,
+      begun_most s.quota
+          (begans (s.log k)) (s.phase k) (h.logs_answer.room k),
+    ) in
     omega (arith, h.mark_is_length.is_length, groups_counted s.sessions s.log n h.logs_answer.named, sum_most s.sessions s.quota (λ j. numbers_to n (s.log j)) each_most)

@@ -41,13 +41,15 @@ protected_within mark phase table n up g = elim g [ inl e ↦ omega (arith, e) |
 
 -- ---- other phases, or the same versions at each number
 
-pub covers_less : (mark : ℕ) (phase phase' : ℕ → Phase) (h : History) (r : Rid) (vs : List Version) → ((n : ℕ) → IsProtected mark phase' r.table n → IsProtected mark phase r.table n) → Covers mark phase h r vs → Covers mark phase' h r vs
+pub covers_less : (mark : ℕ) (phase phase' : ℕ → Phase) (h : History) (r : Rid) (vs : List Version) →
+    ((n : ℕ) → IsProtected mark phase' r.table n → IsProtected mark phase r.table n) → Covers mark phase h r vs → Covers mark phase' h r vs
 covers_less mark phase phase' h r vs less c = record {
   same = λ n g. c.same n (less n g);
   newest = elim c.newest [ inl e ↦ inl e | inr e ↦ inr (e.0, (e.1.0, e.1.1, (λ n g. e.1.2 n (less n g)))) ];
 }
 
-pub covers_same : (mark : ℕ) (phase : ℕ → Phase) (h : History) (r : Rid) (vs next : List Version) → ((n : ℕ) → n ≤ mark → newest_at n next ≡ newest_at n vs) → ((j : ℕ) → PhaseUpTo mark (phase j)) → Covers mark phase h r vs → Covers mark phase h r next
+pub covers_same : (mark : ℕ) (phase : ℕ → Phase) (h : History) (r : Rid) (vs next : List Version) → ((n : ℕ) → n ≤ mark → newest_at n next ≡ newest_at n vs) →
+    ((j : ℕ) → PhaseUpTo mark (phase j)) → Covers mark phase h r vs → Covers mark phase h r next
 covers_same mark phase h r vs next e up c = record {
   same = λ n g. ap image_of (e n (protected_within mark phase r.table n up g)) ∙ c.same n g;
   newest = rw (e mark (omega arith)) c.newest;
@@ -62,7 +64,8 @@ pair_is : (x : Option (ℕ × Image)) (d : ℕ) (i : Image) → option_map (λ (
 pair_is None d i e f = cc
 pair_is (Some p) d i e f = let k : p.0 ≡ d = cc in λ z. Some (k z, f z)
 
-pub covers_cut : (bound mark : ℕ) (phase : ℕ → Phase) (h : History) (r : Rid) (vs : List Version) → mark ≡ length h → ((n : ℕ) → IsProtected mark phase r.table n → bound ≤ n) → Covers mark phase h r vs → Covers mark phase h r (cut bound vs)
+pub covers_cut : (bound mark : ℕ) (phase : ℕ → Phase) (h : History) (r : Rid) (vs : List Version) → mark ≡ length h → ((n : ℕ) → IsProtected mark phase r.table n → bound ≤ n) →
+    Covers mark phase h r vs → Covers mark phase h r (cut bound vs)
 covers_cut bound mark phase h r vs m low c = record {
   same = λ n g. elim (cut_newest bound n vs (low n g)) [
     | inl e ↦ ap image_of e ∙ c.same n g
@@ -82,7 +85,8 @@ covers_cut bound mark phase h r vs m low c = record {
   ];
 }
 
-pub covers_swept : (horizon mark : ℕ) (snapshots : List ℕ) (phase : ℕ → Phase) (h : History) (r : Rid) (vs : List Version) → ((n : ℕ) → IsProtected mark phase r.table n → IsGuarded horizon snapshots n) → Covers mark phase h r vs → Covers mark phase h r (swept horizon snapshots None vs)
+pub covers_swept : (horizon mark : ℕ) (snapshots : List ℕ) (phase : ℕ → Phase) (h : History) (r : Rid) (vs : List Version) →
+    ((n : ℕ) → IsProtected mark phase r.table n → IsGuarded horizon snapshots n) → Covers mark phase h r vs → Covers mark phase h r (swept horizon snapshots None vs)
 covers_swept horizon mark snapshots phase h r vs low c = record {
   same = λ n g. ap (λ v. image_of (pair_of v)) (swept_first horizon n snapshots None vs (low n g) tt) ∙ c.same n g;
   newest = rw (swept_first horizon mark snapshots None vs (low mark (inl refl)) tt) c.newest;
@@ -91,7 +95,8 @@ covers_swept horizon mark snapshots phase h r vs low c = record {
 -- ---- a write
 
 -- where the newest published number is at or below a protected one, each write is
-pub none_newer : (mark : ℕ) (phase : ℕ → Phase) (h : History) (r : Rid) (vs : List Version) (n : ℕ) → Covers mark phase h r vs → IsProtected mark phase r.table n → IfSome (newest_at mark vs) (λ pair. pair.0 ≤ n) → Each (λ (w : ℕ × Image). w.0 ≤ n) (writes h r)
+pub none_newer : (mark : ℕ) (phase : ℕ → Phase) (h : History) (r : Rid) (vs : List Version) (n : ℕ) → Covers mark phase h r vs → IsProtected mark phase r.table n →
+    IfSome (newest_at mark vs) (λ pair. pair.0 ≤ n) → Each (λ (w : ℕ × Image). w.0 ≤ n) (writes h r)
 none_newer mark phase h r vs n c g low = last_bounds 1 n h r (λ p e. elim c.newest [
   | inl q ↦ below (newest_at mark vs) p.0 low (q ∙ ap (λ x. option_map (λ (pair : ℕ × Image). pair.0) x) e)
   | inr q ↦ (let d = q.1.2 n g in let same : q.1.0 ≡ p.0 = deletion q.1.0 p (sym q.1.1 ∙ e) in omega (arith, d, same))
@@ -119,11 +124,13 @@ stamped_newest : (mark : ℕ) (vs : List Version) (w : Writer) (i : Image) → I
 stamped_newest mark [] w i f o n = cc
 stamped_newest mark (v ∷ vs) w i f o n = go v.stamp f o n
   where
-    go : (x : Stamp) → IsOrdered mark (record { stamp = x; image = v.image } ∷ vs) → unpublished_by mark x v.image ≡ Some (w, i) → is_numbered (record { stamp = x; image = v.image } ∷ vs) ≡ true → newest_at (suc mark) (record { stamp = x; image = v.image } ∷ vs) ≡ Some (suc mark, i)
+    go : (x : Stamp) → IsOrdered mark (record { stamp = x; image = v.image } ∷ vs) → unpublished_by mark x v.image ≡ Some (w, i) →
+        is_numbered (record { stamp = x; image = v.image } ∷ vs) ≡ true → newest_at (suc mark) (record { stamp = x; image = v.image } ∷ vs) ≡ Some (suc mark, i)
     go (Written by) f o n = cc
     go (Numbered k by) f o n = by_mark (nat_le k mark) refl o
       where
-        by_mark : (b : Bool) → nat_le k mark ≡ b → (let p : Writer × Image = (by, v.image) in if b then None else Some p) ≡ Some (w, i) → newest_at (suc mark) (record { stamp = Numbered k by; image = v.image } ∷ vs) ≡ Some (suc mark, i)
+        by_mark : (b : Bool) → nat_le k mark ≡ b → (let p : Writer × Image = (by, v.image) in if b then None else Some p) ≡ Some (w, i) →
+            newest_at (suc mark) (record { stamp = Numbered k by; image = v.image } ∷ vs) ≡ Some (suc mark, i)
         by_mark true e o = cc
         by_mark false e o =
             let same : k ≡ suc mark = grind (arith, nat_tests, f.0) in
@@ -133,15 +140,19 @@ stamped_newest mark (v ∷ vs) w i f o n = go v.stamp f o n
     go (Oldest k) f o n = cc
 
 -- where nothing has the next number, it sees what the mark sees
-unstamped_newest : (mark : ℕ) (vs : List Version) → IsOrdered mark vs → ((w : Writer) (i : Image) → unpublished mark vs ≡ Some (w, i) → is_numbered vs ≡ false) → newest_at (suc mark) vs ≡ newest_at mark vs
+unstamped_newest : (mark : ℕ) (vs : List Version) → IsOrdered mark vs → ((w : Writer) (i : Image) → unpublished mark vs ≡ Some (w, i) → is_numbered vs ≡ false) →
+    newest_at (suc mark) vs ≡ newest_at mark vs
 unstamped_newest mark [] f o = refl
 unstamped_newest mark (v ∷ vs) f o = go v.stamp f o
   where
-    go : (x : Stamp) → IsOrdered mark (record { stamp = x; image = v.image } ∷ vs) → ((w : Writer) (i : Image) → unpublished mark (record { stamp = x; image = v.image } ∷ vs) ≡ Some (w, i) → is_numbered (record { stamp = x; image = v.image } ∷ vs) ≡ false) → newest_at (suc mark) (record { stamp = x; image = v.image } ∷ vs) ≡ newest_at mark (record { stamp = x; image = v.image } ∷ vs)
+    go : (x : Stamp) → IsOrdered mark (record { stamp = x; image = v.image } ∷ vs) →
+        ((w : Writer) (i : Image) → unpublished mark (record { stamp = x; image = v.image } ∷ vs) ≡ Some (w, i) → is_numbered (record { stamp = x; image = v.image } ∷ vs) ≡ false)
+        → newest_at (suc mark) (record { stamp = x; image = v.image } ∷ vs) ≡ newest_at mark (record { stamp = x; image = v.image } ∷ vs)
     go (Written by) f o = ap pair_of (falls_at (suc mark) mark vs f (omega arith))
     go (Numbered k by) f o = by_mark (nat_le k mark) refl o
       where
-        by_mark : (b : Bool) → nat_le k mark ≡ b → ((w : Writer) (i : Image) → (let p : Writer × Image = (by, v.image) in if b then None else Some p) ≡ Some (w, i) → true ≡ false) → newest_at (suc mark) (record { stamp = Numbered k by; image = v.image } ∷ vs) ≡ newest_at mark (record { stamp = Numbered k by; image = v.image } ∷ vs)
+        by_mark : (b : Bool) → nat_le k mark ≡ b → ((w : Writer) (i : Image) → (let p : Writer × Image = (by, v.image) in if b then None else Some p) ≡ Some (w, i) → true ≡ false)
+            → newest_at (suc mark) (record { stamp = Numbered k by; image = v.image } ∷ vs) ≡ newest_at mark (record { stamp = Numbered k by; image = v.image } ∷ vs)
         by_mark true e o = let p : nat_le k (suc mark) ≡ true = grind (arith, nat_tests) in rw (e, p)
         by_mark false e o = let bad : true ≡ false = o by v.image refl in cc
     go (Oldest k) f o = let p : nat_le k (suc mark) ≡ true = grind (arith, nat_tests, f.0) in let q : nat_le k mark ≡ true = grind (arith, nat_tests, f.0) in rw (p, q)
@@ -163,7 +174,8 @@ covers_published mark phase h g r vs m up ordered new none c = go (group_image r
         let who = new i e in
         let now = stamped_newest mark vs who.0 i ordered who.1 who.2 in
         let more = writes_new h g r i e in
-        let last : last_pair (writes (h ++ g ∷ []) r) ≡ Some (suc mark, i) = ap last_pair more ∙ last_more (writes h r) (1 + length h, i) ∙ ap (λ n. Some (n, i)) (let k : 1 + length h ≡ suc mark = omega arith in k) in
+        let last : last_pair (writes (h ++ g ∷ []) r) ≡ Some (suc mark, i) = ap last_pair more ∙ last_more (writes h r) (1 + length h, i) ∙
+        ap (λ n. Some (n, i)) (let k : 1 + length h ≡ suc mark = omega arith in k) in
         record {
           same = λ n reads. elim reads [
             | inl q ↦ rw q (ap image_of now ∙ sym (ap image_of last) ∙ sym (visible_last (h ++ g ∷ []) r (suc mark) within))
@@ -176,7 +188,8 @@ covers_published mark phase h g r vs m up ordered new none c = go (group_image r
         let same : writes (h ++ g ∷ []) r ≡ writes h r = writes_old h g r e in
         record {
           same = λ n reads. elim reads [
-            | inl q ↦ rw q (ap image_of now ∙ c.same mark (inl refl) ∙ visible_last h r mark (omega arith) ∙ ap (λ ws. image_of (last_pair ws)) (sym same) ∙ sym (visible_last (h ++ g ∷ []) r (suc mark) within))
+            | inl q ↦ rw q (ap image_of now ∙ c.same mark (inl refl) ∙ visible_last h r mark (omega arith) ∙ ap (λ ws. image_of (last_pair ws)) (sym same) ∙
+                sym (visible_last (h ++ g ∷ []) r (suc mark) within))
             | inr q ↦ old n q.0 q.1
           ];
           newest = elim c.newest [

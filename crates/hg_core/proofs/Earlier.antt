@@ -50,7 +50,8 @@ of_group : (j x : ℕ) (g : Group) → Each (λ c. c.transaction < x) (of_sessio
 of_group j x [] h = tt
 of_group j x (c ∷ g) h = go (c.session == j) refl h (λ k. of_group j x g k)
   where
-    go : (b : Bool) → (c.session == j) ≡ b → Each (λ c. c.transaction < x) (if b then c ∷ of_session j g else of_session j g) → (Each (λ c. c.transaction < x) (of_session j g) → AreEarlier j x g) → AreEarlier j x (c ∷ g)
+    go : (b : Bool) → (c.session == j) ≡ b → Each (λ c. c.transaction < x) (if b then c ∷ of_session j g else of_session j g) →
+        (Each (λ c. c.transaction < x) (of_session j g) → AreEarlier j x g) → AreEarlier j x (c ∷ g)
     go true e k rest = ((λ _. k.0), rest k.1)
     go false e k rest = ((λ q. absurd (true≢false (sym (let t : (c.session == j) ≡ true = (Decides-eqb c.session j).1 q in t) ∙ e))), rest k)
 
@@ -68,5 +69,7 @@ each_group P none first (g ∷ h) f = (subst P (ap (λ b. if b then g else group
         go true e = subst P (sym (no_group (suc first) h n (let k : first ≡ n = (Decides-eqb first n).0 e in omega arith))) none
         go false e = subst (λ b. P (if b then g else group_from (suc first) h n)) e (f n)
 
-pub earlier : (h : History) (log : ℕ → List LogEntry) (j : ℕ) → ((n j : ℕ) → of_session j (group_at h n) ≡ published n j (log j)) → IsTrue (is_plain (log j)) → IsSome (current (log j)) → Each (AreEarlier j (begans (log j))) h
-earlier h log j commits plain open_ = each_group (AreEarlier j (begans (log j))) tt 1 h (λ n. of_group j (begans (log j)) (group_at h n) (subst (Each (λ c. c.transaction < begans (log j))) (sym (commits n j)) (open_less j n (log j) plain open_)))
+pub earlier : (h : History) (log : ℕ → List LogEntry) (j : ℕ) → ((n j : ℕ) → of_session j (group_at h n) ≡ published n j (log j)) → IsTrue (is_plain (log j)) →
+    IsSome (current (log j)) → Each (AreEarlier j (begans (log j))) h
+earlier h log j commits plain open_ = each_group (AreEarlier j (begans (log j))) tt 1 h
+    (λ n. of_group j (begans (log j)) (group_at h n) (subst (Each (λ c. c.transaction < begans (log j))) (sym (commits n j)) (open_less j n (log j) plain open_)))

@@ -33,12 +33,15 @@ pub table_left : (s : CoreState) (p : ℕ) (r : Rid) → IsSteady s → IsCutAt 
 table_left s p r h = subst (IsCutAt (table_bound r.table (s.pass p))) (sym (left_is s p Table r)) (cut_is_cut (table_bound r.table (s.pass p)) (versions s.buckets s.bucket r))
 
 pub interval_left : (s : CoreState) (p : ℕ) (r : Rid) → IsSteady s → IsClean (horizon (s.pass p)) (recorded r.table (s.pass p)) (left_by s p Interval r)
-interval_left s p r h = subst (IsClean (horizon (s.pass p)) (recorded r.table (s.pass p))) (sym (left_is s p Interval r)) (swept_is_clean s.mark (horizon (s.pass p)) (recorded r.table (s.pass p)) (versions s.buckets s.bucket r) (h.contents_are_ordered.ordered r))
+interval_left s p r h = subst (IsClean (horizon (s.pass p)) (recorded r.table (s.pass p))) (sym (left_is s p Interval r))
+    (swept_is_clean s.mark (horizon (s.pass p)) (recorded r.table (s.pass p)) (versions s.buckets s.bucket r) (h.contents_are_ordered.ordered r))
 
-pub group_exactly : (s : CoreState) (p : ℕ) (r : Rid) → IsSteady s → left_by s p Group r ≡ past (group_bound (s.pass p)) (versions s.buckets s.bucket r) ++ as_oldest (first_at (group_bound (s.pass p)) (versions s.buckets s.bucket r))
+pub group_exactly : (s : CoreState) (p : ℕ) (r : Rid) → IsSteady s → left_by s p Group r ≡ past (group_bound (s.pass p)) (versions s.buckets s.bucket r) ++ as_oldest
+    (first_at (group_bound (s.pass p)) (versions s.buckets s.bucket r))
 group_exactly s p r h = left_is s p Group r ∙ cut_exactly s.mark (group_bound (s.pass p)) (versions s.buckets s.bucket r) (h.contents_are_ordered.ordered r)
 
-pub table_exactly : (s : CoreState) (p : ℕ) (r : Rid) → IsSteady s → left_by s p Table r ≡ past (table_bound r.table (s.pass p)) (versions s.buckets s.bucket r) ++ as_oldest (first_at (table_bound r.table (s.pass p)) (versions s.buckets s.bucket r))
+pub table_exactly : (s : CoreState) (p : ℕ) (r : Rid) → IsSteady s → left_by s p Table r ≡ past (table_bound r.table (s.pass p)) (versions s.buckets s.bucket r) ++ as_oldest
+    (first_at (table_bound r.table (s.pass p)) (versions s.buckets s.bucket r))
 table_exactly s p r h = left_is s p Table r ∙ cut_exactly s.mark (table_bound r.table (s.pass p)) (versions s.buckets s.bucket r) (h.contents_are_ordered.ordered r)
 
 pub interval_exactly : (s : CoreState) (p : ℕ) (r : Rid) → IsSteady s → left_by s p Interval r ≡ not_gone (horizon (s.pass p)) (recorded r.table (s.pass p)) (versions s.buckets s.bucket r)

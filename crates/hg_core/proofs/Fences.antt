@@ -73,17 +73,21 @@ contains_passed n test registers.Idle mask rest h = absurd h
 contains_passed n test (registers.Entering f) mask rest h = absurd h
 contains_passed n test (registers.Live number declared moved) mask rest h = rw h.1 (contains_first number n rest h.0)
 
-pub contains_live : (n j : ℕ) (test : Bool → Option ℕ → Bool) (one : Loaded) (loaded : List (ℕ × Loaded)) → found j loaded ≡ Some one → Passes test one.register one.mask n → Contains (live_numbers test loaded) n
+pub contains_live : (n j : ℕ) (test : Bool → Option ℕ → Bool) (one : Loaded) (loaded : List (ℕ × Loaded)) → found j loaded ≡ Some one → Passes test one.register one.mask n →
+    Contains (live_numbers test loaded) n
 contains_live n j test one [] f h = cc
 contains_live n j test one (x ∷ loaded) f h = go (j == x.0) f (λ k. contains_live n j test one loaded k h)
   where
-    go : (b : Bool) → (if b then Some x.1 else found j loaded) ≡ Some one → (found j loaded ≡ Some one → Contains (live_numbers test loaded) n) → Contains (if_live test x.1.register x.1.mask (live_numbers test loaded)) n
+    go : (b : Bool) → (if b then Some x.1 else found j loaded) ≡ Some one → (found j loaded ≡ Some one → Contains (live_numbers test loaded) n) →
+        Contains (if_live test x.1.register x.1.mask (live_numbers test loaded)) n
     go true q later = let same : x.1 ≡ one = cc in rw same (contains_passed n test one.register one.mask (live_numbers test loaded) h)
     go false q later = contains_with n test x.1.register x.1.mask (live_numbers test loaded) (later q)
 
 -- The register of a session that is live with the table passes the test for that table: where its mask wasn't loaded it shows
 -- no declared tables, and is unmoved.
-passes_table : (table : TableId) (n : ℕ) (register : Register) (mask : Option ℕ) (scope : Scope) → HoldsBack register mask n scope → (IsTrue (shows_declared register) → IsSome mask) → (IsTrue (is_moved register) → IsTrue (shows_declared register)) → IsTrue (has scope table) → Passes (λ moved mask. not moved || mask_has table mask) register mask n
+passes_table : (table : TableId) (n : ℕ) (register : Register) (mask : Option ℕ) (scope : Scope) → HoldsBack register mask n scope →
+    (IsTrue (shows_declared register) → IsSome mask) → (IsTrue (is_moved register) → IsTrue (shows_declared register)) → IsTrue (has scope table) →
+    Passes (λ moved mask. not moved || mask_has table mask) register mask n
 passes_table table n registers.Idle mask scope l whole moves h = absurd l
 passes_table table n (registers.Entering f) mask scope l whole moves h = absurd l
 passes_table table n (registers.Live number declared false) mask scope l whole moves h = (l.0, refl)
@@ -120,7 +124,8 @@ pub record IsHeld (pass : PassRecord) (j at : ℕ) (scope : Scope) (one : Loaded
   pub moves : IsTrue (is_moved one.register) → IsTrue (shows_declared one.register)
 
 -- a live number is at or over the horizon, or its register was loaded and holds it
-pub live_fenced : (s : CoreState) (p j at : ℕ) (scope : Scope) → IsSteady s → IsWhole s.sessions (s.pass p) → s.phase j ≡ Live at scope → (horizon (s.pass p) ≤ at) ⊎ ((one : Loaded) × IsHeld (s.pass p) j at scope one)
+pub live_fenced : (s : CoreState) (p j at : ℕ) (scope : Scope) → IsSteady s → IsWhole s.sessions (s.pass p) → s.phase j ≡ Live at scope →
+    (horizon (s.pass p) ≤ at) ⊎ ((one : Loaded) × IsHeld (s.pass p) j at scope one)
 live_fenced s p j at scope h whole live =
     let pass = s.pass p in
     let found_it = loaded_of s p j h whole (λ e. cc) in
@@ -147,7 +152,8 @@ fixed_fenced s p j f m scope h whole fixed =
     let pass = s.pass p in
     let found_it = loaded_of s p j h whole (λ e. cc) in
     let one = found_it.0 in
-    let bounds : Bounds pass.mark one (Fixed scope f m) = subst (Bounds pass.mark one) fixed (found_one (λ loaded. Bounds pass.mark loaded (s.phase j)) _ one found_it.1 (h.records_bound_sessions p j)) in
+    let bounds : Bounds pass.mark one (Fixed scope f m) = subst (Bounds pass.mark one) fixed
+    (found_one (λ loaded. Bounds pass.mark loaded (s.phase j)) _ one found_it.1 (h.records_bound_sessions p j)) in
     elim bounds [
       | inl a ↦ omega (arith, horizon_mark pass.mark pass.loaded)
       | inr a ↦ horizon_entering pass.mark m j one pass.loaded found_it.1 a
@@ -170,7 +176,8 @@ least_of n m (x ∷ xs) c = go c.0 c.1 c.2 (λ k. least_of n m xs k)
     go zero below e later = let same : x ≡ m = e in omega arith
     go (suc k) below e later = let less : k < length xs = omega arith in omega (arith, later (k, less, e))
 
-pub table_below : (s : CoreState) (p j at : ℕ) (scope : Scope) (table : TableId) → IsSteady s → IsWhole s.sessions (s.pass p) → s.phase j ≡ Live at scope → IsTrue (has scope table) → table_bound table (s.pass p) ≤ at
+pub table_below : (s : CoreState) (p j at : ℕ) (scope : Scope) (table : TableId) → IsSteady s → IsWhole s.sessions (s.pass p) → s.phase j ≡ Live at scope →
+    IsTrue (has scope table) → table_bound table (s.pass p) ≤ at
 table_below s p j at scope table h whole live has_it = elim (live_fenced s p j at scope h whole live) [
   | inl a ↦ omega (arith, least_first (horizon (s.pass p)) (recorded table (s.pass p)))
   | inr a ↦ least_of _ at (recorded table (s.pass p)) (held_in_table (s.pass p) j at scope table a.0 a.1 has_it)

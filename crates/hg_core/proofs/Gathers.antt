@@ -43,7 +43,8 @@ told : (s : CoreState) (p : ℕ) → IsSteady s → (j : ℕ) → IfSome (found 
 told s p h j = both_some _ _ _ (h.records_bound_sessions p j) (h.records_reach_logs.stands p j)
 
 -- a pass has another record, and the registers show the phases
-with_record : (s : CoreState) (p : ℕ) (more : PassRecord) (register : ℕ → Register) → IsSteady s → RegistersAgree s.sessions s.tables s.phase register s.mask → more.mark ≤ s.mark → ((j : ℕ) → more.known j ≤ length (s.log j)) → ((j : ℕ) → IfSome (found j more.loaded) (IsTold s more j)) → IsSteady (record s { register = register; pass = put s.pass p more })
+with_record : (s : CoreState) (p : ℕ) (more : PassRecord) (register : ℕ → Register) → IsSteady s → RegistersAgree s.sessions s.tables s.phase register s.mask → more.mark ≤ s.mark →
+    ((j : ℕ) → more.known j ≤ length (s.log j)) → ((j : ℕ) → IfSome (found j more.loaded) (IsTold s more j)) → IsSteady (record s { register = register; pass = put s.pass p more })
 with_record s p more register h agree low known told = record {
   mark_is_length = record {
     is_length = h.mark_is_length.is_length;
@@ -57,10 +58,12 @@ with_record s p more register h agree low known told = record {
   history = h.history;
   no_update_is_lost = h.no_update_is_lost;
   registers_agree = agree;
-  records_bound_sessions = by_number p (λ q b. (j : ℕ) → IfSome (found j (if b then more else s.pass q).loaded) (λ loaded. Bounds (if b then more else s.pass q).mark loaded (s.phase j))) (λ j. first_some _ _ _ (told j)) (λ q other. h.records_bound_sessions q);
+  records_bound_sessions = by_number p (λ q b. (j : ℕ) → IfSome (found j (if b then more else s.pass q).loaded)
+      (λ loaded. Bounds (if b then more else s.pass q).mark loaded (s.phase j))) (λ j. first_some _ _ _ (told j)) (λ q other. h.records_bound_sessions q);
   records_reach_logs = record {
     known = by_number p (λ q b. (j : ℕ) → (if b then more else s.pass q).known j ≤ length (s.log j)) known (λ q other. h.records_reach_logs.known q);
-    stands = by_number p (λ q b. (j : ℕ) → IfSome (found j (if b then more else s.pass q).loaded) (λ loaded. StandsIn ((if b then more else s.pass q).known j) loaded.register (s.log j) (s.phase j))) (λ j. second_some _ _ _ (told j)) (λ q other. h.records_reach_logs.stands q);
+    stands = by_number p (λ q b. (j : ℕ) → IfSome (found j (if b then more else s.pass q).loaded)
+        (λ loaded. StandsIn ((if b then more else s.pass q).known j) loaded.register (s.log j) (s.phase j))) (λ j. second_some _ _ _ (told j)) (λ q other. h.records_reach_logs.stands q);
   };
   covered = h.covered;
   open_writes_may_commit = h.open_writes_may_commit;
@@ -101,7 +104,8 @@ mask_within tables mask scopes.All is e = absurd (cc)
 mask_within tables mask (scopes.Declared m) is e = let same : mask ≡ m = is.value in rw same (λ table x. x)
 
 -- the mask that is loaded now is that of the session's tables, where it is live at the number that was loaded
-bounds_masked : (tables mark number mask : ℕ) (moved : Bool) (p : Phase) → IfSome (scope_in p) (λ scope. IsMaskOf tables scope mask) → Bounds mark (record { register = registers.Live number true moved; mask = None }) p → Bounds mark (record { register = registers.Live number true moved; mask = Some mask }) p
+bounds_masked : (tables mark number mask : ℕ) (moved : Bool) (p : Phase) → IfSome (scope_in p) (λ scope. IsMaskOf tables scope mask) →
+    Bounds mark (record { register = registers.Live number true moved; mask = None }) p → Bounds mark (record { register = registers.Live number true moved; mask = Some mask }) p
 bounds_masked tables mark number mask moved Idle is b = tt
 bounds_masked tables mark number mask moved (Declared scope) is b = tt
 bounds_masked tables mark number mask moved (Probed scope f) is b = tt
@@ -140,7 +144,8 @@ moved_shows n (Live at scope) a =
     (true, record { value = λ i. registers.Live (number i) (same i) true; declared = λ t. sym same })
 
 -- whether the register is moved makes no difference to what it bounds
-bounds_moved : (mark number : ℕ) (mask : Option ℕ) (p : Phase) → Bounds mark (record { register = registers.Live number true false; mask = mask }) p → Bounds mark (record { register = registers.Live number true true; mask = mask }) p
+bounds_moved : (mark number : ℕ) (mask : Option ℕ) (p : Phase) → Bounds mark (record { register = registers.Live number true false; mask = mask }) p →
+    Bounds mark (record { register = registers.Live number true true; mask = mask }) p
 bounds_moved mark number mask Idle b = tt
 bounds_moved mark number mask (Declared scope) b = tt
 bounds_moved mark number mask (Probed scope f) b = tt

@@ -39,7 +39,8 @@ among_less : (r : Rid) (p : Write → Bool) (ws : List Write) → is_among r (ri
 among_less r p [] e = refl
 among_less r p (w ∷ ws) e = go (p w) (or_parts (same_rid r w.rid) (is_among r (rids_of ws)) e) (λ k. among_less r p ws k)
   where
-    go : (b : Bool) → (same_rid r w.rid ≡ false) × (is_among r (rids_of ws) ≡ false) → (is_among r (rids_of ws) ≡ false → is_among r (rids_of (filter p ws)) ≡ false) → is_among r (rids_of (cond b (w ∷ filter p ws) (filter p ws))) ≡ false
+    go : (b : Bool) → (same_rid r w.rid ≡ false) × (is_among r (rids_of ws) ≡ false) → (is_among r (rids_of ws) ≡ false → is_among r (rids_of (filter p ws)) ≡ false) →
+        is_among r (rids_of (cond b (w ∷ filter p ws) (filter p ws))) ≡ false
     go true q later = ap (λ b. b || is_among r (rids_of (filter p ws))) q.0 ∙ later q.1
     go false q later = later q.1
 
@@ -55,7 +56,8 @@ among_others : (q : Rid) (ws : List Write) → is_among q (rids_of (filter (λ v
 among_others q [] = refl
 among_others q (w ∷ ws) = go (same_rid q w.rid) refl (among_others q ws)
   where
-    go : (b : Bool) → same_rid q w.rid ≡ b → is_among q (rids_of (filter (λ v. not (same_rid q v.rid)) ws)) ≡ false → is_among q (rids_of (cond (not b) (w ∷ filter (λ v. not (same_rid q v.rid)) ws) (filter (λ v. not (same_rid q v.rid)) ws))) ≡ false
+    go : (b : Bool) → same_rid q w.rid ≡ b → is_among q (rids_of (filter (λ v. not (same_rid q v.rid)) ws)) ≡ false →
+        is_among q (rids_of (cond (not b) (w ∷ filter (λ v. not (same_rid q v.rid)) ws) (filter (λ v. not (same_rid q v.rid)) ws))) ≡ false
     go true e later = later
     go false e later = ap (λ b. b || is_among q (rids_of (filter (λ v. not (same_rid q v.rid)) ws))) e ∙ later
 
@@ -78,11 +80,14 @@ among_open log r (w ∷ ws) e m = go (same_rid r w.rid) refl m (λ k. among_open
 commit_open : (j : ℕ) (log : List LogEntry) → is_plain log ≡ true → Each (λ w. IsSome (open_in w.rid log)) (commit_in j log).images
 commit_open j log p = each_last (λ w. IsSome (open_in w.rid log)) (own_writes log) (own_open log p)
 
-among_group : (r : Rid) (log : ℕ → List LogEntry) (js : List ℕ) → Each (λ j. IsTrue (is_plain (log j))) js → is_among r (group_rids (new_group log js)) ≡ true → (k : ℕ) × (is_in js k ≡ true) × IsSome (open_in r (log k))
+among_group : (r : Rid) (log : ℕ → List LogEntry) (js : List ℕ) → Each (λ j. IsTrue (is_plain (log j))) js → is_among r (group_rids (new_group log js)) ≡ true → (k : ℕ) ×
+    (is_in js k ≡ true) × IsSome (open_in r (log k))
 among_group r log [] p m = cc
-among_group r log (j ∷ js) p m = go (is_among r (rids_of (commit_in j (log j)).images)) refl (sym (among_append r (rids_of (commit_in j (log j)).images) (group_rids (new_group log js))) ∙ m) (λ k. among_group r log js p.1 k)
+among_group r log (j ∷ js) p m = go (is_among r (rids_of (commit_in j (log j)).images)) refl
+    (sym (among_append r (rids_of (commit_in j (log j)).images) (group_rids (new_group log js))) ∙ m) (λ k. among_group r log js p.1 k)
   where
-    go : (b : Bool) → is_among r (rids_of (commit_in j (log j)).images) ≡ b → (b || is_among r (group_rids (new_group log js))) ≡ true → (is_among r (group_rids (new_group log js)) ≡ true → (k : ℕ) × (is_in js k ≡ true) × IsSome (open_in r (log k))) → (k : ℕ) × (is_in (j ∷ js) k ≡ true) × IsSome (open_in r (log k))
+    go : (b : Bool) → is_among r (rids_of (commit_in j (log j)).images) ≡ b → (b || is_among r (group_rids (new_group log js))) ≡ true →
+        (is_among r (group_rids (new_group log js)) ≡ true → (k : ℕ) × (is_in js k ≡ true) × IsSome (open_in r (log k))) → (k : ℕ) × (is_in (j ∷ js) k ≡ true) × IsSome (open_in r (log k))
     go true q m later = (j, first_in j js, among_open (log j) r (commit_in j (log j)).images (commit_open j (log j) p.0) q)
     go false q m later = let h = later m in (h.0, rest_in h.0 j js h.1, h.2)
 
@@ -94,7 +99,8 @@ each_turned : (P Q : Write → Type 0) (ws : List Write) → ((w : Write) → P 
 each_turned P Q [] f e = tt
 each_turned P Q (w ∷ ws) f e = (f w e.0, each_turned P Q ws f e.1)
 
-group_none_twice : (log : ℕ → List LogEntry) (js : List ℕ) → NoNumberTwice js → Each (λ j. IsTrue (is_plain (log j))) js → ((r : Rid) (j k : ℕ) → IsSome (open_in r (log j)) → IsSome (open_in r (log k)) → j ≡ k) → NoneTwice (group_rids (new_group log js))
+group_none_twice : (log : ℕ → List LogEntry) (js : List ℕ) → NoNumberTwice js → Each (λ j. IsTrue (is_plain (log j))) js →
+    ((r : Rid) (j k : ℕ) → IsSome (open_in r (log j)) → IsSome (open_in r (log k)) → j ≡ k) → NoneTwice (group_rids (new_group log js))
 group_none_twice log [] d p one = tt
 group_none_twice log (j ∷ js) d p one = none_append (rids_of (commit_in j (log j)).images) (group_rids (new_group log js)) (none_last (own_writes (log j))) (group_none_twice log js d.1 p.1 one)
     (each_rid (λ r. IsFalse (is_among r (group_rids (new_group log js)))) (commit_in j (log j)).images
@@ -145,7 +151,8 @@ snapshot_within : (n : ℕ) (o : Option Snapshot) → IfSome o (λ snapshot. sna
 snapshot_within n None h = omega arith
 snapshot_within n (Some snapshot) h = h
 
-commits_are : (top : ℕ) (log : ℕ → List LogEntry) (js : List ℕ) → ((j : ℕ) → UpTo top (log j)) → Each (λ j. IsTrue (is_plain (log j))) js → ((j : ℕ) → is_in js j ≡ true → (r : Rid) × IsSome (open_in r (log j))) → Each (IsCommit (1 + top)) (new_group log js)
+commits_are : (top : ℕ) (log : ℕ → List LogEntry) (js : List ℕ) → ((j : ℕ) → UpTo top (log j)) → Each (λ j. IsTrue (is_plain (log j))) js →
+    ((j : ℕ) → is_in js j ≡ true → (r : Rid) × IsSome (open_in r (log j))) → Each (IsCommit (1 + top)) (new_group log js)
 commits_are top log [] up p some = tt
 commits_are top log (j ∷ js) up p some = (
   record {
@@ -155,7 +162,8 @@ commits_are top log (j ∷ js) up p some = (
   commits_are top log js up p.1 (λ k m. some k (rest_in k j js m)),
 )
 
-pub history_more : (h : History) (log : ℕ → List LogEntry) (list : List (ℕ × Rid)) (js : List ℕ) → IsHistory h → ((j : ℕ) → UpTo (length h) (log j)) → 0 < length js → NoNumberTwice js → Each (λ j. IsTrue (is_plain (log j))) js
+pub history_more : (h : History) (log : ℕ → List LogEntry) (list : List (ℕ × Rid)) (js : List ℕ) → IsHistory h → ((j : ℕ) → UpTo (length h) (log j)) → 0 < length js →
+    NoNumberTwice js → Each (λ j. IsTrue (is_plain (log j))) js
     → ((j : ℕ) → has_stamped j list ≡ is_in js j)
     → ((j : ℕ) (r : Rid) → IsTrue (is_stamped j r list) → IsSome (open_in r (log j)))
     → ((r : Rid) (j k : ℕ) → IsSome (open_in r (log j)) → IsSome (open_in r (log k)) → j ≡ k)

@@ -112,12 +112,14 @@ one_session log (i ∷ js) j t = cases (i == j)
 abbrev pub HasCommits : History → (ℕ → List LogEntry) → Type 0
 HasCommits h log = (n j : ℕ) → of_session j (group_at h n) ≡ published n j (log j)
 
-pub commits_kept : (h : History) (log : ℕ → List LogEntry) (js : List ℕ) → HasCommits h log → ((j : ℕ) → UpTo (length h) (log j)) → NoNumberTwice js → HasCommits (h ++ new_group log js ∷ []) (published_logs log js (suc (length h)))
+pub commits_kept : (h : History) (log : ℕ → List LogEntry) (js : List ℕ) → HasCommits h log → ((j : ℕ) → UpTo (length h) (log j)) → NoNumberTwice js →
+    HasCommits (h ++ new_group log js ∷ []) (published_logs log js (suc (length h)))
 commits_kept h log js commits told distinct n j = cases (n == 1 + length h)
     (λ e.
     let same : suc (length h) ≡ n = let k : n ≡ 1 + length h = (Decides-eqb n (1 + length h)).0 e in omega arith in
     let number : 1 + length h ≡ n = omega arith in
-    ap (of_session j) (subst (λ m. group_at (h ++ new_group log js ∷ []) m ≡ new_group log js) number (group_new 1 h (new_group log js))) ∙ one_session log js j distinct ∙ subst (λ m. (if is_in js j then commit_in j (log j) ∷ [] else []) ≡ published m j (published_logs log js (suc (length h)) j)) same (new_one (is_in js j)))
+    ap (of_session j) (subst (λ m. group_at (h ++ new_group log js ∷ []) m ≡ new_group log js) number (group_new 1 h (new_group log js))) ∙ one_session log js j distinct ∙
+    subst (λ m. (if is_in js j then commit_in j (log j) ∷ [] else []) ≡ published m j (published_logs log js (suc (length h)) j)) same (new_one (is_in js j)))
     (λ e. ap (of_session j) (group_old 1 h (new_group log js) n e) ∙ commits n j ∙ old_one (is_in js j) (let k : (n == suc (length h)) ≡ false = grind (arith, nat_tests) in k))
   where
     nothing_yet : published (suc (length h)) j (log j) ≡ []

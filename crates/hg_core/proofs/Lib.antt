@@ -47,6 +47,8 @@ pub mod Words
 -- What logs and replies say of each other.
 pub mod Right
 pub mod Answering
+-- What a state and its logs show of a write.
+pub mod Firsts
 -- Runs that there are, and steps that are refused.
 pub mod Worked
 pub mod Refused

@@ -34,12 +34,14 @@ found_here : (change : Loaded → Loaded) (j : ℕ) (one : Loaded) (loaded : Lis
 found_here change j one [] f = cc
 found_here change j one (e ∷ loaded) f = go (j == e.0) refl f (λ x. found_here change j one loaded x)
   where
-    go : (b : Bool) → (j == e.0) ≡ b → (if b then Some e.1 else found j loaded) ≡ Some one → (found j loaded ≡ Some one → found j (changed_in change j loaded) ≡ Some (change one)) → found j (if b then (e.0, change e.1) ∷ loaded else e ∷ changed_in change j loaded) ≡ Some (change one)
+    go : (b : Bool) → (j == e.0) ≡ b → (if b then Some e.1 else found j loaded) ≡ Some one → (found j loaded ≡ Some one → found j (changed_in change j loaded) ≡ Some (change one))
+        → found j (if b then (e.0, change e.1) ∷ loaded else e ∷ changed_in change j loaded) ≡ Some (change one)
     go true q f later = let same : e.1 ≡ one = cc in ap (λ b. if b then Some (change e.1) else found j loaded) q ∙ ap (λ x. Some (change x)) same
     go false q f later = ap (λ b. if b then Some e.1 else found j (changed_in change j loaded)) q ∙ later f
 
 -- what holds of each session's entry holds where one is changed that keeps it
-pub changed_each : (P : ℕ → Loaded → Type 0) (change : Loaded → Loaded) (j : ℕ) (one : Loaded) (loaded : List (ℕ × Loaded)) → found j loaded ≡ Some one → P j (change one) → ((k : ℕ) → IfSome (found k loaded) (P k)) → (k : ℕ) → IfSome (found k (changed_in change j loaded)) (P k)
+pub changed_each : (P : ℕ → Loaded → Type 0) (change : Loaded → Loaded) (j : ℕ) (one : Loaded) (loaded : List (ℕ × Loaded)) → found j loaded ≡ Some one → P j (change one) →
+    ((k : ℕ) → IfSome (found k loaded) (P k)) → (k : ℕ) → IfSome (found k (changed_in change j loaded)) (P k)
 changed_each P change j one loaded f here h = at_index j (λ k. IfSome (found k (changed_in change j loaded)) (P k))
     (rw (found_here change j one loaded f) here)
     (λ k other. rw (found_else change j k loaded other) (h k))

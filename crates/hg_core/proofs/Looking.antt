@@ -45,7 +45,8 @@ use Rattle.hg_core.specs.Judged.{UndoesOpen}
 own_is : (s : CoreState) (j : ℕ) (r : Rid) → IsTrue (is_plain (s.log j)) → image_in r (own_writes (s.log j)) ≡ open_in r (s.log j)
 own_is s j r plain = image_open r (s.log j) plain
 
-read_seen : (s : CoreState) (j at : ℕ) (scope : Scope) (r : Rid) → IsSteady s → s.phase j ≡ Live at scope → IsTrue (has scope r.table) → IsTrue (is_plain (s.log j)) → IsFalse (has_stamped j s.stamped_list) → read_by (writer_of (begun_in s.log) j) at (versions s.buckets s.bucket r) ≡ seen s.history (own_writes (s.log j)) at r
+read_seen : (s : CoreState) (j at : ℕ) (scope : Scope) (r : Rid) → IsSteady s → s.phase j ≡ Live at scope → IsTrue (has scope r.table) → IsTrue (is_plain (s.log j)) →
+    IsFalse (has_stamped j s.stamped_list) → read_by (writer_of (begun_in s.log) j) at (versions s.buckets s.bucket r) ≡ seen s.history (own_writes (s.log j)) at r
 read_seen s j at scope r h live table plain unstamped = go (open_in r (s.log j)) refl
   where
     w : Writer
@@ -94,7 +95,8 @@ look_undoes n (Refused q answer) log l u = u
 look_undoes n (Outside t) log l u = u
 look_undoes n _ log l u = absurd l
 
-look_more : (s : CoreState) (j : ℕ) (e : LogEntry) → IsSteady s → IsLook (length s.history) e → IsSome (current (s.log j)) → IsReplied s.buckets s.history s.log j e (s.log j) → IsSteady (record s { log = put s.log j (e ∷ s.log j) })
+look_more : (s : CoreState) (j : ℕ) (e : LogEntry) → IsSteady s → IsLook (length s.history) e → IsSome (current (s.log j)) → IsReplied s.buckets s.history s.log j e (s.log j) →
+    IsSteady (record s { log = put s.log j (e ∷ s.log j) })
 look_more s j e h look some replied = record {
   mark_is_length = h.mark_is_length;
   taken_at_most_mark = h.taken_at_most_mark;
@@ -112,7 +114,8 @@ look_more s j e h look some replied = record {
   counters_balance = counters_entry s.sessions s.buckets s.passes s.log s.bucket s.counters s.visits j (e ∷ s.log j) (λ test. look_counts (length s.history) e (s.log j) look test) h.counters_balance;
   logs_answer = answer_more s j e h own.0 some (look_undoes (length s.history) e (s.log j) look (h.logs_answer.undone j)) (omega (arith, same.2, h.logs_answer.written j));
   replies_answer = replies_entry s.buckets s.history s.log j e own.1 h.logs_answer.within replied h.replies_answer;
-  records_reach_logs = reach_step s.phase s.phase s.log (put s.log j (e ∷ s.log j)) s.pass j (s.phase j) (e ∷ []) h.records_reach_logs (only_same s.phase j) (only_put s.log j (e ∷ s.log j)) (λ x. inr x);
+  records_reach_logs = reach_step s.phase s.phase s.log (put s.log j (e ∷ s.log j)) s.pass j (s.phase j) (e ∷ []) h.records_reach_logs (only_same s.phase j)
+      (only_put s.log j (e ∷ s.log j)) (λ x. inr x);
 }
   where
     own : IsOwn (length s.history) e × IsNoNumber e
@@ -134,14 +137,16 @@ look_kept s j (asks.Read table low high) b rows h (at, scope, may) = look_more s
     reads : current (s.log j) ≡ Some (record { at = at; scope = scope })
     reads = h.logs_answer.reads j ∙ ap snapshot_in may.live
 
-    shown : (key : ℕ) → in_bucket s.buckets b table (λ r. read_by (writer_of (begun_in s.log) j) at (versions s.buckets s.bucket r)) key ≡ in_bucket s.buckets b table (seen s.history (own_writes (s.log j)) at) key
+    shown : (key : ℕ) → in_bucket s.buckets b table (λ r. read_by (writer_of (begun_in s.log) j) at (versions s.buckets s.bucket r)) key ≡ in_bucket s.buckets b table
+        (seen s.history (own_writes (s.log j)) at) key
     shown key = ap (λ image. in_bucket s.buckets b table (λ r. image) key) (read_seen s j at scope (record { table = table; key = key }) h may.live may.asks.0 may.plain may.unstamped)
 look_kept s j (asks.Outside table) b rows h (at, scope, may) = look_more s j (Outside table) h tt (subst IsSome (sym reads) refl)
     (subst (λ o. IfSome o (λ snapshot. IsFalse (has snapshot.scope table))) (sym reads) may.asks)
   where
     reads : current (s.log j) ≡ Some (record { at = at; scope = scope })
     reads = h.logs_answer.reads j ∙ ap snapshot_in may.live
-look_kept s j (asks.Write r) b rows h (at, scope, may) = subst (λ n. IsSteady (record s { log = put s.log j (with_refusal r (refusal s.mark w n vs) (s.log j)) })) (sym (ap snapshot_number reads)) (by_owner (unpublished s.mark vs) refl)
+look_kept s j (asks.Write r) b rows h (at, scope, may) = subst (λ n. IsSteady (record s { log = put s.log j (with_refusal r (refusal s.mark w n vs) (s.log j)) }))
+    (sym (ap snapshot_number reads)) (by_owner (unpublished s.mark vs) refl)
   where
     w : Writer
     w = writer_of (begun_in s.log) j
@@ -162,9 +167,11 @@ look_kept s j (asks.Write r) b rows h (at, scope, may) = subst (λ n. IsSteady (
         go None e = ap is_some (own_is s j r may.plain ∙ e)
         go (Some i) e = absurd (other i (h.open_writes_stand.owns r j i e))
 
-    refused : (answer : Answer) → IsOwn (length s.history) (Refused r answer) → ((i : Image) → unpublished s.mark vs ≡ Some (w, i) → ⊥) → Refuses s.history s.log j at r answer → IsSteady (record s { log = put s.log j (Refused r answer ∷ s.log j) })
+    refused : (answer : Answer) → IsOwn (length s.history) (Refused r answer) → ((i : Image) → unpublished s.mark vs ≡ Some (w, i) → ⊥) → Refuses s.history s.log j at r answer →
+        IsSteady (record s { log = put s.log j (Refused r answer ∷ s.log j) })
     refused answer own other refuses = look_more s j (Refused r answer) h own some
-        (subst (λ o. IfSome o (λ snapshot. IsTrue (has snapshot.scope r.table) × (IsFalse (is_some (image_in r (own_writes (s.log j)))) × Refuses s.history s.log j snapshot.at r answer))) (sym reads) (may.asks, (unwritten other, refuses)))
+        (subst (λ o. IfSome o (λ snapshot. IsTrue (has snapshot.scope r.table) ×
+        (IsFalse (is_some (image_in r (own_writes (s.log j)))) × Refuses s.history s.log j snapshot.at r answer))) (sym reads) (may.asks, (unwritten other, refuses)))
 
     nothing_new : IsSteady (record s { log = put s.log j (s.log j) })
     nothing_new = subst (λ log. IsSteady (record s { log = log })) (λ i k. by_number j (λ k b. s.log k ≡ (if b then s.log j else s.log k)) refl (λ k other. refl) k i) h
@@ -204,7 +211,8 @@ look_kept s j (asks.Write r) b rows h (at, scope, may) = subst (λ n. IsSteady (
             let k : ℕ = o.0.session in
             let number : o.0.transaction ≡ begans (s.log k) = ap (λ (x : Writer). x.transaction) own.0 in
             let stands = open_is s.buckets s.history s.log k r o.1 (s.log k) (h.replies_answer k) (is_current k o.1 own.1) own.1 in
-            refused (OpenBy o.0) tt (λ i m. let both = same_pair o (w, i) (sym e ∙ m) in let z : same_writer o.0 w ≡ true = subst (λ x. same_writer x w ≡ true) (sym (ap (λ x. x.0) both)) (writer_itself w) in cc)
+            refused (OpenBy o.0) tt (λ i m. let both = same_pair o (w, i) (sym e ∙ m) in
+            let z : same_writer o.0 w ≡ true = subst (λ x. same_writer x w ≡ true) (sym (ap (λ x. x.0) both)) (writer_itself w) in cc)
             (record {
               other = other_session (o.0.session == j) refl own.0 q;
               does = subst (λ x. IsSome (image_in r (writes_in x (s.log k)))) (sym number) stands.does;

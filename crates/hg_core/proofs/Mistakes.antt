@@ -36,12 +36,14 @@ no_row e = let z : None ≡ Some (Number (pos 7) ∷ []) = ap (λ (i : Image). i
 -- session 1 reads the first version at its own number
 pub own_number_refused : ((s : CoreState) (p : ℕ) (r : Rid) → IsSteady s → MayReclaim s p r → IsSteady (lifetime_past s p r)) → ⊥
 unfolding bucket_of
-own_number_refused keeps = no_row (((keeps (then (two_versions row)) 0 one_rid (steady (two_versions row) (two_versions_runs row)) (record { whole = two_whole row; here = (refl, refl) })).covered one_rid).same 1 (inr (1, (refl, refl))))
+own_number_refused keeps = no_row (((keeps (then (two_versions row)) 0 one_rid (steady (two_versions row) (two_versions_runs row))
+    (record { whole = two_whole row; here = (refl, refl) })).covered one_rid).same 1 (inr (1, (refl, refl))))
 
 -- session 1 was moved, and still reads at 1
 pub moved_refused : (kind : Kind) → ((s : CoreState) (p : ℕ) (r : Rid) → IsSteady s → MayReclaim s p r → IsSteady (cut_past_moved s p kind r)) → ⊥
 unfolding bucket_of
-moved_refused kind keeps = no_row (((keeps (then moved_snapshot) 0 one_rid (steady moved_snapshot moved_snapshot_runs) (record { whole = moved_whole; here = (refl, refl) })).covered one_rid).same 1 (inr (1, (refl, refl))))
+moved_refused kind keeps = no_row (((keeps (then moved_snapshot) 0 one_rid (steady moved_snapshot moved_snapshot_runs)
+    (record { whole = moved_whole; here = (refl, refl) })).covered one_rid).same 1 (inr (1, (refl, refl))))
 
 -- session 1 was moved, and no mask says to which tables
 no_masks_there : MayReclaimUnmasked (then no_masks) 0 one_rid
@@ -62,12 +64,14 @@ unfolding bucket_of
 deletion_refused keeps = no_row (sym found)
   where
     found : row ≡ nothing
-    found = ((keeps (then (two_versions nothing)) 0 one_rid (steady (two_versions nothing) (two_versions_runs nothing)) (record { whole = two_whole nothing; here = (refl, refl) })).covered one_rid).same 2 (inl refl)
+    found = ((keeps (then (two_versions nothing)) 0 one_rid (steady (two_versions nothing) (two_versions_runs nothing))
+        (record { whole = two_whole nothing; here = (refl, refl) })).covered one_rid).same 2 (inl refl)
 
 -- a session that begins at the new mark doesn't find the write
 pub early_publish_refused : ((s : CoreState) (sessions : List ℕ) → IsSteady s → MayPublishEarly s.log sessions → IsSteady (happens s (Publish sessions))) → ⊥
 unfolding bucket_of
-early_publish_refused keeps = no_row (((keeps (then open_write) (2 ∷ []) (steady open_write open_write_runs) (record { some = omega arith; distinct = (refl, tt); opened = (refl, tt); plain = (refl, tt) })).covered one_rid).same 1 (inl refl))
+early_publish_refused keeps = no_row (((keeps (then open_write) (2 ∷ []) (steady open_write open_write_runs)
+    (record { some = omega arith; distinct = (refl, tt); opened = (refl, tt); plain = (refl, tt) })).covered one_rid).same 1 (inl refl))
 
 -- session 2's open write is gone
 pub second_writer_refused : ((s : CoreState) (j : ℕ) (r : Rid) (image : Image) (at : ℕ) (scope : Scope) → IsSteady s → MayInstallOver s j r at scope → IsSteady (happens s (Install j r image))) → ⊥
@@ -84,6 +88,8 @@ second_writer_refused keeps = apart (writer 1) (writer 2) (ap (λ x. x.0) (same_
     now = keeps (then open_write) 1 one_rid row 0 All (steady open_write open_write_runs) (record { live = refl; table = refl; there = omega arith; plain = refl; unstamped = refl; newest = tt })
 
 -- the version that the newest succeeded at 2 stays, though no snapshot is in its lifetime
-pub successor_refused : ((s : CoreState) (p : ℕ) (r : Rid) → IsSteady s → MayReclaim s p r → IsClean (horizon (s.pass p)) (recorded r.table (s.pass p)) (swept_late (horizon (s.pass p)) (recorded r.table (s.pass p)) None (versions s.buckets s.bucket r))) → ⊥
+pub successor_refused : ((s : CoreState) (p : ℕ) (r : Rid) → IsSteady s → MayReclaim s p r →
+    IsClean (horizon (s.pass p)) (recorded r.table (s.pass p)) (swept_late (horizon (s.pass p)) (recorded r.table (s.pass p)) None (versions s.buckets s.bucket r))) → ⊥
 unfolding bucket_of
-successor_refused keeps = let z : false ≡ true = (keeps (then late_snapshot) 0 one_rid (steady late_snapshot late_snapshot_runs) (record { whole = late_whole; here = (refl, refl) })).1.0 (omega arith) in cc
+successor_refused keeps = let z : false ≡ true = (keeps (then late_snapshot) 0 one_rid (steady late_snapshot late_snapshot_runs)
+    (record { whole = late_whole; here = (refl, refl) })).1.0 (omega arith) in cc

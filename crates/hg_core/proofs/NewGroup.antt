@@ -25,7 +25,8 @@ image_left : (q r : Rid) (ws : List Write) → same_rid q r ≡ false → image_
 image_left q r [] e = refl
 image_left q r (w ∷ ws) e = go (same_rid q w.rid) refl (image_left q r ws e)
   where
-    go : (b : Bool) → same_rid q w.rid ≡ b → image_in r (filter (λ v. not (same_rid q v.rid)) ws) ≡ image_in r ws → image_in r (cond (not b) (w ∷ filter (λ v. not (same_rid q v.rid)) ws) (filter (λ v. not (same_rid q v.rid)) ws)) ≡ image_in r (w ∷ ws)
+    go : (b : Bool) → same_rid q w.rid ≡ b → image_in r (filter (λ v. not (same_rid q v.rid)) ws) ≡ image_in r ws →
+        image_in r (cond (not b) (w ∷ filter (λ v. not (same_rid q v.rid)) ws) (filter (λ v. not (same_rid q v.rid)) ws)) ≡ image_in r (w ∷ ws)
     go true t later = let other : same_rid w.rid r ≡ false = ap (λ x. same_rid x r) (sym (same_rid_equal q w.rid t)) ∙ e in later ∙ sym (ap (λ b. if b then Some w.image else image_in r ws) other)
     go false t later = ap (λ x. if same_rid w.rid r then Some w.image else x) later
 
@@ -33,7 +34,8 @@ image_last : (r : Rid) (ws : List Write) → image_in r (last_images ws) ≡ ima
 image_last r [] = refl
 image_last r (w ∷ ws) = go (same_rid w.rid r) refl (image_last r ws)
   where
-    go : (b : Bool) → same_rid w.rid r ≡ b → image_in r (last_images ws) ≡ image_in r ws → (if b then Some w.image else image_in r (filter (λ v. not (same_rid w.rid v.rid)) (last_images ws))) ≡ (if b then Some w.image else image_in r ws)
+    go : (b : Bool) → same_rid w.rid r ≡ b → image_in r (last_images ws) ≡ image_in r ws →
+        (if b then Some w.image else image_in r (filter (λ v. not (same_rid w.rid v.rid)) (last_images ws))) ≡ (if b then Some w.image else image_in r ws)
     go true e later = refl
     go false e later = image_left w.rid r (last_images ws) e ∙ later
 
@@ -64,19 +66,23 @@ rest_in k j js m = step (j == k) (is_in js k) m
     step a b e = grind arith
 
 -- who writes r in the group
-pub writer_in : (r : Rid) (i : Image) (log : ℕ → List LogEntry) (js : List ℕ) → Each (λ j. IsTrue (is_plain (log j))) js → group_image r (new_group log js) ≡ Some i → (j : ℕ) × (is_in js j ≡ true) × (open_in r (log j) ≡ Some i)
+pub writer_in : (r : Rid) (i : Image) (log : ℕ → List LogEntry) (js : List ℕ) → Each (λ j. IsTrue (is_plain (log j))) js → group_image r (new_group log js) ≡ Some i → (j : ℕ) ×
+    (is_in js j ≡ true) × (open_in r (log j) ≡ Some i)
 writer_in r i log [] p e = cc
 writer_in r i log (j ∷ js) p e = go (image_in r (commit_in j (log j)).images) refl e (λ k. writer_in r i log js p.1 k)
   where
-    go : (x : Option Image) → image_in r (commit_in j (log j)).images ≡ x → option_or x (group_image r (new_group log js)) ≡ Some i → (group_image r (new_group log js) ≡ Some i → (k : ℕ) × (is_in js k ≡ true) × (open_in r (log k) ≡ Some i)) → (k : ℕ) × (is_in (j ∷ js) k ≡ true) × (open_in r (log k) ≡ Some i)
+    go : (x : Option Image) → image_in r (commit_in j (log j)).images ≡ x → option_or x (group_image r (new_group log js)) ≡ Some i →
+        (group_image r (new_group log js) ≡ Some i → (k : ℕ) × (is_in js k ≡ true) × (open_in r (log k) ≡ Some i)) → (k : ℕ) × (is_in (j ∷ js) k ≡ true) × (open_in r (log k) ≡ Some i)
     go None w e later = let h = later e in (h.0, rest_in h.0 j js h.1, h.2)
     go (Some a) w e later = (j, first_in j js, sym (commit_image r j (log j) p.0) ∙ w ∙ e)
 
-pub nobody_in : (r : Rid) (log : ℕ → List LogEntry) (js : List ℕ) (j : ℕ) → Each (λ j. IsTrue (is_plain (log j))) js → group_image r (new_group log js) ≡ None → is_in js j ≡ true → open_in r (log j) ≡ None
+pub nobody_in : (r : Rid) (log : ℕ → List LogEntry) (js : List ℕ) (j : ℕ) → Each (λ j. IsTrue (is_plain (log j))) js → group_image r (new_group log js) ≡ None → is_in js j ≡ true →
+    open_in r (log j) ≡ None
 nobody_in r log [] j p e m = cc
 nobody_in r log (k ∷ js) j p e m = go (image_in r (commit_in k (log k)).images) refl e (k == j) refl m (λ a b. nobody_in r log js j p.1 a b)
   where
-    go : (x : Option Image) → image_in r (commit_in k (log k)).images ≡ x → option_or x (group_image r (new_group log js)) ≡ None → (b : Bool) → (k == j) ≡ b → (b || is_in js j) ≡ true → (group_image r (new_group log js) ≡ None → is_in js j ≡ true → open_in r (log j) ≡ None) → open_in r (log j) ≡ None
+    go : (x : Option Image) → image_in r (commit_in k (log k)).images ≡ x → option_or x (group_image r (new_group log js)) ≡ None → (b : Bool) → (k == j) ≡ b →
+        (b || is_in js j) ≡ true → (group_image r (new_group log js) ≡ None → is_in js j ≡ true → open_in r (log j) ≡ None) → open_in r (log j) ≡ None
     go None w e true q m later = let same : k ≡ j = (Decides-eqb k j).0 q in subst (λ z. open_in r (log z) ≡ None) same (sym (commit_image r k (log k) p.0) ∙ w)
     go None w e false q m later = later e m
     go (Some a) w e b q m later = cc
@@ -87,12 +93,14 @@ write_image r [] = refl
 write_image r (c ∷ cs) = go (image_in r c.images) (write_image r cs)
   where
     go : (x : Option Image) → option_map (λ (p : Writer × Image). p.1) (group_write r cs) ≡ group_image r cs
-        → option_map (λ (p : Writer × Image). p.1) (option_or (option_map (λ image. (record { session = c.session; transaction = c.transaction }, image)) x) (group_write r cs)) ≡ option_or x (group_image r cs)
+        → option_map (λ (p : Writer × Image). p.1) (option_or (option_map (λ image. (record { session = c.session; transaction = c.transaction }, image)) x) (group_write r cs)) ≡
+        option_or x (group_image r cs)
     go None later = later
     go (Some a) later = refl
 
 -- the writer of r in the group is the open transaction of its session, which has r open with that image
-pub write_in : (r : Rid) (w : Writer) (i : Image) (log : ℕ → List LogEntry) (js : List ℕ) → Each (λ j. IsTrue (is_plain (log j))) js → group_write r (new_group log js) ≡ Some (w, i) → (w ≡ writer_of (begun_in log) w.session) × (open_in r (log w.session) ≡ Some i)
+pub write_in : (r : Rid) (w : Writer) (i : Image) (log : ℕ → List LogEntry) (js : List ℕ) → Each (λ j. IsTrue (is_plain (log j))) js →
+    group_write r (new_group log js) ≡ Some (w, i) → (w ≡ writer_of (begun_in log) w.session) × (open_in r (log w.session) ≡ Some i)
 write_in r w i log [] p e = cc
 write_in r w i log (j ∷ js) p e = go (image_in r (commit_in j (log j)).images) refl e (λ k. write_in r w i log js p.1 k)
   where

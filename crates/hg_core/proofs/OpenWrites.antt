@@ -59,7 +59,8 @@ others : (opened opened' : ℕ → Rid → Option Image) (j : ℕ) (r : Rid) (o 
 others opened opened' j r o f q other = at_index j (λ k. opened' k q ≡ opened k q) (f.same q other) (λ k apart. f.there k apart q)
 
 -- the same open writes, of transactions with the same numbers
-pub stand_alike : (mark : ℕ) (begun begun' : ℕ → ℕ) (opened opened' : ℕ → Rid → Option Image) (held : Rid → List Version) → ((j : ℕ) (r : Rid) → opened' j r ≡ opened j r) → ((j : ℕ) (r : Rid) (i : Image) → opened j r ≡ Some i → begun' j ≡ begun j) → OpenWritesStand mark begun opened held → OpenWritesStand mark begun' opened' held
+pub stand_alike : (mark : ℕ) (begun begun' : ℕ → ℕ) (opened opened' : ℕ → Rid → Option Image) (held : Rid → List Version) → ((j : ℕ) (r : Rid) → opened' j r ≡ opened j r) →
+    ((j : ℕ) (r : Rid) (i : Image) → opened j r ≡ Some i → begun' j ≡ begun j) → OpenWritesStand mark begun opened held → OpenWritesStand mark begun' opened' held
 stand_alike mark begun begun' opened opened' held same number h = record {
   owned = λ r w i e. let own = h.owned r w i e in (own.0 ∙ ap (λ n. writer w.session n) (sym (number w.session r i own.1)), same w.session r ∙ own.1);
   owns = λ r j i e. let was : opened j r ≡ Some i = sym (same j r) ∙ e in h.owns r j i was ∙ ap (λ n. Some (writer j n, i)) (sym (number j r i was));
@@ -68,7 +69,8 @@ stand_alike mark begun begun' opened opened' held same number h = record {
     writer : ℕ → ℕ → Writer
     writer j n = record { session = j; transaction = n }
 
-pub next_alike : (mark : ℕ) (opened opened' : ℕ → Rid → Option Image) (held : Rid → List Version) (list : List (ℕ × Rid)) → ((j : ℕ) (r : Rid) → opened' j r ≡ opened j r) → StampedIsNext mark opened held list → StampedIsNext mark opened' held list
+pub next_alike : (mark : ℕ) (opened opened' : ℕ → Rid → Option Image) (held : Rid → List Version) (list : List (ℕ × Rid)) → ((j : ℕ) (r : Rid) → opened' j r ≡ opened j r) →
+    StampedIsNext mark opened held list → StampedIsNext mark opened' held list
 next_alike mark opened opened' held list same h = record { exact = h.exact; standing = λ j r e. subst IsSome (sym (same j r)) (h.standing j r e) }
 
 -- ---- an install
@@ -98,8 +100,10 @@ stand_installed mark buckets bucket begun opened opened' j r image free f h =
     }
 
 -- no write of the session is stamped, so none of its writes is in the list
-standing_others : (mark : ℕ) (opened opened' : ℕ → Rid → Option Image) (held : Rid → List Version) (j : ℕ) (list : List (ℕ × Rid)) → has_stamped j list ≡ false → ((k : ℕ) → (k ≡ j → ⊥) → (q : Rid) → opened' k q ≡ opened k q) → StampedIsNext mark opened held list → (k : ℕ) (q : Rid) → IsTrue (is_stamped k q list) → IsSome (opened' k q)
-standing_others mark opened opened' held j list none there h = at_index j (λ k. (q : Rid) → IsTrue (is_stamped k q list) → IsSome (opened' k q)) (λ q e. absurd (let z = none_stamped j q list none in cc)) (λ k apart q e. subst IsSome (sym (there k apart q)) (h.standing k q e))
+standing_others : (mark : ℕ) (opened opened' : ℕ → Rid → Option Image) (held : Rid → List Version) (j : ℕ) (list : List (ℕ × Rid)) → has_stamped j list ≡ false →
+    ((k : ℕ) → (k ≡ j → ⊥) → (q : Rid) → opened' k q ≡ opened k q) → StampedIsNext mark opened held list → (k : ℕ) (q : Rid) → IsTrue (is_stamped k q list) → IsSome (opened' k q)
+standing_others mark opened opened' held j list none there h = at_index j (λ k. (q : Rid) → IsTrue (is_stamped k q list) → IsSome (opened' k q))
+    (λ q e. absurd (let z = none_stamped j q list none in cc)) (λ k apart q e. subst IsSome (sym (there k apart q)) (h.standing k q e))
 
 pub next_installed : (mark buckets : ℕ) (bucket : ℕ → Content) (begun : ℕ → ℕ) (opened opened' : ℕ → Rid → Option Image) (j : ℕ) (r : Rid) (image : Image) (list : List (ℕ × Rid))
     → has_stamped j list ≡ false

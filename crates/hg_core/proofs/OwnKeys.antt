@@ -51,7 +51,8 @@ reached buckets table low high k l h =
     any_number (λ n. bucket_of buckets (record { table = table; key = n }) == b) low (high + 1 - low) k l (omega (arith, l, h)) ((Decides-eqb b b).1 refl)
 
 -- a bucket that is reached has a key of it
-pub reaching : (buckets : ℕ) (table : TableId) (low high b : ℕ) → has_own buckets table low high b ≡ true → (k : ℕ) × (low ≤ k) × (k ≤ high) × (bucket_of buckets (record { table = table; key = k }) ≡ b)
+pub reaching : (buckets : ℕ) (table : TableId) (low high b : ℕ) → has_own buckets table low high b ≡ true → (k : ℕ) × (low ≤ k) × (k ≤ high) ×
+    (bucket_of buckets (record { table = table; key = k }) ≡ b)
 unfolding has_own
 reaching buckets table low high b e =
     let found = number_of_any (λ n. bucket_of buckets (record { table = table; key = n }) == b) low (high + 1 - low) e in
@@ -62,7 +63,8 @@ reaching buckets table low high b e =
 -- ---- the looks
 
 -- what a look keeps, all of a scan keep
-pub saws_keep : (P : List LogEntry → Type 0) (buckets : ℕ) (t : TableId) (low high : ℕ) (part : ℕ → List (ℕ × List Value)) (n : ℕ) (l : List LogEntry) → ((b : ℕ) (rows : List (ℕ × List Value)) (m : List LogEntry) → P m → P (Saw t low high b rows ∷ m)) → P l → P (saws buckets t low high part n ++ l)
+pub saws_keep : (P : List LogEntry → Type 0) (buckets : ℕ) (t : TableId) (low high : ℕ) (part : ℕ → List (ℕ × List Value)) (n : ℕ) (l : List LogEntry) →
+    ((b : ℕ) (rows : List (ℕ × List Value)) (m : List LogEntry) → P m → P (Saw t low high b rows ∷ m)) → P l → P (saws buckets t low high part n ++ l)
 saws_keep P buckets t low high part zero l keeps p = p
 saws_keep P buckets t low high part (suc n) l keeps p = go (has_own buckets t low high n) (saws_keep P buckets t low high part n l keeps p)
   where

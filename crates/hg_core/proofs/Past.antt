@@ -43,7 +43,8 @@ writes_within n top (g ∷ gs) r k = go (group_image r g) (writes_within (suc n)
 
 filter_all : (s : ℕ) (ws : List (ℕ × Image)) → Each (λ (w : ℕ × Image). w.0 ≤ s) ws → filter (λ (w : ℕ × Image). nat_le w.0 s) ws ≡ ws
 filter_all s [] h = refl
-filter_all s (w ∷ ws) h = let k : nat_le w.0 s ≡ true = (let le = h.0 in grind (arith, nat_tests)) in ap (λ b. cond b (w ∷ filter (λ (v : ℕ × Image). nat_le v.0 s) ws) (filter (λ (v : ℕ × Image). nat_le v.0 s) ws)) k ∙ ap (λ vs. w ∷ vs) (filter_all s ws h.1)
+filter_all s (w ∷ ws) h = let k : nat_le w.0 s ≡ true = (let le = h.0 in grind (arith, nat_tests)) in
+    ap (λ b. cond b (w ∷ filter (λ (v : ℕ × Image). nat_le v.0 s) ws) (filter (λ (v : ℕ × Image). nat_le v.0 s) ws)) k ∙ ap (λ vs. w ∷ vs) (filter_all s ws h.1)
 
 -- a number at or over all groups sees the last write
 pub visible_last : (h : History) (r : Rid) (s : ℕ) → length h ≤ s → visible h r s ≡ image_of (last_pair (writes h r))
@@ -65,7 +66,9 @@ pub last_bounds : (n b : ℕ) (h : History) (r : Rid) → ((p : ℕ × Image) �
 last_bounds n b [] r f = tt
 last_bounds n b (g ∷ gs) r f = go (group_image r g) f (λ k. last_bounds (suc n) b gs r k)
   where
-    go : (o : Option Image) → ((p : ℕ × Image) → last_pair (entry n o (writes_from (suc n) gs r)) ≡ Some p → p.0 ≤ b) → (((p : ℕ × Image) → last_pair (writes_from (suc n) gs r) ≡ Some p → p.0 ≤ b) → Each (λ (w : ℕ × Image). w.0 ≤ b) (writes_from (suc n) gs r)) → Each (λ (w : ℕ × Image). w.0 ≤ b) (entry n o (writes_from (suc n) gs r))
+    go : (o : Option Image) → ((p : ℕ × Image) → last_pair (entry n o (writes_from (suc n) gs r)) ≡ Some p → p.0 ≤ b) →
+        (((p : ℕ × Image) → last_pair (writes_from (suc n) gs r) ≡ Some p → p.0 ≤ b) → Each (λ (w : ℕ × Image). w.0 ≤ b) (writes_from (suc n) gs r)) →
+        Each (λ (w : ℕ × Image). w.0 ≤ b) (entry n o (writes_from (suc n) gs r))
     go None f later = later f
     go (Some i) f later =
         let z = over_last n (suc n) i gs r (omega arith) in

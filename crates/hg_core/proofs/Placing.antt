@@ -22,12 +22,14 @@ each_store P r vs (e ∷ es) f h = go (same_rid r e.0) refl (each_store P r vs e
     go false t later = (h.0, later)
 
 -- another record is there afterwards just where it was
-among_store : (q r : Rid) (vs : List Version) (es : Content) → same_rid r q ≡ false → is_among q (map (λ (e : Rid × List Version). e.0) (store r vs es)) ≡ is_among q (map (λ (e : Rid × List Version). e.0) es)
+among_store : (q r : Rid) (vs : List Version) (es : Content) → same_rid r q ≡ false →
+    is_among q (map (λ (e : Rid × List Version). e.0) (store r vs es)) ≡ is_among q (map (λ (e : Rid × List Version). e.0) es)
 among_store q r [] [] n = refl
 among_store q r (v ∷ vs) [] n = ap (λ b. b || false) (turned_rid q r ∙ n)
 among_store q r vs (e ∷ es) n = go (same_rid r e.0) refl (among_store q r vs es n)
   where
-    go : (b : Bool) → same_rid r e.0 ≡ b → is_among q (map (λ (e : Rid × List Version). e.0) (store r vs es)) ≡ is_among q (map (λ (e : Rid × List Version). e.0) es) → is_among q (map (λ (e : Rid × List Version). e.0) (if b then (r, vs) ∷ es else e ∷ store r vs es)) ≡ is_among q (map (λ (e : Rid × List Version). e.0) (e ∷ es))
+    go : (b : Bool) → same_rid r e.0 ≡ b → is_among q (map (λ (e : Rid × List Version). e.0) (store r vs es)) ≡ is_among q (map (λ (e : Rid × List Version). e.0) es) →
+        is_among q (map (λ (e : Rid × List Version). e.0) (if b then (r, vs) ∷ es else e ∷ store r vs es)) ≡ is_among q (map (λ (e : Rid × List Version). e.0) (e ∷ es))
     go true t later = ap (λ x. same_rid q x || is_among q (map (λ (e : Rid × List Version). e.0) es)) (same_rid_equal r e.0 t)
     go false t later = ap (λ b. same_rid q e.0 || b) later
 
@@ -36,11 +38,13 @@ once_store r [] [] h = tt
 once_store r (v ∷ vs) [] h = (refl, tt)
 once_store r vs (e ∷ es) h = go (same_rid r e.0) refl (once_store r vs es h.1)
   where
-    go : (b : Bool) → same_rid r e.0 ≡ b → NoneTwice (map (λ (e : Rid × List Version). e.0) (store r vs es)) → NoneTwice (map (λ (e : Rid × List Version). e.0) (if b then (r, vs) ∷ es else e ∷ store r vs es))
+    go : (b : Bool) → same_rid r e.0 ≡ b → NoneTwice (map (λ (e : Rid × List Version). e.0) (store r vs es)) →
+        NoneTwice (map (λ (e : Rid × List Version). e.0) (if b then (r, vs) ∷ es else e ∷ store r vs es))
     go true t later = (subst (λ x. IsFalse (is_among x (map (λ (e : Rid × List Version). e.0) es))) (sym (same_rid_equal r e.0 t)) h.0, h.1)
     go false t later = (among_store e.0 r vs es t ∙ h.0, later)
 
-pub placed_stored : (tables buckets : ℕ) (bucket : ℕ → Content) (r : Rid) (vs : List Version) → (0 < length vs → r.table.0 < tables) → ((b : ℕ) → IsPlaced tables buckets b (bucket b)) → (b : ℕ) → IsPlaced tables buckets b (stored buckets bucket r vs b)
+pub placed_stored : (tables buckets : ℕ) (bucket : ℕ → Content) (r : Rid) (vs : List Version) → (0 < length vs → r.table.0 < tables) →
+    ((b : ℕ) → IsPlaced tables buckets b (bucket b)) → (b : ℕ) → IsPlaced tables buckets b (stored buckets bucket r vs b)
 placed_stored tables buckets bucket r vs table h =
     let at : ℕ = bucket_of buckets r in
     let here : IsPlaced tables buckets at (bucket at) = h at in

@@ -79,7 +79,8 @@ over_live (Entered scope f) log some = tt
 over_live (Fixed scope f m) log some = cc
 over_live (Live at scope) log some = tt
 
-logs_published : (sessions quota : ℕ) (h : History) (phase : ℕ → Phase) (log : ℕ → List LogEntry) (list : List (ℕ × Rid)) (js : List ℕ) → LogsAnswer sessions quota h phase log → ((j : ℕ) → IsSome (current (log j)) → IsSession sessions j) → MayPublish log list js → LogsAnswer sessions quota (h ++ new_group log js ∷ []) phase (published_logs log js (suc (length h)))
+logs_published : (sessions quota : ℕ) (h : History) (phase : ℕ → Phase) (log : ℕ → List LogEntry) (list : List (ℕ × Rid)) (js : List ℕ) → LogsAnswer sessions quota h phase log →
+    ((j : ℕ) → IsSome (current (log j)) → IsSession sessions j) → MayPublish log list js → LogsAnswer sessions quota (h ++ new_group log js ∷ []) phase (published_logs log js (suc (length h)))
 logs_published sessions quota h phase log list js a session_of may = record {
   reads = λ j. reads_new j (is_in js j);
   room = λ j. room_new j (is_in js j);
@@ -142,7 +143,13 @@ logs_published sessions quota h phase log list js a session_of may = record {
     within_new j false = wider (length h) _ (log j) longer (a.within j)
 
     judged_new : (j : ℕ) (b : Bool) → is_in js j ≡ b → Judged (h ++ new_group log js ∷ []) (if b then Published (suc (length h)) ∷ log j else log j)
-    judged_new j true e = (record { opened = each_in (λ i. IsSome (current (log i))) js j may.opened e; plain = each_in (λ i. IsTrue (is_plain (log i))) js j may.plain e }, judged_longer h _ (log j) longer (a.judged j))
+    judged_new j true e = (
+      record {
+        opened = each_in (λ i. IsSome (current (log i))) js j may.opened e;
+        plain = each_in (λ i. IsTrue (is_plain (log i))) js j may.plain e;
+      },
+      judged_longer h _ (log j) longer (a.judged j),
+    )
     judged_new j false e = judged_longer h _ (log j) longer (a.judged j)
 
 pub publish_kept : (s : CoreState) (js : List ℕ) → IsSteady s → May s (Publish js) → IsSteady (happens s (Publish js))
@@ -154,7 +161,8 @@ publish_kept s js h may = record {
   };
   registers_agree = h.registers_agree;
   records_bound_sessions = h.records_bound_sessions;
-  records_reach_logs = reach_grown s.phase s.log (published_logs s.log js (suc s.mark)) (λ k. if is_in js k then Published (suc s.mark) ∷ [] else []) s.pass (λ k. grows k (is_in js k)) h.records_reach_logs;
+  records_reach_logs = reach_grown s.phase s.log (published_logs s.log js (suc s.mark)) (λ k. if is_in js k then Published (suc s.mark) ∷ [] else []) s.pass
+      (λ k. grows k (is_in js k)) h.records_reach_logs;
   covered = λ r. covers_published s.mark s.phase s.history (new_group s.log js) r (held r) h.mark_is_length.is_length h.mark_is_length.sessions (h.contents_are_ordered.ordered r)
       (λ i e.
       let who = writer_in r i s.log js may.plain e in
@@ -185,11 +193,14 @@ publish_kept s js h may = record {
     exact = λ r w i e. (unpublished_next s.mark (held r) w i (h.contents_are_ordered.ordered r) e).1;
     standing = λ j r e. absurd (let z : false ≡ true = e in cc);
   };
-  history = history_more s.history s.log s.stamped_list js h.history h.logs_answer.within may.some may.distinct may.plain may.stamped h.stamped_is_next.standing (λ r j k a b. let x = some_is (open_in r (s.log j)) a in let y = some_is (open_in r (s.log k)) b in one_owner r j k x.0 y.0 x.1 y.1);
+  history = history_more s.history s.log s.stamped_list js h.history h.logs_answer.within may.some may.distinct may.plain may.stamped h.stamped_is_next.standing
+      (λ r j k a b. let x = some_is (open_in r (s.log j)) a in let y = some_is (open_in r (s.log k)) b in one_owner r j k x.0 y.0 x.1 y.1);
   no_update_is_lost = update_more s.history (new_group s.log js) h.no_update_is_lost (group_loses_nothing s.history s.phase s.log js h.logs_answer.reads h.open_writes_may_commit may.plain);
   taken_at_most_mark = omega (arith, h.taken_at_most_mark);
-  replies_answer = subst (λ n. RepliesAnswer s.buckets (s.history ++ new_group s.log js ∷ []) (published_logs s.log js (suc n))) (sym h.mark_is_length.is_length) (replies_published s.buckets s.history (new_group s.log js) s.log js h.logs_answer.within h.replies_answer);
-  logs_answer = subst (λ n. LogsAnswer s.sessions s.quota (s.history ++ new_group s.log js ∷ []) s.phase (published_logs s.log js (suc n))) (sym h.mark_is_length.is_length) (logs_published s.sessions s.quota s.history s.phase s.log s.stamped_list js h.logs_answer session_of may);
+  replies_answer = subst (λ n. RepliesAnswer s.buckets (s.history ++ new_group s.log js ∷ []) (published_logs s.log js (suc n))) (sym h.mark_is_length.is_length)
+      (replies_published s.buckets s.history (new_group s.log js) s.log js h.logs_answer.within h.replies_answer);
+  logs_answer = subst (λ n. LogsAnswer s.sessions s.quota (s.history ++ new_group s.log js ∷ []) s.phase (published_logs s.log js (suc n))) (sym h.mark_is_length.is_length)
+      (logs_published s.sessions s.quota s.history s.phase s.log s.stamped_list js h.logs_answer session_of may);
 }
   where
     session_of : (j : ℕ) → IsSome (current (s.log j)) → IsSession s.sessions j
@@ -214,7 +225,8 @@ publish_kept s js h may = record {
         go false p true q = absurd (let z = stamped_has w.session r s.stamped_list q in let y = may.stamped w.session in cc)
         go false p false q = refl
 
-    counted : (k : ℕ) (test : Rid → Bool) (b : Bool) → (first_writes test (if b then Published (suc s.mark) ∷ s.log k else s.log k) ≡ first_writes test (s.log k)) × (undos test (if b then Published (suc s.mark) ∷ s.log k else s.log k) ≡ undos test (s.log k))
+    counted : (k : ℕ) (test : Rid → Bool) (b : Bool) → (first_writes test (if b then Published (suc s.mark) ∷ s.log k else s.log k) ≡ first_writes test (s.log k)) ×
+        (undos test (if b then Published (suc s.mark) ∷ s.log k else s.log k) ≡ undos test (s.log k))
     counted k test true = (refl, refl)
     counted k test false = (refl, refl)
 
@@ -225,13 +237,15 @@ publish_kept s js h may = record {
     opened_new : (k : ℕ) (r : Rid) → is_in js k ≡ false → open_in r (published_logs s.log js (suc s.mark) k) ≡ open_in r (s.log k)
     opened_new k r e = ap (λ b. open_in r (if b then Published (suc s.mark) ∷ s.log k else s.log k)) e
 
-    opened_old : (k : ℕ) (r : Rid) (i : Image) (b : Bool) → is_in js k ≡ b → open_in r (if b then Published (suc s.mark) ∷ s.log k else s.log k) ≡ Some i → (is_in js k ≡ false) × (open_in r (s.log k) ≡ Some i)
+    opened_old : (k : ℕ) (r : Rid) (i : Image) (b : Bool) → is_in js k ≡ b → open_in r (if b then Published (suc s.mark) ∷ s.log k else s.log k) ≡ Some i → (is_in js k ≡ false) ×
+        (open_in r (s.log k) ≡ Some i)
     opened_old k r i true e o = cc
     opened_old k r i false e o = (e, o)
 
     -- two sessions that have a record open are one
     one_owner : (r : Rid) (j k : ℕ) (a b : Image) → open_in r (s.log j) ≡ Some a → open_in r (s.log k) ≡ Some b → j ≡ k
-    one_owner r j k a b p q = ap (λ x. x.0.session) (same_pair (writer_of (begun_in s.log) j, a) (writer_of (begun_in s.log) k, b) (sym (h.open_writes_stand.owns r j a p) ∙ h.open_writes_stand.owns r k b q))
+    one_owner r j k a b p q = ap (λ x. x.0.session) (same_pair (writer_of (begun_in s.log) j, a) (writer_of (begun_in s.log) k, b) (sym (h.open_writes_stand.owns r j a p) ∙
+        h.open_writes_stand.owns r k b q))
 
     -- the group writes what is stamped, by its writer
     written : (r : Rid) (w : Writer) (i : Image) → unpublished s.mark (held r) ≡ Some (w, i) → is_numbered (held r) ≡ true → group_write r (new_group s.log js) ≡ Some (w, i)

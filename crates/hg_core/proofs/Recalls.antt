@@ -37,7 +37,8 @@ begun_right (Undid r ∷ a) b e = begun_right a b e
 begun_right (Published n ∷ a) b e = begun_right a b e
 begun_right (Over ∷ a) b e = begun_right a b e
 
-says_step : (register : Register) (added later then : List LogEntry) (phase next : Phase) → (IsEntering phase → IsTrue (has_begun added) ⊎ IsEntering next) → Says register later then phase → Says register (added ++ later) then next
+says_step : (register : Register) (added later then : List LogEntry) (phase next : Phase) → (IsEntering phase → IsTrue (has_begun added) ⊎ IsEntering next) →
+    Says register later then phase → Says register (added ++ later) then next
 says_step registers.Idle added later then phase next f s = s
 says_step (registers.Live n declared moved) added later then phase next f s = s
 says_step (registers.Entering k) added later then phase next f s = (
@@ -48,7 +49,8 @@ says_step (registers.Entering k) added later then phase next f s = (
   ],
 )
 
-stands_step : (known : ℕ) (o : Option Loaded) (added log : List LogEntry) (phase next : Phase) → (IsEntering phase → IsTrue (has_begun added) ⊎ IsEntering next) → IfSome o (λ loaded. StandsIn known loaded.register log phase) → IfSome o (λ loaded. StandsIn known loaded.register (added ++ log) next)
+stands_step : (known : ℕ) (o : Option Loaded) (added log : List LogEntry) (phase next : Phase) → (IsEntering phase → IsTrue (has_begun added) ⊎ IsEntering next) →
+    IfSome o (λ loaded. StandsIn known loaded.register log phase) → IfSome o (λ loaded. StandsIn known loaded.register (added ++ log) next)
 stands_step known None added log phase next f h = tt
 stands_step known (Some loaded) added log phase next f h = let r = h.2 in (
   added ++ h.0,
@@ -61,7 +63,8 @@ stands_step known (Some loaded) added log phase next f h = let r = h.2 in (
 )
 
 -- one log grows
-pub reach_step : (phase phase' : ℕ → Phase) (log log' : ℕ → List LogEntry) (pass : ℕ → PassRecord) (j : ℕ) (p : Phase) (added : List LogEntry) → RecordsReachLogs phase log pass → Only phase phase' j p → Only log log' j (added ++ log j) → (IsEntering (phase j) → IsTrue (has_begun added) ⊎ IsEntering p) → RecordsReachLogs phase' log' pass
+pub reach_step : (phase phase' : ℕ → Phase) (log log' : ℕ → List LogEntry) (pass : ℕ → PassRecord) (j : ℕ) (p : Phase) (added : List LogEntry) → RecordsReachLogs phase log pass →
+    Only phase phase' j p → Only log log' j (added ++ log j) → (IsEntering (phase j) → IsTrue (has_begun added) ⊎ IsEntering p) → RecordsReachLogs phase' log' pass
 reach_step phase phase' log log' pass j p added h op ol f = record {
   known = λ q. at_index j (λ k. (pass q).known k ≤ length (log' k)) (rw ol.here (omega (arith, h.known q j, length-append added (log j)))) (λ k other. rw (ol.there k other) (h.known q k));
   stands = λ q. at_index j (λ k. IfSome (found k (pass q).loaded) (λ loaded. StandsIn ((pass q).known k) loaded.register (log' k) (phase' k)))
@@ -70,7 +73,8 @@ reach_step phase phase' log log' pass j p added h op ol f = record {
 }
 
 -- all logs may grow where the phases stay
-pub reach_grown : (phase : ℕ → Phase) (log log' added : ℕ → List LogEntry) (pass : ℕ → PassRecord) → ((k : ℕ) → log' k ≡ added k ++ log k) → RecordsReachLogs phase log pass → RecordsReachLogs phase log' pass
+pub reach_grown : (phase : ℕ → Phase) (log log' added : ℕ → List LogEntry) (pass : ℕ → PassRecord) → ((k : ℕ) → log' k ≡ added k ++ log k) → RecordsReachLogs phase log pass →
+    RecordsReachLogs phase log' pass
 reach_grown phase log log' added pass same h = record {
   known = λ q k. rw (same k) (omega (arith, h.known q k, length-append (added k) (log k)));
   stands = λ q k. rw (same k) (stands_step _ (found k (pass q).loaded) (added k) (log k) (phase k) (phase k) (λ e. inr e) (h.stands q k));

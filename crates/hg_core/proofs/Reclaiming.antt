@@ -58,7 +58,8 @@ fenced s p table n h whole g = elim g [
       )
     ]
 
-covers_reclaimed : (s : CoreState) (p : ℕ) (kind : Kind) (r : Rid) (vs : List Version) → IsSteady s → IsWhole s.sessions (s.pass p) → Covers s.mark s.phase s.history r vs → Covers s.mark s.phase s.history r (reclaimed kind r.table (s.pass p) vs)
+covers_reclaimed : (s : CoreState) (p : ℕ) (kind : Kind) (r : Rid) (vs : List Version) → IsSteady s → IsWhole s.sessions (s.pass p) → Covers s.mark s.phase s.history r vs →
+    Covers s.mark s.phase s.history r (reclaimed kind r.table (s.pass p) vs)
 covers_reclaimed s p Group r vs h whole c = covers_cut _ _ _ _ _ _ h.mark_is_length.is_length (λ n g. elim (fenced s p r.table n h whole g) [
   | inl e ↦ omega (arith, e, least_first (horizon (s.pass p)) (all_recorded (s.pass p)))
   | inr e ↦ least_of (horizon (s.pass p)) n (all_recorded (s.pass p)) e.1
@@ -73,12 +74,16 @@ covers_reclaimed s p Interval r vs h whole c = covers_swept _ _ _ _ _ _ _ (λ n 
 ]) c
 
 -- its order, and what isn't published, stay
-shape_reclaimed : (s : CoreState) (p : ℕ) (kind : Kind) (table : TableId) (vs : List Version) → IsSteady s → IsOrdered s.mark vs → (IsOrdered s.mark (reclaimed kind table (s.pass p) vs)) × (unpublished s.mark (reclaimed kind table (s.pass p) vs) ≡ unpublished s.mark vs)
-shape_reclaimed s p Group table vs h o = ordered_cut s.mark _ vs (omega (arith, h.mark_is_length.passes p, least_first (horizon (s.pass p)) (all_recorded (s.pass p)), horizon_mark (s.pass p).mark (s.pass p).loaded)) o
-shape_reclaimed s p Table table vs h o = ordered_cut s.mark _ vs (omega (arith, h.mark_is_length.passes p, least_first (horizon (s.pass p)) (recorded table (s.pass p)), horizon_mark (s.pass p).mark (s.pass p).loaded)) o
+shape_reclaimed : (s : CoreState) (p : ℕ) (kind : Kind) (table : TableId) (vs : List Version) → IsSteady s → IsOrdered s.mark vs →
+    (IsOrdered s.mark (reclaimed kind table (s.pass p) vs)) × (unpublished s.mark (reclaimed kind table (s.pass p) vs) ≡ unpublished s.mark vs)
+shape_reclaimed s p Group table vs h o = ordered_cut s.mark _ vs
+    (omega (arith, h.mark_is_length.passes p, least_first (horizon (s.pass p)) (all_recorded (s.pass p)), horizon_mark (s.pass p).mark (s.pass p).loaded)) o
+shape_reclaimed s p Table table vs h o = ordered_cut s.mark _ vs
+    (omega (arith, h.mark_is_length.passes p, least_first (horizon (s.pass p)) (recorded table (s.pass p)), horizon_mark (s.pass p).mark (s.pass p).loaded)) o
 shape_reclaimed s p Interval table vs h o = (ordered_swept s.mark (horizon (s.pass p)) (recorded table (s.pass p)) vs o, unpublished_swept s.mark (horizon (s.pass p)) (recorded table (s.pass p)) vs)
 
-numbered_reclaimed : (mark : ℕ) (kind : Kind) (table : TableId) (pass : PassRecord) (vs : List Version) (w : Writer) (i : Image) → unpublished mark (reclaimed kind table pass vs) ≡ Some (w, i) → is_numbered (reclaimed kind table pass vs) ≡ is_numbered vs
+numbered_reclaimed : (mark : ℕ) (kind : Kind) (table : TableId) (pass : PassRecord) (vs : List Version) (w : Writer) (i : Image) →
+    unpublished mark (reclaimed kind table pass vs) ≡ Some (w, i) → is_numbered (reclaimed kind table pass vs) ≡ is_numbered vs
 numbered_reclaimed mark Group table pass vs w i o = numbered_cut (group_bound pass) mark vs w i o
 numbered_reclaimed mark Table table pass vs w i o = numbered_cut (table_bound table pass) mark vs w i o
 numbered_reclaimed mark Interval table pass vs w i o = numbered_swept (horizon pass) (recorded table pass) vs
@@ -102,7 +107,8 @@ reclaim_kept s p kind r h may =
       registers_agree = h.registers_agree;
       covered = at_record s.buckets s.bucket r vs (λ q c. Covers s.mark s.phase s.history q c) (covers_reclaimed s p kind r held h whole (h.covered r)) (λ q other. h.covered q);
       open_writes_stand = record {
-        owned = at_record s.buckets s.bucket r vs (λ q c. (w : Writer) (i : Image) → unpublished s.mark c ≡ Some (w, i) → (w ≡ writer_of (begun_in s.log) w.session) × (open_writes s.log w.session q ≡ Some i))
+        owned = at_record s.buckets s.bucket r vs (λ q c. (w : Writer) (i : Image) → unpublished s.mark c ≡ Some (w, i) → (w ≡ writer_of (begun_in s.log) w.session) ×
+            (open_writes s.log w.session q ≡ Some i))
             (λ w i e. h.open_writes_stand.owned r w i (sym shape.1 ∙ e)) (λ q other. h.open_writes_stand.owned q);
         owns = at_record s.buckets s.bucket r vs (λ q c. (j : ℕ) (i : Image) → open_writes s.log j q ≡ Some i → unpublished s.mark c ≡ Some (writer_of (begun_in s.log) j, i))
             (λ j i e. shape.1 ∙ h.open_writes_stand.owns r j i e) (λ q other. h.open_writes_stand.owns q);
@@ -112,15 +118,21 @@ reclaim_kept s p kind r h may =
             (λ w i e. numbered_reclaimed s.mark kind r.table (s.pass p) held w i e ∙ h.stamped_is_next.exact r w i (sym shape.1 ∙ e)) (λ q other. h.stamped_is_next.exact q);
         standing = h.stamped_is_next.standing;
       };
-      contents_are_placed = placed_stored s.tables s.buckets s.bucket r vs (λ some. is_there s r h (let fewer : length vs ≤ length held = length_reclaimed kind r.table (s.pass p) held in omega arith)) h.contents_are_placed;
-      counters_balance = counters_shortened s.sessions s.buckets s.passes s.log s.bucket s.counters s.visits p kind r vs (visitor s.passes s.buckets s.mark (versions s.buckets s.bucket) s.visits p (bucket_of s.buckets r) may.here h.visits_stay) may.here (length_reclaimed kind r.table (s.pass p) held) h.counters_balance;
+      contents_are_placed = placed_stored s.tables s.buckets s.bucket r vs
+          (λ some. is_there s r h (let fewer : length vs ≤ length held = length_reclaimed kind r.table (s.pass p) held in omega arith)) h.contents_are_placed;
+      counters_balance = counters_shortened s.sessions s.buckets s.passes s.log s.bucket s.counters s.visits p kind r vs
+          (visitor s.passes s.buckets s.mark (versions s.buckets s.bucket) s.visits p (bucket_of s.buckets r) may.here h.visits_stay) may.here
+          (length_reclaimed kind r.table (s.pass p) held) h.counters_balance;
       visits_stay =
           let less = visitor s.passes s.buckets s.mark (versions s.buckets s.bucket) s.visits p (bucket_of s.buckets r) may.here h.visits_stay in
-          let later = visits_later s.passes s.buckets s.mark s.mark (versions s.buckets s.bucket) (versions s.buckets (stored s.buckets s.bucket r vs)) s.visits (omega arith) (stays_stored s.mark s.buckets s.bucket r vs (stays_reclaimed s.mark s.mark kind r.table (s.pass p) held (h.contents_are_ordered.ordered r))) h.visits_stay in
-          visits_changed s.passes s.buckets s.mark (versions s.buckets (stored s.buckets s.bucket r vs)) s.visits p (removing kind (length held - length vs) (s.visits p)) less (removing_each s.buckets s.mark (bucket_of s.buckets r) (length held - length vs) (versions s.buckets (stored s.buckets s.bucket r vs)) kind (s.visits p) may.here (later.each p)) later;
+          let later = visits_later s.passes s.buckets s.mark s.mark (versions s.buckets s.bucket) (versions s.buckets (stored s.buckets s.bucket r vs)) s.visits (omega arith)
+          (stays_stored s.mark s.buckets s.bucket r vs (stays_reclaimed s.mark s.mark kind r.table (s.pass p) held (h.contents_are_ordered.ordered r))) h.visits_stay in
+          visits_changed s.passes s.buckets s.mark (versions s.buckets (stored s.buckets s.bucket r vs)) s.visits p (removing kind (length held - length vs) (s.visits p)) less
+          (removing_each s.buckets s.mark (bucket_of s.buckets r) (length held - length vs) (versions s.buckets (stored s.buckets s.bucket r vs)) kind (s.visits p) may.here (later.each p)) later;
       contents_are_ordered = record {
         ordered = at_record s.buckets s.bucket r vs (λ q c. IsOrdered s.mark c) shape.0 (λ q other. h.contents_are_ordered.ordered q);
-        backed = at_record s.buckets s.bucket r vs (λ q c. IsBacked s.mark s.history q c) (backed_reclaimed s.mark s.history r kind (s.pass p) held (h.contents_are_ordered.backed r)) (λ q other. h.contents_are_ordered.backed q);
+        backed = at_record s.buckets s.bucket r vs (λ q c. IsBacked s.mark s.history q c)
+            (backed_reclaimed s.mark s.history r kind (s.pass p) held (h.contents_are_ordered.backed r)) (λ q other. h.contents_are_ordered.backed q);
       };
       records_bound_sessions = h.records_bound_sessions;
       open_writes_may_commit = h.open_writes_may_commit;

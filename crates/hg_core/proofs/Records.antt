@@ -29,7 +29,8 @@ look_store q r [] [] = either (same_rid q r) []
 look_store q r (v ∷ vs) [] = refl
 look_store q r vs (e ∷ es) = go (same_rid r e.0) refl (look_store q r vs es)
   where
-    go : (b : Bool) → same_rid r e.0 ≡ b → look q (store r vs es) ≡ (if same_rid q r then vs else look q es) → look q (if b then (r, vs) ∷ es else e ∷ store r vs es) ≡ (if same_rid q r then vs else look q (e ∷ es))
+    go : (b : Bool) → same_rid r e.0 ≡ b → look q (store r vs es) ≡ (if same_rid q r then vs else look q es) →
+        look q (if b then (r, vs) ∷ es else e ∷ store r vs es) ≡ (if same_rid q r then vs else look q (e ∷ es))
     go true t ih = let same : r ≡ e.0 = same_rid_equal r e.0 t in merge (same_rid q r) (same_rid q e.0) (ap (same_rid q) same) (look q es)
       where
         merge : (a b : Bool) → a ≡ b → (rest : List Version) → (if a then vs else rest) ≡ (if a then vs else (if b then e.1 else rest))
@@ -42,10 +43,12 @@ look_store q r vs (e ∷ es) = go (same_rid r e.0) refl (look_store q r vs es)
         split false p = ih
 
 -- what holds of r with the new versions, and of others with their own, holds of all afterwards
-pub at_record : (buckets : ℕ) (bucket : ℕ → Content) (r : Rid) (vs : List Version) (Q : Rid → List Version → Type 0) → Q r vs → ((q : Rid) → same_rid r q ≡ false → Q q (versions buckets bucket q)) → (q : Rid) → Q q (versions buckets (stored buckets bucket r vs) q)
+pub at_record : (buckets : ℕ) (bucket : ℕ → Content) (r : Rid) (vs : List Version) (Q : Rid → List Version → Type 0) → Q r vs →
+    ((q : Rid) → same_rid r q ≡ false → Q q (versions buckets bucket q)) → (q : Rid) → Q q (versions buckets (stored buckets bucket r vs) q)
 at_record buckets bucket r vs Q here there q = go (bucket_of buckets q == bucket_of buckets r) refl (same_rid q r) refl
   where
-    go : (b : Bool) → (bucket_of buckets q == bucket_of buckets r) ≡ b → (c : Bool) → same_rid q r ≡ c → Q q (look q (if b then store r vs (bucket (bucket_of buckets r)) else bucket (bucket_of buckets q)))
+    go : (b : Bool) → (bucket_of buckets q == bucket_of buckets r) ≡ b → (c : Bool) → same_rid q r ≡ c →
+        Q q (look q (if b then store r vs (bucket (bucket_of buckets r)) else bucket (bucket_of buckets q)))
     go true e true t = let same : r ≡ q = sym (same_rid_equal q r t) in rw (look_store q r vs (bucket (bucket_of buckets r)), t) (subst (λ x. Q x vs) same here)
     go true e false t =
         let at : bucket_of buckets q ≡ bucket_of buckets r = grind (arith, nat_tests) in

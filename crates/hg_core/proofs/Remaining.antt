@@ -74,7 +74,8 @@ unfolding sum_over
 over_one k n [] h = refl
 over_one k n (r ∷ rs) h = go (same_rid r k) refl (same_rid k r) refl (over_one k n rs h.1)
   where
-    go : (b : Bool) → same_rid r k ≡ b → (c : Bool) → same_rid k r ≡ c → sum_over (λ r. if same_rid r k then n else 0) rs ≡ (if is_among k rs then n else 0) → (if b then n else 0) + sum_over (λ r. if same_rid r k then n else 0) rs ≡ (if (c || is_among k rs) then n else 0)
+    go : (b : Bool) → same_rid r k ≡ b → (c : Bool) → same_rid k r ≡ c → sum_over (λ r. if same_rid r k then n else 0) rs ≡ (if is_among k rs then n else 0) →
+        (if b then n else 0) + sum_over (λ r. if same_rid r k then n else 0) rs ≡ (if (c || is_among k rs) then n else 0)
     go true e true f ih = let none : sum_over (λ r. if same_rid r k then n else 0) rs ≡ 0 = ih ∙ ap (λ b. if b then n else 0) (not_among k r rs e h.0) in omega (arith, none)
     go true e false f ih = absurd (let z = same_rid_sym r k e in cc)
     go false e true f ih = absurd (let z = same_rid_sym k r f in cc)
@@ -82,10 +83,12 @@ over_one k n (r ∷ rs) h = go (same_rid r k) refl (same_rid k r) refl (over_one
 
 look_none : (r : Rid) (es : Content) → is_among r (map (λ (e : Rid × List Version). e.0) es) ≡ false → look r es ≡ []
 look_none r [] h = refl
-look_none r (e ∷ es) h = ap (λ b. if b then e.1 else look r es) (left_false (same_rid r e.0) (is_among r (map (λ (e : Rid × List Version). e.0) es)) h) ∙ look_none r es (right_false (same_rid r e.0) (is_among r (map (λ (e : Rid × List Version). e.0) es)) h)
+look_none r (e ∷ es) h = ap (λ b. if b then e.1 else look r es) (left_false (same_rid r e.0) (is_among r (map (λ (e : Rid × List Version). e.0) es)) h) ∙
+    look_none r es (right_false (same_rid r e.0) (is_among r (map (λ (e : Rid × List Version). e.0) es)) h)
 
 -- a content's versions, record by record
-content_total : (rs : List Rid) (es : Content) → NoneTwice rs → NoneTwice (map (λ (e : Rid × List Version). e.0) es) → ((r : Rid) → is_among r rs ≡ false → look r es ≡ []) → total es ≡ sum_over (λ r. length (look r es)) rs
+content_total : (rs : List Rid) (es : Content) → NoneTwice rs → NoneTwice (map (λ (e : Rid × List Version). e.0) es) → ((r : Rid) → is_among r rs ≡ false → look r es ≡ []) →
+    total es ≡ sum_over (λ r. length (look r es)) rs
 unfolding sum_over
 content_total rs [] once p out = sym (over_none (λ r. 0) rs (λ r. refl))
 content_total rs (e ∷ es) once p out =
@@ -95,7 +98,8 @@ content_total rs (e ∷ es) once p out =
     let rest : total es ≡ sum_over (λ r. length (look r es)) rs = content_total rs es once p.1 (λ r h. later r (same_rid r k) refl gone (out r h)) in
     let one : sum_over (λ r. if same_rid r k then length e.1 else 0) rs ≡ (if is_among k rs then length e.1 else 0) = over_one k (length e.1) rs once in
     let here : (if is_among k rs then length e.1 else 0) ≡ length e.1 = counted (is_among k rs) refl in
-    let split = over_same (λ r. length (look r (e ∷ es))) (λ r. (if same_rid r k then length e.1 else 0) + length (look r es)) rs parts ∙ over_add (λ r. if same_rid r k then length e.1 else 0) (λ r. length (look r es)) rs in
+    let split = over_same (λ r. length (look r (e ∷ es))) (λ r. (if same_rid r k then length e.1 else 0) + length (look r es)) rs parts ∙
+    over_add (λ r. if same_rid r k then length e.1 else 0) (λ r. length (look r es)) rs in
     omega (arith, split, rest, one, here)
   where
     by_test : (r : Rid) (t : Bool) → same_rid r e.0 ≡ t → look e.0 es ≡ [] → length (if t then e.1 else look r es) ≡ (if t then length e.1 else 0) + length (look r es)
@@ -140,7 +144,8 @@ pub without_it : (k : Rid) (rs : List Rid) → is_among k (filter (λ other. not
 without_it k [] = refl
 without_it k (r ∷ rs) = go (same_rid r k) refl (without_it k rs)
   where
-    go : (b : Bool) → same_rid r k ≡ b → is_among k (filter (λ other. not (same_rid other k)) rs) ≡ false → is_among k (cond (not b) (r ∷ filter (λ other. not (same_rid other k)) rs) (filter (λ other. not (same_rid other k)) rs)) ≡ false
+    go : (b : Bool) → same_rid r k ≡ b → is_among k (filter (λ other. not (same_rid other k)) rs) ≡ false →
+        is_among k (cond (not b) (r ∷ filter (λ other. not (same_rid other k)) rs) (filter (λ other. not (same_rid other k)) rs)) ≡ false
     go true e ih = ih
     go false e ih = ap (λ b. b || is_among k (filter (λ other. not (same_rid other k)) rs)) (same_rid_not r k e) ∙ ih
 
@@ -153,7 +158,8 @@ left_out : (k r : Rid) (rs : List Rid) → same_rid k r ≡ false → is_among k
 left_out k r [] e h = refl
 left_out k r (x ∷ xs) e h = go (same_rid x r) refl h (left_out k r xs e)
   where
-    go : (b : Bool) → same_rid x r ≡ b → is_among k (cond (not b) (x ∷ filter (λ other. not (same_rid other r)) xs) (filter (λ other. not (same_rid other r)) xs)) ≡ false → (is_among k (filter (λ other. not (same_rid other r)) xs) ≡ false → is_among k xs ≡ false) → (same_rid k x || is_among k xs) ≡ false
+    go : (b : Bool) → same_rid x r ≡ b → is_among k (cond (not b) (x ∷ filter (λ other. not (same_rid other r)) xs) (filter (λ other. not (same_rid other r)) xs)) ≡ false →
+        (is_among k (filter (λ other. not (same_rid other r)) xs) ≡ false → is_among k xs ≡ false) → (same_rid k x || is_among k xs) ≡ false
     go true q h ih = other (same_rid k x) refl (ih h)
       where
         other : (c : Bool) → same_rid k x ≡ c → is_among k xs ≡ false → (c || is_among k xs) ≡ false
@@ -173,7 +179,8 @@ unfolding sum_over
 filter_both p q [] = refl
 filter_both p q (r ∷ rs) = go (q r) (p r) refl (filter_both p q rs)
   where
-    go : (a b : Bool) → p r ≡ b → length (filter p (filter q rs)) ≡ sum_over (λ r. if q r then one_if (p r) else 0) rs → length (filter p (cond a (r ∷ filter q rs) (filter q rs))) ≡ (if a then one_if b else 0) + sum_over (λ r. if q r then one_if (p r) else 0) rs
+    go : (a b : Bool) → p r ≡ b → length (filter p (filter q rs)) ≡ sum_over (λ r. if q r then one_if (p r) else 0) rs →
+        length (filter p (cond a (r ∷ filter q rs) (filter q rs))) ≡ (if a then one_if b else 0) + sum_over (λ r. if q r then one_if (p r) else 0) rs
     go true true e later = rw e (omega (arith, later))
     go true false e later = rw e (omega (arith, later))
     go false b e later = omega (arith, later)
@@ -211,11 +218,13 @@ length_none : (vs : List Version) → length vs ≡ 0 → vs ≡ []
 length_none [] e = refl
 length_none (v ∷ vs) e = absurd (omega (arith, e))
 
-pub rows_left : (s : CoreState) → IsSteady s → (b : ℕ) → ((r : Rid) → bucket_of s.buckets r ≡ b → (unpublished s.mark (versions s.buckets s.bucket r) ≡ None) × IsCutAt s.mark (versions s.buckets s.bucket r)) → total (s.bucket b) ≡ length (filter (is_of s.buckets b) (live s.history))
+pub rows_left : (s : CoreState) → IsSteady s → (b : ℕ) → ((r : Rid) → bucket_of s.buckets r ≡ b → (unpublished s.mark (versions s.buckets s.bucket r) ≡ None) ×
+    IsCutAt s.mark (versions s.buckets s.bucket r)) → total (s.bucket b) ≡ length (filter (is_of s.buckets b) (live s.history))
 rows_left s h b cut =
     let rs : List Rid = once (flat_map group_rids s.history) in
     let q : Rid → Bool = λ r. is_some (visible s.history r (length s.history)).row in
-    content_total rs (s.bucket b) (once_once (flat_map group_rids s.history)) (h.contents_are_placed b).once (λ r e. none r (not_once r (flat_map group_rids s.history) e) (bucket_of s.buckets r == b) refl)
+    content_total rs (s.bucket b) (once_once (flat_map group_rids s.history)) (h.contents_are_placed b).once
+    (λ r e. none r (not_once r (flat_map group_rids s.history) e) (bucket_of s.buckets r == b) refl)
     ∙ over_same (λ r. length (look r (s.bucket b))) (λ r. if q r then one_if (is_of s.buckets b r) else 0) rs (λ r. each r (bucket_of s.buckets r == b) refl)
     ∙ sym (filter_both (is_of s.buckets b) q rs)
   where
@@ -226,13 +235,16 @@ rows_left s h b cut =
         let now : length (versions s.buckets s.bucket r) ≡ one_if (is_some (visible s.history r s.mark).row) = live_left s h r was.0 was.1 in
         sym (ap (λ c. length (look r (s.bucket c))) at) ∙ now ∙ ap (λ n. one_if (is_some (visible s.history r n).row)) h.mark_is_length.is_length
 
-    each : (r : Rid) (t : Bool) → (bucket_of s.buckets r == b) ≡ t → length (look r (s.bucket b)) ≡ (if is_some (visible s.history r (length s.history)).row then one_if (bucket_of s.buckets r == b) else 0)
+    each : (r : Rid) (t : Bool) → (bucket_of s.buckets r == b) ≡ t →
+        length (look r (s.bucket b)) ≡ (if is_some (visible s.history r (length s.history)).row then one_if (bucket_of s.buckets r == b) else 0)
     each r true e = mine r ((Decides-eqb (bucket_of s.buckets r) b).0 e) ∙ both (is_some (visible s.history r (length s.history)).row) (bucket_of s.buckets r == b) e
       where
         both : (x t : Bool) → t ≡ true → one_if x ≡ (if x then one_if t else 0)
         both true t e = sym (ap one_if e)
         both false t e = refl
-    each r false e = ap length (placed_other s.buckets b r (s.bucket b) (h.contents_are_placed b).bucket (λ at. let z : (bucket_of s.buckets r == b) ≡ true = (Decides-eqb (bucket_of s.buckets r) b).1 at in cc)) ∙ neither (is_some (visible s.history r (length s.history)).row) (bucket_of s.buckets r == b) e
+    each r false e = ap length (placed_other s.buckets b r (s.bucket b) (h.contents_are_placed b).bucket
+        (λ at. let z : (bucket_of s.buckets r == b) ≡ true = (Decides-eqb (bucket_of s.buckets r) b).1 at in cc)) ∙
+        neither (is_some (visible s.history r (length s.history)).row) (bucket_of s.buckets r == b) e
       where
         neither : (x t : Bool) → t ≡ false → 0 ≡ (if x then one_if t else 0)
         neither true t e = sym (ap one_if e)

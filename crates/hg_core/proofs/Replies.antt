@@ -56,7 +56,8 @@ pub read_other : (mark at : ℕ) (w : Writer) (vs : List Version) → ((i : Imag
 read_other mark at w [] other = refl
 read_other mark at w (v ∷ vs) other = go v.stamp other
   where
-    go : (x : Stamp) → ((i : Image) → unpublished_by mark x v.image ≡ Some (w, i) → ⊥) → read_by w at (record { stamp = x; image = v.image } ∷ vs) ≡ image_of (newest_at at (record { stamp = x; image = v.image } ∷ vs))
+    go : (x : Stamp) → ((i : Image) → unpublished_by mark x v.image ≡ Some (w, i) → ⊥) →
+        read_by w at (record { stamp = x; image = v.image } ∷ vs) ≡ image_of (newest_at at (record { stamp = x; image = v.image } ∷ vs))
     go (Written by) other = by_writer (same_writer by w) refl
       where
         by_writer : (b : Bool) → same_writer by w ≡ b → (if b then v.image else image_of (newest_at at vs)) ≡ image_of (newest_at at vs)
@@ -67,14 +68,17 @@ read_other mark at w (v ∷ vs) other = go v.stamp other
 
 -- ---- the newest version is of the history
 
-pub backed_newest : (mark n : ℕ) (h : History) (r : Rid) (p : ℕ × Image) (vs : List Version) → n ≤ mark → IsBacked mark h r vs → newest_at n vs ≡ Some p → (p.0 ≤ n) × (group_image r (group_at h p.0) ≡ Some p.1)
+pub backed_newest : (mark n : ℕ) (h : History) (r : Rid) (p : ℕ × Image) (vs : List Version) → n ≤ mark → IsBacked mark h r vs → newest_at n vs ≡ Some p → (p.0 ≤ n) ×
+    (group_image r (group_at h p.0) ≡ Some p.1)
 backed_newest mark n h r p [] le b e = cc
-backed_newest mark n h r p (v ∷ vs) le b e = go (stamp_number v.stamp) (image_backed mark h r v.stamp v.image b.0) (sym (pair_if (is_up_to n (stamp_number v.stamp)) v (first_at n vs)) ∙ e) (λ k. backed_newest mark n h r p vs le b.1 k)
+backed_newest mark n h r p (v ∷ vs) le b e = go (stamp_number v.stamp) (image_backed mark h r v.stamp v.image b.0)
+    (sym (pair_if (is_up_to n (stamp_number v.stamp)) v (first_at n vs)) ∙ e) (λ k. backed_newest mark n h r p vs le b.1 k)
   where
     same : (x y : ℕ × Image) → Some x ≡ Some y → x ≡ y
     same x y e = cc
 
-    go : (x : Option ℕ) → ((k : ℕ) → x ≡ Some k → k ≤ mark → group_image r (group_at h k) ≡ Some v.image) → (if is_up_to n x then paired x v.image else newest_at n vs) ≡ Some p → (newest_at n vs ≡ Some p → (p.0 ≤ n) × (group_image r (group_at h p.0) ≡ Some p.1)) → (p.0 ≤ n) × (group_image r (group_at h p.0) ≡ Some p.1)
+    go : (x : Option ℕ) → ((k : ℕ) → x ≡ Some k → k ≤ mark → group_image r (group_at h k) ≡ Some v.image) → (if is_up_to n x then paired x v.image else newest_at n vs) ≡ Some p →
+        (newest_at n vs ≡ Some p → (p.0 ≤ n) × (group_image r (group_at h p.0) ≡ Some p.1)) → (p.0 ≤ n) × (group_image r (group_at h p.0) ≡ Some p.1)
     go None f e later = later e
     go (Some k) f e later = by_test (nat_le k n) refl e
       where
@@ -88,14 +92,17 @@ pub group_does : (first : ℕ) (h : History) (r : Rid) (n : ℕ) (i : Image) →
 group_does first [] r n i e = cc
 group_does first (g ∷ gs) r n i e = go (first == n) refl e (λ k. group_does (suc first) gs r n i k)
   where
-    later_too : (o : Option Image) → list_any (λ (w : ℕ × Image). w.0 == n) (writes_from (suc first) gs r) ≡ true → list_any (λ (w : ℕ × Image). w.0 == n) (cons_option (option_map (λ image. (first, image)) o) (writes_from (suc first) gs r)) ≡ true
+    later_too : (o : Option Image) → list_any (λ (w : ℕ × Image). w.0 == n) (writes_from (suc first) gs r) ≡ true →
+        list_any (λ (w : ℕ × Image). w.0 == n) (cons_option (option_map (λ image. (first, image)) o) (writes_from (suc first) gs r)) ≡ true
     later_too None q = q
     later_too (Some a) q = or_right (first == n) (list_any (λ (w : ℕ × Image). w.0 == n) (writes_from (suc first) gs r)) q
       where
         or_right : (a b : Bool) → b ≡ true → (a || b) ≡ true
         or_right a b q = grind arith
 
-    go : (b : Bool) → (first == n) ≡ b → group_image r (cond b g (group_from (suc first) gs n)) ≡ Some i → (group_image r (group_from (suc first) gs n) ≡ Some i → list_any (λ (w : ℕ × Image). w.0 == n) (writes_from (suc first) gs r) ≡ true) → list_any (λ (w : ℕ × Image). w.0 == n) (writes_from first (g ∷ gs) r) ≡ true
+    go : (b : Bool) → (first == n) ≡ b → group_image r (cond b g (group_from (suc first) gs n)) ≡ Some i →
+        (group_image r (group_from (suc first) gs n) ≡ Some i → list_any (λ (w : ℕ × Image). w.0 == n) (writes_from (suc first) gs r) ≡ true) →
+        list_any (λ (w : ℕ × Image). w.0 == n) (writes_from first (g ∷ gs) r) ≡ true
     go true q e later = rw e (ap (λ b. b || list_any (λ (w : ℕ × Image). w.0 == n) (writes_from (suc first) gs r)) q)
     go false q e later = later_too (group_image r g) (later e)
 
@@ -129,7 +136,8 @@ pub record IsOpenIn (r : Rid) (log : List LogEntry) : Type 0 where
   pub does : IsSome (image_in r (writes_in (begans log) log))
   pub unnumbered : numbers_in (begans log) log ≡ []
 
-pub open_is : (buckets : ℕ) (h : History) (logs : ℕ → List LogEntry) (j : ℕ) (r : Rid) (i : Image) (log : List LogEntry) → AreReplied buckets h logs j log → IsSome (current log) → open_in r log ≡ Some i → IsOpenIn r log
+pub open_is : (buckets : ℕ) (h : History) (logs : ℕ → List LogEntry) (j : ℕ) (r : Rid) (i : Image) (log : List LogEntry) → AreReplied buckets h logs j log → IsSome (current log) →
+    open_in r log ≡ Some i → IsOpenIn r log
 open_is buckets h logs j r i [] a s e = cc
 open_is buckets h logs j r i (Began at scope ∷ log) a s e = cc
 open_is buckets h logs j r i (Over ∷ log) a s e = cc
@@ -176,13 +184,16 @@ both : {X : Type 0} (o : Option X) (P Q R : X → Type 0) → ((x : X) → P x �
 both None P Q R f p q = tt
 both (Some x) P Q R f p q = f x p q
 
-refuses_more : (h : History) (log log' : ℕ → List LogEntry) (j at : ℕ) (r : Rid) (answer : Answer) → GrewOn (length h) log log' → at ≤ length h → Refuses h log j at r answer → Refuses h log' j at r answer
+refuses_more : (h : History) (log log' : ℕ → List LogEntry) (j at : ℕ) (r : Rid) (answer : Answer) → GrewOn (length h) log log' → at ≤ length h → Refuses h log j at r answer →
+    Refuses h log' j at r answer
 refuses_more h log log' j at r (Newer c) g le q = q
 refuses_more h log log' j at r (OpenBy w) g le q = record { other = q.other; does = g.writes w.session w.transaction r q.does; after = g.numbers w.session w.transaction at le q.after }
 refuses_more h log log' j at r _ g le q = absurd q
 
-replied_more : (buckets : ℕ) (h : History) (log log' : ℕ → List LogEntry) (j : ℕ) (e : LogEntry) (earlier : List LogEntry) → GrewOn (length h) log log' → UpTo (length h) earlier → IsReplied buckets h log j e earlier → IsReplied buckets h log' j e earlier
-replied_more buckets h log log' j (Refused r answer) earlier g u q = both (current earlier) _ _ _ (λ snapshot le a. (a.0, (a.1.0, refuses_more h log log' j snapshot.at r answer g le a.1.1))) (current_within (length h) earlier u) q
+replied_more : (buckets : ℕ) (h : History) (log log' : ℕ → List LogEntry) (j : ℕ) (e : LogEntry) (earlier : List LogEntry) → GrewOn (length h) log log' → UpTo (length h) earlier →
+    IsReplied buckets h log j e earlier → IsReplied buckets h log' j e earlier
+replied_more buckets h log log' j (Refused r answer) earlier g u q = both (current earlier) _ _ _
+    (λ snapshot le a. (a.0, (a.1.0, refuses_more h log log' j snapshot.at r answer g le a.1.1))) (current_within (length h) earlier u) q
 replied_more buckets h log log' j (Saw t low high b rows) earlier g u q = q
 replied_more buckets h log log' j (Began at scope) earlier g u q = q
 replied_more buckets h log log' j (Outside t) earlier g u q = q
@@ -201,12 +212,14 @@ up_earlier n (Wrote r image) log u = u
 up_earlier n (Undid r) log u = u
 up_earlier n Over log u = u
 
-pub all_more : (buckets : ℕ) (h : History) (log log' : ℕ → List LogEntry) (j : ℕ) (l : List LogEntry) → GrewOn (length h) log log' → UpTo (length h) l → AreReplied buckets h log j l → AreReplied buckets h log' j l
+pub all_more : (buckets : ℕ) (h : History) (log log' : ℕ → List LogEntry) (j : ℕ) (l : List LogEntry) → GrewOn (length h) log log' → UpTo (length h) l →
+    AreReplied buckets h log j l → AreReplied buckets h log' j l
 all_more buckets h log log' j [] g u a = tt
 all_more buckets h log log' j (e ∷ l) g u a = (replied_more buckets h log log' j e l g (up_earlier (length h) e l u) a.0, all_more buckets h log log' j l g (up_earlier (length h) e l u) a.1)
 
 -- a group more
-refuses_longer : (h : History) (group : Group) (log : ℕ → List LogEntry) (j at : ℕ) (r : Rid) (answer : Answer) → length h ≤ length (h ++ group ∷ []) → Refuses h log j at r answer → Refuses (h ++ group ∷ []) log j at r answer
+refuses_longer : (h : History) (group : Group) (log : ℕ → List LogEntry) (j at : ℕ) (r : Rid) (answer : Answer) → length h ≤ length (h ++ group ∷ []) →
+    Refuses h log j at r answer → Refuses (h ++ group ∷ []) log j at r answer
 refuses_longer h group log j at r (Newer c) more q = record {
   over = q.over;
   within = (let w = q.within in omega arith);
@@ -215,9 +228,12 @@ refuses_longer h group log j at r (Newer c) more q = record {
 refuses_longer h group log j at r (OpenBy w) more q = record { other = q.other; does = q.does; after = q.after }
 refuses_longer h group log j at r _ more q = absurd q
 
-replied_longer : (buckets : ℕ) (h : History) (group : Group) (log : ℕ → List LogEntry) (j : ℕ) (e : LogEntry) (earlier : List LogEntry) → length h ≤ length (h ++ group ∷ []) → UpTo (length h) earlier → IsReplied buckets h log j e earlier → IsReplied buckets (h ++ group ∷ []) log j e earlier
-replied_longer buckets h group log j (Refused r answer) earlier more u q = both (current earlier) _ _ _ (λ snapshot le a. (a.0, (a.1.0, refuses_longer h group log j snapshot.at r answer more a.1.1))) (current_within (length h) earlier u) q
-replied_longer buckets h group log j (Saw t low high b rows) earlier more u q = both (current earlier) _ _ _ (λ snapshot le a. (a.0, subst (λ f. AreRows (in_bucket buckets b t f) low high rows) (sym (seen_stays h group (own_writes earlier) snapshot.at le)) a.1)) (current_within (length h) earlier u) q
+replied_longer : (buckets : ℕ) (h : History) (group : Group) (log : ℕ → List LogEntry) (j : ℕ) (e : LogEntry) (earlier : List LogEntry) → length h ≤ length (h ++ group ∷ []) →
+    UpTo (length h) earlier → IsReplied buckets h log j e earlier → IsReplied buckets (h ++ group ∷ []) log j e earlier
+replied_longer buckets h group log j (Refused r answer) earlier more u q = both (current earlier) _ _ _
+    (λ snapshot le a. (a.0, (a.1.0, refuses_longer h group log j snapshot.at r answer more a.1.1))) (current_within (length h) earlier u) q
+replied_longer buckets h group log j (Saw t low high b rows) earlier more u q = both (current earlier) _ _ _
+    (λ snapshot le a. (a.0, subst (λ f. AreRows (in_bucket buckets b t f) low high rows) (sym (seen_stays h group (own_writes earlier) snapshot.at le)) a.1)) (current_within (length h) earlier u) q
 replied_longer buckets h group log j (Began at scope) earlier more u q = q
 replied_longer buckets h group log j (Outside t) earlier more u q = q
 replied_longer buckets h group log j (Wrote r image) earlier more u q = q
@@ -225,9 +241,14 @@ replied_longer buckets h group log j (Undid r) earlier more u q = q
 replied_longer buckets h group log j (Published n) earlier more u q = q
 replied_longer buckets h group log j Over earlier more u q = q
 
-pub all_longer : (buckets : ℕ) (h : History) (group : Group) (log : ℕ → List LogEntry) (j : ℕ) (l : List LogEntry) → length h ≤ length (h ++ group ∷ []) → UpTo (length h) l → AreReplied buckets h log j l → AreReplied buckets (h ++ group ∷ []) log j l
+pub all_longer : (buckets : ℕ) (h : History) (group : Group) (log : ℕ → List LogEntry) (j : ℕ) (l : List LogEntry) → length h ≤ length (h ++ group ∷ []) → UpTo (length h) l →
+    AreReplied buckets h log j l → AreReplied buckets (h ++ group ∷ []) log j l
 all_longer buckets h group log j [] more u a = tt
-all_longer buckets h group log j (e ∷ l) more u a = (replied_longer buckets h group log j e l more (up_earlier (length h) e l u) a.0, all_longer buckets h group log j l more (up_earlier (length h) e l u) a.1)
+all_longer buckets h group log j (e ∷ l) more u a = (
+  replied_longer buckets h group log j e l more (up_earlier (length h) e l u) a.0,
+  all_longer buckets h group log j l more
+      (up_earlier (length h) e l u) a.1,
+)
 
 -- ---- one entry more, and a group more
 
@@ -266,11 +287,14 @@ numbers_entry Over log x no_one = refl
 
 grew_entry : (mark : ℕ) (log : ℕ → List LogEntry) (j : ℕ) (e : LogEntry) → IsNoNumber e → GrewOn mark log (put log j (e ∷ log j))
 grew_entry mark log j e no_one = record {
-  writes = by_number j (λ k b. (x : ℕ) (r : Rid) → IsSome (image_in r (writes_in x (log k))) → IsSome (image_in r (writes_in x (if b then e ∷ log j else log k)))) (λ x r s. writes_entry e (log j) x r s) (λ k other x r s. s);
-  numbers = by_number j (λ k b. (x at : ℕ) → at ≤ mark → Each (λ c. at < c) (numbers_in x (log k)) → Each (λ c. at < c) (numbers_in x (if b then e ∷ log j else log k))) (λ x at le n. subst (Each (λ c. at < c)) (sym (numbers_entry e (log j) x no_one)) n) (λ k other x at le n. n);
+  writes = by_number j (λ k b. (x : ℕ) (r : Rid) → IsSome (image_in r (writes_in x (log k))) → IsSome (image_in r (writes_in x (if b then e ∷ log j else log k))))
+      (λ x r s. writes_entry e (log j) x r s) (λ k other x r s. s);
+  numbers = by_number j (λ k b. (x at : ℕ) → at ≤ mark → Each (λ c. at < c) (numbers_in x (log k)) → Each (λ c. at < c) (numbers_in x (if b then e ∷ log j else log k)))
+      (λ x at le n. subst (Each (λ c. at < c)) (sym (numbers_entry e (log j) x no_one)) n) (λ k other x at le n. n);
 }
 
-pub replies_entry : (buckets : ℕ) (h : History) (log : ℕ → List LogEntry) (j : ℕ) (e : LogEntry) → IsNoNumber e → ((k : ℕ) → UpTo (length h) (log k)) → IsReplied buckets h log j e (log j) → RepliesAnswer buckets h log → RepliesAnswer buckets h (put log j (e ∷ log j))
+pub replies_entry : (buckets : ℕ) (h : History) (log : ℕ → List LogEntry) (j : ℕ) (e : LogEntry) → IsNoNumber e → ((k : ℕ) → UpTo (length h) (log k)) →
+    IsReplied buckets h log j e (log j) → RepliesAnswer buckets h log → RepliesAnswer buckets h (put log j (e ∷ log j))
 replies_entry buckets h log j e no_one up now a = by_number j (λ k b. AreReplied buckets h (put log j (e ∷ log j)) k (if b then e ∷ log j else log k))
     (replied_more buckets h log (put log j (e ∷ log j)) j e (log j) grew (up j) now, all_more buckets h log (put log j (e ∷ log j)) j (log j) grew (up j) (a j))
     (λ k other. all_more buckets h log (put log j (e ∷ log j)) k (log k) grew (up k) (a k))
@@ -278,7 +302,8 @@ replies_entry buckets h log j e no_one up now a = by_number j (λ k b. AreReplie
     grew : GrewOn (length h) log (put log j (e ∷ log j))
     grew = grew_entry (length h) log j e no_one
 
-pub replies_published : (buckets : ℕ) (h : History) (group : Group) (log : ℕ → List LogEntry) (js : List ℕ) → ((k : ℕ) → UpTo (length h) (log k)) → RepliesAnswer buckets h log → RepliesAnswer buckets (h ++ group ∷ []) (published_logs log js (suc (length h)))
+pub replies_published : (buckets : ℕ) (h : History) (group : Group) (log : ℕ → List LogEntry) (js : List ℕ) → ((k : ℕ) → UpTo (length h) (log k)) → RepliesAnswer buckets h log →
+    RepliesAnswer buckets (h ++ group ∷ []) (published_logs log js (suc (length h)))
 replies_published buckets h group log js up a j = go (is_in js j)
   where
     next : ℕ → List LogEntry

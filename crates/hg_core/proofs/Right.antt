@@ -26,7 +26,8 @@ use Rattle.hg_core.specs.declared.log.LogEntry.TheVariants.{Saw}
 use Rattle.hg_core.specs.Logs.{current, own_writes}
 use Rattle.hg_core.specs.Contents.{bucket_of, has_own}
 use Rattle.hg_core.specs.Replies.{in_bucket, AreReplied}
-use Rattle.hg_core.specs.Reading.{Unprinted, bucket_at, looks, saws, fetch_entries, Picks, IsFetchAnswer, get_entries, put_entries, del_entries, scan_entries, own_entries, is_access, IsReached, Joins, IsGetAnswer, IsDelAnswer, IsScanAnswer, FitsTable, FitsAnswer, FitsScope}
+use Rattle.hg_core.specs.Reading.{Unprinted, bucket_at, looks, saws, fetch_entries, Picks, IsFetchAnswer, get_entries, put_entries, del_entries, scan_entries, own_entries, is_access}
+use Rattle.hg_core.specs.Reading.{IsReached, Joins, IsGetAnswer, IsDelAnswer, IsScanAnswer, FitsTable, FitsAnswer, FitsScope}
 use Rattle.hg_core.proofs.OwnKeys.{reached, saws_keep}
 
 true_false : true ≡ false → ⊥
@@ -90,14 +91,16 @@ seen_nothing buckets r f a = go (a.every r.key (omega arith) (omega arith))
 
 -- ---- get, put and del
 
-pub get_right : (buckets : ℕ) (h : History) (logs : ℕ → List LogEntry) (j : ℕ) (r : Rid) (a : Answer) (l : List LogEntry) (c : Snapshot) → current l ≡ Some c → FitsTable r.table a (IsGetAnswer a) → AreReplied buckets h logs j (get_entries buckets r a ++ l) →
+pub get_right : (buckets : ℕ) (h : History) (logs : ℕ → List LogEntry) (j : ℕ) (r : Rid) (a : Answer) (l : List LogEntry) (c : Snapshot) → current l ≡ Some c →
+    FitsTable r.table a (IsGetAnswer a) → AreReplied buckets h logs j (get_entries buckets r a ++ l) →
     WithinScope c.scope r.table a (IsGot (seen h (own_writes l) c.at r) a)
 get_right buckets h logs j r (Found row) l c e f g = let k = of_some (current l) _ c e g.0 in within (has c.scope r.table) _ _ k.0 (seen_row buckets r (seen h (own_writes l) c.at) row k.1)
 get_right buckets h logs j r Nothing l c e f g = let k = of_some (current l) _ c e g.0 in within (has c.scope r.table) _ _ k.0 (seen_nothing buckets r (seen h (own_writes l) c.at) k.1)
 get_right buckets h logs j r (Undeclared t) l c e f g = undeclared c.scope t r.table (IsGot (seen h (own_writes l) c.at r) (Undeclared t)) (of_some (current l) _ c e g.0) f
 get_right buckets h logs j r _ l c e f g = absurd f
 
-pub put_right : (buckets : ℕ) (h : History) (logs : ℕ → List LogEntry) (j : ℕ) (r : Rid) (row : List Value) (a : Answer) (l : List LogEntry) (c : Snapshot) → current l ≡ Some c → FitsTable r.table a (IsPut a) → AreReplied buckets h logs j (put_entries r row a ++ l) →
+pub put_right : (buckets : ℕ) (h : History) (logs : ℕ → List LogEntry) (j : ℕ) (r : Rid) (row : List Value) (a : Answer) (l : List LogEntry) (c : Snapshot) → current l ≡ Some c →
+    FitsTable r.table a (IsPut a) → AreReplied buckets h logs j (put_entries r row a ++ l) →
     WithinScope c.scope r.table a (IsPut a)
 put_right buckets h logs j r row Stored l c e f g = within (has c.scope r.table) _ _ (of_some (current l) _ c e g.0.0) tt
 put_right buckets h logs j r row (Newer n) l c e f g = within (has c.scope r.table) _ _ (of_some (current l) _ c e g.0).0 tt
@@ -108,30 +111,38 @@ put_right buckets h logs j r row _ l c e f g = absurd f
 pub is_there : (o : Option (List Value)) (row : List Value) → o ≡ Some row → IsSome o
 is_there o row e = subst (λ p. IsSome p) (sym e) refl
 
-pub del_right : (buckets : ℕ) (h : History) (logs : ℕ → List LogEntry) (j : ℕ) (found : List Value) (r : Rid) (a : Answer) (l : List LogEntry) (c : Snapshot) → current l ≡ Some c → FitsTable r.table a (IsDelAnswer a) → AreReplied buckets h logs j (del_entries buckets found r a ++ l) →
+pub del_right : (buckets : ℕ) (h : History) (logs : ℕ → List LogEntry) (j : ℕ) (found : List Value) (r : Rid) (a : Answer) (l : List LogEntry) (c : Snapshot) → current l ≡ Some c →
+    FitsTable r.table a (IsDelAnswer a) → AreReplied buckets h logs j (del_entries buckets found r a ++ l) →
     WithinScope c.scope r.table a (IsDeleted (seen h (own_writes l) c.at r) a)
 del_right buckets h logs j found r Nothing l c e f g = let k = of_some (current l) _ c e g.0 in within (has c.scope r.table) _ _ k.0 (seen_nothing buckets r (seen h (own_writes l) c.at) k.1)
-del_right buckets h logs j found r Gone l c e f g = let k = of_some (current l) _ c e g.1.0 in within (has c.scope r.table) _ _ k.0 (is_there (seen h (own_writes l) c.at r).row found (seen_row buckets r (seen h (own_writes l) c.at) found k.1))
-del_right buckets h logs j found r (Newer n) l c e f g = let k = of_some (current l) _ c e g.1.0 in within (has c.scope r.table) _ _ k.0 (is_there (seen h (own_writes l) c.at r).row found (seen_row buckets r (seen h (own_writes l) c.at) found k.1))
-del_right buckets h logs j found r (OpenBy w) l c e f g = let k = of_some (current l) _ c e g.1.0 in within (has c.scope r.table) _ _ k.0 (is_there (seen h (own_writes l) c.at r).row found (seen_row buckets r (seen h (own_writes l) c.at) found k.1))
+del_right buckets h logs j found r Gone l c e f g = let k = of_some (current l) _ c e g.1.0 in
+    within (has c.scope r.table) _ _ k.0 (is_there (seen h (own_writes l) c.at r).row found (seen_row buckets r (seen h (own_writes l) c.at) found k.1))
+del_right buckets h logs j found r (Newer n) l c e f g = let k = of_some (current l) _ c e g.1.0 in
+    within (has c.scope r.table) _ _ k.0 (is_there (seen h (own_writes l) c.at r).row found (seen_row buckets r (seen h (own_writes l) c.at) found k.1))
+del_right buckets h logs j found r (OpenBy w) l c e f g = let k = of_some (current l) _ c e g.1.0 in
+    within (has c.scope r.table) _ _ k.0 (is_there (seen h (own_writes l) c.at r).row found (seen_row buckets r (seen h (own_writes l) c.at) found k.1))
 del_right buckets h logs j found r (Undeclared t) l c e f g = undeclared c.scope t r.table (IsDeleted (seen h (own_writes l) c.at r) (Undeclared t)) (of_some (current l) _ c e g.0) f
 del_right buckets h logs j found r _ l c e f g = absurd f
 
 -- ---- scan
 
 -- reads leave the open transaction and its writes as they are
-saws_same : (buckets : ℕ) (t : TableId) (low high : ℕ) (part : ℕ → List (ℕ × List Value)) (n : ℕ) (l : List LogEntry) → (current (saws buckets t low high part n ++ l) ≡ current l) × (own_writes (saws buckets t low high part n ++ l) ≡ own_writes l)
+saws_same : (buckets : ℕ) (t : TableId) (low high : ℕ) (part : ℕ → List (ℕ × List Value)) (n : ℕ) (l : List LogEntry) →
+    (current (saws buckets t low high part n ++ l) ≡ current l) × (own_writes (saws buckets t low high part n ++ l) ≡ own_writes l)
 saws_same buckets t low high part n l = saws_keep (λ m. (current m ≡ current l) × (own_writes m ≡ own_writes l)) buckets t low high part n l (λ b rows m same. same) (refl, refl)
 
 -- bucket b of a scan
 abbrev pub SawPart : ℕ → History → List Write → Snapshot → TableId → ℕ → ℕ → (ℕ → List (ℕ × List Value)) → ℕ → Type 0
 SawPart buckets h own c t low high part b = IsTrue (has c.scope t) × AreRows (in_bucket buckets b t (seen h own c.at)) low high (part b)
 
-pub saws_replied : (buckets : ℕ) (h : History) (logs : ℕ → List LogEntry) (j : ℕ) (t : TableId) (low high : ℕ) (part : ℕ → List (ℕ × List Value)) (n : ℕ) (l : List LogEntry) (c : Snapshot) → current l ≡ Some c → AreReplied buckets h logs j (saws buckets t low high part n ++ l) → (b : ℕ) → b < n → has_own buckets t low high b ≡ true → SawPart buckets h (own_writes l) c t low high part b
+pub saws_replied : (buckets : ℕ) (h : History) (logs : ℕ → List LogEntry) (j : ℕ) (t : TableId) (low high : ℕ) (part : ℕ → List (ℕ × List Value)) (n : ℕ) (l : List LogEntry)
+    (c : Snapshot) → current l ≡ Some c → AreReplied buckets h logs j (saws buckets t low high part n ++ l) → (b : ℕ) → b < n → has_own buckets t low high b ≡ true →
+    SawPart buckets h (own_writes l) c t low high part b
 saws_replied buckets h logs j t low high part zero l c e g b k has = absurd (omega (arith, k))
 saws_replied buckets h logs j t low high part (suc n) l c e g b k has =
     cases (b == n)
-    (λ same. let is : b ≡ n = (Decides-eqb b n).0 same in subst (SawPart buckets h (own_writes l) c t low high part) (sym is) (newest (has_own buckets t low high n) (ap (has_own buckets t low high) (sym is) ∙ has) g))
+    (λ same. let is : b ≡ n = (Decides-eqb b n).0 same in subst (SawPart buckets h (own_writes l) c t low high part) (sym is)
+    (newest (has_own buckets t low high n) (ap (has_own buckets t low high) (sym is) ∙ has) g))
     (λ other. saws_replied buckets h logs j t low high part n l c e (older (has_own buckets t low high n) g) b (below_else b n k other) has)
   where
     AreSeen : Bool → Type 0
@@ -161,11 +172,13 @@ any_contained p [] ys h e = absurd (let k : false ≡ true = e in cc)
 any_contained p (x ∷ xs) ys h e = cases (p x) (λ q. contains_any p x ys h.0 q) (λ q. any_contained p xs ys h.1 (sym (ap (λ b. b || list_any p xs) q) ∙ e))
 
 -- the rows of all parts are those of the range
-pub joined_rows : (buckets : ℕ) (t : TableId) (f : Rid → Image) (low high : ℕ) (part : ℕ → List (ℕ × List Value)) (rows : List (ℕ × List Value)) → ((r : Rid) → bucket_of buckets r < buckets) → Joins (IsReached buckets t low high) part rows → ((b : ℕ) → IsReached buckets t low high b → AreRows (in_bucket buckets b t f) low high (part b)) →
+pub joined_rows : (buckets : ℕ) (t : TableId) (f : Rid → Image) (low high : ℕ) (part : ℕ → List (ℕ × List Value)) (rows : List (ℕ × List Value)) →
+    ((r : Rid) → bucket_of buckets r < buckets) → Joins (IsReached buckets t low high) part rows → ((b : ℕ) → IsReached buckets t low high b → AreRows (in_bucket buckets b t f) low high (part b)) →
     AreRows (λ key. f (record { table = t; key = key })) low high rows
 joined_rows buckets t f low high part rows places joins parts = record {
   ascend = joins.ascend;
-  each = each_keeps (λ (p : ℕ × List Value). (b : ℕ) × IsReached buckets t low high b × Contains (part b) p) (λ (p : ℕ × List Value). (low ≤ p.0) × (p.0 ≤ high) × ((f (record { table = t; key = p.0 })).row ≡ Some p.1)) (λ p m. one p m.0 m.1 m.2) rows joins.each;
+  each = each_keeps (λ (p : ℕ × List Value). (b : ℕ) × IsReached buckets t low high b × Contains (part b) p) (λ (p : ℕ × List Value). (low ≤ p.0) × (p.0 ≤ high) ×
+      ((f (record { table = t; key = p.0 })).row ≡ Some p.1)) (λ p m. one p m.0 m.1 m.2) rows joins.each;
   every = λ key lo hi.
       let b = bucket_of buckets (record { table = t; key = key }) in
       let is : IsReached buckets t low high b = (places (record { table = t; key = key }), reached buckets t low high key lo hi) in
@@ -173,19 +186,25 @@ joined_rows buckets t f low high part rows places joins parts = record {
 }
   where
     one : (p : ℕ × List Value) (b : ℕ) → IsReached buckets t low high b → Contains (part b) p → (low ≤ p.0) × (p.0 ≤ high) × ((f (record { table = t; key = p.0 })).row ≡ Some p.1)
-    one p b k c = let q = each_at (λ (p : ℕ × List Value). (low ≤ p.0) × (p.0 ≤ high) × ((in_bucket buckets b t f p.0).row ≡ Some p.1)) (part b) p (parts b k).each c in (q.0, q.1, row_here buckets b t f p.0 p.1 q.2)
+    one p b k c = let q = each_at (λ (p : ℕ × List Value). (low ≤ p.0) × (p.0 ≤ high) × ((in_bucket buckets b t f p.0).row ≡ Some p.1)) (part b) p (parts b k).each c in
+        (q.0, q.1, row_here buckets b t f p.0 p.1 q.2)
 
     here : (key : ℕ) → (list_any (λ p. p.0 == key) (part (bucket_of buckets (record { table = t; key = key }))) ≡ true → list_any (λ p. p.0 == key) rows ≡ true) →
-        IsTrue (list_any (λ p. p.0 == key) (part (bucket_of buckets (record { table = t; key = key })))) ⊎ ((in_bucket buckets (bucket_of buckets (record { table = t; key = key })) t f key).row ≡ None) → IsTrue (list_any (λ p. p.0 == key) rows) ⊎ ((f (record { table = t; key = key })).row ≡ None)
+        IsTrue (list_any (λ p. p.0 == key) (part (bucket_of buckets (record { table = t; key = key })))) ⊎
+        ((in_bucket buckets (bucket_of buckets (record { table = t; key = key })) t f key).row ≡ None) →
+        IsTrue (list_any (λ p. p.0 == key) rows) ⊎ ((f (record { table = t; key = key })).row ≡ None)
     here key k (inl q) = inl (k q)
     here key k (inr q) = inr (ap (λ (i : Image). i.row) (sym (shown_here buckets (record { table = t; key = key }) f)) ∙ q)
 
-pub scan_right : (buckets : ℕ) (h : History) (logs : ℕ → List LogEntry) (j : ℕ) (part : ℕ → List (ℕ × List Value)) (t : TableId) (low high : ℕ) (a : Answer) (l : List LogEntry) (c : Snapshot) → ((r : Rid) → bucket_of buckets r < buckets) → current l ≡ Some c → FitsTable t a (IsScanAnswer (IsReached buckets t low high) part a) → FitsScope c.scope (Scan t low high) a → AreReplied buckets h logs j (scan_entries buckets part t low high a ++ l) →
+pub scan_right : (buckets : ℕ) (h : History) (logs : ℕ → List LogEntry) (j : ℕ) (part : ℕ → List (ℕ × List Value)) (t : TableId) (low high : ℕ) (a : Answer) (l : List LogEntry)
+    (c : Snapshot) → ((r : Rid) → bucket_of buckets r < buckets) → current l ≡ Some c → FitsTable t a (IsScanAnswer (IsReached buckets t low high) part a) →
+    FitsScope c.scope (Scan t low high) a → AreReplied buckets h logs j (scan_entries buckets part t low high a ++ l) →
     WithinScope c.scope t a (IsScanned (λ key. seen h (own_writes l) c.at (record { table = t; key = key })) low high a)
 scan_right buckets h logs j part t low high (Rows rows) l c places e f s g =
     let saw : (b : ℕ) → b < buckets → has_own buckets t low high b ≡ true → SawPart buckets h (own_writes l) c t low high part b = saws_replied buckets h logs j t low high part buckets l c e g in
     within (has c.scope t) _ _ s (joined_rows buckets t (seen h (own_writes l) c.at) low high part rows places f (λ b k. (saw b k.0 k.1).1))
-scan_right buckets h logs j part t low high (Undeclared other) l c places e f s g = undeclared c.scope other t (IsScanned (λ key. seen h (own_writes l) c.at (record { table = t; key = key })) low high (Undeclared other)) (of_some (current l) _ c e g.0) f
+scan_right buckets h logs j part t low high (Undeclared other) l c places e f s g = undeclared c.scope other t
+    (IsScanned (λ key. seen h (own_writes l) c.at (record { table = t; key = key })) low high (Undeclared other)) (of_some (current l) _ c e g.0) f
 scan_right buckets h logs j part t low high _ l c places e f s g = absurd f
 
 -- ---- fetch
@@ -201,11 +220,13 @@ any_found {X = X} p (x ∷ xs) e = cases (p x)
     behind : {y : X} → Contains xs y → Contains (x ∷ xs) y
     behind (k, l, e) = (suc k, omega (arith, l), e)
 
-looks_keep : (buckets : ℕ) (t : TableId) (low high : ℕ) (part : ℕ → List (ℕ × List Value)) (n : ℕ) (l : List LogEntry) → (current (looks buckets t low high part n ++ l) ≡ current l) × (own_writes (looks buckets t low high part n ++ l) ≡ own_writes l)
+looks_keep : (buckets : ℕ) (t : TableId) (low high : ℕ) (part : ℕ → List (ℕ × List Value)) (n : ℕ) (l : List LogEntry) →
+    (current (looks buckets t low high part n ++ l) ≡ current l) × (own_writes (looks buckets t low high part n ++ l) ≡ own_writes l)
 looks_keep buckets t low high part zero l = (refl, refl)
 looks_keep buckets t low high part (suc n) l = looks_keep buckets t low high part n l
 
-pub looks_replied : (buckets : ℕ) (h : History) (logs : ℕ → List LogEntry) (j : ℕ) (t : TableId) (low high : ℕ) (part : ℕ → List (ℕ × List Value)) (n : ℕ) (l : List LogEntry) (c : Snapshot) → current l ≡ Some c → AreReplied buckets h logs j (looks buckets t low high part n ++ l) → (i : ℕ) → i < n →
+pub looks_replied : (buckets : ℕ) (h : History) (logs : ℕ → List LogEntry) (j : ℕ) (t : TableId) (low high : ℕ) (part : ℕ → List (ℕ × List Value)) (n : ℕ) (l : List LogEntry)
+    (c : Snapshot) → current l ≡ Some c → AreReplied buckets h logs j (looks buckets t low high part n ++ l) → (i : ℕ) → i < n →
     AreRows (in_bucket buckets (bucket_at buckets t low i) t (seen h (own_writes l) c.at)) low high (part i)
 looks_replied buckets h logs j t low high part zero l c e g i k = absurd (omega (arith, k))
 looks_replied buckets h logs j t low high part (suc n) l c e g i k = cases (i == n)
@@ -213,30 +234,35 @@ looks_replied buckets h logs j t low high part (suc n) l c e g i k = cases (i ==
     let is : i ≡ n = (Decides-eqb i n).0 same in
     let kept = looks_keep buckets t low high part n l in
     subst (λ m. AreRows (in_bucket buckets (bucket_at buckets t low m) t (seen h (own_writes l) c.at)) low high (part m)) (sym is)
-    (subst (λ ws. AreRows (in_bucket buckets (bucket_at buckets t low n) t (seen h ws c.at)) low high (part n)) kept.1 (of_some (current (looks buckets t low high part n ++ l)) _ c (kept.0 ∙ e) g.0).1))
+    (subst (λ ws. AreRows (in_bucket buckets (bucket_at buckets t low n) t (seen h ws c.at)) low high (part n)) kept.1
+    (of_some (current (looks buckets t low high part n ++ l)) _ c (kept.0 ∙ e) g.0).1))
     (λ other. looks_replied buckets h logs j t low high part n l c e g.1 i (below other))
   where
     below : (i == n) ≡ false → i < n
     below other = grind (arith, nat_tests, other, k)
 
 -- the rows that are picked are the first of the range
-pub picked_rows : (buckets n : ℕ) (t : TableId) (f : Rid → Image) (low high looked : ℕ) (part : ℕ → List (ℕ × List Value)) (rows : List (ℕ × List Value)) → Picks buckets n t low high looked part rows → ((i : ℕ) → i < looked → AreRows (in_bucket buckets (bucket_at buckets t low i) t f) low high (part i)) →
+pub picked_rows : (buckets n : ℕ) (t : TableId) (f : Rid → Image) (low high looked : ℕ) (part : ℕ → List (ℕ × List Value)) (rows : List (ℕ × List Value)) →
+    Picks buckets n t low high looked part rows → ((i : ℕ) → i < looked → AreRows (in_bucket buckets (bucket_at buckets t low i) t f) low high (part i)) →
     AreFirst (λ key. f (record { table = t; key = key })) n low high rows
 picked_rows buckets n t f low high looked part rows picks parts = record {
   few = picks.few;
   within = picks.within;
   all = record {
     ascend = picks.ascend;
-    each = each_keeps (λ (p : ℕ × List Value). ((i : ℕ) × (i < looked) × Contains (part i) p) × (p.0 ≤ passed n high rows)) (λ (p : ℕ × List Value). (low ≤ p.0) × (p.0 ≤ passed n high rows) × ((f (record { table = t; key = p.0 })).row ≡ Some p.1)) (λ p m. one p m.0.0 m.0.1 m.0.2 m.1) rows picks.each;
+    each = each_keeps (λ (p : ℕ × List Value). ((i : ℕ) × (i < looked) × Contains (part i) p) × (p.0 ≤ passed n high rows)) (λ (p : ℕ × List Value). (low ≤ p.0) ×
+        (p.0 ≤ passed n high rows) × ((f (record { table = t; key = p.0 })).row ≡ Some p.1)) (λ p m. one p m.0.0 m.0.1 m.0.2 m.1) rows picks.each;
     every = λ key lo hi. let i = picks.none_left key lo hi in there key hi i.0 i.1 i.2 ((parts i.0 i.1).every key lo (let b = picks.within in omega (arith, hi, b)));
   };
 }
   where
     one : (p : ℕ × List Value) (i : ℕ) → i < looked → Contains (part i) p → p.0 ≤ passed n high rows → (low ≤ p.0) × (p.0 ≤ passed n high rows) × ((f (record { table = t; key = p.0 })).row ≡ Some p.1)
-    one p i k c m = let q = each_at (λ (p : ℕ × List Value). (low ≤ p.0) × (p.0 ≤ high) × ((in_bucket buckets (bucket_at buckets t low i) t f p.0).row ≡ Some p.1)) (part i) p (parts i k).each c in (q.0, m, row_here buckets (bucket_at buckets t low i) t f p.0 p.1 q.2)
+    one p i k c m = let q = each_at (λ (p : ℕ × List Value). (low ≤ p.0) × (p.0 ≤ high) × ((in_bucket buckets (bucket_at buckets t low i) t f p.0).row ≡ Some p.1)) (part i) p
+        (parts i k).each c in (q.0, m, row_here buckets (bucket_at buckets t low i) t f p.0 p.1 q.2)
 
     there : (key : ℕ) → key ≤ passed n high rows → (i : ℕ) → i < looked → bucket_of buckets (record { table = t; key = key }) ≡ bucket_at buckets t low i →
-        IsTrue (list_any (λ p. p.0 == key) (part i)) ⊎ ((in_bucket buckets (bucket_at buckets t low i) t f key).row ≡ None) → IsTrue (list_any (λ p. p.0 == key) rows) ⊎ ((f (record { table = t; key = key })).row ≡ None)
+        IsTrue (list_any (λ p. p.0 == key) (part i)) ⊎ ((in_bucket buckets (bucket_at buckets t low i) t f key).row ≡ None) →
+        IsTrue (list_any (λ p. p.0 == key) rows) ⊎ ((f (record { table = t; key = key })).row ≡ None)
     there key m i k own (inl q) =
         let x = any_found (λ (p : ℕ × List Value). p.0 == key) (part i) q in
         let is : x.0.0 ≡ key = (Decides-eqb x.0.0 key).0 x.2 in
@@ -245,18 +271,27 @@ picked_rows buckets n t f low high looked part rows picks parts = record {
         let here = subst (λ b. in_bucket buckets b t f key ≡ f (record { table = t; key = key })) own (shown_here buckets (record { table = t; key = key }) f) in
         inr (ap (λ (x : Image). x.row) (sym here) ∙ q)
 
-pub fetch_right : (buckets : ℕ) (h : History) (logs : ℕ → List LogEntry) (j n : ℕ) (rest : Option Rest) (part : ℕ → List (ℕ × List Value)) (looked : ℕ) (a : Answer) (l : List LogEntry) (c : Snapshot) → current l ≡ Some c → IsFetchAnswer buckets n rest part looked a → AreReplied buckets h logs j (fetch_entries buckets rest part looked a ++ l) →
+pub fetch_right : (buckets : ℕ) (h : History) (logs : ℕ → List LogEntry) (j n : ℕ) (rest : Option Rest) (part : ℕ → List (ℕ × List Value)) (looked : ℕ) (a : Answer)
+    (l : List LogEntry) (c : Snapshot) → current l ≡ Some c → IsFetchAnswer buckets n rest part looked a → AreReplied buckets h logs j (fetch_entries buckets rest part looked a ++ l) →
     IsFetched (seen h (own_writes l) c.at) n rest a
-fetch_right buckets h logs j n (Some rest) part looked (Rows rows) l c e f g = picked_rows buckets n rest.table (seen h (own_writes l) c.at) rest.low rest.high looked part rows f (looks_replied buckets h logs j rest.table rest.low rest.high part looked l c e g)
+fetch_right buckets h logs j n (Some rest) part looked (Rows rows) l c e f g = picked_rows buckets n rest.table (seen h (own_writes l) c.at) rest.low rest.high looked part rows f
+    (looks_replied buckets h logs j rest.table rest.low rest.high part looked l c e g)
 fetch_right buckets h logs j n (Some rest) part looked _ l c e f g = absurd f
 fetch_right buckets h logs j n None part looked a l c e f g = absurd f
 
 -- ---- any of them
 
-pub answer_right : (mode : Mode) (buckets : ℕ) (h : History) (logs : ℕ → List LogEntry) (wrote : Bool) (rest : Option Rest) (u : Unprinted) (j : ℕ) (own : List Write) (s : Statement) (now : Said) (l : List LogEntry) (c : Snapshot) → ((r : Rid) → bucket_of buckets r < buckets) → current l ≡ Some c → now.scope ≡ c.scope → IsTrue (is_access s) → FitsAnswer buckets u own s now.reply.answer → FitsScope c.scope s now.reply.answer → AreReplied buckets h logs j (own_entries buckets u s now.reply.answer ++ l) →
+pub answer_right : (mode : Mode) (buckets : ℕ) (h : History) (logs : ℕ → List LogEntry) (wrote : Bool) (rest : Option Rest) (u : Unprinted) (j : ℕ) (own : List Write)
+    (s : Statement) (now : Said) (l : List LogEntry) (c : Snapshot) → ((r : Rid) → bucket_of buckets r < buckets) → current l ≡ Some c → now.scope ≡ c.scope →
+    IsTrue (is_access s) → FitsAnswer buckets u own s now.reply.answer → FitsScope c.scope s now.reply.answer → AreReplied buckets h logs j (own_entries buckets u s now.reply.answer ++ l) →
     IsAnswer mode (seen h (own_writes l) c.at) wrote rest now s
-answer_right mode buckets h logs wrote rest u j own (Get r) now l c places e sc i f k g = subst (λ scope. WithinScope scope r.table now.reply.answer (IsGot (seen h (own_writes l) c.at r) now.reply.answer)) (sym sc) (get_right buckets h logs j r now.reply.answer l c e f g)
-answer_right mode buckets h logs wrote rest u j own (Put r row) now l c places e sc i f k g = subst (λ scope. WithinScope scope r.table now.reply.answer (IsPut now.reply.answer)) (sym sc) (put_right buckets h logs j r row now.reply.answer l c e f g)
-answer_right mode buckets h logs wrote rest u j own (Del r) now l c places e sc i f k g = subst (λ scope. WithinScope scope r.table now.reply.answer (IsDeleted (seen h (own_writes l) c.at r) now.reply.answer)) (sym sc) (del_right buckets h logs j u.found r now.reply.answer l c e f g)
-answer_right mode buckets h logs wrote rest u j own (Scan t low high) now l c places e sc i f k g = subst (λ scope. WithinScope scope t now.reply.answer (IsScanned (λ key. seen h (own_writes l) c.at (record { table = t; key = key })) low high now.reply.answer)) (sym sc) (scan_right buckets h logs j u.part t low high now.reply.answer l c places e f k g)
+answer_right mode buckets h logs wrote rest u j own (Get r) now l c places e sc i f k g = subst
+    (λ scope. WithinScope scope r.table now.reply.answer (IsGot (seen h (own_writes l) c.at r) now.reply.answer)) (sym sc) (get_right buckets h logs j r now.reply.answer l c e f g)
+answer_right mode buckets h logs wrote rest u j own (Put r row) now l c places e sc i f k g = subst (λ scope. WithinScope scope r.table now.reply.answer (IsPut now.reply.answer))
+    (sym sc) (put_right buckets h logs j r row now.reply.answer l c e f g)
+answer_right mode buckets h logs wrote rest u j own (Del r) now l c places e sc i f k g = subst
+    (λ scope. WithinScope scope r.table now.reply.answer (IsDeleted (seen h (own_writes l) c.at r) now.reply.answer)) (sym sc) (del_right buckets h logs j u.found r now.reply.answer l c e f g)
+answer_right mode buckets h logs wrote rest u j own (Scan t low high) now l c places e sc i f k g = subst
+    (λ scope. WithinScope scope t now.reply.answer (IsScanned (λ key. seen h (own_writes l) c.at (record { table = t; key = key })) low high now.reply.answer)) (sym sc)
+    (scan_right buckets h logs j u.part t low high now.reply.answer l c places e f k g)
 answer_right mode buckets h logs wrote rest u j own _ now l c places e sc i f k g = absurd (let z : false ≡ true = i in cc)

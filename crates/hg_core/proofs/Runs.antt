@@ -68,7 +68,17 @@ opened_steady sessions tables buckets passes quota = record {
   contents_are_ordered = record { ordered = λ r. tt; backed = λ r. tt };
   open_writes_stand = record { owned = λ r w i e. absurd (cc); owns = λ r j i e. absurd (cc) };
   stamped_is_next = record { exact = λ r w i e. absurd (cc); standing = λ j r e. absurd (cc) };
-  logs_answer = record { reads = λ j. refl; room = λ j. omega arith; written = λ j. omega arith; fixed = λ j. tt; within = λ j. tt; judged = λ j. tt; undone = λ j. tt; commits = λ n j. refl; named = λ n some last. absurd (omega arith) };
+  logs_answer = record {
+    reads = λ j. refl;
+    room = λ j. omega arith;
+    written = λ j. omega arith;
+    fixed = λ j. tt;
+    within = λ j. tt;
+    judged = λ j. tt;
+    undone = λ j. tt;
+    commits = λ n j. refl;
+    named = λ n some last. absurd (omega arith);
+  };
 }
 
 pub steady_after : Always IsSteady

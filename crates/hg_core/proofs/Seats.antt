@@ -21,7 +21,8 @@ use Rattle.hg_core.proofs.Visits.{visits_changed, visitor}
 use Rattle.hg_core.specs.Clean.{IsClean, IsCutAt}
 
 -- a pass whose visits are others, and removed the same
-with_visits : (s : CoreState) (p : ℕ) (vs : List Visit) → IsSteady s → p < s.passes → Each (IsVisit s.buckets s.mark (versions s.buckets s.bucket)) vs → ((kind : Kind) (b : ℕ) → removed_in kind b vs ≡ removed_in kind b (s.visits p)) → IsSteady (record s { visits = put s.visits p vs })
+with_visits : (s : CoreState) (p : ℕ) (vs : List Visit) → IsSteady s → p < s.passes → Each (IsVisit s.buckets s.mark (versions s.buckets s.bucket)) vs →
+    ((kind : Kind) (b : ℕ) → removed_in kind b vs ≡ removed_in kind b (s.visits p)) → IsSteady (record s { visits = put s.visits p vs })
 with_visits s p vs h less each same = record {
   mark_is_length = h.mark_is_length;
   registers_agree = h.registers_agree;
@@ -67,7 +68,8 @@ given_now buckets mark b bucket = record {
 }
 
 pub leave_kept : (s : CoreState) (p : ℕ) → IsSteady s → Can s (Leave p) → IsSteady (step s (Leave p))
-leave_kept s p h may = with_visits s p _ h (visitor s.passes s.buckets s.mark (versions s.buckets s.bucket) s.visits p may.0 may.1 h.visits_stay) (each (s.visits p) (h.visits_stay.each p)) (λ kind b. same kind b (s.visits p))
+leave_kept s p h may = with_visits s p _ h (visitor s.passes s.buckets s.mark (versions s.buckets s.bucket) s.visits p may.0 may.1 h.visits_stay)
+    (each (s.visits p) (h.visits_stay.each p)) (λ kind b. same kind b (s.visits p))
   where
     each : (vs : List Visit) → Each (IsVisit s.buckets s.mark (versions s.buckets s.bucket)) vs → Each (IsVisit s.buckets s.mark (versions s.buckets s.bucket)) (giving s.bucket vs)
     each [] e = tt
@@ -90,7 +92,9 @@ split_kept s p h may = record {
   stamped_is_next = h.stamped_is_next;
   contents_are_ordered = h.contents_are_ordered;
   contents_are_placed = h.contents_are_placed;
-  records_bound_sessions = by_number s.passes (λ q b. (j : ℕ) → IfSome (found j (if b then s.pass p else s.pass q).loaded) (λ loaded. Bounds (if b then s.pass p else s.pass q).mark loaded (s.phase j))) (h.records_bound_sessions p) (λ q other. h.records_bound_sessions q);
+  records_bound_sessions = by_number s.passes (λ q b. (j : ℕ) →
+      IfSome (found j (if b then s.pass p else s.pass q).loaded) (λ loaded. Bounds (if b then s.pass p else s.pass q).mark loaded (s.phase j))) (h.records_bound_sessions p)
+      (λ q other. h.records_bound_sessions q);
   open_writes_may_commit = h.open_writes_may_commit;
   history = h.history;
   no_update_is_lost = h.no_update_is_lost;
@@ -98,7 +102,8 @@ split_kept s p h may = record {
   replies_answer = h.replies_answer;
   records_reach_logs = record {
     known = by_number s.passes (λ q b. (j : ℕ) → (if b then s.pass p else s.pass q).known j ≤ length (s.log j)) (h.records_reach_logs.known p) (λ q other. h.records_reach_logs.known q);
-    stands = by_number s.passes (λ q b. (j : ℕ) → IfSome (found j (if b then s.pass p else s.pass q).loaded) (λ loaded. StandsIn ((if b then s.pass p else s.pass q).known j) loaded.register (s.log j) (s.phase j))) (h.records_reach_logs.stands p) (λ q other. h.records_reach_logs.stands q);
+    stands = by_number s.passes (λ q b. (j : ℕ) → IfSome (found j (if b then s.pass p else s.pass q).loaded)
+        (λ loaded. StandsIn ((if b then s.pass p else s.pass q).known j) loaded.register (s.log j) (s.phase j))) (h.records_reach_logs.stands p) (λ q other. h.records_reach_logs.stands q);
   };
   taken_at_most_mark = h.taken_at_most_mark;
   counters_balance = record {

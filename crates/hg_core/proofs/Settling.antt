@@ -71,7 +71,8 @@ first_alone v [] k = (refl, k)
 first_alone v (w ∷ vs) k = absurd k
 
 -- a published version at or below the mark, and what falls behind it
-one_left : (mark n : ℕ) (v : Version) (vs : List Version) → stamp_number v.stamp ≡ Some n → n ≤ mark → Falls n vs → IsCutAt mark (v ∷ vs) → length (v ∷ vs) ≡ one_if (is_some (image_of (newest_at mark (v ∷ vs))).row)
+one_left : (mark n : ℕ) (v : Version) (vs : List Version) → stamp_number v.stamp ≡ Some n → n ≤ mark → Falls n vs → IsCutAt mark (v ∷ vs) →
+    length (v ∷ vs) ≡ one_if (is_some (image_of (newest_at mark (v ∷ vs))).row)
 one_left mark n v vs e le f cut =
     let low : is_up_to mark (stamp_number v.stamp) ≡ true = rw e (let k : nat_le n mark ≡ true = grind (arith, nat_tests) in k) in
     let row = first_alone v (up_to mark vs) (subst (λ b. IsOneRow (cond b (v ∷ up_to mark vs) (up_to mark vs))) low cut) in
@@ -85,14 +86,18 @@ left_of_ordered : (mark : ℕ) (vs : List Version) → IsOrdered mark vs → unp
 left_of_ordered mark [] o none cut = refl
 left_of_ordered mark (v ∷ vs) o none cut = go v.stamp o none cut
   where
-    go : (x : Stamp) → IsOrdered mark (record { stamp = x; image = v.image } ∷ vs) → unpublished_by mark x v.image ≡ None → IsCutAt mark (record { stamp = x; image = v.image } ∷ vs) → length (v ∷ vs) ≡ one_if (is_some (image_of (newest_at mark (record { stamp = x; image = v.image } ∷ vs))).row)
+    go : (x : Stamp) → IsOrdered mark (record { stamp = x; image = v.image } ∷ vs) → unpublished_by mark x v.image ≡ None →
+        IsCutAt mark (record { stamp = x; image = v.image } ∷ vs) → length (v ∷ vs) ≡ one_if (is_some (image_of (newest_at mark (record { stamp = x; image = v.image } ∷ vs))).row)
     go (Written by) f none cut = absurd (cc)
     go (Oldest n) f none cut = one_left mark n (record { stamp = Oldest n; image = v.image }) vs refl f.0 f.1 cut
     go (Numbered n by) f none cut = by_mark (nat_le n mark) refl none
       where
-        by_mark : (b : Bool) → nat_le n mark ≡ b → (let p : Writer × Image = (by, v.image) in if b then None else Some p) ≡ None → length (v ∷ vs) ≡ one_if (is_some (image_of (newest_at mark (record { stamp = Numbered n by; image = v.image } ∷ vs))).row)
+        by_mark : (b : Bool) → nat_le n mark ≡ b → (let p : Writer × Image = (by, v.image) in if b then None else Some p) ≡ None →
+            length (v ∷ vs) ≡ one_if (is_some (image_of (newest_at mark (record { stamp = Numbered n by; image = v.image } ∷ vs))).row)
         by_mark true q none = one_left mark n (record { stamp = Numbered n by; image = v.image }) vs refl (grind (arith, nat_tests)) f.1 cut
         by_mark false q none = absurd (cc)
 
-pub live_left : (s : CoreState) → IsSteady s → (r : Rid) → unpublished s.mark (versions s.buckets s.bucket r) ≡ None → IsCutAt s.mark (versions s.buckets s.bucket r) → length (versions s.buckets s.bucket r) ≡ (if is_some (visible s.history r s.mark).row then 1 else 0)
-live_left s h r none cut = left_of_ordered s.mark (versions s.buckets s.bucket r) (h.contents_are_ordered.ordered r) none cut ∙ ap (λ (i : Image). one_if (is_some i.row)) ((h.covered r).same s.mark (inl refl))
+pub live_left : (s : CoreState) → IsSteady s → (r : Rid) → unpublished s.mark (versions s.buckets s.bucket r) ≡ None → IsCutAt s.mark (versions s.buckets s.bucket r) →
+    length (versions s.buckets s.bucket r) ≡ (if is_some (visible s.history r s.mark).row then 1 else 0)
+live_left s h r none cut = left_of_ordered s.mark (versions s.buckets s.bucket r) (h.contents_are_ordered.ordered r) none cut ∙
+    ap (λ (i : Image). one_if (is_some i.row)) ((h.covered r).same s.mark (inl refl))

@@ -37,7 +37,8 @@ between s n u (x ∷ xs) c a b = go c.0 c.1 c.2 (λ k. between s n u xs k a b)
         or_true false = refl
 
 -- a version that s sees does not go
-seen_stays : (horizon s : ℕ) (snapshots : List ℕ) (successor number : Option ℕ) → IsGuarded horizon snapshots s → IsUnder s successor → is_up_to s number ≡ true → goes horizon snapshots successor number ≡ false
+seen_stays : (horizon s : ℕ) (snapshots : List ℕ) (successor number : Option ℕ) → IsGuarded horizon snapshots s → IsUnder s successor → is_up_to s number ≡ true →
+    goes horizon snapshots successor number ≡ false
 seen_stays horizon s snapshots None number g b e = refl
 seen_stays horizon s snapshots (Some u) None g b e = refl
 seen_stays horizon s snapshots (Some u) (Some n) (inl g) b e = grind (arith, nat_tests)
@@ -51,11 +52,13 @@ skipped : (s : ℕ) (v : Version) (vs : List Version) (b : Bool) → is_up_to s 
 skipped s v vs true e = refl
 skipped s v vs false e = rw e
 
-pub swept_first : (horizon s : ℕ) (snapshots : List ℕ) (successor : Option ℕ) (vs : List Version) → IsGuarded horizon snapshots s → IsUnder s successor → first_at s (swept horizon snapshots successor vs) ≡ first_at s vs
+pub swept_first : (horizon s : ℕ) (snapshots : List ℕ) (successor : Option ℕ) (vs : List Version) → IsGuarded horizon snapshots s → IsUnder s successor →
+    first_at s (swept horizon snapshots successor vs) ≡ first_at s vs
 swept_first horizon s snapshots successor [] g b = refl
 swept_first horizon s snapshots successor (v ∷ vs) g b = go (is_up_to s (stamp_number v.stamp)) refl (λ k. swept_first horizon s snapshots (stamp_number v.stamp) vs g k)
   where
-    go : (t : Bool) → is_up_to s (stamp_number v.stamp) ≡ t → (IsUnder s (stamp_number v.stamp) → first_at s (swept horizon snapshots (stamp_number v.stamp) vs) ≡ first_at s vs) → first_at s (swept horizon snapshots successor (v ∷ vs)) ≡ first_at s (v ∷ vs)
+    go : (t : Bool) → is_up_to s (stamp_number v.stamp) ≡ t → (IsUnder s (stamp_number v.stamp) → first_at s (swept horizon snapshots (stamp_number v.stamp) vs) ≡ first_at s vs) →
+        first_at s (swept horizon snapshots successor (v ∷ vs)) ≡ first_at s (v ∷ vs)
     go true e later = rw (seen_stays horizon s snapshots successor (stamp_number v.stamp) g b e, e)
     go false e later = rw e (skipped s v _ (goes horizon snapshots successor (stamp_number v.stamp)) e ∙ later (under_next s (stamp_number v.stamp) e))
 
@@ -65,7 +68,8 @@ swept_first horizon s snapshots successor (v ∷ vs) g b = go (is_up_to s (stamp
 abbrev pub IsKept : ℕ → Option (ℕ × Image) → Option (ℕ × Image) → Type 0
 IsKept bound after before = (after ≡ before) ⊎ ((after ≡ None) × ((d : ℕ) × (before ≡ Some (d, nothing)) × (d ≤ bound)))
 
-cut_step : (bound s : ℕ) (number : Option ℕ) (row : Option (List Value)) (rest : Option (ℕ × Image)) → is_up_to bound number ≡ true → bound ≤ s → IsKept bound (newest_at s (oldest number row)) (if is_up_to s number then paired number (record { row = row }) else rest)
+cut_step : (bound s : ℕ) (number : Option ℕ) (row : Option (List Value)) (rest : Option (ℕ × Image)) → is_up_to bound number ≡ true → bound ≤ s →
+    IsKept bound (newest_at s (oldest number row)) (if is_up_to s number then paired number (record { row = row }) else rest)
 cut_step bound s None None rest e h = cc
 cut_step bound s None (Some row) rest e h = cc
 cut_step bound s (Some n) None rest e h = let k : nat_le n s ≡ true = grind (arith, nat_tests) in let m : n ≤ bound = grind (arith, nat_tests) in rw k (inr (refl, (n, refl, m)))
@@ -93,7 +97,8 @@ falls_swept : (b horizon : ℕ) (snapshots : List ℕ) (successor : Option ℕ) 
 falls_swept b horizon snapshots successor [] f = tt
 falls_swept b horizon snapshots successor (v ∷ vs) f = go (goes horizon snapshots successor (stamp_number v.stamp)) (falls_swept f.0 horizon snapshots (stamp_number v.stamp) vs f.3)
   where
-    go : (t : Bool) → Falls f.0 (swept horizon snapshots (stamp_number v.stamp) vs) → Falls b (if t then swept horizon snapshots (stamp_number v.stamp) vs else v ∷ swept horizon snapshots (stamp_number v.stamp) vs)
+    go : (t : Bool) → Falls f.0 (swept horizon snapshots (stamp_number v.stamp) vs) →
+        Falls b (if t then swept horizon snapshots (stamp_number v.stamp) vs else v ∷ swept horizon snapshots (stamp_number v.stamp) vs)
     go true later = falls_more f.0 b _ (omega (arith, f.2)) later
     go false later = (f.0, f.1, f.2, later)
 
@@ -131,16 +136,20 @@ pub ordered_cut : (mark bound : ℕ) (vs : List Version) → bound ≤ mark → 
 ordered_cut mark bound [] h f = (tt, refl)
 ordered_cut mark bound (v ∷ vs) h f = go v.stamp f
   where
-    go : (x : Stamp) → IsOrdered mark (record { stamp = x; image = v.image } ∷ vs) → (IsOrdered mark (cut bound (record { stamp = x; image = v.image } ∷ vs))) × (unpublished mark (cut bound (record { stamp = x; image = v.image } ∷ vs)) ≡ unpublished mark (record { stamp = x; image = v.image } ∷ vs))
+    go : (x : Stamp) → IsOrdered mark (record { stamp = x; image = v.image } ∷ vs) → (IsOrdered mark (cut bound (record { stamp = x; image = v.image } ∷ vs))) ×
+        (unpublished mark (cut bound (record { stamp = x; image = v.image } ∷ vs)) ≡ unpublished mark (record { stamp = x; image = v.image } ∷ vs))
     go (Written by) f = (falls_cut _ bound vs f, refl)
     go (Numbered n by) f = by_bound (nat_le n bound) refl
       where
-        by_bound : (b : Bool) → nat_le n bound ≡ b → (IsOrdered mark (if b then oldest (Some n) v.image.row else record { stamp = Numbered n by; image = v.image } ∷ cut bound vs)) × (unpublished mark (if b then oldest (Some n) v.image.row else record { stamp = Numbered n by; image = v.image } ∷ cut bound vs) ≡ (if nat_le n mark then None else Some (by, v.image)))
-        by_bound true e = let k : n ≤ mark = grind (arith, nat_tests) in let l : nat_le n mark ≡ true = grind (arith, nat_tests) in (ordered_oldest mark n v.image.row k, rw l (oldest_published mark n v.image.row))
+        by_bound : (b : Bool) → nat_le n bound ≡ b → (IsOrdered mark (if b then oldest (Some n) v.image.row else record { stamp = Numbered n by; image = v.image } ∷ cut bound vs))
+            × (unpublished mark (if b then oldest (Some n) v.image.row else record { stamp = Numbered n by; image = v.image } ∷ cut bound vs) ≡ (if nat_le n mark then None else Some (by, v.image)))
+        by_bound true e = let k : n ≤ mark = grind (arith, nat_tests) in let l : nat_le n mark ≡ true = grind (arith, nat_tests) in
+            (ordered_oldest mark n v.image.row k, rw l (oldest_published mark n v.image.row))
         by_bound false e = ((f.0, falls_cut _ bound vs f.1), refl)
     go (Oldest n) f = by_bound (nat_le n bound)
       where
-        by_bound : (b : Bool) → (IsOrdered mark (if b then oldest (Some n) v.image.row else record { stamp = Oldest n; image = v.image } ∷ cut bound vs)) × (unpublished mark (if b then oldest (Some n) v.image.row else record { stamp = Oldest n; image = v.image } ∷ cut bound vs) ≡ None)
+        by_bound : (b : Bool) → (IsOrdered mark (if b then oldest (Some n) v.image.row else record { stamp = Oldest n; image = v.image } ∷ cut bound vs)) ×
+            (unpublished mark (if b then oldest (Some n) v.image.row else record { stamp = Oldest n; image = v.image } ∷ cut bound vs) ≡ None)
         by_bound true = (ordered_oldest mark n v.image.row f.0, oldest_published mark n v.image.row)
         by_bound false = ((f.0, falls_cut _ bound vs f.1), refl)
 
@@ -164,21 +173,25 @@ numbered_cut bound mark (v ∷ vs) w i o = go (is_up_to bound (stamp_number v.st
     left (Some n) None o = cc
     left (Some n) (Some row) o = cc
 
-    go : (b : Bool) → unpublished mark (if b then oldest (stamp_number v.stamp) v.image.row else v ∷ cut bound vs) ≡ Some (w, i) → is_numbered (if b then oldest (stamp_number v.stamp) v.image.row else v ∷ cut bound vs) ≡ is_numbered (v ∷ vs)
+    go : (b : Bool) → unpublished mark (if b then oldest (stamp_number v.stamp) v.image.row else v ∷ cut bound vs) ≡ Some (w, i) →
+        is_numbered (if b then oldest (stamp_number v.stamp) v.image.row else v ∷ cut bound vs) ≡ is_numbered (v ∷ vs)
     go true o = absurd (left (stamp_number v.stamp) v.image.row o)
     go false o = refl
 
 -- ---- and its images
 
-pub backed_swept : (mark : ℕ) (h : History) (r : Rid) (horizon : ℕ) (snapshots : List ℕ) (successor : Option ℕ) (vs : List Version) → IsBacked mark h r vs → IsBacked mark h r (swept horizon snapshots successor vs)
+pub backed_swept : (mark : ℕ) (h : History) (r : Rid) (horizon : ℕ) (snapshots : List ℕ) (successor : Option ℕ) (vs : List Version) → IsBacked mark h r vs →
+    IsBacked mark h r (swept horizon snapshots successor vs)
 backed_swept mark h r horizon snapshots successor [] b = tt
 backed_swept mark h r horizon snapshots successor (v ∷ vs) b = go (goes horizon snapshots successor (stamp_number v.stamp)) (backed_swept mark h r horizon snapshots (stamp_number v.stamp) vs b.1)
   where
-    go : (t : Bool) → IsBacked mark h r (swept horizon snapshots (stamp_number v.stamp) vs) → IsBacked mark h r (if t then swept horizon snapshots (stamp_number v.stamp) vs else v ∷ swept horizon snapshots (stamp_number v.stamp) vs)
+    go : (t : Bool) → IsBacked mark h r (swept horizon snapshots (stamp_number v.stamp) vs) →
+        IsBacked mark h r (if t then swept horizon snapshots (stamp_number v.stamp) vs else v ∷ swept horizon snapshots (stamp_number v.stamp) vs)
     go true later = later
     go false later = (b.0, later)
 
-backed_oldest : (mark : ℕ) (h : History) (r : Rid) (x : Option ℕ) (row : Option (List Value)) → ((n : ℕ) → x ≡ Some n → n ≤ mark → group_image r (group_at h n) ≡ Some (record { row = row })) → IsBacked mark h r (oldest x row)
+backed_oldest : (mark : ℕ) (h : History) (r : Rid) (x : Option ℕ) (row : Option (List Value)) →
+    ((n : ℕ) → x ≡ Some n → n ≤ mark → group_image r (group_at h n) ≡ Some (record { row = row })) → IsBacked mark h r (oldest x row)
 backed_oldest mark h r None None f = tt
 backed_oldest mark h r None (Some row) f = tt
 backed_oldest mark h r (Some n) None f = tt

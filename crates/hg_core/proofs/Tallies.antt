@@ -50,11 +50,14 @@ pub counters_entry : (sessions buckets passes : ℕ) (log : ℕ → List LogEntr
     → ((test : Rid → Bool) → (first_writes test l ≡ first_writes test (log j)) × (undos test l ≡ undos test (log j)))
     → CountersBalance sessions buckets passes log bucket counters visits → CountersBalance sessions buckets passes (put log j l) bucket counters visits
 counters_entry sessions buckets passes log bucket counters visits j l same h = counters_quiet sessions buckets passes log (put log j l) bucket counters visits
-    (by_number j (λ k b. (test : Rid → Bool) → (first_writes test (if b then l else log k) ≡ first_writes test (log k)) × (undos test (if b then l else log k) ≡ undos test (log k))) same (λ k other test. (refl, refl))) h
+    (by_number j (λ k b. (test : Rid → Bool) → (first_writes test (if b then l else log k) ≡ first_writes test (log k)) ×
+    (undos test (if b then l else log k) ≡ undos test (log k))) same (λ k other test. (refl, refl))) h
 
 -- one log grows, and a count of it
-made_grown : (sessions : ℕ) (log : ℕ → List LogEntry) (count : List LogEntry → ℕ) (j d : ℕ) (l : List LogEntry) → IsSession sessions j → count l ≡ count (log j) + d → sum_to sessions (λ k. count (put log j l k)) ≡ sum_to sessions (λ k. count (log k)) + d
-made_grown sessions log count j d l session e = sum_grown sessions j d (λ k. count (log k)) (λ k. count (put log j l k)) session.first session.last (λ k other. ap count (put_else log j k l other)) (ap count (put_here log j l) ∙ e)
+made_grown : (sessions : ℕ) (log : ℕ → List LogEntry) (count : List LogEntry → ℕ) (j d : ℕ) (l : List LogEntry) → IsSession sessions j → count l ≡ count (log j) + d →
+    sum_to sessions (λ k. count (put log j l k)) ≡ sum_to sessions (λ k. count (log k)) + d
+made_grown sessions log count j d l session e = sum_grown sessions j d (λ k. count (log k)) (λ k. count (put log j l k)) session.first session.last
+    (λ k other. ap count (put_else log j k l other)) (ap count (put_here log j l) ∙ e)
 
 -- ---- versions of a content
 
@@ -63,7 +66,8 @@ total_store r [] [] = refl
 total_store r (v ∷ vs) [] = omega arith
 total_store r vs (e ∷ es) = go (same_rid r e.0) (total_store r vs es)
   where
-    go : (b : Bool) → total (store r vs es) + length (look r es) ≡ total es + length vs → total (if b then (r, vs) ∷ es else e ∷ store r vs es) + length (if b then e.1 else look r es) ≡ length e.1 + total es + length vs
+    go : (b : Bool) → total (store r vs es) + length (look r es) ≡ total es + length vs →
+        total (if b then (r, vs) ∷ es else e ∷ store r vs es) + length (if b then e.1 else look r es) ≡ length e.1 + total es + length vs
     go true later = omega arith
     go false later = omega arith
 
@@ -71,7 +75,8 @@ length_swept : (horizon : ℕ) (snapshots : List ℕ) (successor : Option ℕ) (
 length_swept horizon snapshots successor [] = omega arith
 length_swept horizon snapshots successor (v ∷ vs) = go (goes horizon snapshots successor (stamp_number v.stamp)) (length_swept horizon snapshots (stamp_number v.stamp) vs)
   where
-    go : (b : Bool) → length (swept horizon snapshots (stamp_number v.stamp) vs) ≤ length vs → length (if b then swept horizon snapshots (stamp_number v.stamp) vs else v ∷ swept horizon snapshots (stamp_number v.stamp) vs) ≤ length (v ∷ vs)
+    go : (b : Bool) → length (swept horizon snapshots (stamp_number v.stamp) vs) ≤ length vs →
+        length (if b then swept horizon snapshots (stamp_number v.stamp) vs else v ∷ swept horizon snapshots (stamp_number v.stamp) vs) ≤ length (v ∷ vs)
     go true later = omega arith
     go false later = omega arith
 
@@ -98,7 +103,8 @@ length_installed : (w : Writer) (image : Image) (vs : List Version) → length (
 length_installed w image [] = refl
 length_installed w image (v ∷ vs) = go v.stamp
   where
-    go : (x : Stamp) → length (installed w image (record { stamp = x; image = v.image } ∷ vs)) ≡ length (record { stamp = x; image = v.image } ∷ vs) + added (record { stamp = x; image = v.image } ∷ vs)
+    go : (x : Stamp) → length (installed w image (record { stamp = x; image = v.image } ∷ vs)) ≡ length (record { stamp = x; image = v.image } ∷ vs) + added
+        (record { stamp = x; image = v.image } ∷ vs)
     go (Written by) = omega arith
     go (Numbered k by) = omega arith
     go (Oldest k) = omega arith
@@ -116,18 +122,22 @@ abbrev pub IsBalanced : Counters → Content → Type 0
 IsBalanced c content = c.made ≡ c.undone + c.removed.group + c.removed.table + c.removed.interval + total content
 
 -- a bucket that changes, and the others
-balanced_at : (buckets : ℕ) (bucket : ℕ → Content) (counters : ℕ → Counters) (r : Rid) (vs : List Version) (c : Counters) → IsBalanced c (store r vs (bucket (bucket_of buckets r))) → ((b : ℕ) → IsBalanced (counters b) (bucket b)) → (b : ℕ) → IsBalanced (put counters (bucket_of buckets r) c b) (stored buckets bucket r vs b)
-balanced_at buckets bucket counters r vs c here h = by_number (bucket_of buckets r) (λ b x. IsBalanced (if x then c else counters b) (if x then store r vs (bucket (bucket_of buckets r)) else bucket b)) here (λ b other. h b)
+balanced_at : (buckets : ℕ) (bucket : ℕ → Content) (counters : ℕ → Counters) (r : Rid) (vs : List Version) (c : Counters) → IsBalanced c (store r vs (bucket (bucket_of buckets r)))
+    → ((b : ℕ) → IsBalanced (counters b) (bucket b)) → (b : ℕ) → IsBalanced (put counters (bucket_of buckets r) c b) (stored buckets bucket r vs b)
+balanced_at buckets bucket counters r vs c here h = by_number (bucket_of buckets r)
+    (λ b x. IsBalanced (if x then c else counters b) (if x then store r vs (bucket (bucket_of buckets r)) else bucket b)) here (λ b other. h b)
 
 -- ---- a write
 
 -- a version is added just where the transaction has not written the record
-pub added_is : (mark : ℕ) (w : Writer) (vs : List Version) (x : Option Image) → IsFreeFor mark w vs → ((i : Image) → x ≡ Some i → unpublished mark vs ≡ Some (w, i)) → ((i : Image) → unpublished mark vs ≡ Some (w, i) → x ≡ Some i) → added vs ≡ (if not (is_some x) then 1 else 0)
+pub added_is : (mark : ℕ) (w : Writer) (vs : List Version) (x : Option Image) → IsFreeFor mark w vs → ((i : Image) → x ≡ Some i → unpublished mark vs ≡ Some (w, i)) →
+    ((i : Image) → unpublished mark vs ≡ Some (w, i) → x ≡ Some i) → added vs ≡ (if not (is_some x) then 1 else 0)
 added_is mark w [] None f a b = refl
 added_is mark w [] (Some i) f a b = absurd (let z = a i refl in cc)
 added_is mark w (v ∷ vs) x f a b = go v.stamp x f a b
   where
-    go : (s : Stamp) (x : Option Image) → IsFreeFor mark w (record { stamp = s; image = v.image } ∷ vs) → ((i : Image) → x ≡ Some i → unpublished_by mark s v.image ≡ Some (w, i)) → ((i : Image) → unpublished_by mark s v.image ≡ Some (w, i) → x ≡ Some i) → added (record { stamp = s; image = v.image } ∷ vs) ≡ (if not (is_some x) then 1 else 0)
+    go : (s : Stamp) (x : Option Image) → IsFreeFor mark w (record { stamp = s; image = v.image } ∷ vs) → ((i : Image) → x ≡ Some i → unpublished_by mark s v.image ≡ Some (w, i)) →
+        ((i : Image) → unpublished_by mark s v.image ≡ Some (w, i) → x ≡ Some i) → added (record { stamp = s; image = v.image } ∷ vs) ≡ (if not (is_some x) then 1 else 0)
     go (Written by) None f a b = absurd (let z = b v.image (ap (λ y. Some (y, v.image)) f) in cc)
     go (Written by) (Some i) f a b = refl
     go (Numbered k by) None f a b = refl
@@ -135,16 +145,21 @@ added_is mark w (v ∷ vs) x f a b = go v.stamp x f a b
     go (Oldest k) None f a b = refl
     go (Oldest k) (Some i) f a b = absurd (let z = a i refl in cc)
 
-pub counters_installed : (sessions buckets passes : ℕ) (log : ℕ → List LogEntry) (bucket : ℕ → Content) (counters : ℕ → Counters) (visits : ℕ → List Visit) (j : ℕ) (r : Rid) (w : Writer) (image : Image) → IsSession sessions j
+pub counters_installed : (sessions buckets passes : ℕ) (log : ℕ → List LogEntry) (bucket : ℕ → Content) (counters : ℕ → Counters) (visits : ℕ → List Visit) (j : ℕ) (r : Rid)
+    (w : Writer) (image : Image) → IsSession sessions j
     → added (versions buckets bucket r) ≡ (if not (is_some (image_in r (own_writes (log j)))) then 1 else 0)
     → CountersBalance sessions buckets passes log bucket counters visits
-    → CountersBalance sessions buckets passes (put log j (Wrote r image ∷ log j)) (stored buckets bucket r (installed w image (versions buckets bucket r))) (with_made counters (bucket_of buckets r) (added (versions buckets bucket r))) visits
+    → CountersBalance sessions buckets passes (put log j (Wrote r image ∷ log j)) (stored buckets bucket r (installed w image (versions buckets bucket r)))
+    (with_made counters (bucket_of buckets r) (added (versions buckets bucket r))) visits
 counters_installed sessions buckets passes log bucket counters visits j r w image session new h = record {
-  made = by_number at (λ b x. (if x then record (counters at) { made = (counters at).made + n } else counters b).made ≡ sum_to sessions (λ k. first_writes (is_of buckets b) (put log j (Wrote r image ∷ log j) k)))
+  made = by_number at (λ b x. (if x then record (counters at) { made = (counters at).made + n } else counters b).made ≡ sum_to sessions
+      (λ k. first_writes (is_of buckets b) (put log j (Wrote r image ∷ log j) k)))
       (ap (λ m. m + n) (h.made at) ∙ sym (made_grown sessions log (first_writes (is_of buckets at)) j n (Wrote r image ∷ log j) session (here refl)))
       (λ b other. h.made b ∙ sym (made_grown sessions log (first_writes (is_of buckets b)) j 0 (Wrote r image ∷ log j) session (there b other) ∙ omega arith));
-  undone = by_number at (λ b x. (if x then record (counters at) { made = (counters at).made + n } else counters b).undone ≡ sum_to sessions (λ k. undos (is_of buckets b) (put log j (Wrote r image ∷ log j) k))) (undone at) (λ b other. undone b);
-  removed = λ kind. by_number at (λ b x. removed_by kind (if x then record (counters at) { made = (counters at).made + n } else counters b).removed ≡ sum_below passes (λ p. removed_in kind b (visits p))) (h.removed kind at) (λ b other. h.removed kind b);
+  undone = by_number at (λ b x. (if x then record (counters at) { made = (counters at).made + n } else counters b).undone ≡ sum_to sessions
+      (λ k. undos (is_of buckets b) (put log j (Wrote r image ∷ log j) k))) (undone at) (λ b other. undone b);
+  removed = λ kind. by_number at (λ b x. removed_by kind (if x then record (counters at) { made = (counters at).made + n } else counters b).removed ≡ sum_below passes
+      (λ p. removed_in kind b (visits p))) (h.removed kind at) (λ b other. h.removed kind b);
   balance = balanced_at buckets bucket counters r (installed w image held) (record (counters at) { made = (counters at).made + n })
       (omega (arith, h.balance at, total_store r (installed w image held) (bucket at), length_installed w image held)) h.balance;
 }
@@ -158,24 +173,31 @@ counters_installed sessions buckets passes log bucket counters visits j r w imag
     n : ℕ
     n = added (versions buckets bucket r)
 
-    here : (bucket_of buckets r == bucket_of buckets r) ≡ (bucket_of buckets r == bucket_of buckets r) → first_writes (is_of buckets (bucket_of buckets r)) (Wrote r image ∷ log j) ≡ first_writes (is_of buckets (bucket_of buckets r)) (log j) + added (versions buckets bucket r)
-    here e = let same : (bucket_of buckets r == bucket_of buckets r) ≡ true = grind (arith, nat_tests) in ap (λ b. (if b && not (is_some (image_in r (own_writes (log j)))) then 1 else 0) + first_writes (is_of buckets (bucket_of buckets r)) (log j)) same ∙ omega (arith, new)
+    here : (bucket_of buckets r == bucket_of buckets r) ≡ (bucket_of buckets r == bucket_of buckets r) →
+        first_writes (is_of buckets (bucket_of buckets r)) (Wrote r image ∷ log j) ≡ first_writes (is_of buckets (bucket_of buckets r)) (log j) + added (versions buckets bucket r)
+    here e = let same : (bucket_of buckets r == bucket_of buckets r) ≡ true = grind (arith, nat_tests) in
+        ap (λ b. (if b && not (is_some (image_in r (own_writes (log j)))) then 1 else 0) + first_writes (is_of buckets (bucket_of buckets r)) (log j)) same ∙ omega (arith, new)
 
     there : (b : ℕ) → (b ≡ bucket_of buckets r → ⊥) → first_writes (is_of buckets b) (Wrote r image ∷ log j) ≡ first_writes (is_of buckets b) (log j) + 0
-    there b other = let out : (bucket_of buckets r == b) ≡ false = grind (arith, nat_tests) in ap (λ c. (if c && not (is_some (image_in r (own_writes (log j)))) then 1 else 0) + first_writes (is_of buckets b) (log j)) out ∙ omega arith
+    there b other = let out : (bucket_of buckets r == b) ≡ false = grind (arith, nat_tests) in
+        ap (λ c. (if c && not (is_some (image_in r (own_writes (log j)))) then 1 else 0) + first_writes (is_of buckets b) (log j)) out ∙ omega arith
 
     undone : (b : ℕ) → (counters b).undone ≡ sum_to sessions (λ k. undos (is_of buckets b) (put log j (Wrote r image ∷ log j) k))
     undone b = h.undone b ∙ sym (made_grown sessions log (undos (is_of buckets b)) j 0 (Wrote r image ∷ log j) session (omega arith) ∙ omega arith)
 
-pub counters_undone : (sessions buckets passes : ℕ) (log : ℕ → List LogEntry) (bucket : ℕ → Content) (counters : ℕ → Counters) (visits : ℕ → List Visit) (j : ℕ) (r : Rid) (w : Writer) → IsSession sessions j → IsOpenBy w (versions buckets bucket r)
+pub counters_undone : (sessions buckets passes : ℕ) (log : ℕ → List LogEntry) (bucket : ℕ → Content) (counters : ℕ → Counters) (visits : ℕ → List Visit) (j : ℕ) (r : Rid)
+    (w : Writer) → IsSession sessions j → IsOpenBy w (versions buckets bucket r)
     → CountersBalance sessions buckets passes log bucket counters visits
     → CountersBalance sessions buckets passes (put log j (Undid r ∷ log j)) (stored buckets bucket r (undone (versions buckets bucket r))) (with_undone counters (bucket_of buckets r)) visits
 counters_undone sessions buckets passes log bucket counters visits j r w session mine h = record {
-  made = by_number at (λ b x. (if x then record (counters at) { undone = suc (counters at).undone } else counters b).made ≡ sum_to sessions (λ k. first_writes (is_of buckets b) (put log j (Undid r ∷ log j) k))) (made at) (λ b other. made b);
-  undone = by_number at (λ b x. (if x then record (counters at) { undone = suc (counters at).undone } else counters b).undone ≡ sum_to sessions (λ k. undos (is_of buckets b) (put log j (Undid r ∷ log j) k)))
+  made = by_number at (λ b x. (if x then record (counters at) { undone = suc (counters at).undone } else counters b).made ≡ sum_to sessions
+      (λ k. first_writes (is_of buckets b) (put log j (Undid r ∷ log j) k))) (made at) (λ b other. made b);
+  undone = by_number at (λ b x. (if x then record (counters at) { undone = suc (counters at).undone } else counters b).undone ≡ sum_to sessions
+      (λ k. undos (is_of buckets b) (put log j (Undid r ∷ log j) k)))
       (ap suc (h.undone at) ∙ sym (made_grown sessions log (undos (is_of buckets at)) j 1 (Undid r ∷ log j) session (here refl) ∙ omega arith))
       (λ b other. h.undone b ∙ sym (made_grown sessions log (undos (is_of buckets b)) j 0 (Undid r ∷ log j) session (there b other) ∙ omega arith));
-  removed = λ kind. by_number at (λ b x. removed_by kind (if x then record (counters at) { undone = suc (counters at).undone } else counters b).removed ≡ sum_below passes (λ p. removed_in kind b (visits p))) (h.removed kind at) (λ b other. h.removed kind b);
+  removed = λ kind. by_number at (λ b x. removed_by kind (if x then record (counters at) { undone = suc (counters at).undone } else counters b).removed ≡ sum_below passes
+      (λ p. removed_in kind b (visits p))) (h.removed kind at) (λ b other. h.removed kind b);
   balance = balanced_at buckets bucket counters r (undone held) (record (counters at) { undone = suc (counters at).undone })
       (omega (arith, h.balance at, total_store r (undone held) (bucket at), length_undone w held mine)) h.balance;
 }
@@ -186,8 +208,10 @@ counters_undone sessions buckets passes log bucket counters visits j r w session
     held : List Version
     held = versions buckets bucket r
 
-    here : (bucket_of buckets r == bucket_of buckets r) ≡ (bucket_of buckets r == bucket_of buckets r) → undos (is_of buckets (bucket_of buckets r)) (Undid r ∷ log j) ≡ undos (is_of buckets (bucket_of buckets r)) (log j) + 1
-    here e = let same : (bucket_of buckets r == bucket_of buckets r) ≡ true = grind (arith, nat_tests) in ap (λ b. (if b then 1 else 0) + undos (is_of buckets (bucket_of buckets r)) (log j)) same ∙ omega arith
+    here : (bucket_of buckets r == bucket_of buckets r) ≡ (bucket_of buckets r == bucket_of buckets r) →
+        undos (is_of buckets (bucket_of buckets r)) (Undid r ∷ log j) ≡ undos (is_of buckets (bucket_of buckets r)) (log j) + 1
+    here e = let same : (bucket_of buckets r == bucket_of buckets r) ≡ true = grind (arith, nat_tests) in
+        ap (λ b. (if b then 1 else 0) + undos (is_of buckets (bucket_of buckets r)) (log j)) same ∙ omega arith
 
     there : (b : ℕ) → (b ≡ bucket_of buckets r → ⊥) → undos (is_of buckets b) (Undid r ∷ log j) ≡ undos (is_of buckets b) (log j) + 0
     there b other = let out : (bucket_of buckets r == b) ≡ false = grind (arith, nat_tests) in ap (λ c. (if c then 1 else 0) + undos (is_of buckets b) (log j)) out ∙ omega arith
@@ -203,7 +227,8 @@ counters_stamped sessions buckets passes log bucket counters visits r n w h = re
   made = h.made;
   undone = h.undone;
   removed = h.removed;
-  balance = by_number at (λ b x. IsBalanced (counters b) (if x then store r (stamped n w held) (bucket at) else bucket b)) (omega (arith, h.balance at, total_store r (stamped n w held) (bucket at), length_stamped n w held)) (λ b other. h.balance b);
+  balance = by_number at (λ b x. IsBalanced (counters b) (if x then store r (stamped n w held) (bucket at) else bucket b))
+      (omega (arith, h.balance at, total_store r (stamped n w held) (bucket at), length_stamped n w held)) (λ b other. h.balance b);
 }
   where
     at : ℕ
@@ -237,24 +262,33 @@ visit_share : (kind of : Kind) (b at n : ℕ) (vs : List Visit) → IsVisiting a
 visit_share kind of b at n [] here = absurd here
 visit_share kind of b at n (v ∷ vs) here = subst (λ x. removed_in kind b (removing of n (v ∷ vs)) ≡ removed_in kind b (v ∷ vs) + (if x == b then share kind of n else 0)) here.0 (go (v.bucket == b))
   where
-    go : (t : Bool) → (if t then removed_by kind (removed_more of n v.removed) else 0) + removed_in kind b vs ≡ (if t then removed_by kind v.removed else 0) + removed_in kind b vs + (if t then share kind of n else 0)
+    go : (t : Bool) → (if t then removed_by kind (removed_more of n v.removed) else 0) + removed_in kind b vs ≡
+        (if t then removed_by kind v.removed else 0) + removed_in kind b vs + (if t then share kind of n else 0)
     go true = omega (arith, removed_share kind of n v.removed)
     go false = omega arith
 
-balanced_more : (of : Kind) (n m : ℕ) (c : Counters) (before after : Content) → IsBalanced c before → total after + n ≡ total before → IsBalanced (record c { removed = removed_more of n c.removed }) after
+balanced_more : (of : Kind) (n m : ℕ) (c : Counters) (before after : Content) → IsBalanced c before → total after + n ≡ total before →
+    IsBalanced (record c { removed = removed_more of n c.removed }) after
 balanced_more Group n m c before after h e = omega (arith, h, e)
 balanced_more Table n m c before after h e = omega (arith, h, e)
 balanced_more Interval n m c before after h e = omega (arith, h, e)
 
-pub counters_shortened : (sessions buckets passes : ℕ) (log : ℕ → List LogEntry) (bucket : ℕ → Content) (counters : ℕ → Counters) (visits : ℕ → List Visit) (p : ℕ) (of : Kind) (r : Rid) (vs : List Version) → p < passes → IsVisiting (bucket_of buckets r) (visits p) → length vs ≤ length (versions buckets bucket r)
+pub counters_shortened : (sessions buckets passes : ℕ) (log : ℕ → List LogEntry) (bucket : ℕ → Content) (counters : ℕ → Counters) (visits : ℕ → List Visit) (p : ℕ) (of : Kind)
+    (r : Rid) (vs : List Version) → p < passes → IsVisiting (bucket_of buckets r) (visits p) → length vs ≤ length (versions buckets bucket r)
     → CountersBalance sessions buckets passes log bucket counters visits
-    → CountersBalance sessions buckets passes log (stored buckets bucket r vs) (with_removed counters (bucket_of buckets r) of (length (versions buckets bucket r) - length vs)) (put visits p (removing of (length (versions buckets bucket r) - length vs) (visits p)))
+    → CountersBalance sessions buckets passes log (stored buckets bucket r vs) (with_removed counters (bucket_of buckets r) of (length (versions buckets bucket r) - length vs))
+    (put visits p (removing of (length (versions buckets bucket r) - length vs) (visits p)))
 counters_shortened sessions buckets passes log bucket counters visits p of r vs less here fewer h = record {
-  made = by_number at (λ b x. (if x then record (counters at) { removed = removed_more of n (counters at).removed } else counters b).made ≡ sum_to sessions (λ k. first_writes (is_of buckets b) (log k))) (h.made at) (λ b other. h.made b);
-  undone = by_number at (λ b x. (if x then record (counters at) { removed = removed_more of n (counters at).removed } else counters b).undone ≡ sum_to sessions (λ k. undos (is_of buckets b) (log k))) (h.undone at) (λ b other. h.undone b);
-  removed = λ kind. by_number at (λ b x. removed_by kind (if x then record (counters at) { removed = removed_more of n (counters at).removed } else counters b).removed ≡ sum_below passes (λ q. removed_in kind b (put visits p (removing of n (visits p)) q)))
-      (removed_share kind of n (counters at).removed ∙ ap (λ m. m + share kind of n) (h.removed kind at) ∙ sym (grown kind at ∙ (let mine : (at == at) ≡ true = grind (arith, nat_tests) in ap (λ x. sum_below passes (λ q. removed_in kind at (visits q)) + (if x then share kind of n else 0)) mine)))
-      (λ b other. h.removed kind b ∙ sym (grown kind b ∙ (let out : (at == b) ≡ false = grind (arith, nat_tests) in ap (λ x. sum_below passes (λ q. removed_in kind b (visits q)) + (if x then share kind of n else 0)) out ∙ omega arith)));
+  made = by_number at (λ b x. (if x then record (counters at) { removed = removed_more of n (counters at).removed } else counters b).made ≡ sum_to sessions
+      (λ k. first_writes (is_of buckets b) (log k))) (h.made at) (λ b other. h.made b);
+  undone = by_number at (λ b x. (if x then record (counters at) { removed = removed_more of n (counters at).removed } else counters b).undone ≡ sum_to sessions
+      (λ k. undos (is_of buckets b) (log k))) (h.undone at) (λ b other. h.undone b);
+  removed = λ kind. by_number at (λ b x. removed_by kind (if x then record (counters at) { removed = removed_more of n (counters at).removed } else counters b).removed ≡ sum_below
+      passes (λ q. removed_in kind b (put visits p (removing of n (visits p)) q)))
+      (removed_share kind of n (counters at).removed ∙ ap (λ m. m + share kind of n) (h.removed kind at) ∙
+      sym (grown kind at ∙ (let mine : (at == at) ≡ true = grind (arith, nat_tests) in ap (λ x. sum_below passes (λ q. removed_in kind at (visits q)) + (if x then share kind of n else 0)) mine)))
+      (λ b other. h.removed kind b ∙ sym (grown kind b ∙ (let out : (at == b) ≡ false = grind (arith, nat_tests) in
+      ap (λ x. sum_below passes (λ q. removed_in kind b (visits q)) + (if x then share kind of n else 0)) out ∙ omega arith)));
   balance = balanced_at buckets bucket counters r vs (record (counters at) { removed = removed_more of n (counters at).removed })
       (balanced_more of n n (counters at) (bucket at) (store r vs (bucket at)) (h.balance at) (omega (arith, total_store r vs (bucket at), fewer))) h.balance;
 }
@@ -265,7 +299,10 @@ counters_shortened sessions buckets passes log bucket counters visits p of r vs 
     n : ℕ
     n = length (versions buckets bucket r) - length vs
 
-    grown : (kind : Kind) (b : ℕ) → sum_below passes (λ q. removed_in kind b (put visits p (removing of (length (versions buckets bucket r) - length vs) (visits p)) q)) ≡ sum_below passes (λ q. removed_in kind b (visits q)) + (if bucket_of buckets r == b then share kind of (length (versions buckets bucket r) - length vs) else 0)
-    grown kind b = below_grown passes p (if bucket_of buckets r == b then share kind of (length (versions buckets bucket r) - length vs) else 0) (λ q. removed_in kind b (visits q)) (λ q. removed_in kind b (put visits p (removing of (length (versions buckets bucket r) - length vs) (visits p)) q)) less
+    grown : (kind : Kind) (b : ℕ) → sum_below passes (λ q. removed_in kind b (put visits p (removing of (length (versions buckets bucket r) - length vs) (visits p)) q)) ≡ sum_below
+        passes (λ q. removed_in kind b (visits q)) + (if bucket_of buckets r == b then share kind of (length (versions buckets bucket r) - length vs) else 0)
+    grown kind b = below_grown passes p (if bucket_of buckets r == b then share kind of (length (versions buckets bucket r) - length vs) else 0) (λ q. removed_in kind b (visits q))
+        (λ q. removed_in kind b (put visits p (removing of (length (versions buckets bucket r) - length vs) (visits p)) q)) less
         (λ q other. ap (removed_in kind b) (put_else visits p q (removing of (length (versions buckets bucket r) - length vs) (visits p)) other))
-        (ap (removed_in kind b) (put_here visits p (removing of (length (versions buckets bucket r) - length vs) (visits p))) ∙ visit_share kind of b (bucket_of buckets r) (length (versions buckets bucket r) - length vs) (visits p) here)
+        (ap (removed_in kind b) (put_here visits p (removing of (length (versions buckets bucket r) - length vs) (visits p))) ∙
+        visit_share kind of b (bucket_of buckets r) (length (versions buckets bucket r) - length vs) (visits p) here)

@@ -37,7 +37,8 @@ Sees h n c = Each (λ w. Each (λ (other : ℕ × Image). (other.0 ≤ c.at) ⊎
 
 pub update_more : (h : History) (g : Group) → NoLostUpdate h → Each (LosesNothing h) g → NoLostUpdate (h ++ g ∷ [])
 update_more h g old new = group_more (λ n group. Each (Sees (h ++ g ∷ []) n) group) 1 h g
-    (groups_within (λ n group. Each (Sees h n) group) (λ n group. Each (Sees (h ++ g ∷ []) n) group) 1 (length h) h (omega arith) (λ m group le e. each_keeps (Sees h m) (Sees (h ++ g ∷ []) m) (λ c s. still m le c s) group e) old)
+    (groups_within (λ n group. Each (Sees h n) group) (λ n group. Each (Sees (h ++ g ∷ []) n) group) 1 (length h) h (omega arith)
+    (λ m group le e. each_keeps (Sees h m) (Sees (h ++ g ∷ []) m) (λ c s. still m le c s) group e) old)
     (each_keeps (LosesNothing h) (Sees (h ++ g ∷ []) (1 + length h)) now g new)
   where
     still : (m : ℕ) → m ≤ length h → (c : Commit) → Sees h m c → Sees (h ++ g ∷ []) m c
@@ -68,7 +69,11 @@ own_open (Began at scope ∷ log) p = tt
 own_open (Over ∷ log) p = tt
 own_open (Published n ∷ log) p = cc
 own_open (Undid r ∷ log) p = cc
-own_open (Wrote r image ∷ log) p = (subst (λ b. IsSome (if b then Some image else open_in r log)) (sym (same_rid_itself r)) refl, each_keeps _ _ (λ (w : Write) s. more w s (same_rid r w.rid)) (own_writes log) (own_open log p))
+own_open (Wrote r image ∷ log) p = (
+  subst (λ b. IsSome (if b then Some image else open_in r log)) (sym (same_rid_itself r)) refl,
+  each_keeps _ _
+      (λ (w : Write) s. more w s (same_rid r w.rid)) (own_writes log) (own_open log p),
+)
   where
     more : (w : Write) → IsSome (open_in w.rid log) → (b : Bool) → IsSome (if b then Some image else open_in w.rid log)
     more w s true = refl
@@ -89,12 +94,15 @@ at_snapshot h r (Entered scope f) m = absurd m
 at_snapshot h r (Fixed scope f n) m = absurd m
 at_snapshot h r (Live at scope) m = m.1
 
-pub group_loses_nothing : (h : History) (phase : ℕ → Phase) (log : ℕ → List LogEntry) (js : List ℕ) → ((j : ℕ) → current (log j) ≡ snapshot_in (phase j)) → OpenWritesMayCommit h phase (open_writes log) → Each (λ j. IsTrue (is_plain (log j))) js → Each (LosesNothing h) (new_group log js)
+pub group_loses_nothing : (h : History) (phase : ℕ → Phase) (log : ℕ → List LogEntry) (js : List ℕ) → ((j : ℕ) → current (log j) ≡ snapshot_in (phase j)) →
+    OpenWritesMayCommit h phase (open_writes log) → Each (λ j. IsTrue (is_plain (log j))) js → Each (LosesNothing h) (new_group log js)
 group_loses_nothing h phase log [] reads may plain = tt
 group_loses_nothing h phase log (j ∷ js) reads may plain = (
-  each_last (λ w. Each (λ (other : ℕ × Image). other.0 ≤ snapshot_number (current (log j))) (writes h w.rid)) (own_writes (log j)) (each_keeps _ _ (λ (w : Write) s. one w s) (own_writes (log j)) (own_open (log j) plain.0)),
+  each_last (λ w. Each (λ (other : ℕ × Image). other.0 ≤ snapshot_number (current (log j))) (writes h w.rid)) (own_writes (log j))
+      (each_keeps _ _ (λ (w : Write) s. one w s) (own_writes (log j)) (own_open (log j) plain.0)),
   group_loses_nothing h phase log js reads may plain.1,
 )
   where
     one : (w : Write) → IsSome (open_in w.rid (log j)) → Each (λ (other : ℕ × Image). other.0 ≤ snapshot_number (current (log j))) (writes h w.rid)
-    one w s = let o = some_is (open_in w.rid (log j)) s in subst (λ n. Each (λ (other : ℕ × Image). other.0 ≤ snapshot_number n) (writes h w.rid)) (sym (reads j)) (at_snapshot h w.rid (phase j) (may j w.rid o.0 o.1))
+    one w s = let o = some_is (open_in w.rid (log j)) s in subst (λ n. Each (λ (other : ℕ × Image). other.0 ≤ snapshot_number n) (writes h w.rid)) (sym (reads j))
+        (at_snapshot h w.rid (phase j) (may j w.rid o.0 o.1))

@@ -46,7 +46,8 @@ pub installed_ordered : (mark : ℕ) (w : Writer) (i : Image) (vs : List Version
 installed_ordered mark w i [] f h = tt
 installed_ordered mark w i (v ∷ vs) f h = go v.stamp f h
   where
-    go : (x : Stamp) → IsFreeFor mark w (record { stamp = x; image = v.image } ∷ vs) → IsOrdered mark (record { stamp = x; image = v.image } ∷ vs) → IsOrdered mark (installed w i (record { stamp = x; image = v.image } ∷ vs))
+    go : (x : Stamp) → IsFreeFor mark w (record { stamp = x; image = v.image } ∷ vs) → IsOrdered mark (record { stamp = x; image = v.image } ∷ vs) →
+        IsOrdered mark (installed w i (record { stamp = x; image = v.image } ∷ vs))
     go (Written by) f h = h
     go (Numbered k by) f h = (k, refl, omega (arith, f), h.1)
     go (Oldest k) f h = (k, refl, omega (arith, h.0), h.1)
@@ -124,11 +125,13 @@ ordered_next mark (v ∷ vs) f = go v.stamp f
     go (Oldest k) f = (omega (arith, f.0), f.1)
 
 -- what isn't published then wasn't before, and has no number
-pub unpublished_next : (mark : ℕ) (vs : List Version) (w : Writer) (i : Image) → IsOrdered mark vs → unpublished (suc mark) vs ≡ Some (w, i) → (unpublished mark vs ≡ Some (w, i)) × (is_numbered vs ≡ false)
+pub unpublished_next : (mark : ℕ) (vs : List Version) (w : Writer) (i : Image) → IsOrdered mark vs → unpublished (suc mark) vs ≡ Some (w, i) → (unpublished mark vs ≡ Some (w, i)) ×
+    (is_numbered vs ≡ false)
 unpublished_next mark [] w i f o = cc
 unpublished_next mark (v ∷ vs) w i f o = go v.stamp f o
   where
-    go : (x : Stamp) → IsOrdered mark (record { stamp = x; image = v.image } ∷ vs) → unpublished_by (suc mark) x v.image ≡ Some (w, i) → (unpublished_by mark x v.image ≡ Some (w, i)) × (is_numbered (record { stamp = x; image = v.image } ∷ vs) ≡ false)
+    go : (x : Stamp) → IsOrdered mark (record { stamp = x; image = v.image } ∷ vs) → unpublished_by (suc mark) x v.image ≡ Some (w, i) →
+        (unpublished_by mark x v.image ≡ Some (w, i)) × (is_numbered (record { stamp = x; image = v.image } ∷ vs) ≡ false)
     go (Written by) f o = (o, refl)
     go (Numbered k by) f o = absurd (let p : nat_le k (suc mark) ≡ true = grind (arith, nat_tests, f.0) in let z = rw p at o in cc)
     go (Oldest k) f o = cc

@@ -17,7 +17,8 @@ use Rattle.hg_core.specs.Contents.{bucket_of, is_stamped}
 use Rattle.hg_core.specs.State.{opened}
 use Rattle.hg_core.specs.Events.{MayPublish}
 use Rattle.hg_core.specs.Steps.{Run, run}
-use Rattle.hg_core.specs.Worked.{one_rid, two_rid, row, slow_begin, long_snapshot, late_entry, early_sample, low_fix, two_versions, moved_snapshot, no_masks, no_tables, early_live, open_write, late_snapshot, swept_visit}
+use Rattle.hg_core.specs.Worked.{one_rid, two_rid, row, slow_begin, long_snapshot, late_entry, early_sample, low_fix, two_versions, moved_snapshot, no_masks, no_tables, early_live}
+use Rattle.hg_core.specs.Worked.{open_write, late_snapshot, swept_visit}
 use Rattle.hg_core.proofs.Loading.{found_each}
 
 first : IsSession 2 1
@@ -30,7 +31,8 @@ second = record { first = omega arith; last = omega arith }
 abbrev pub wrote : Image → ℕ → List LogEntry → List LogEntry
 wrote image at earlier = Wrote one_rid image ∷ Began at All ∷ earlier
 
-stamped_all : (log : ℕ → List LogEntry) (image : Image) (at : ℕ) (earlier : List LogEntry) → log 2 ≡ wrote image at earlier → (j : ℕ) (r : Rid) → IsTrue (is_in (2 ∷ []) j) → IsSome (open_in r (log j)) → IsTrue (is_stamped j r ((2, one_rid) ∷ []))
+stamped_all : (log : ℕ → List LogEntry) (image : Image) (at : ℕ) (earlier : List LogEntry) → log 2 ≡ wrote image at earlier → (j : ℕ) (r : Rid) → IsTrue (is_in (2 ∷ []) j) →
+    IsSome (open_in r (log j)) → IsTrue (is_stamped j r ((2, one_rid) ∷ []))
 stamped_all log image at earlier e j r is_of some =
     let two : 2 ≡ j = grind (arith, nat_tests) in
     subst (λ k. IsTrue (is_stamped k r ((2, one_rid) ∷ []))) two (go (same_rid one_rid r) (subst (λ l. IsSome (open_in r l)) e (subst (λ k. IsSome (open_in r (log k))) (sym two) some)))
@@ -59,7 +61,11 @@ none_left r = go (same_rid two_rid r)
 
 -- the pass of the slow begin has loaded both registers
 pub slow_whole : IsWhole 2 ((run (opened 2 1 1 1 1) slow_begin).pass 0)
-slow_whole = record { registers = λ j session. go j session.first session.last; masks = λ j. found_each HasMask j ((2, record { register = registers.Idle; mask = None }) ∷ (1, record { register = registers.Entering 0; mask = None }) ∷ []) (λ e. absurd (false_true e), (λ e. absurd (false_true e), tt)) }
+slow_whole = record {
+  registers = λ j session. go j session.first session.last;
+  masks = λ j. found_each HasMask j ((2, record { register = registers.Idle; mask = None }) ∷ (1, record { register = registers.Entering 0; mask = None }) ∷ [])
+      (λ e. absurd (false_true e), (λ e. absurd (false_true e), tt));
+}
   where
     go : (k : ℕ) → 0 < k → k ≤ 2 → IsSome (found k ((2, record { register = registers.Idle; mask = None }) ∷ (1, record { register = registers.Entering 0; mask = None }) ∷ []))
     go zero a b = absurd (omega arith)
@@ -68,7 +74,11 @@ slow_whole = record { registers = λ j session. go j session.first session.last;
     go (suc (suc (suc k))) a b = absurd (omega arith)
 
 pub two_whole : (image : Image) → IsWhole 2 ((run (opened 2 1 1 1 2) (two_versions image)).pass 0)
-two_whole image = record { registers = λ j session. go j session.first session.last; masks = λ j. found_each HasMask j ((2, record { register = registers.Idle; mask = None }) ∷ (1, record { register = registers.Live 1 true false; mask = Some 1 }) ∷ []) (λ e. absurd (false_true e), (λ e. refl, tt)) }
+two_whole image = record {
+  registers = λ j session. go j session.first session.last;
+  masks = λ j. found_each HasMask j ((2, record { register = registers.Idle; mask = None }) ∷ (1, record { register = registers.Live 1 true false; mask = Some 1 }) ∷ [])
+      (λ e. absurd (false_true e), (λ e. refl, tt));
+}
   where
     go : (k : ℕ) → 0 < k → k ≤ 2 → IsSome (found k ((2, record { register = registers.Idle; mask = None }) ∷ (1, record { register = registers.Live 1 true false; mask = Some 1 }) ∷ []))
     go zero a b = absurd (omega arith)
@@ -77,7 +87,11 @@ two_whole image = record { registers = λ j session. go j session.first session.
     go (suc (suc (suc k))) a b = absurd (omega arith)
 
 pub moved_whole : IsWhole 2 ((run (opened 2 1 1 1 2) moved_snapshot).pass 0)
-moved_whole = record { registers = λ j session. go j session.first session.last; masks = λ j. found_each HasMask j ((2, record { register = registers.Idle; mask = None }) ∷ (1, record { register = registers.Live 1 true true; mask = Some 1 }) ∷ []) (λ e. absurd (false_true e), (λ e. refl, tt)) }
+moved_whole = record {
+  registers = λ j session. go j session.first session.last;
+  masks = λ j. found_each HasMask j ((2, record { register = registers.Idle; mask = None }) ∷ (1, record { register = registers.Live 1 true true; mask = Some 1 }) ∷ [])
+      (λ e. absurd (false_true e), (λ e. refl, tt));
+}
   where
     go : (k : ℕ) → 0 < k → k ≤ 2 → IsSome (found k ((2, record { register = registers.Idle; mask = None }) ∷ (1, record { register = registers.Live 1 true true; mask = Some 1 }) ∷ []))
     go zero a b = absurd (omega arith)
@@ -97,50 +111,794 @@ no_masks_found j session = go j session.first session.last
 
 pub every_event_runs : Run (opened 2 1 1 1 1) (slow_begin ++ long_snapshot)
 unfolding bucket_of
-every_event_runs = (record { session = first; rests = refl; room = omega arith; tables = omega arith }, ((Declared 1, refl), ((Declared 1, refl), ((Declared 1, refl), (record { session = second; rests = refl; room = omega arith; tables = tt }, ((All, refl), ((All, refl), ((All, refl), ((0, refl), ((0, All, record { live = refl; table = refl; there = omega arith; plain = refl; unstamped = refl; room = omega arith; free = tt; newest = tt }), (record { mine = refl; plain = refl }, (publishes _ _ _ _ refl, (record { live = refl; none = λ r. refl }, ((λ j. omega arith), (record { session = first; fresh = refl }, (record { session = second; fresh = refl }, ((0, refl), (omega arith, (record { pass = omega arith; bucket = omega arith }, (record { whole = slow_whole; here = (refl, refl) }, ((0, (refl, refl)), (omega arith, ((λ j. omega arith), (record { session = first; fresh = refl }, ((0, false, refl), ((0, Some 1, record { shown = refl; loaded = refl }), ((0, Declared 1, record { live = refl; plain = refl; unstamped = refl; asks = refl }), ((0, Declared 1, record { live = refl; table = refl; there = omega arith; plain = refl; unstamped = refl; room = omega arith; free = tt; newest = tt }), (record { mine = refl; unstamped = refl }, (record { live = refl; none = none_left }, tt))))))))))))))))))))))))))))))
+every_event_runs = (
+  record { session = first; rests = refl; room = omega arith; tables = omega arith },
+  (
+    (Declared 1, refl),
+    (
+      (Declared 1, refl),
+      (
+        (Declared 1, refl),
+        (
+          record { session = second; rests = refl; room = omega arith; tables = tt },
+          (
+            (All, refl),
+            (
+              (All, refl),
+              (
+                (All, refl),
+                (
+                  (0, refl),
+                  (
+                    (
+                      0,
+                      All,
+                      record {
+                        live = refl;
+                        table = refl;
+                        there = omega arith;
+                        plain = refl;
+                        unstamped = refl;
+                        room = omega arith;
+                        free = tt;
+                        newest = tt;
+                      },
+                    ),
+                    (
+                      record { mine = refl; plain = refl },
+                      (
+                        publishes _ _ _ _ refl,
+                        (
+                          record { live = refl; none = λ r. refl },
+                          (
+                            (λ j. omega arith),
+                            (
+                              record { session = first; fresh = refl },
+                              (
+                                record { session = second; fresh = refl },
+                                (
+                                  (0, refl),
+                                  (
+                                    omega arith,
+                                    (
+                                      record { pass = omega arith; bucket = omega arith },
+                                      (
+                                        record { whole = slow_whole; here = (refl, refl) },
+                                        (
+                                          (0, (refl, refl)),
+                                          (
+                                            omega arith,
+                                            (
+                                              (λ j. omega arith),
+                                              (
+                                                record { session = first; fresh = refl },
+                                                (
+                                                  (0, false, refl),
+                                                  (
+                                                    (0, Some 1, record { shown = refl; loaded = refl }),
+                                                    (
+                                                      (0, Declared 1, record { live = refl; plain = refl; unstamped = refl; asks = refl }),
+                                                      (
+                                                        (0, Declared 1, record { live = refl; table = refl; there = omega arith; plain = refl; unstamped = refl; room = omega arith; free = tt; newest = tt }),
+                                                        (record { mine = refl; unstamped = refl }, (record { live = refl; none = none_left }, tt)),
+                                                      ),
+                                                    ),
+                                                  ),
+                                                ),
+                                              ),
+                                            ),
+                                          ),
+                                        ),
+                                      ),
+                                    ),
+                                  ),
+                                ),
+                              ),
+                            ),
+                          ),
+                        ),
+                      ),
+                    ),
+                  ),
+                ),
+              ),
+            ),
+          ),
+        ),
+      ),
+    ),
+  ),
+)
 
 pub slow_begin_runs : Run (opened 2 1 1 1 1) slow_begin
 unfolding bucket_of
-slow_begin_runs = (record { session = first; rests = refl; room = omega arith; tables = omega arith }, ((Declared 1, refl), ((Declared 1, refl), ((Declared 1, refl), (record { session = second; rests = refl; room = omega arith; tables = tt }, ((All, refl), ((All, refl), ((All, refl), ((0, refl), ((0, All, record { live = refl; table = refl; there = omega arith; plain = refl; unstamped = refl; room = omega arith; free = tt; newest = tt }), (record { mine = refl; plain = refl }, (publishes _ _ _ _ refl, (record { live = refl; none = λ r. refl }, ((λ j. omega arith), (record { session = first; fresh = refl }, (record { session = second; fresh = refl }, ((0, refl), tt)))))))))))))))))
+slow_begin_runs = (
+  record { session = first; rests = refl; room = omega arith; tables = omega arith },
+  (
+    (Declared 1, refl),
+    (
+      (Declared 1, refl),
+      (
+        (Declared 1, refl),
+        (
+          record { session = second; rests = refl; room = omega arith; tables = tt },
+          (
+            (All, refl),
+            (
+              (All, refl),
+              (
+                (All, refl),
+                (
+                  (0, refl),
+                  (
+                    (
+                      0,
+                      All,
+                      record {
+                        live = refl;
+                        table = refl;
+                        there = omega arith;
+                        plain = refl;
+                        unstamped = refl;
+                        room = omega arith;
+                        free = tt;
+                        newest = tt;
+                      },
+                    ),
+                    (
+                      record { mine = refl; plain = refl },
+                      (
+                        publishes _ _ _ _ refl,
+                        (
+                          record { live = refl; none = λ r. refl },
+                          ((λ j. omega arith), (record { session = first; fresh = refl }, (record { session = second; fresh = refl }, ((0, refl), tt)))),
+                        ),
+                      ),
+                    ),
+                  ),
+                ),
+              ),
+            ),
+          ),
+        ),
+      ),
+    ),
+  ),
+)
 
 pub late_entry_runs : Run (opened 2 1 1 1 1) late_entry
 unfolding bucket_of
-late_entry_runs = (record { session = first; rests = refl; room = omega arith; tables = tt }, ((All, refl), (record { session = second; rests = refl; room = omega arith; tables = tt }, ((All, refl), ((All, refl), ((All, refl), ((0, refl), ((0, All, record { live = refl; table = refl; there = omega arith; plain = refl; unstamped = refl; room = omega arith; free = tt; newest = tt }), (record { mine = refl; plain = refl }, (publishes _ _ _ _ refl, (record { live = refl; none = λ r. refl }, ((λ j. omega arith), (record { session = first; fresh = refl }, ((All, refl), tt))))))))))))))
+late_entry_runs = (
+  record { session = first; rests = refl; room = omega arith; tables = tt },
+  (
+    (All, refl),
+    (
+      record { session = second; rests = refl; room = omega arith; tables = tt },
+      (
+        (All, refl),
+        (
+          (All, refl),
+          (
+            (All, refl),
+            (
+              (0, refl),
+              (
+                (
+                  0,
+                  All,
+                  record {
+                    live = refl;
+                    table = refl;
+                    there = omega arith;
+                    plain = refl;
+                    unstamped = refl;
+                    room = omega arith;
+                    free = tt;
+                    newest = tt;
+                  },
+                ),
+                (
+                  record { mine = refl; plain = refl },
+                  (publishes _ _ _ _ refl, (record { live = refl; none = λ r. refl }, ((λ j. omega arith), (record { session = first; fresh = refl }, ((All, refl), tt))))),
+                ),
+              ),
+            ),
+          ),
+        ),
+      ),
+    ),
+  ),
+)
 
 pub early_sample_runs : Run (opened 2 1 1 1 1) early_sample
 unfolding bucket_of
-early_sample_runs = ((λ j. omega arith), (record { session = first; fresh = refl }, (record { session = first; rests = refl; room = omega arith; tables = tt }, ((All, refl), ((All, refl), ((All, refl), ((0, refl), (record { session = second; rests = refl; room = omega arith; tables = tt }, ((All, refl), ((All, refl), ((All, refl), ((0, refl), ((0, All, record { live = refl; table = refl; there = omega arith; plain = refl; unstamped = refl; room = omega arith; free = tt; newest = tt }), (record { mine = refl; plain = refl }, (publishes _ _ _ _ refl, (record { live = refl; none = λ r. refl }, tt))))))))))))))))
+early_sample_runs = (
+  (λ j. omega arith),
+  (
+    record { session = first; fresh = refl },
+    (
+      record { session = first; rests = refl; room = omega arith; tables = tt },
+      (
+        (All, refl),
+        (
+          (All, refl),
+          (
+            (All, refl),
+            (
+              (0, refl),
+              (
+                record { session = second; rests = refl; room = omega arith; tables = tt },
+                (
+                  (All, refl),
+                  (
+                    (All, refl),
+                    (
+                      (All, refl),
+                      (
+                        (0, refl),
+                        (
+                          (
+                            0,
+                            All,
+                            record {
+                              live = refl;
+                              table = refl;
+                              there = omega arith;
+                              plain = refl;
+                              unstamped = refl;
+                              room = omega arith;
+                              free = tt;
+                              newest = tt;
+                            },
+                          ),
+                          (record { mine = refl; plain = refl }, (publishes _ _ _ _ refl, (record { live = refl; none = λ r. refl }, tt))),
+                        ),
+                      ),
+                    ),
+                  ),
+                ),
+              ),
+            ),
+          ),
+        ),
+      ),
+    ),
+  ),
+)
 
 pub low_fix_runs : Run (opened 2 1 1 1 1) low_fix
 unfolding bucket_of
-low_fix_runs = (record { session = first; rests = refl; room = omega arith; tables = tt }, ((All, refl), ((All, refl), ((All, refl), (record { session = second; rests = refl; room = omega arith; tables = tt }, ((All, refl), ((All, refl), ((All, refl), ((0, refl), ((0, All, record { live = refl; table = refl; there = omega arith; plain = refl; unstamped = refl; room = omega arith; free = tt; newest = tt }), (record { mine = refl; plain = refl }, (publishes _ _ _ _ refl, (record { live = refl; none = λ r. refl }, ((λ j. omega arith), tt))))))))))))))
+low_fix_runs = (
+  record { session = first; rests = refl; room = omega arith; tables = tt },
+  (
+    (All, refl),
+    (
+      (All, refl),
+      (
+        (All, refl),
+        (
+          record { session = second; rests = refl; room = omega arith; tables = tt },
+          (
+            (All, refl),
+            (
+              (All, refl),
+              (
+                (All, refl),
+                (
+                  (0, refl),
+                  (
+                    (
+                      0,
+                      All,
+                      record {
+                        live = refl;
+                        table = refl;
+                        there = omega arith;
+                        plain = refl;
+                        unstamped = refl;
+                        room = omega arith;
+                        free = tt;
+                        newest = tt;
+                      },
+                    ),
+                    (record { mine = refl; plain = refl }, (publishes _ _ _ _ refl, (record { live = refl; none = λ r. refl }, ((λ j. omega arith), tt)))),
+                  ),
+                ),
+              ),
+            ),
+          ),
+        ),
+      ),
+    ),
+  ),
+)
 
 pub no_tables_runs : Run (opened 2 1 1 1 1) no_tables
 unfolding bucket_of
-no_tables_runs = (record { session = first; rests = refl; room = omega arith; tables = omega arith }, ((Declared 0, refl), ((Declared 0, refl), ((Declared 0, refl), (record { session = second; rests = refl; room = omega arith; tables = tt }, ((All, refl), ((All, refl), ((All, refl), ((0, refl), ((0, All, record { live = refl; table = refl; there = omega arith; plain = refl; unstamped = refl; room = omega arith; free = tt; newest = tt }), (record { mine = refl; plain = refl }, (publishes _ _ _ _ refl, (record { live = refl; none = λ r. refl }, ((λ j. omega arith), tt))))))))))))))
+no_tables_runs = (
+  record { session = first; rests = refl; room = omega arith; tables = omega arith },
+  (
+    (Declared 0, refl),
+    (
+      (Declared 0, refl),
+      (
+        (Declared 0, refl),
+        (
+          record { session = second; rests = refl; room = omega arith; tables = tt },
+          (
+            (All, refl),
+            (
+              (All, refl),
+              (
+                (All, refl),
+                (
+                  (0, refl),
+                  (
+                    (
+                      0,
+                      All,
+                      record {
+                        live = refl;
+                        table = refl;
+                        there = omega arith;
+                        plain = refl;
+                        unstamped = refl;
+                        room = omega arith;
+                        free = tt;
+                        newest = tt;
+                      },
+                    ),
+                    (record { mine = refl; plain = refl }, (publishes _ _ _ _ refl, (record { live = refl; none = λ r. refl }, ((λ j. omega arith), tt)))),
+                  ),
+                ),
+              ),
+            ),
+          ),
+        ),
+      ),
+    ),
+  ),
+)
 
 pub early_live_runs : Run (opened 2 1 1 1 1) early_live
 unfolding bucket_of
-early_live_runs = (record { session = first; rests = refl; room = omega arith; tables = omega arith }, ((Declared 1, refl), ((Declared 1, refl), ((Declared 1, refl), ((0, refl), (record { session = second; rests = refl; room = omega arith; tables = tt }, ((All, refl), ((All, refl), ((All, refl), ((0, refl), ((0, All, record { live = refl; table = refl; there = omega arith; plain = refl; unstamped = refl; room = omega arith; free = tt; newest = tt }), (record { mine = refl; plain = refl }, (publishes _ _ _ _ refl, (record { live = refl; none = λ r. refl }, ((λ j. omega arith), tt)))))))))))))))
+early_live_runs = (
+  record { session = first; rests = refl; room = omega arith; tables = omega arith },
+  (
+    (Declared 1, refl),
+    (
+      (Declared 1, refl),
+      (
+        (Declared 1, refl),
+        (
+          (0, refl),
+          (
+            record { session = second; rests = refl; room = omega arith; tables = tt },
+            (
+              (All, refl),
+              (
+                (All, refl),
+                (
+                  (All, refl),
+                  (
+                    (0, refl),
+                    (
+                      (
+                        0,
+                        All,
+                        record {
+                          live = refl;
+                          table = refl;
+                          there = omega arith;
+                          plain = refl;
+                          unstamped = refl;
+                          room = omega arith;
+                          free = tt;
+                          newest = tt;
+                        },
+                      ),
+                      (record { mine = refl; plain = refl }, (publishes _ _ _ _ refl, (record { live = refl; none = λ r. refl }, ((λ j. omega arith), tt)))),
+                    ),
+                  ),
+                ),
+              ),
+            ),
+          ),
+        ),
+      ),
+    ),
+  ),
+)
 
 pub two_versions_runs : (image : Image) → Run (opened 2 1 1 1 2) (two_versions image)
 unfolding bucket_of
-two_versions_runs image = (record { session = second; rests = refl; room = omega arith; tables = tt }, ((All, refl), ((All, refl), ((All, refl), ((0, refl), ((0, All, record { live = refl; table = refl; there = omega arith; plain = refl; unstamped = refl; room = omega arith; free = tt; newest = tt }), (record { mine = refl; plain = refl }, (publishes _ _ _ _ refl, (record { live = refl; none = λ r. refl }, (record { session = first; rests = refl; room = omega arith; tables = omega arith }, ((Declared 1, refl), ((Declared 1, refl), ((Declared 1, refl), ((1, refl), (record { session = second; rests = refl; room = omega arith; tables = tt }, ((All, refl), ((All, refl), ((All, refl), ((1, refl), ((1, All, record { live = refl; table = refl; there = omega arith; plain = refl; unstamped = refl; room = omega arith; free = omega arith; newest = omega arith }), (record { mine = refl; plain = refl }, (publishes _ _ _ _ refl, (record { live = refl; none = λ r. refl }, ((λ j. omega arith), (record { session = first; fresh = refl }, ((1, false, refl), (record { session = second; fresh = refl }, (record { pass = omega arith; bucket = omega arith }, tt))))))))))))))))))))))))))))
+two_versions_runs image = (
+  record { session = second; rests = refl; room = omega arith; tables = tt },
+  (
+    (All, refl),
+    (
+      (All, refl),
+      (
+        (All, refl),
+        (
+          (0, refl),
+          (
+            (
+              0,
+              All,
+              record {
+                live = refl;
+                table = refl;
+                there = omega arith;
+                plain = refl;
+                unstamped = refl;
+                room = omega arith;
+                free = tt;
+                newest = tt;
+              },
+            ),
+            (
+              record { mine = refl; plain = refl },
+              (
+                publishes _ _ _ _ refl,
+                (
+                  record { live = refl; none = λ r. refl },
+                  (
+                    record { session = first; rests = refl; room = omega arith; tables = omega arith },
+                    (
+                      (Declared 1, refl),
+                      (
+                        (Declared 1, refl),
+                        (
+                          (Declared 1, refl),
+                          (
+                            (1, refl),
+                            (
+                              record { session = second; rests = refl; room = omega arith; tables = tt },
+                              (
+                                (All, refl),
+                                (
+                                  (All, refl),
+                                  (
+                                    (All, refl),
+                                    (
+                                      (1, refl),
+                                      (
+                                        (
+                                          1,
+                                          All,
+                                          record {
+                                            live = refl;
+                                            table = refl;
+                                            there = omega arith;
+                                            plain = refl;
+                                            unstamped = refl;
+                                            room = omega arith;
+                                            free = omega arith;
+                                            newest = omega arith;
+                                          },
+                                        ),
+                                        (
+                                          record { mine = refl; plain = refl },
+                                          (
+                                            publishes _ _ _ _ refl,
+                                            (
+                                              record { live = refl; none = λ r. refl },
+                                              (
+                                                (λ j. omega arith),
+                                                (
+                                                  record { session = first; fresh = refl },
+                                                  ((1, false, refl), (record { session = second; fresh = refl }, (record { pass = omega arith; bucket = omega arith }, tt))),
+                                                ),
+                                              ),
+                                            ),
+                                          ),
+                                        ),
+                                      ),
+                                    ),
+                                  ),
+                                ),
+                              ),
+                            ),
+                          ),
+                        ),
+                      ),
+                    ),
+                  ),
+                ),
+              ),
+            ),
+          ),
+        ),
+      ),
+    ),
+  ),
+)
 
 pub moved_snapshot_runs : Run (opened 2 1 1 1 2) moved_snapshot
 unfolding bucket_of
-moved_snapshot_runs = (record { session = second; rests = refl; room = omega arith; tables = tt }, ((All, refl), ((All, refl), ((All, refl), ((0, refl), ((0, All, record { live = refl; table = refl; there = omega arith; plain = refl; unstamped = refl; room = omega arith; free = tt; newest = tt }), (record { mine = refl; plain = refl }, (publishes _ _ _ _ refl, (record { live = refl; none = λ r. refl }, (record { session = first; rests = refl; room = omega arith; tables = omega arith }, ((Declared 1, refl), ((Declared 1, refl), ((Declared 1, refl), ((1, refl), (record { session = second; rests = refl; room = omega arith; tables = tt }, ((All, refl), ((All, refl), ((All, refl), ((1, refl), ((1, All, record { live = refl; table = refl; there = omega arith; plain = refl; unstamped = refl; room = omega arith; free = omega arith; newest = omega arith }), (record { mine = refl; plain = refl }, (publishes _ _ _ _ refl, (record { live = refl; none = λ r. refl }, ((λ j. omega arith), (record { session = first; fresh = refl }, ((1, false, refl), (record { session = second; fresh = refl }, (record { pass = omega arith; bucket = omega arith }, ((1, Some 1, record { shown = refl; loaded = refl }), tt)))))))))))))))))))))))))))))
+moved_snapshot_runs = (
+  record { session = second; rests = refl; room = omega arith; tables = tt },
+  (
+    (All, refl),
+    (
+      (All, refl),
+      (
+        (All, refl),
+        (
+          (0, refl),
+          (
+            (
+              0,
+              All,
+              record {
+                live = refl;
+                table = refl;
+                there = omega arith;
+                plain = refl;
+                unstamped = refl;
+                room = omega arith;
+                free = tt;
+                newest = tt;
+              },
+            ),
+            (
+              record { mine = refl; plain = refl },
+              (
+                publishes _ _ _ _ refl,
+                (
+                  record { live = refl; none = λ r. refl },
+                  (
+                    record { session = first; rests = refl; room = omega arith; tables = omega arith },
+                    (
+                      (Declared 1, refl),
+                      (
+                        (Declared 1, refl),
+                        (
+                          (Declared 1, refl),
+                          (
+                            (1, refl),
+                            (
+                              record { session = second; rests = refl; room = omega arith; tables = tt },
+                              (
+                                (All, refl),
+                                (
+                                  (All, refl),
+                                  (
+                                    (All, refl),
+                                    (
+                                      (1, refl),
+                                      (
+                                        (
+                                          1,
+                                          All,
+                                          record {
+                                            live = refl;
+                                            table = refl;
+                                            there = omega arith;
+                                            plain = refl;
+                                            unstamped = refl;
+                                            room = omega arith;
+                                            free = omega arith;
+                                            newest = omega arith;
+                                          },
+                                        ),
+                                        (
+                                          record { mine = refl; plain = refl },
+                                          (
+                                            publishes _ _ _ _ refl,
+                                            (
+                                              record { live = refl; none = λ r. refl },
+                                              (
+                                                (λ j. omega arith),
+                                                (
+                                                  record { session = first; fresh = refl },
+                                                  (
+                                                    (1, false, refl),
+                                                    (
+                                                      record { session = second; fresh = refl },
+                                                      (record { pass = omega arith; bucket = omega arith }, ((1, Some 1, record { shown = refl; loaded = refl }), tt)),
+                                                    ),
+                                                  ),
+                                                ),
+                                              ),
+                                            ),
+                                          ),
+                                        ),
+                                      ),
+                                    ),
+                                  ),
+                                ),
+                              ),
+                            ),
+                          ),
+                        ),
+                      ),
+                    ),
+                  ),
+                ),
+              ),
+            ),
+          ),
+        ),
+      ),
+    ),
+  ),
+)
 
 pub no_masks_runs : Run (opened 2 1 1 1 2) no_masks
 unfolding bucket_of
-no_masks_runs = (record { session = second; rests = refl; room = omega arith; tables = tt }, ((All, refl), ((All, refl), ((All, refl), ((0, refl), ((0, All, record { live = refl; table = refl; there = omega arith; plain = refl; unstamped = refl; room = omega arith; free = tt; newest = tt }), (record { mine = refl; plain = refl }, (publishes _ _ _ _ refl, (record { live = refl; none = λ r. refl }, (record { session = first; rests = refl; room = omega arith; tables = omega arith }, ((Declared 1, refl), ((Declared 1, refl), ((Declared 1, refl), ((1, refl), (record { session = second; rests = refl; room = omega arith; tables = tt }, ((All, refl), ((All, refl), ((All, refl), ((1, refl), ((1, All, record { live = refl; table = refl; there = omega arith; plain = refl; unstamped = refl; room = omega arith; free = omega arith; newest = omega arith }), (record { mine = refl; plain = refl }, (publishes _ _ _ _ refl, (record { live = refl; none = λ r. refl }, ((λ j. omega arith), (record { session = first; fresh = refl }, ((1, false, refl), (record { session = second; fresh = refl }, (record { pass = omega arith; bucket = omega arith }, ((1, Some 1, record { shown = refl; loaded = refl }), ((λ j. omega arith), (record { session = first; fresh = refl }, (record { session = second; fresh = refl }, tt))))))))))))))))))))))))))))))))
+no_masks_runs = (
+  record { session = second; rests = refl; room = omega arith; tables = tt },
+  (
+    (All, refl),
+    (
+      (All, refl),
+      (
+        (All, refl),
+        (
+          (0, refl),
+          (
+            (
+              0,
+              All,
+              record {
+                live = refl;
+                table = refl;
+                there = omega arith;
+                plain = refl;
+                unstamped = refl;
+                room = omega arith;
+                free = tt;
+                newest = tt;
+              },
+            ),
+            (
+              record { mine = refl; plain = refl },
+              (
+                publishes _ _ _ _ refl,
+                (
+                  record { live = refl; none = λ r. refl },
+                  (
+                    record { session = first; rests = refl; room = omega arith; tables = omega arith },
+                    (
+                      (Declared 1, refl),
+                      (
+                        (Declared 1, refl),
+                        (
+                          (Declared 1, refl),
+                          (
+                            (1, refl),
+                            (
+                              record { session = second; rests = refl; room = omega arith; tables = tt },
+                              (
+                                (All, refl),
+                                (
+                                  (All, refl),
+                                  (
+                                    (All, refl),
+                                    (
+                                      (1, refl),
+                                      (
+                                        (
+                                          1,
+                                          All,
+                                          record {
+                                            live = refl;
+                                            table = refl;
+                                            there = omega arith;
+                                            plain = refl;
+                                            unstamped = refl;
+                                            room = omega arith;
+                                            free = omega arith;
+                                            newest = omega arith;
+                                          },
+                                        ),
+                                        (
+                                          record { mine = refl; plain = refl },
+                                          (
+                                            publishes _ _ _ _ refl,
+                                            (
+                                              record { live = refl; none = λ r. refl },
+                                              (
+                                                (λ j. omega arith),
+                                                (
+                                                  record { session = first; fresh = refl },
+                                                  (
+                                                    (1, false, refl),
+                                                    (
+                                                      record { session = second; fresh = refl },
+                                                      (
+                                                        record { pass = omega arith; bucket = omega arith },
+                                                        (
+                                                          (1, Some 1, record { shown = refl; loaded = refl }),
+                                                          ((λ j. omega arith), (record { session = first; fresh = refl }, (record { session = second; fresh = refl }, tt))),
+                                                        ),
+                                                      ),
+                                                    ),
+                                                  ),
+                                                ),
+                                              ),
+                                            ),
+                                          ),
+                                        ),
+                                      ),
+                                    ),
+                                  ),
+                                ),
+                              ),
+                            ),
+                          ),
+                        ),
+                      ),
+                    ),
+                  ),
+                ),
+              ),
+            ),
+          ),
+        ),
+      ),
+    ),
+  ),
+)
 
 pub open_write_runs : Run (opened 2 1 1 1 2) open_write
 unfolding bucket_of
-open_write_runs = (record { session = first; rests = refl; room = omega arith; tables = tt }, ((All, refl), ((All, refl), ((All, refl), ((0, refl), (record { session = second; rests = refl; room = omega arith; tables = tt }, ((All, refl), ((All, refl), ((All, refl), ((0, refl), ((0, All, record { live = refl; table = refl; there = omega arith; plain = refl; unstamped = refl; room = omega arith; free = tt; newest = tt }), tt)))))))))))
+open_write_runs = (
+  record { session = first; rests = refl; room = omega arith; tables = tt },
+  (
+    (All, refl),
+    (
+      (All, refl),
+      (
+        (All, refl),
+        (
+          (0, refl),
+          (
+            record { session = second; rests = refl; room = omega arith; tables = tt },
+            (
+              (All, refl),
+              (
+                (All, refl),
+                (
+                  (All, refl),
+                  (
+                    (0, refl),
+                    (
+                      (
+                        0,
+                        All,
+                        record {
+                          live = refl;
+                          table = refl;
+                          there = omega arith;
+                          plain = refl;
+                          unstamped = refl;
+                          room = omega arith;
+                          free = tt;
+                          newest = tt;
+                        },
+                      ),
+                      tt,
+                    ),
+                  ),
+                ),
+              ),
+            ),
+          ),
+        ),
+      ),
+    ),
+  ),
+)
 
 pub late_whole : IsWhole 2 ((run (opened 2 1 1 1 2) late_snapshot).pass 0)
-late_whole = record { registers = λ j session. go j session.first session.last; masks = λ j. found_each HasMask j ((2, record { register = registers.Idle; mask = None }) ∷ (1, record { register = registers.Live 2 false false; mask = None }) ∷ []) (λ e. absurd (false_true e), (λ e. absurd (false_true e), tt)) }
+late_whole = record {
+  registers = λ j session. go j session.first session.last;
+  masks = λ j. found_each HasMask j ((2, record { register = registers.Idle; mask = None }) ∷ (1, record { register = registers.Live 2 false false; mask = None }) ∷ [])
+      (λ e. absurd (false_true e), (λ e. absurd (false_true e), tt));
+}
   where
     go : (k : ℕ) → 0 < k → k ≤ 2 → IsSome (found k ((2, record { register = registers.Idle; mask = None }) ∷ (1, record { register = registers.Live 2 false false; mask = None }) ∷ []))
     go zero a b = absurd (omega arith)
@@ -150,8 +908,210 @@ late_whole = record { registers = λ j session. go j session.first session.last;
 
 pub late_snapshot_runs : Run (opened 2 1 1 1 2) late_snapshot
 unfolding bucket_of
-late_snapshot_runs = (record { session = second; rests = refl; room = omega arith; tables = tt }, ((All, refl), ((All, refl), ((All, refl), ((0, refl), ((0, All, record { live = refl; table = refl; there = omega arith; plain = refl; unstamped = refl; room = omega arith; free = tt; newest = tt }), (record { mine = refl; plain = refl }, (publishes _ _ _ _ refl, (record { live = refl; none = λ r. refl }, (record { session = second; rests = refl; room = omega arith; tables = tt }, ((All, refl), ((All, refl), ((All, refl), ((1, refl), ((1, All, record { live = refl; table = refl; there = omega arith; plain = refl; unstamped = refl; room = omega arith; free = omega arith; newest = omega arith }), (record { mine = refl; plain = refl }, (publishes _ _ _ _ refl, (record { live = refl; none = λ r. refl }, (record { session = first; rests = refl; room = omega arith; tables = tt }, ((All, refl), ((All, refl), ((All, refl), ((2, refl), ((λ j. omega arith), (record { session = first; fresh = refl }, (record { session = second; fresh = refl }, (record { pass = omega arith; bucket = omega arith }, tt)))))))))))))))))))))))))))
+late_snapshot_runs = (
+  record { session = second; rests = refl; room = omega arith; tables = tt },
+  (
+    (All, refl),
+    (
+      (All, refl),
+      (
+        (All, refl),
+        (
+          (0, refl),
+          (
+            (
+              0,
+              All,
+              record {
+                live = refl;
+                table = refl;
+                there = omega arith;
+                plain = refl;
+                unstamped = refl;
+                room = omega arith;
+                free = tt;
+                newest = tt;
+              },
+            ),
+            (
+              record { mine = refl; plain = refl },
+              (
+                publishes _ _ _ _ refl,
+                (
+                  record { live = refl; none = λ r. refl },
+                  (
+                    record { session = second; rests = refl; room = omega arith; tables = tt },
+                    (
+                      (All, refl),
+                      (
+                        (All, refl),
+                        (
+                          (All, refl),
+                          (
+                            (1, refl),
+                            (
+                              (
+                                1,
+                                All,
+                                record {
+                                  live = refl;
+                                  table = refl;
+                                  there = omega arith;
+                                  plain = refl;
+                                  unstamped = refl;
+                                  room = omega arith;
+                                  free = omega arith;
+                                  newest = omega arith;
+                                },
+                              ),
+                              (
+                                record { mine = refl; plain = refl },
+                                (
+                                  publishes _ _ _ _ refl,
+                                  (
+                                    record { live = refl; none = λ r. refl },
+                                    (
+                                      record { session = first; rests = refl; room = omega arith; tables = tt },
+                                      (
+                                        (All, refl),
+                                        (
+                                          (All, refl),
+                                          (
+                                            (All, refl),
+                                            (
+                                              (2, refl),
+                                              (
+                                                (λ j. omega arith),
+                                                (record { session = first; fresh = refl }, (record { session = second; fresh = refl }, (record { pass = omega arith; bucket = omega arith }, tt))),
+                                              ),
+                                            ),
+                                          ),
+                                        ),
+                                      ),
+                                    ),
+                                  ),
+                                ),
+                              ),
+                            ),
+                          ),
+                        ),
+                      ),
+                    ),
+                  ),
+                ),
+              ),
+            ),
+          ),
+        ),
+      ),
+    ),
+  ),
+)
 
 pub swept_visit_runs : Run (opened 2 1 1 1 2) swept_visit
 unfolding bucket_of
-swept_visit_runs = (record { session = second; rests = refl; room = omega arith; tables = tt }, ((All, refl), ((All, refl), ((All, refl), ((0, refl), ((0, All, record { live = refl; table = refl; there = omega arith; plain = refl; unstamped = refl; room = omega arith; free = tt; newest = tt }), (record { mine = refl; plain = refl }, (publishes _ _ _ _ refl, (record { live = refl; none = λ r. refl }, (record { session = second; rests = refl; room = omega arith; tables = tt }, ((All, refl), ((All, refl), ((All, refl), ((1, refl), ((1, All, record { live = refl; table = refl; there = omega arith; plain = refl; unstamped = refl; room = omega arith; free = omega arith; newest = omega arith }), (record { mine = refl; plain = refl }, (publishes _ _ _ _ refl, (record { live = refl; none = λ r. refl }, (record { session = first; rests = refl; room = omega arith; tables = tt }, ((All, refl), ((All, refl), ((All, refl), ((2, refl), ((λ j. omega arith), (record { session = first; fresh = refl }, (record { session = second; fresh = refl }, (record { pass = omega arith; bucket = omega arith }, (record { whole = late_whole; here = (refl, refl) }, ((0, (refl, refl)), tt)))))))))))))))))))))))))))))
+swept_visit_runs = (
+  record { session = second; rests = refl; room = omega arith; tables = tt },
+  (
+    (All, refl),
+    (
+      (All, refl),
+      (
+        (All, refl),
+        (
+          (0, refl),
+          (
+            (
+              0,
+              All,
+              record {
+                live = refl;
+                table = refl;
+                there = omega arith;
+                plain = refl;
+                unstamped = refl;
+                room = omega arith;
+                free = tt;
+                newest = tt;
+              },
+            ),
+            (
+              record { mine = refl; plain = refl },
+              (
+                publishes _ _ _ _ refl,
+                (
+                  record { live = refl; none = λ r. refl },
+                  (
+                    record { session = second; rests = refl; room = omega arith; tables = tt },
+                    (
+                      (All, refl),
+                      (
+                        (All, refl),
+                        (
+                          (All, refl),
+                          (
+                            (1, refl),
+                            (
+                              (
+                                1,
+                                All,
+                                record {
+                                  live = refl;
+                                  table = refl;
+                                  there = omega arith;
+                                  plain = refl;
+                                  unstamped = refl;
+                                  room = omega arith;
+                                  free = omega arith;
+                                  newest = omega arith;
+                                },
+                              ),
+                              (
+                                record { mine = refl; plain = refl },
+                                (
+                                  publishes _ _ _ _ refl,
+                                  (
+                                    record { live = refl; none = λ r. refl },
+                                    (
+                                      record { session = first; rests = refl; room = omega arith; tables = tt },
+                                      (
+                                        (All, refl),
+                                        (
+                                          (All, refl),
+                                          (
+                                            (All, refl),
+                                            (
+                                              (2, refl),
+                                              (
+                                                (λ j. omega arith),
+                                                (
+                                                  record { session = first; fresh = refl },
+                                                  (
+                                                    record { session = second; fresh = refl },
+                                                    (record { pass = omega arith; bucket = omega arith }, (record { whole = late_whole; here = (refl, refl) }, ((0, (refl, refl)), tt))),
+                                                  ),
+                                                ),
+                                              ),
+                                            ),
+                                          ),
+                                        ),
+                                      ),
+                                    ),
+                                  ),
+                                ),
+                              ),
+                            ),
+                          ),
+                        ),
+                      ),
+                    ),
+                  ),
+                ),
+              ),
+            ),
+          ),
+        ),
+      ),
+    ),
+  ),
+)

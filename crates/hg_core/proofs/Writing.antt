@@ -92,7 +92,8 @@ own_judge top h (Wrote r image) log own s = s
 own_judge top h (Undid r) log own s = s
 own_judge top h _ log own s = absurd own
 
-pub answer_more : (s : CoreState) (j : ℕ) (e : LogEntry) → IsSteady s → IsOwn (length s.history) e → IsSome (current (s.log j)) → UndoesOpen (e ∷ s.log j) → wrotes (e ∷ s.log j) ≤ s.quota → LogsAnswer s.sessions s.quota s.history s.phase (put s.log j (e ∷ s.log j))
+pub answer_more : (s : CoreState) (j : ℕ) (e : LogEntry) → IsSteady s → IsOwn (length s.history) e → IsSome (current (s.log j)) → UndoesOpen (e ∷ s.log j) →
+    wrotes (e ∷ s.log j) ≤ s.quota → LogsAnswer s.sessions s.quota s.history s.phase (put s.log j (e ∷ s.log j))
 answer_more s j e h own some undone room =
     let top : ℕ = length s.history in
     let same = own_same top e (s.log j) own in
@@ -157,19 +158,28 @@ install_kept s j r image h (at, scope, may) =
       no_update_is_lost = h.no_update_is_lost;
       registers_agree = h.registers_agree;
       records_bound_sessions = h.records_bound_sessions;
-      records_reach_logs = reach_step s.phase s.phase s.log (put s.log j (Wrote r image ∷ s.log j)) s.pass j (s.phase j) (Wrote r image ∷ []) h.records_reach_logs (only_same s.phase j) (only_put s.log j (Wrote r image ∷ s.log j)) (λ e. inr e);
-      covered = at_record s.buckets s.bucket r (installed w image held) (λ q c. Covers s.mark s.phase s.history q c) (covers_same s.mark s.phase s.history r held (installed w image held) (λ n le. installed_newest n w image held) h.mark_is_length.sessions (h.covered r)) (λ q other. h.covered q);
-      open_writes_may_commit = by_number j (λ k t. (q : Rid) (i : Image) → open_in q (if t then Wrote r image ∷ s.log j else s.log k) ≡ Some i → MayCommit s.history q (s.phase k)) here (λ k other. h.open_writes_may_commit k);
+      records_reach_logs = reach_step s.phase s.phase s.log (put s.log j (Wrote r image ∷ s.log j)) s.pass j (s.phase j) (Wrote r image ∷ []) h.records_reach_logs
+          (only_same s.phase j) (only_put s.log j (Wrote r image ∷ s.log j)) (λ e. inr e);
+      covered = at_record s.buckets s.bucket r (installed w image held) (λ q c. Covers s.mark s.phase s.history q c)
+          (covers_same s.mark s.phase s.history r held (installed w image held) (λ n le. installed_newest n w image held) h.mark_is_length.sessions (h.covered r)) (λ q other. h.covered q);
+      open_writes_may_commit = by_number j (λ k t. (q : Rid) (i : Image) → open_in q (if t then Wrote r image ∷ s.log j else s.log k) ≡ Some i →
+          MayCommit s.history q (s.phase k)) here (λ k other. h.open_writes_may_commit k);
       contents_are_ordered = record {
-        ordered = at_record s.buckets s.bucket r (installed w image held) (λ q c. IsOrdered s.mark c) (installed_ordered s.mark w image held may.free (h.contents_are_ordered.ordered r)) (λ q other. h.contents_are_ordered.ordered q);
-        backed = at_record s.buckets s.bucket r (installed w image held) (λ q c. IsBacked s.mark s.history q c) (backed_installed s.mark s.history r w image held (h.contents_are_ordered.backed r)) (λ q other. h.contents_are_ordered.backed q);
+        ordered = at_record s.buckets s.bucket r (installed w image held) (λ q c. IsOrdered s.mark c)
+            (installed_ordered s.mark w image held may.free (h.contents_are_ordered.ordered r)) (λ q other. h.contents_are_ordered.ordered q);
+        backed = at_record s.buckets s.bucket r (installed w image held) (λ q c. IsBacked s.mark s.history q c)
+            (backed_installed s.mark s.history r w image held (h.contents_are_ordered.backed r)) (λ q other. h.contents_are_ordered.backed q);
       };
       contents_are_placed = placed_stored s.tables s.buckets s.bucket r (installed w image held) (λ some. may.there) h.contents_are_placed;
-      counters_balance = counters_installed s.sessions s.buckets s.passes s.log s.bucket s.counters s.visits j r w image (session_at s j h (λ e. let z : Live at scope ≡ Idle = sym may.live ∙ e in cc)) fresh h.counters_balance;
-      visits_stay = visits_later s.passes s.buckets s.mark s.mark (versions s.buckets s.bucket) _ s.visits (omega arith) (stays_stored s.mark s.buckets s.bucket r (installed w image held) (stays_installed s.mark w image held)) h.visits_stay;
-      open_writes_stand = stand_alike s.mark (begun_in s.log) _ _ _ _ (λ k q. refl) (λ k q i e. begun_more s.log j (Wrote r image) refl k) (stand_installed s.mark s.buckets s.bucket (begun_in s.log) (open_writes s.log) _ j r image may.free f h.open_writes_stand);
+      counters_balance = counters_installed s.sessions s.buckets s.passes s.log s.bucket s.counters s.visits j r w image
+          (session_at s j h (λ e. let z : Live at scope ≡ Idle = sym may.live ∙ e in cc)) fresh h.counters_balance;
+      visits_stay = visits_later s.passes s.buckets s.mark s.mark (versions s.buckets s.bucket) _ s.visits (omega arith)
+          (stays_stored s.mark s.buckets s.bucket r (installed w image held) (stays_installed s.mark w image held)) h.visits_stay;
+      open_writes_stand = stand_alike s.mark (begun_in s.log) _ _ _ _ (λ k q. refl) (λ k q i e. begun_more s.log j (Wrote r image) refl k)
+          (stand_installed s.mark s.buckets s.bucket (begun_in s.log) (open_writes s.log) _ j r image may.free f h.open_writes_stand);
       stamped_is_next = next_installed s.mark s.buckets s.bucket (begun_in s.log) (open_writes s.log) _ j r image s.stamped_list may.unstamped f h.stamped_is_next;
-      replies_answer = replies_entry s.buckets s.history s.log j (Wrote r image) tt h.logs_answer.within (subst (λ o. IfSome o (λ snapshot. IsTrue (has snapshot.scope r.table))) (sym (h.logs_answer.reads j ∙ ap snapshot_in may.live)) may.table, may.plain) h.replies_answer;
+      replies_answer = replies_entry s.buckets s.history s.log j (Wrote r image) tt h.logs_answer.within
+          (subst (λ o. IfSome o (λ snapshot. IsTrue (has snapshot.scope r.table))) (sym (h.logs_answer.reads j ∙ ap snapshot_in may.live)) may.table, may.plain) h.replies_answer;
       logs_answer = answer_more s j (Wrote r image) h tt (subst IsSome (sym (h.logs_answer.reads j ∙ ap snapshot_in may.live)) refl) (h.logs_answer.undone j) (let k = may.room in omega arith);
     }
   where
@@ -179,7 +189,11 @@ install_kept s j r image h (at, scope, may) =
         (λ i e. image_open r (s.log j) may.plain ∙ (h.open_writes_stand.owned r (writer_of (begun_in s.log) j) i e).1)
 
     mine : MayCommit s.history r (s.phase j)
-    mine = subst (MayCommit s.history r) (sym may.live) (may.table, none_newer s.mark s.phase s.history r (versions s.buckets s.bucket r) at (h.covered r) (inr (j, subst (λ p. Reads r.table p at) (sym may.live) (refl, may.table))) may.newest)
+    mine = subst (MayCommit s.history r) (sym may.live) (
+      may.table,
+      none_newer s.mark s.phase s.history r (versions s.buckets s.bucket r) at (h.covered r)
+          (inr (j, subst (λ p. Reads r.table p at) (sym may.live) (refl, may.table))) may.newest,
+    )
 
     here : (q : Rid) (i : Image) → (if same_rid r q then Some image else open_in q (s.log j)) ≡ Some i → MayCommit s.history q (s.phase j)
     here = by_rid r (λ q t. (i : Image) → (if t then Some image else open_in q (s.log j)) ≡ Some i → MayCommit s.history q (s.phase j)) (λ i e. mine) (λ q other i e. h.open_writes_may_commit j q i e)
@@ -198,17 +212,24 @@ undo_kept s j r h may =
       no_update_is_lost = h.no_update_is_lost;
       registers_agree = h.registers_agree;
       records_bound_sessions = h.records_bound_sessions;
-      records_reach_logs = reach_step s.phase s.phase s.log (put s.log j (Undid r ∷ s.log j)) s.pass j (s.phase j) (Undid r ∷ []) h.records_reach_logs (only_same s.phase j) (only_put s.log j (Undid r ∷ s.log j)) (λ e. inr e);
-      covered = at_record s.buckets s.bucket r (undone held) (λ q c. Covers s.mark s.phase s.history q c) (covers_same s.mark s.phase s.history r held (undone held) (λ n le. was.newest_undone n) h.mark_is_length.sessions (h.covered r)) (λ q other. h.covered q);
-      open_writes_may_commit = by_number j (λ k t. (q : Rid) (i : Image) → open_in q (if t then Undid r ∷ s.log j else s.log k) ≡ Some i → MayCommit s.history q (s.phase k)) here (λ k other. h.open_writes_may_commit k);
+      records_reach_logs = reach_step s.phase s.phase s.log (put s.log j (Undid r ∷ s.log j)) s.pass j (s.phase j) (Undid r ∷ []) h.records_reach_logs (only_same s.phase j)
+          (only_put s.log j (Undid r ∷ s.log j)) (λ e. inr e);
+      covered = at_record s.buckets s.bucket r (undone held) (λ q c. Covers s.mark s.phase s.history q c)
+          (covers_same s.mark s.phase s.history r held (undone held) (λ n le. was.newest_undone n) h.mark_is_length.sessions (h.covered r)) (λ q other. h.covered q);
+      open_writes_may_commit = by_number j (λ k t. (q : Rid) (i : Image) → open_in q (if t then Undid r ∷ s.log j else s.log k) ≡ Some i → MayCommit s.history q (s.phase k)) here
+          (λ k other. h.open_writes_may_commit k);
       contents_are_ordered = record {
         ordered = at_record s.buckets s.bucket r (undone held) (λ q c. IsOrdered s.mark c) was.ordered_undone (λ q other. h.contents_are_ordered.ordered q);
-        backed = at_record s.buckets s.bucket r (undone held) (λ q c. IsBacked s.mark s.history q c) (backed_undone s.mark s.history r held (h.contents_are_ordered.backed r)) (λ q other. h.contents_are_ordered.backed q);
+        backed = at_record s.buckets s.bucket r (undone held) (λ q c. IsBacked s.mark s.history q c) (backed_undone s.mark s.history r held (h.contents_are_ordered.backed r))
+            (λ q other. h.contents_are_ordered.backed q);
       };
       contents_are_placed = placed_stored s.tables s.buckets s.bucket r (undone held) (λ some. is_there s r h (some_held w held may.mine)) h.contents_are_placed;
-      counters_balance = counters_undone s.sessions s.buckets s.passes s.log s.bucket s.counters s.visits j r w (session_at s j h (no_snapshot (s.phase j) (subst IsSome (h.logs_answer.reads j) mine))) may.mine h.counters_balance;
-      visits_stay = visits_later s.passes s.buckets s.mark s.mark (versions s.buckets s.bucket) _ s.visits (omega arith) (stays_stored s.mark s.buckets s.bucket r (undone held) (stays_undone s.mark w held may.mine)) h.visits_stay;
-      open_writes_stand = stand_alike s.mark (begun_in s.log) _ _ _ _ (λ k q. refl) (λ k q i e. begun_more s.log j (Undid r) refl k) (stand_undone s.mark s.buckets s.bucket (begun_in s.log) (open_writes s.log) _ j r was f h.open_writes_stand);
+      counters_balance = counters_undone s.sessions s.buckets s.passes s.log s.bucket s.counters s.visits j r w
+          (session_at s j h (no_snapshot (s.phase j) (subst IsSome (h.logs_answer.reads j) mine))) may.mine h.counters_balance;
+      visits_stay = visits_later s.passes s.buckets s.mark s.mark (versions s.buckets s.bucket) _ s.visits (omega arith)
+          (stays_stored s.mark s.buckets s.bucket r (undone held) (stays_undone s.mark w held may.mine)) h.visits_stay;
+      open_writes_stand = stand_alike s.mark (begun_in s.log) _ _ _ _ (λ k q. refl) (λ k q i e. begun_more s.log j (Undid r) refl k)
+          (stand_undone s.mark s.buckets s.bucket (begun_in s.log) (open_writes s.log) _ j r was f h.open_writes_stand);
       stamped_is_next = next_undone s.mark s.buckets s.bucket (begun_in s.log) (open_writes s.log) _ j r s.stamped_list may.unstamped was f h.stamped_is_next;
       replies_answer = replies_entry s.buckets s.history s.log j (Undid r) tt h.logs_answer.within tt h.replies_answer;
       logs_answer = answer_more s j (Undid r) h tt mine (subst IsSome (sym (h.open_writes_stand.owned r w was.image was.owned).1) refl, h.logs_answer.undone j) (h.logs_answer.written j);
@@ -230,15 +251,18 @@ stamp_kept s j r h may =
       registers_agree = h.registers_agree;
       records_bound_sessions = h.records_bound_sessions;
       records_reach_logs = h.records_reach_logs;
-      covered = at_record s.buckets s.bucket r (stamped (suc s.mark) w held) (λ q c. Covers s.mark s.phase s.history q c) (covers_same s.mark s.phase s.history r held (stamped (suc s.mark) w held) was.newest_stamped h.mark_is_length.sessions (h.covered r)) (λ q other. h.covered q);
+      covered = at_record s.buckets s.bucket r (stamped (suc s.mark) w held) (λ q c. Covers s.mark s.phase s.history q c)
+          (covers_same s.mark s.phase s.history r held (stamped (suc s.mark) w held) was.newest_stamped h.mark_is_length.sessions (h.covered r)) (λ q other. h.covered q);
       open_writes_may_commit = h.open_writes_may_commit;
       contents_are_ordered = record {
         ordered = at_record s.buckets s.bucket r (stamped (suc s.mark) w held) (λ q c. IsOrdered s.mark c) was.ordered_stamped (λ q other. h.contents_are_ordered.ordered q);
-        backed = at_record s.buckets s.bucket r (stamped (suc s.mark) w held) (λ q c. IsBacked s.mark s.history q c) (backed_stamped s.mark s.history r w held (h.contents_are_ordered.backed r)) (λ q other. h.contents_are_ordered.backed q);
+        backed = at_record s.buckets s.bucket r (stamped (suc s.mark) w held) (λ q c. IsBacked s.mark s.history q c)
+            (backed_stamped s.mark s.history r w held (h.contents_are_ordered.backed r)) (λ q other. h.contents_are_ordered.backed q);
       };
       contents_are_placed = placed_stored s.tables s.buckets s.bucket r (stamped (suc s.mark) w held) (λ some. is_there s r h (some_held w held may.mine)) h.contents_are_placed;
       counters_balance = counters_stamped s.sessions s.buckets s.passes s.log s.bucket s.counters s.visits r (suc s.mark) w h.counters_balance;
-      visits_stay = visits_later s.passes s.buckets s.mark s.mark (versions s.buckets s.bucket) _ s.visits (omega arith) (stays_stored s.mark s.buckets s.bucket r (stamped (suc s.mark) w held) (stays_stamped s.mark w held may.mine)) h.visits_stay;
+      visits_stay = visits_later s.passes s.buckets s.mark s.mark (versions s.buckets s.bucket) _ s.visits (omega arith)
+          (stays_stored s.mark s.buckets s.bucket r (stamped (suc s.mark) w held) (stays_stamped s.mark w held may.mine)) h.visits_stay;
       open_writes_stand = stand_stamped s.mark s.buckets s.bucket (begun_in s.log) (open_writes s.log) j r was h.open_writes_stand;
       stamped_is_next = next_stamped s.mark s.buckets s.bucket (begun_in s.log) (open_writes s.log) j r s.stamped_list was h.open_writes_stand h.stamped_is_next;
       replies_answer = h.replies_answer;

@@ -140,7 +140,11 @@ happens s (Install j r image) =
       counters = with_made s.counters (bucket_of s.buckets r) (added (versions s.buckets s.bucket r));
       log = put s.log j (Wrote r image ∷ s.log j);
     }
-happens s (Undo j r) = record s { bucket = stored s.buckets s.bucket r (undone (versions s.buckets s.bucket r)); counters = with_undone s.counters (bucket_of s.buckets r); log = put s.log j (Undid r ∷ s.log j) }
+happens s (Undo j r) = record s {
+  bucket = stored s.buckets s.bucket r (undone (versions s.buckets s.bucket r));
+  counters = with_undone s.counters (bucket_of s.buckets r);
+  log = put s.log j (Undid r ∷ s.log j);
+}
 happens s (Stamp j r) = record s { bucket = stored s.buckets s.bucket r (stamped (suc s.mark) (writer_of (begun_in s.log) j) (versions s.buckets s.bucket r)); stamped_list = (j, r) ∷ s.stamped_list }
 happens s (Publish sessions) = record s { mark = suc s.mark; history = s.history ++ new_group s.log sessions ∷ []; stamped_list = []; log = published_logs s.log sessions (suc s.mark) }
 happens s (Reclaim p kind r) = shortened s p kind r (reclaimed kind r.table (s.pass p) (versions s.buckets s.bucket r))
@@ -207,7 +211,8 @@ pub record MayPublish (log : ℕ → List LogEntry) (list : List (ℕ × Rid)) (
 
 -- what a session asks: of its tables, and the rows are those of the bucket; or of no table of its scope
 abbrev pub Asks : CoreState → ℕ → ℕ → Scope → Ask → ℕ → List (ℕ × List Value) → Type 0
-Asks s j at scope (Read table low high) b rows = IsTrue (has scope table) × AreRows (in_bucket s.buckets b table (λ r. read_by (writer_of (begun_in s.log) j) at (versions s.buckets s.bucket r))) low high rows
+Asks s j at scope (Read table low high) b rows = IsTrue (has scope table) ×
+    AreRows (in_bucket s.buckets b table (λ r. read_by (writer_of (begun_in s.log) j) at (versions s.buckets s.bucket r))) low high rows
 Asks s j at scope (asks.Write r) b rows = IsTrue (has scope r.table)
 Asks s j at scope (asks.Outside table) b rows = IsFalse (has scope table)
 

@@ -27,6 +27,7 @@ pub mod Judged
 pub mod Invariant
 pub mod Reading
 pub mod Answered
+pub mod Shown
 -- What follows of commits and gathers, a run, and which steps would be wrong.
 pub mod Commits
 pub mod Missed

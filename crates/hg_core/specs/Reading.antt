@@ -1,5 +1,6 @@
 -- A log read as replies: which entries a session's statement leaves there, and which replies they fit.
-use Rattle.std.specs.Prelude.{◌≡◌, ℕ, zero, suc, ◌+◌, ◌<◌, ◌≤◌, List, [], ◌∷◌, ◌++◌, map, length, Bool, true, false, ◌&&◌, if◌then◌else◌, Option, Some, None, is_some, unwrap_or, Contains, IsTrue, IsSome, IfSome, ⊤}
+use Rattle.std.specs.Prelude.{◌≡◌, ℕ, zero, suc, ◌+◌, ◌<◌, ◌≤◌, List, [], ◌∷◌, ◌++◌, map, length, Bool, true, false, ◌&&◌, if◌then◌else◌, Option, Some, None, is_some, unwrap_or, Contains}
+use Rattle.std.specs.Prelude.{IsTrue, IsSome, IfSome, ⊤}
 use Rattle.hg_base.specs.declared.rid.Rid.{Rid}
 use Rattle.hg_base.specs.declared.rid.TableId.{TableId}
 use Rattle.hg_base.specs.declared.scope.Scope.{Scope}
@@ -244,7 +245,8 @@ Follows buckets P logs left [] (line ∷ lines) final = ⊥
 Follows buckets P logs left (r ∷ rs) [] final = ⊥
 Follows buckets P logs left (r ∷ rs) (line ∷ lines) final =
     P logs r line × ((u : Unprinted) × Fits buckets u (logs r.session) r.statement line.reply
-    × Follows buckets P (put logs r.session (log_after buckets u r.statement line.reply (logs r.session))) (put left r.session (rest_after r.statement line.reply.answer (left r.session))) rs lines final
+    × Follows buckets P (put logs r.session (log_after buckets u r.statement line.reply (logs r.session)))
+    (put left r.session (rest_after r.statement line.reply.answer (left r.session))) rs lines final
     × HasRest r.statement u.rest (left r.session))
 
 -- what each session's cursor has left after these lines

@@ -68,8 +68,10 @@ Refuses h log j at r _ = ⊥
 -- cause, and only where the transaction hasn't written the record. What is outside is not of the scope. What is written is,
 -- and nothing of the transaction was undone or published.
 abbrev pub IsReplied : ℕ → History → (ℕ → List LogEntry) → ℕ → LogEntry → List LogEntry → Type 0
-IsReplied buckets h log j (Saw table low high b rows) earlier = IfSome (current earlier) (λ snapshot. IsTrue (has snapshot.scope table) × AreRows (in_bucket buckets b table (seen h (own_writes earlier) snapshot.at)) low high rows)
-IsReplied buckets h log j (Refused r answer) earlier = IfSome (current earlier) (λ snapshot. IsTrue (has snapshot.scope r.table) × (IsFalse (is_some (image_in r (own_writes earlier))) × Refuses h log j snapshot.at r answer))
+IsReplied buckets h log j (Saw table low high b rows) earlier = IfSome (current earlier) (λ snapshot. IsTrue (has snapshot.scope table) ×
+    AreRows (in_bucket buckets b table (seen h (own_writes earlier) snapshot.at)) low high rows)
+IsReplied buckets h log j (Refused r answer) earlier = IfSome (current earlier) (λ snapshot. IsTrue (has snapshot.scope r.table) ×
+    (IsFalse (is_some (image_in r (own_writes earlier))) × Refuses h log j snapshot.at r answer))
 IsReplied buckets h log j (Outside table) earlier = IfSome (current earlier) (λ snapshot. IsFalse (has snapshot.scope table))
 IsReplied buckets h log j (Wrote r image) earlier = IfSome (current earlier) (λ snapshot. IsTrue (has snapshot.scope r.table)) × IsTrue (is_plain earlier)
 IsReplied buckets h log j _ earlier = ⊤

@@ -39,7 +39,8 @@ slow_begin = acts (Declare 1 (Declared 1) ∷ Probe 1 ∷ Enter 1 0 ∷ Fix 1 0 
 -- begins a new record, finds session 1 live at 0, loads its mask, and moves that snapshot to the table that it declared.
 -- Session 1 names another table, writes another record, takes that back, and is over.
 abbrev pub long_snapshot : List Step
-long_snapshot = Act Take ∷ Arrive 0 0 ∷ Act (Reclaim 0 Interval one_rid) ∷ Leave 0 ∷ Split 0 ∷ acts (Mark 0 (λ j. 0) ∷ Sample 0 1 ∷ SampleMask 0 1 ∷ Move 0 1 ∷ Look 1 (Outside (record { 0 = 1 })) 0 [] ∷ Install 1 two_rid row ∷ Undo 1 two_rid ∷ End 1 ∷ [])
+long_snapshot = Act Take ∷ Arrive 0 0 ∷ Act (Reclaim 0 Interval one_rid) ∷ Leave 0 ∷ Split 0 ∷ acts
+    (Mark 0 (λ j. 0) ∷ Sample 0 1 ∷ SampleMask 0 1 ∷ Move 0 1 ∷ Look 1 (Outside (record { 0 = 1 })) 0 [] ∷ Install 1 two_rid row ∷ Undo 1 two_rid ∷ End 1 ∷ [])
 
 -- Session 1 loads the mark 0. Session 2 commits. A pass loads the mark 1 and finds session 1 idle, which then enters at 0.
 abbrev pub late_entry : List Step
@@ -61,7 +62,8 @@ commits_again image = Declare 2 All ∷ Probe 2 ∷ Enter 2 1 ∷ Fix 2 1 ∷ Go
 -- this image. A pass loads the mark 2, the register and the mask of session 1, and the register of session 2, and takes the
 -- bucket.
 abbrev pub two_versions : Image → List Step
-two_versions image = acts (commits ++ Declare 1 (Declared 1) ∷ Probe 1 ∷ Enter 1 1 ∷ Fix 1 1 ∷ GoLive 1 1 (Declared 1) ∷ commits_again image ++ Mark 0 (λ j. 0) ∷ Sample 0 1 ∷ SampleMask 0 1 ∷ Sample 0 2 ∷ []) ++ Arrive 0 0 ∷ []
+two_versions image = acts (commits ++ Declare 1 (Declared 1) ∷ Probe 1 ∷ Enter 1 1 ∷ Fix 1 1 ∷ GoLive 1 1 (Declared 1) ∷ commits_again image ++ Mark 0
+    (λ j. 0) ∷ Sample 0 1 ∷ SampleMask 0 1 ∷ Sample 0 2 ∷ []) ++ Arrive 0 0 ∷ []
 
 -- and the pass moves the snapshot of session 1
 abbrev pub moved_snapshot : List Step

@@ -14,7 +14,8 @@ pub returns-clause-group : goal.returns-clause-group
 returns-clause-group c = idle_group
 
 pub returns-clause-idle : goal.returns-clause-idle
-returns-clause-idle c sessions tables buckets passes quota steps r j rests = let s = run (opened sessions tables buckets passes quota) steps in subst (λ p. Shows p (s.register j)) rests ((steady_after sessions tables buckets passes quota steps r).registers_agree.shows j)
+returns-clause-idle c sessions tables buckets passes quota steps r j rests = let s = run (opened sessions tables buckets passes quota) steps in
+    subst (λ p. Shows p (s.register j)) rests ((steady_after sessions tables buckets passes quota steps r).registers_agree.shows j)
 
 pub returns-clause-rest : goal.returns-clause-rest
 returns-clause-rest c sessions tables buckets passes quota steps r = none_unpublished _ (steady_after sessions tables buckets passes quota steps r)
